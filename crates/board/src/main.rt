@@ -1,0 +1,27 @@
+//! The program `board`: the standard streams, and `board_report`'s program over them.
+#![tactic(auto)]
+
+use board_report::{program, words_out_of_memory, words_refused};
+use std::env;
+use std::io::ErrorKind;
+use std::process::ExitCode;
+
+fn main(rt: HostRuntime) -> ExitCode {
+    let mut input = rt.stdin();
+    let mut out = rt.stdout();
+    let mut err = rt.stderr();
+    let args = match env::args(&rt) {
+        Ok(args) => args,
+        Err(e) => {
+            if e.kind() == ErrorKind::OutOfMemory {
+                return ExitCode::from(words_out_of_memory(&mut err));
+            }
+            return ExitCode::from(words_refused(&mut err));
+        }
+    };
+    let words: Vec<String> = match args.collect(rt.alloc()) {
+        Ok(words) => words,
+        Err(_) => return ExitCode::from(words_out_of_memory(&mut err)),
+    };
+    ExitCode::from(program(rt.alloc(), words.as_slice(), &mut input, &mut out, &mut err))
+}

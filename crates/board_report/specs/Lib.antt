@@ -1,0 +1,9 @@
+pub mod Numbers
+pub mod Fields
+pub mod Words
+pub mod Requests
+pub mod Lines
+pub mod Text
+pub mod Script
+pub mod Desks
+pub mod Output

@@ -1,0 +1,108 @@
+//! The lines of the output.
+ghost use Rattle.std.specs.Prelude.{◌≡◌, ◌≤◌, ◌+◌, length, codes, decimal};
+ghost use Rattle.board_report.specs.Desks.{reply_of};
+ghost use Rattle.board_report.specs.Lines.{accepted_line, chair_line, fault_line, published_line, reading_line, refused_line, reply_line};
+ghost use Rattle.board_report.specs.Words.{word_of_majority};
+
+use crate::faults::Fault;
+use crate::line::Line;
+use crate::replies::Answer;
+use council_core::Refusal;
+use majority_rule::Majority;
+use power_index::{ChairPower, Indices};
+
+fn accepted_line(accepted: u32) -> Line
+    ensures text { result ≡ accepted_line accepted }
+    ensures fits { length result + 1 ≤ 256 }
+{
+    let mut line = Line::new("accepted");
+    line.number(u64::from(accepted));
+    line
+}
+
+fn refused_line(why: Refusal) -> Line
+    ensures text { result ≡ refused_line why }
+    ensures fits { length result + 1 ≤ 256 }
+{
+    let mut line = Line::new("refused");
+    line.number(u64::from(why.code()));
+    line.word(why.name());
+    line
+}
+
+fn published_line(front: u32) -> Line
+    ensures text { result ≡ published_line front }
+    ensures fits { length result + 1 ≤ 256 }
+{
+    let mut line = Line::new("published");
+    line.number(u64::from(front));
+    line
+}
+
+// The line of an answer to a command or to a publication.
+pub(crate) fn line_of_answer(answer: Answer) -> Line
+    ensures text { result ≡ reply_line (reply_of answer) }
+    ensures fits { length result + 1 ≤ 256 }
+{
+    match answer {
+        Answer::Accepted(accepted) => accepted_line(accepted),
+        Answer::Refused(why) => refused_line(why),
+        Answer::Published(front) => published_line(front),
+    }
+}
+
+fn word_of_majority(majority: Majority) -> &'static str
+    ensures word { result.now ≡ word_of_majority majority }
+    ensures short { length result.now ≤ 4 }
+{
+    match majority {
+        Majority::Half => "half",
+        Majority::Seventy => "70",
+        Majority::EightyFive => "85",
+    }
+}
+
+// What a reader reads of the board as a whole.
+pub(crate) fn line_of_reading(reader: u64, indices: &Indices) -> Line
+    ensures text { result ≡ reading_line reader indices.now }
+    ensures fits { length result + 1 ≤ 256 }
+{
+    let mut line = Line::new("reading");
+    line.number(reader);
+    line.number(u64::from(indices.front));
+    line.word(word_of_majority(indices.majority));
+    line.number(u64::from(indices.chairs));
+    line.number(indices.quota);
+    line.number(indices.cast);
+    line.number(indices.total);
+    line.number(indices.winning);
+    line.number(indices.coalitions);
+    line
+}
+
+// What a reader reads of one chair.
+pub(crate) fn line_of_chair(row: &ChairPower) -> Line
+    ensures text { result ≡ chair_line row.now }
+    ensures fits { length result + 1 ≤ 256 }
+{
+    let mut line = Line::new("chair");
+    line.number(u64::from(row.chair.number()));
+    line.number(row.weight);
+    line.number(row.swings);
+    line.fraction(row.banzhaf);
+    line.fraction_if_any(row.share);
+    line.fraction_if_any(row.prevent);
+    line.fraction(row.initiate);
+    line
+}
+
+// The last line of a run that a fault ends.
+pub(crate) fn line_of_fault(fault: Fault) -> Line
+    ensures text { result ≡ fault_line fault }
+    ensures fits { length result + 1 ≤ 256 }
+{
+    let mut line = Line::new("fault");
+    line.number(u64::from(fault.place));
+    line.word(fault.name());
+    line
+}

@@ -1,0 +1,95 @@
+//! The evaluator's indices against a plain recursion.
+use crate::plain;
+use council_core::{Refusal, Sheet};
+use majority_rule::Majority;
+use power_index::{Evaluator, Fraction, Indices};
+use std::process::Abort;
+use std::test::Fail;
+
+// The weights of open chairs, and the votes of members in no chair.
+const SHEETS: [(&[u64], u64); 14] = [
+    (&[], 0),
+    (&[], 7),
+    (&[0], 0),
+    (&[1], 0),
+    (&[50, 49, 1], 0),
+    (&[50, 49, 2], 0),
+    (&[50, 49, 1], 40),
+    (&[90, 5, 5], 0),
+    (&[0, 0, 0, 0], 3),
+    (&[1, 1, 1, 1, 1, 1, 1], 0),
+    (&[9, 8, 7, 6, 5, 4, 3, 2, 1, 0], 1),
+    (&[1099511627776, 1099511627776, 1, 1, 1099511627775], 5),
+    (
+        &[
+            831401, 309664, 306288, 267803, 203010, 203010, 267000, 227000, 218000, 208000, 204000,
+            192000,
+        ],
+        0,
+    ),
+    (&[12, 12, 12, 12, 11, 11, 10, 9, 3, 2, 1, 1], 30),
+];
+
+// A sheet of these weights, spread over both halves.
+fn sheet_of(weights: &[u64], outside: u64) -> Result<Sheet, Refusal> {
+    let mut words = [0; 34];
+    let mut total = outside;
+    for (at, weight) in weights.iter().enumerate() {
+        words[at * 5 % 32] = weight.saturating_add(1);
+        total = total.saturating_add(*weight);
+    }
+    words[32] = total;
+    Sheet::from_words(&words)
+}
+
+// The swings of the chair at a place.
+fn swings_at(words: &[u64; 34], place: usize, quota: u64) -> u64 {
+    let mut others = *words;
+    let Some(word) = others.get_mut(place) else {
+        return 0;
+    };
+    let own = word.saturating_sub(1);
+    *word = 0;
+    plain::swings(&others[..32], 0, own, quota)
+}
+
+// Whether each row has the chair's swings, and the fractions over them.
+fn rows_agree(indices: &Indices, words: &[u64; 34], all: u64) -> bool {
+    indices.rows.as_slice().iter().all(|row| {
+        let place = row.chair.number() as usize - 1;
+        let swings = swings_at(words, place, indices.quota);
+        let over = |den: u64| Fraction { num: swings, den };
+        let if_any = |den: u64| if den == 0 { None } else { Some(over(den)) };
+        row.swings == swings
+            && row.banzhaf == over(indices.coalitions / 2)
+            && row.share == if_any(all)
+            && row.prevent == if_any(indices.winning)
+            && row.initiate == over(indices.coalitions.wrapping_sub(indices.winning))
+    })
+}
+
+fn agrees<R: Abort>(rt: &R, indices: &Indices, sheet: &Sheet) {
+    let words = sheet.words();
+    let mut all = 0u64;
+    for place in 0..32 {
+        if words[place] > 0 {
+            all = all.wrapping_add(swings_at(&words, place, indices.quota));
+        }
+    }
+    assert!(rt; indices.winning == plain::winning(&words[..32], 0, indices.quota));
+    assert!(rt; indices.rows.len() == sheet.chairs() as usize);
+    assert!(rt; rows_agree(indices, &words, all));
+}
+
+#[test]
+fn evaluator_agrees_with_a_plain_recursion(rt: HostRuntime) -> Result<(), Fail> {
+    let mut evaluator = Evaluator::new(rt.alloc())?;
+    for (weights, outside) in SHEETS {
+        let sheet = sheet_of(weights, outside)?;
+        evaluator.set(&sheet);
+        for majority in [Majority::Half, Majority::Seventy, Majority::EightyFive] {
+            agrees(&rt, &evaluator.evaluate(majority), &sheet);
+        }
+    }
+    Ok(())
+}

@@ -1,0 +1,11 @@
+pub mod WorkedCases
+pub mod SheetLemmas
+pub mod RollLemmas
+pub mod MirrorLemmas
+pub mod RegisterLemmas
+pub mod SheetOfLemmas
+pub mod AssembleLemmas
+pub mod StartLemmas
+pub mod OpenChairs
+pub mod CoalitionLemmas
+pub mod LawLemmas

@@ -1,0 +1,174 @@
+-- What a register keeps stays what the roll says.
+use Rattle.std.proofs.Common.{◌≡◌, ℕ, ◌+◌, ◌^◌, ◌<◌, ◌≤◌, ◌==◌, Bool, true, false, cond, not, ◌&&◌, ◌||◌, List, [], ◌∷◌, length, sum_by, filter, Option, None, Some, IfSome, Ok, is_ok, sym, ◌∙◌, ap, subst, refl, arith, true≢false, slice_index, slice_set}
+use borrow.Author.Tests.{eqb-true}
+use Rattle.std.specs.List.{list_any}
+use Rattle.std.proofs.lemmas.Grind.{common_steps}
+use Rattle.std.proofs.lemmas.Bool.Decides.{nat_tests}
+use Rattle.std.proofs.lemmas.List.Sums.{sum_by-cons}
+use Rattle.council_core.specs.declared.commands.Standing.{Standing}
+use Rattle.council_core.specs.Rolls.{Roll, Entry, same_chair, standing_among, with_standing, sits_in, counted, votes_in, weight, is_open, chair_word, can_receive, has_members, step, opening_roll}
+use Rattle.std.proofs.Common.{length-append}
+use Rattle.std.specs.Result.{result_unwrap_or}
+use Rattle.council_core.specs.declared.commands.Command.{Command}
+use Rattle.council_core.specs.Ledgers.{Ledger, roll_of, appended}
+use Rattle.council_core.specs.Registers.{Mirrors, IsKept, seated, sits_as}
+use Rattle.council_core.proofs.RollLemmas.{fold_from-push, all_accepted-push, sum_with_standing, part_of_sum, length-with_standing, all_with_standing}
+
+pub no_one : (b : Bool) → ◌≡◌ {A = ℕ} (cond b 1 0) 0 → b ≡ false
+no_one true h = absurd (omega (arith, h))
+no_one false h = refl
+
+-- a chair with no members has no weight
+pub empty_weight : (c : ℕ) (es : List Entry) → seated es c ≡ 0 → sum_by (λ m. votes_in c m.1) es ≡ 0
+empty_weight c [] h = refl
+empty_weight c (e ∷ es) h =
+    let split = sum_by-cons (λ (m : Entry). sits_as c m.1) e es in
+    let rest : seated es c ≡ 0 = omega (arith, split) in
+    let here : sits_as c e.1 ≡ 0 = omega (arith, split) in
+    let none : votes_in c e.1 ≡ 0 = ap (λ b. cond b (counted e.1) 0) (no_one (sits_in c e.1) here) in
+    omega (arith, none, empty_weight c es rest, sum_by-cons (λ (m : Entry). votes_in c m.1) e es)
+
+same_number : (d : ℕ) → (d == d) ≡ true
+same_number d = grind (arith, nat_tests)
+
+-- who sits in an open chair, or in none, sits in no closed one
+pub seat_is_open : (roll : Roll) (chair : Option ℕ) (c : ℕ) → can_receive roll chair ≡ true → is_open roll c ≡ false → same_chair chair (Some c) ≡ false
+seat_is_open roll None c fits shut = refl
+seat_is_open roll (Some d) c fits shut =
+    elim (d == c) as (λ b. (d == c) ≡ b → b ≡ false) [ true ↦ λ e. absurd (true≢false (sym fits ∙ ap (is_open roll) (eqb-true d c e) ∙ shut)) | false ↦ λ e. refl ] refl
+
+-- and nobody sits in an empty one
+pub seat_is_free : (c : ℕ) (roll : Roll) (code : List ℕ) (s : Standing) → standing_among code roll.members ≡ Some s → seated roll.members c ≡ 0 → sits_in c s ≡ false
+seat_is_free c roll code s found none =
+    let here : sits_as c s ≡ 0 = omega (arith, part_of_sum code (sits_as c) roll.members s found) in
+    no_one (sits_in c s) here
+
+-- a member's own chair is open
+pub own_seat : (roll : Roll) (code : List ℕ) (s : Standing) → standing_among code roll.members ≡ Some s → ((c : ℕ) → is_open roll c ≡ false → seated roll.members c ≡ 0)
+    → (chair : Option ℕ) → s.chair ≡ chair → can_receive roll chair ≡ true
+own_seat roll code s found empty None at = refl
+own_seat roll code s found empty (Some d) at =
+    elim (is_open roll d) as (λ b. is_open roll d ≡ b → b ≡ true) [
+      | true ↦ λ e. refl
+      | false ↦ λ e. absurd (true≢false (sym (ap (λ o. same_chair o (Some d)) at ∙ same_number d) ∙ seat_is_free d roll code s found (empty d e)))
+    ] refl
+
+pub own_seats : (roll : Roll) (code : List ℕ) → ((c : ℕ) → is_open roll c ≡ false → seated roll.members c ≡ 0)
+    → (o : Option Standing) → o ≡ standing_among code roll.members → IfSome o (λ s. can_receive roll s.chair ≡ true)
+own_seats roll code empty None at = tt
+own_seats roll code empty (Some s) at = own_seat roll code s (sym at) empty s.chair refl
+
+-- the word of an opened chair
+open_word : (roll : Roll) (words : List ℕ) (k j : ℕ) → k < length words → slice_index words j ≡ chair_word roll (j + 1) → weight roll (k + 1) ≡ 0
+    → slice_index (slice_set words k 1) j ≡ chair_word (record roll { open_chairs = (k + 1) ∷ roll.open_chairs }) (j + 1)
+open_word roll words k j within say none = grind (arith, common_steps, nat_tests, say, none)
+
+not_zero : (n : ℕ) → 0 < n → (n == 0) ≡ false
+not_zero n h = grind (arith, nat_tests, h)
+
+-- a chair has members where the number of them isn't 0
+pub has_members_is : (c : ℕ) (es : List Entry) → list_any (λ m. sits_in c m.1) es ≡ not (seated es c == 0)
+has_members_is c [] = refl
+has_members_is c (e ∷ es) =
+    let split = sum_by-cons (λ (m : Entry). sits_as c m.1) e es in
+    elim (sits_in c e.1) as (λ b. seated (e ∷ es) c ≡ cond b 1 0 + seated es c → (b || list_any (λ m. sits_in c m.1) es) ≡ not (seated (e ∷ es) c == 0)) [
+      | true ↦ λ q. ap not (sym (not_zero _ (omega (arith, q))))
+      | false ↦ λ q. has_members_is c es ∙ ap (λ n. not (n == 0)) (sym (omega (arith, q)))
+    ] split
+
+pub no_members : (c : ℕ) (es : List Entry) → list_any (λ m. sits_in c m.1) es ≡ false → seated es c ≡ 0
+no_members c es h =
+    elim (seated es c == 0) as (λ b. (seated es c == 0) ≡ b → not b ≡ false → seated es c ≡ 0) [ true ↦ λ e q. eqb-true _ _ e | false ↦ λ e q. absurd (true≢false q) ] refl (sym (has_members_is c es) ∙ h)
+
+any_cond : (p : ℕ → Bool) (b : Bool) (xs ys : List ℕ) → list_any p (cond b xs ys) ≡ cond b (list_any p xs) (list_any p ys)
+any_cond p true xs ys = refl
+any_cond p false xs ys = refl
+
+closed_step : (c d x : ℕ) (l rest : Bool) → l ≡ (not (c == d) && rest) → cond (not (c == x)) ((d == x) || l) l ≡ (not (c == d) && ((d == x) || rest))
+closed_step c d x l rest h = grind (arith, nat_tests, h)
+
+-- the open chairs once one is closed
+pub is_open-closed : (c d : ℕ) (xs : List ℕ) → list_any (λ e. d == e) (filter (λ e. not (c == e)) xs) ≡ (not (c == d) && list_any (λ e. d == e) xs)
+is_open-closed c d [] = elim (c == d) as (λ b. false ≡ (not b && false)) [ true ↦ refl | false ↦ refl ]
+is_open-closed c d (x ∷ xs) =
+    any_cond (λ e. d == e) (not (c == x)) (x ∷ filter (λ e. not (c == e)) xs) (filter (λ e. not (c == e)) xs)
+    ∙ closed_step c d x (list_any (λ e. d == e) (filter (λ e. not (c == e)) xs)) (list_any (λ e. d == e) xs) (is_open-closed c d xs)
+
+-- the word after a change of standing
+changed_word : (b : Bool) (before after old new word word' : ℕ) → word ≡ cond b (before + 1) 0 → after + old ≡ before + new → word' + old ≡ word + new → (b ≡ false → old ≡ 0) → (b ≡ false → new ≡ 0) → word' ≡ cond b (after + 1) 0
+changed_word true before after old new word word' h i j p q = omega arith
+changed_word false before after old new word word' h i j p q = omega (arith, p refl, q refl)
+
+-- a closed chair is opened: it has no members, so its weight is 0
+pub Mirrors-open : (roll : Roll) (es : List Entry) (words counts : List ℕ) (sum : ℕ) → Mirrors roll es words counts sum → (k : ℕ) → k < 32 → k < length words → is_open roll (k + 1) ≡ false
+    → Mirrors (record roll { open_chairs = (k + 1) ∷ roll.open_chairs }) es (slice_set words k 1) counts sum
+Mirrors-open roll es words counts sum m k small within shut =
+    record {
+      same_members = m.same_members;
+      each_word = λ j h. open_word roll words k j within (m.each_word j h) (empty_weight (k + 1) roll.members (m.closed_empty (k + 1) shut));
+      each_count = m.each_count;
+      same_total = m.same_total;
+      closed_empty = λ c. (elim (c == (k + 1)) as (λ b. (b || is_open roll c) ≡ false → seated roll.members c ≡ 0) [ true ↦ λ e. absurd (true≢false e) | false ↦ λ e. m.closed_empty c e ]);
+      few = m.few;
+      small = m.small;
+    }
+
+-- the word of a closed chair
+closed_word : (roll : Roll) (words : List ℕ) (k j : ℕ) → k < length words → slice_index words j ≡ chair_word roll (j + 1)
+    → slice_index (slice_set words k 0) j ≡ cond (not (k + 1 == j + 1) && is_open roll (j + 1)) (weight roll (j + 1) + 1) 0
+closed_word roll words k j within say = grind (arith, common_steps, nat_tests, say)
+
+-- an open chair with no members is closed
+pub Mirrors-close : (roll : Roll) (es : List Entry) (words counts : List ℕ) (sum : ℕ) → Mirrors roll es words counts sum → (k : ℕ) → k < 32 → k < length words → has_members roll (k + 1) ≡ false
+    → Mirrors (record roll { open_chairs = filter (λ d. not (k + 1 == d)) roll.open_chairs }) es (slice_set words k 0) counts sum
+Mirrors-close roll es words counts sum m k small within empty =
+    record {
+      same_members = m.same_members;
+      each_word = λ j h. closed_word roll words k j within (m.each_word j h) ∙ ap (λ b. cond b (weight roll (j + 1) + 1) 0) (sym (is_open-closed (k + 1) (j + 1) roll.open_chairs));
+      each_count = m.each_count;
+      same_total = m.same_total;
+      closed_empty = λ c shut.
+          elim (k + 1 == c) as (λ b. (k + 1 == c) ≡ b → (not b && is_open roll c) ≡ false → seated roll.members c ≡ 0) [
+            | true ↦ λ e q. subst (λ d. seated roll.members d ≡ 0) (eqb-true _ _ e) (no_members (k + 1) roll.members empty)
+            | false ↦ λ e q. m.closed_empty c q
+          ] refl (sym (is_open-closed (k + 1) c roll.open_chairs) ∙ shut);
+      few = m.few;
+      small = m.small;
+    }
+
+-- a member's standing is changed
+pub Mirrors-update : (roll : Roll) (es : List Entry) (words counts words' counts' : List ℕ) (sum sum' : ℕ) (code : List ℕ) (old new : Standing) → Mirrors roll es words counts sum
+    → standing_among code roll.members ≡ Some old → can_receive roll new.chair ≡ true → new.votes ≤ 2 ^ 40
+    → ((k : ℕ) → k < 32 → slice_index words' k + votes_in (k + 1) old ≡ slice_index words k + votes_in (k + 1) new)
+    → ((k : ℕ) → k < 32 → slice_index counts' k + sits_as (k + 1) old ≡ slice_index counts k + sits_as (k + 1) new)
+    → sum' + counted old ≡ sum + counted new
+    → Mirrors (record roll { members = with_standing code new roll.members }) (with_standing code new es) words' counts' sum'
+Mirrors-update roll es words counts words' counts' sum sum' code old new m found fits small words_say counts_say sum_says =
+    record {
+      same_members = ap (with_standing code new) m.same_members;
+      each_word = λ k h.
+          changed_word (is_open roll (k + 1)) (weight roll (k + 1)) (sum_by (λ m. votes_in (k + 1) m.1) (with_standing code new roll.members)) (votes_in (k + 1) old) (votes_in (k + 1) new) _ _
+          (m.each_word k h) (sum_with_standing code new (votes_in (k + 1)) roll.members old found) (words_say k h)
+          (λ shut. ap (λ b. cond b (counted old) 0) (seat_is_free (k + 1) roll code old found (m.closed_empty (k + 1) shut)))
+          (λ shut. ap (λ b. cond b (counted new) 0) (seat_is_open roll new.chair (k + 1) fits shut));
+      each_count = λ k h. omega (arith, sum_with_standing code new (sits_as (k + 1)) roll.members old found, counts_say k h, m.each_count k h);
+      same_total = omega (arith, sum_with_standing code new counted roll.members old found, sum_says, m.same_total);
+      closed_empty = λ c shut.
+          let a = sum_with_standing code new (sits_as c) roll.members old found in
+          let b : sits_as c new ≡ 0 = ap (λ b. cond b 1 0) (seat_is_open roll new.chair c fits shut) in
+          omega (arith, a, b, m.closed_empty c shut);
+      few = rw length-with_standing m.few;
+      small = all_with_standing code new (λ s. s.votes ≤ 2 ^ 40) es m.small small;
+    }
+
+-- one more command is accepted, and the rest follows the roll
+pub IsKept-appended : (l : Ledger) (es : List Entry) (words counts : List ℕ) (sum : ℕ) → IsKept l es words counts sum
+    → (command : Command) (next : Roll) → step (roll_of l) command ≡ Ok next → length l.journal < l.limit
+    → (es' : List Entry) (words' counts' : List ℕ) (sum' : ℕ) → Mirrors next es' words' counts' sum' → IsKept (appended l command) es' words' counts' sum'
+IsKept-appended l es words counts sum kept command next steps room es' words' counts' sum' m =
+    record {
+      legal = all_accepted-push (opening_roll l.opening) l.journal command ∙ ap (λ b. b && is_ok (step (roll_of l) command)) kept.legal ∙ ap is_ok steps;
+      within = rw length-append (omega arith);
+      small_limit = kept.small_limit;
+      mirrors = subst (λ (r : Roll). Mirrors r es' words' counts' sum') (sym (fold_from-push (opening_roll l.opening) l.journal command ∙ ap (λ r. result_unwrap_or r (roll_of l)) steps)) m;
+    }

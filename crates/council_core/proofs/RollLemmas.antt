@@ -1,0 +1,68 @@
+-- What a step does to the sums over members, and to the fold.
+use Rattle.std.proofs.Common.{◌≡◌, ℕ, suc, ◌+◌, ◌≤◌, true, false, cond, ◌&&◌, List, [], ◌∷◌, ◌++◌, length, sum_by, Some, is_ok, ap, refl, arith, All}
+use Rattle.indexmap.specs.IndexMap.{insert_entry}
+use Rattle.std.specs.List.{AllByRecursion}
+use Rattle.std.proofs.lemmas.List.Elements.{All-from_recursion, recursion_from_All}
+use Rattle.std.proofs.lemmas.List.Sums.{sum_by-cons}
+use Rattle.council_core.specs.declared.commands.Command.{Command}
+use Rattle.council_core.specs.declared.commands.Standing.{Standing}
+use Rattle.council_core.specs.Rolls.{Roll, Entry, same_code, standing_among, with_standing, step, after, fold_from, all_accepted}
+
+-- one more command, at the end
+pub fold_from-push : (r : Roll) (xs : List Command) (c : Command) → fold_from r (xs ++ c ∷ []) ≡ after (fold_from r xs) c
+fold_from-push r [] c = refl
+fold_from-push r (x ∷ xs) c = fold_from-push (after r x) xs c
+
+pub all_accepted-push : (r : Roll) (xs : List Command) (c : Command) → all_accepted r (xs ++ c ∷ []) ≡ (all_accepted r xs && is_ok (step (fold_from r xs) c))
+all_accepted-push r [] c = elim (is_ok (step r c)) as (λ b. (b && true) ≡ (true && b)) [ true ↦ refl | false ↦ refl ]
+all_accepted-push r (x ∷ xs) c =
+    let rest = all_accepted-push (after r x) xs c in
+    elim (is_ok (step r x)) as (λ b. (b && all_accepted (after r x) (xs ++ c ∷ [])) ≡ ((b && all_accepted (after r x) xs) && is_ok (step (fold_from (after r x) xs) c))) [ true ↦ rest | false ↦ refl ]
+
+module _ (code : List ℕ) (new : Standing) where
+  -- a member that is there keeps its place
+  pub insert-with_standing : (es : List Entry) (old : Standing) → standing_among code es ≡ Some old → insert_entry same_code es code new ≡ with_standing code new es
+  insert-with_standing [] old h = cc
+  insert-with_standing (e ∷ es) old h =
+      elim (same_code code e.0) as (λ b. cond b (Some e.1) (standing_among code es) ≡ Some old
+      → cond b ((e.0, new) ∷ es) (e ∷ insert_entry same_code es code new) ≡ cond b ((e.0, new) ∷ es) (e ∷ with_standing code new es))
+      [ true ↦ λ q. refl | false ↦ λ q. ap (λ (l : List Entry). e ∷ l) (insert-with_standing es old q) ] h
+
+  pub length-with_standing : (es : List Entry) → length (with_standing code new es) ≡ length es
+  length-with_standing [] = refl
+  length-with_standing (e ∷ es) =
+      elim (same_code code e.0) as (λ b. length (cond b ((e.0, new) ∷ es) (e ∷ with_standing code new es)) ≡ length (e ∷ es))
+      [ true ↦ refl | false ↦ ap suc (length-with_standing es) ]
+
+  -- a sum over the members gives up what the old standing gave, and gains what the new one gives
+  pub sum_with_standing : (f : Standing → ℕ) (es : List Entry) (old : Standing) → standing_among code es ≡ Some old
+      → sum_by (λ m. f m.1) (with_standing code new es) + f old ≡ sum_by (λ m. f m.1) es + f new
+  sum_with_standing f [] old h = cc
+  sum_with_standing f (e ∷ es) old h =
+      elim (same_code code e.0) as (λ b. cond b (Some e.1) (standing_among code es) ≡ Some old
+      → sum_by (λ m. f m.1) (cond b ((e.0, new) ∷ es) (e ∷ with_standing code new es)) + f old ≡ sum_by (λ m. f m.1) (e ∷ es) + f new) [
+        | true ↦ λ q.
+            let k : f e.1 ≡ f old = cc in
+            omega (arith, k, sum_by-cons (λ (m : Entry). f m.1) (e.0, new) es, sum_by-cons (λ (m : Entry). f m.1) e es)
+        | false ↦ λ q.
+            omega (arith, sum_with_standing f es old q, sum_by-cons (λ (m : Entry). f m.1) e (with_standing code new es), sum_by-cons (λ (m : Entry). f m.1) e es)
+      ] h
+
+-- a member's part of a sum is within it
+pub part_of_sum : (code : List ℕ) (f : Standing → ℕ) (es : List Entry) (s : Standing) → standing_among code es ≡ Some s → f s ≤ sum_by (λ m. f m.1) es
+part_of_sum code f [] s h = cc
+part_of_sum code f (e ∷ es) s h =
+    elim (same_code code e.0) as (λ b. cond b (Some e.1) (standing_among code es) ≡ Some s → f s ≤ sum_by (λ m. f m.1) (e ∷ es)) [
+      | true ↦ λ q. let k : f e.1 ≡ f s = cc in omega (arith, k, sum_by-cons (λ (m : Entry). f m.1) e es)
+      | false ↦ λ q. omega (arith, part_of_sum code f es s q, sum_by-cons (λ (m : Entry). f m.1) e es)
+    ] h
+
+-- each member keeps a test that its new standing passes
+pub all_with_standing : (code : List ℕ) (new : Standing) (P : Standing → Type 0) (es : List Entry) → All (λ m. P m.1) es → P new → All (λ m. P m.1) (with_standing code new es)
+all_with_standing code new P es h p = All-from_recursion _ _ (by es (recursion_from_All _ _ h))
+  where
+    by : (es : List Entry) → AllByRecursion (λ m. P m.1) es → AllByRecursion (λ m. P m.1) (with_standing code new es)
+    by [] h = tt
+    by (e ∷ es) h =
+        elim (same_code code e.0) as (λ b. AllByRecursion (λ m. P m.1) (cond b ((e.0, new) ∷ es) (e ∷ with_standing code new es)))
+        [ true ↦ (p, h.1) | false ↦ (h.0, by es h.1) ]

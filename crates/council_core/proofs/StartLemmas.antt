@@ -1,0 +1,75 @@
+-- A register at its start.
+use Rattle.std.proofs.Common.{◌≡◌, ℕ, zero, suc, ◌+◌, ◌^◌, ◌<◌, ◌≤◌, Bool, true, false, cond, ◌||◌, List, [], ◌∷◌, ◌++◌, length, map, take, drop, sum_by, None, Some, sym, ◌∙◌, ap, subst, refl, arith, true≢false, All, get_or, slice_index, replicate}
+use Rattle.std.specs.List.{list_any, AllByRecursion}
+use Rattle.std.proofs.lemmas.List.{length-map}
+use Rattle.std.proofs.lemmas.List.Elements.{All-from_recursion, recursion_from_All}
+use Rattle.std.proofs.lemmas.List.Sums.{sum_by-cons}
+use Rattle.council_core.specs.Rolls.{Entry, Opening, entered, same_code, standing_among, counted}
+use Rattle.council_core.specs.Ledgers.{has_duplicate}
+use Rattle.council_core.specs.Registers.{IsKept, seated, sits_as}
+
+pub zeros : (n k : ℕ) → ◌≡◌ {A = ℕ} (get_or (replicate {A = ℕ} n 0) k 0) 0
+zeros zero k = refl
+zeros (suc n) zero = refl
+zeros (suc n) (suc k) = zeros n k
+
+no_left : (a b : Bool) → (a || b) ≡ false → a ≡ false
+no_left true b h = absurd (true≢false h)
+no_left false b h = refl
+
+no_right : (a b : Bool) → (a || b) ≡ false → b ≡ false
+no_right true b h = absurd (true≢false h)
+no_right false b h = h
+
+-- where no two codes are the same, none is among those before it
+not_before : (xs : Opening) (m : List ℕ × ℕ) (ys : Opening) → has_duplicate (xs ++ m ∷ ys) ≡ false → standing_among m.0 (map entered xs) ≡ None
+not_before [] m ys h = refl
+not_before (x ∷ xs) m ys h =
+    let later : list_any (λ n. same_code n.0 x.0) (xs ++ m ∷ ys) ≡ false = no_left _ (has_duplicate (xs ++ m ∷ ys)) h in
+    let off : same_code m.0 x.0 ≡ false = among xs later in
+    ap (λ b. cond b (Some (entered x).1) (standing_among m.0 (map entered xs))) off ∙ not_before xs m ys (no_right (list_any (λ n. same_code n.0 x.0) (xs ++ m ∷ ys)) _ h)
+  where
+    among : (zs : Opening) → list_any (λ n. same_code n.0 x.0) (zs ++ m ∷ ys) ≡ false → same_code m.0 x.0 ≡ false
+    among [] q = no_left _ _ q
+    among (z ∷ zs) q = among zs (no_right (same_code z.0 x.0) _ q)
+
+split_here : (xs : Opening) (i : ℕ) (m : List ℕ × ℕ) → i < length xs → m ≡ get_or xs i m → xs ≡ take i xs ++ (m ∷ drop (suc i) xs)
+split_here [] i m h at = absurd (omega arith)
+split_here (x ∷ xs) zero m h at = ap (λ (y : List ℕ × ℕ). y ∷ xs) (sym at)
+split_here (x ∷ xs) (suc i) m h at = ap (λ (l : Opening). x ∷ l) (split_here xs i m (omega arith) at)
+
+pub fresh : (members : Opening) (i : ℕ) (m : List ℕ × ℕ) → has_duplicate members ≡ false → i < length members → m ≡ get_or members i m → standing_among m.0 (map entered (take i members)) ≡ None
+fresh members i m none within at =
+    let split : members ≡ take i members ++ (m ∷ drop (suc i) members) = split_here members i m within at in
+    not_before (take i members) m (drop (suc i) members) (ap has_duplicate (sym split) ∙ none)
+
+start_seated : (opening : Opening) (c : ℕ) → seated (map entered opening) c ≡ 0
+start_seated [] c = refl
+start_seated (m ∷ ms) c = omega (arith, start_seated ms c, sum_by-cons (λ (e : Entry). sits_as c e.1) (entered m) (map entered ms))
+
+start_total : (opening : Opening) → sum_by (λ (e : Entry). counted e.1) (map entered opening) ≡ sum_by (λ (m : List ℕ × ℕ). m.1) opening
+start_total [] = refl
+start_total (m ∷ ms) = omega (arith, start_total ms, sum_by-cons (λ (e : Entry). counted e.1) (entered m) (map entered ms), sum_by-cons (λ (m : List ℕ × ℕ). m.1) m ms)
+
+pub start_small : (opening : Opening) → AllByRecursion (λ m. m.1 ≤ 2 ^ 40) opening → AllByRecursion (λ (e : Entry). e.1.votes ≤ 2 ^ 40) (map entered opening)
+start_small [] h = tt
+start_small (m ∷ ms) h = (h.0, start_small ms h.1)
+
+pub IsKept-start : (opening : Opening) (limit : ℕ) (es : List Entry) (words counts : List ℕ) (sum : ℕ) → es ≡ map entered opening → length opening ≤ 256 → limit ≤ 1000000
+    → ((k : ℕ) → slice_index words k ≡ 0) → ((k : ℕ) → slice_index counts k ≡ 0) → sum ≡ sum_by (λ (m : List ℕ × ℕ). m.1) opening → All (λ (m : List ℕ × ℕ). m.1 ≤ 2 ^ 40) opening
+    → IsKept (record { opening = opening; journal = []; limit = limit }) es words counts sum
+IsKept-start opening limit es words counts sum made few small words_say counts_say sum_says votes =
+    record {
+      legal = refl;
+      within = omega arith;
+      small_limit = small;
+      mirrors = record {
+        same_members = made;
+        each_word = λ k h. words_say k;
+        each_count = λ k h. counts_say k ∙ sym (start_seated opening (k + 1));
+        same_total = sum_says ∙ sym (start_total opening);
+        closed_empty = λ c h. start_seated opening c;
+        few = subst (λ (l : List Entry). length l ≤ 256) (sym made) (rw length-map few);
+        small = subst (λ (l : List Entry). All (λ m. m.1.votes ≤ 2 ^ 40) l) (sym made) (All-from_recursion _ _ (start_small opening (recursion_from_All _ _ votes)));
+      };
+    }

@@ -1,0 +1,49 @@
+-- Worked cases, computed by the definitions.
+use Rattle.std.proofs.Common.{◌≡◌, ℕ, List, [], ◌∷◌, ◌++◌, Some, None, refl, replicate}
+use Rattle.council_core.specs.Rolls.{Opening, sheet, cast, roll_after}
+use Rattle.council_core.specs.Sequential.{Sequential, submit, publish, read, accepted, refused, published, reading, replies_of}
+use Rattle.council_core.specs.declared.refusals.Refusal.TheVariants.{ChairOpen, JournalFull, MemberSuspended, ChairHasMembers, ChairNotOpen}
+use Rattle.council_core.specs.declared.commands.Command.{Command}
+use Rattle.council_core.specs.declared.commands.Command.TheVariants.{Open, Close, Move, SetVotes, Suspend, Restore}
+
+abbrev AAA : List ℕ
+AAA = 65 ∷ 65 ∷ 65 ∷ []
+
+abbrev BBB : List ℕ
+BBB = 66 ∷ 66 ∷ 66 ∷ []
+
+abbrev CCC : List ℕ
+CCC = 67 ∷ 67 ∷ 67 ∷ []
+
+abbrev three_members : Opening
+three_members = (AAA, 50) ∷ (BBB, 49) ∷ (CCC, 1) ∷ []
+
+abbrev one_in_each_chair : List Command
+one_in_each_chair = Open 1 ∷ Open 2 ∷ Open 3 ∷ Move AAA (Some 1) ∷ Move BBB (Some 2) ∷ Move CCC (Some 3) ∷ []
+
+pub three_chairs : sheet three_members one_in_each_chair ≡ 51 ∷ 50 ∷ 2 ∷ replicate 29 0 ++ 100 ∷ 6 ∷ []
+three_chairs = refl
+
+pub three_chairs-cast : cast (roll_after three_members one_in_each_chair) ≡ 100
+three_chairs-cast = refl
+
+pub members_without_a_chair : sheet ((AAA, 60) ∷ (BBB, 40) ∷ []) (Open 1 ∷ Move AAA (Some 1) ∷ []) ≡ 61 ∷ replicate 31 0 ++ 100 ∷ 2 ∷ []
+members_without_a_chair = refl
+
+pub all_suspended : sheet ((AAA, 10) ∷ []) (Open 1 ∷ Move AAA (Some 1) ∷ Suspend AAA ∷ []) ≡ 1 ∷ replicate 31 0 ++ 0 ∷ 3 ∷ []
+all_suspended = refl
+
+abbrev start : ℕ → Sequential
+start limit = record { ledger = record { opening = (AAA, 10) ∷ []; journal = []; limit = limit }; published = 0 }
+
+pub votes_of_a_suspended_member : replies_of (start 1000000) (submit (Open 1) ∷ submit (Move AAA (Some 1)) ∷ submit (Suspend AAA) ∷ submit (SetVotes AAA 25) ∷ submit (Move AAA None) ∷ submit (Restore AAA) ∷ publish ∷ read ∷ [])
+    ≡ accepted 1 ∷ accepted 2 ∷ accepted 3 ∷ accepted 4 ∷ refused MemberSuspended ∷ accepted 5 ∷ published 5 ∷ reading (26 ∷ replicate 31 0 ++ 25 ∷ 5 ∷ []) ∷ []
+votes_of_a_suspended_member = refl
+
+pub close_with_suspended_members : replies_of (start 1000000) (submit (Close 1) ∷ submit (Open 1) ∷ submit (Move AAA (Some 1)) ∷ submit (Suspend AAA) ∷ submit (Close 1) ∷ submit (Restore AAA) ∷ submit (Move AAA None) ∷ submit (Close 1) ∷ [])
+    ≡ refused ChairNotOpen ∷ accepted 1 ∷ accepted 2 ∷ accepted 3 ∷ refused ChairHasMembers ∷ accepted 4 ∷ accepted 5 ∷ accepted 6 ∷ []
+close_with_suspended_members = refl
+
+pub journal_full : replies_of (start 2) (submit (Open 1) ∷ submit (Open 2) ∷ submit (Open 3) ∷ submit (Open 1) ∷ [])
+    ≡ accepted 1 ∷ accepted 2 ∷ refused JournalFull ∷ refused ChairOpen ∷ []
+journal_full = refl

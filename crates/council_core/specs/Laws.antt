@@ -1,0 +1,58 @@
+-- Laws that tie the definitions to one another.
+use Rattle.std.specs.Prelude.{◌≡◌, ℕ, ◌^◌, ◌≤◌, ◌++◌, ◌∷◌, [], Bool, false, List, length, map, filter, take, count_by, All, nat_eq}
+use Rattle.std.specs.List.{IsDistinct}
+use Rattle.std.specs.Cmp.Lexicographic.{pointwise}
+use Rattle.council_core.specs.Coalitions.{subsets}
+use Rattle.council_core.specs.Ledgers.{has_duplicate}
+use Rattle.council_core.specs.Rolls.{Opening, Roll, IsLegal, cast, sheet, words_of}
+use Rattle.council_core.specs.Sheets.{Chair, IsSheet, cast_of, front_of, open_chairs, weight_of}
+use Rattle.council_core.specs.declared.commands.Command.{Command}
+use Rattle.council_core.specs.declared.commands.Command.TheVariants.{Open, Close, Move, SetVotes, Suspend, Restore}
+
+-- the cast of a roll, by its members, is the cast that its sheet shows
+abbrev pub CastLaw : Type 0
+CastLaw = (roll : Roll) (front : ℕ) → cast roll ≡ cast_of (words_of roll front)
+
+-- the weights of the open chairs of a sheet add up to its cast
+abbrev pub WeightsLaw : Type 0
+WeightsLaw = (words : List ℕ) → weight_of (open_chairs words) ≡ cast_of words
+
+-- n chairs have 2^n coalitions
+abbrev pub CoalitionsLaw : Type 0
+CoalitionsLaw = (chairs : List Chair) → length (subsets chairs) ≡ 2 ^ length chairs
+
+-- whether two sets have the same chairs, listed in the same order
+abbrev pub same_set : List Chair → List Chair → Bool
+same_set s t = pointwise (λ a b. nat_eq a.0 b.0) s t
+
+-- whichever chairs are chosen, just one coalition is the set of these
+abbrev pub EachOnceLaw : Type 0
+EachOnceLaw = (chairs : List Chair) → IsDistinct nat_eq (map (λ c. c.0) chairs) → (chosen : Chair → Bool) → count_by (same_set (filter chosen chairs)) (subsets chairs) ≡ 1
+
+-- one more command leaves the sheet of every list of first commands
+abbrev pub PrefixLaw : Type 0
+PrefixLaw = (opening : Opening) (commands : List Command) (command : Command) (front : ℕ) → front ≤ length commands
+    → sheet opening (take front (commands ++ command ∷ [])) ≡ sheet opening (take front commands)
+
+-- the front of the sheet of the first commands is how many they are
+abbrev pub FrontLaw : Type 0
+FrontLaw = (opening : Opening) (commands : List Command) (front : ℕ) → front ≤ length commands → front_of (sheet opening (take front commands)) ≡ front
+
+-- members that a register can start with: at most 256, no code twice, and votes in range
+pub record IsOpening (opening : Opening) : Type 0 where
+  pub few : length opening ≤ 256
+  pub apart : has_duplicate opening ≡ false
+  pub small : All (λ m. m.1 ≤ 2 ^ 40) opening
+
+-- the votes that a command sets, where it sets any, are in range
+abbrev pub SetsInRange : Command → Type 0
+SetsInRange (Open c) = Unit {0}
+SetsInRange (Close c) = Unit {0}
+SetsInRange (Move code to) = Unit {0}
+SetsInRange (SetVotes code n) = n ≤ 2 ^ 40
+SetsInRange (Suspend code) = Unit {0}
+SetsInRange (Restore code) = Unit {0}
+
+-- the sheet of a legal list of commands has the numbers of a sheet
+abbrev pub SheetLaw : Type 0
+SheetLaw = (opening : Opening) (commands : List Command) → IsOpening opening → All SetsInRange commands → IsLegal opening commands → IsSheet (sheet opening commands)

@@ -1,0 +1,47 @@
+-- What a contract sees of a register: the members it began with, the commands accepted, and their limit.
+use Rattle.std.specs.Prelude.{ℕ, ◌==◌, if◌then◌else◌, List, [], ◌∷◌, ◌++◌, length, Result, Ok, Err, ⊤, Bool, false, ◌||◌, nat_lt}
+use Rattle.std.specs.List.{list_any}
+use Rattle.council_core.specs.Rolls.{Roll, Opening, roll_after, same_code, step, sheet}
+use Rattle.council_core.specs.declared.refusals.Refusal.{Refusal}
+use Rattle.council_core.specs.declared.refusals.Refusal.TheVariants.{JournalFull, BadLimit, TooManyMembers, DuplicateMember}
+use Rattle.council_core.specs.declared.commands.Command.{Command}
+
+pub record Ledger : Type 0 where
+  pub opening : Opening
+  pub journal : List Command
+  pub limit : ℕ
+
+abbrev pub roll_of : Ledger → Roll
+roll_of l = roll_after l.opening l.journal
+
+abbrev pub sheet_of : Ledger → List ℕ
+sheet_of l = sheet l.opening l.journal
+
+-- one more command fits
+abbrev pub room_of : Ledger → Result ⊤ Refusal
+room_of l = if length l.journal == l.limit then Err JournalFull else Ok tt
+
+-- the refusal of the step, else of the journal
+abbrev pub verdict : Result Roll Refusal → Result ⊤ Refusal → Result ⊤ Refusal
+verdict (Ok r) room = room
+verdict (Err e) room = Err e
+
+-- what is answered to a command, want of memory aside: the refusal of the step, else that the journal is full
+abbrev pub verdict_of : Ledger → Command → Result ⊤ Refusal
+verdict_of l command = verdict (step (roll_of l) command) (room_of l)
+
+-- with one more command accepted
+abbrev pub appended : Ledger → Command → Ledger
+appended l command = record l { journal = l.journal ++ command ∷ [] }
+
+-- whether two members have one code
+abbrev pub has_duplicate : Opening → Bool
+has_duplicate [] = false
+has_duplicate (m ∷ ms) = list_any (λ n. same_code n.0 m.0) ms || has_duplicate ms
+
+-- what is answered to a start, want of memory aside
+abbrev pub start_verdict : Opening → ℕ → Result ⊤ Refusal
+start_verdict opening limit =
+    if limit == 0 || nat_lt 1000000 limit then Err BadLimit
+    else (if nat_lt 256 (length opening) then Err TooManyMembers
+    else (if has_duplicate opening then Err DuplicateMember else Ok tt))

@@ -1,0 +1,11 @@
+pub mod Codes
+pub mod Refusals
+pub mod Rolls
+pub mod Ledgers
+pub mod Sequential
+pub mod Sheets
+pub mod Coalitions
+pub mod Registers
+pub mod Verdicts
+pub mod Members
+pub mod Laws

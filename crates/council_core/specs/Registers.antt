@@ -1,0 +1,35 @@
+-- What a register keeps beside its journal, and that it is what the roll says.
+use Rattle.std.specs.Prelude.{◌≡◌, ℕ, ◌+◌, ◌^◌, ◌≤◌, ◌<◌, true, false, if◌then◌else◌, List, length, sum_by, All, slice_index, Some}
+use Rattle.council_core.specs.Rolls.{Roll, Entry, chair_word, sits_in, total, is_open, can_receive, standing_among, step, update, all_accepted, opening_roll}
+use Rattle.council_core.specs.declared.commands.Command.{Command}
+use Rattle.council_core.specs.declared.commands.Standing.{Standing}
+use Rattle.council_core.specs.Ledgers.{Ledger, roll_of}
+
+-- 1 for a member of the chair
+abbrev pub sits_as : ℕ → Standing → ℕ
+sits_as c s = if sits_in c s then 1 else 0
+
+-- how many members sit in a chair, suspended or not
+abbrev pub seated : List Entry → ℕ → ℕ
+seated members c = sum_by (λ m. sits_as c m.1) members
+
+pub record Mirrors (roll : Roll) (entries : List Entry) (words counts : List ℕ) (sum : ℕ) : Type 0 where
+  pub same_members : entries ≡ roll.members
+  pub each_word : (k : ℕ) → k < 32 → slice_index words k ≡ chair_word roll (k + 1)
+  pub each_count : (k : ℕ) → k < 32 → slice_index counts k ≡ seated roll.members (k + 1)
+  pub same_total : sum ≡ total roll
+  pub closed_empty : (c : ℕ) → is_open roll c ≡ false → seated roll.members c ≡ 0
+  pub few : length entries ≤ 256
+  pub small : All (λ m. m.1.votes ≤ 2 ^ 40) entries
+
+pub record IsKept (ledger : Ledger) (entries : List Entry) (words counts : List ℕ) (sum : ℕ) : Type 0 where
+  pub legal : all_accepted (opening_roll ledger.opening) ledger.journal ≡ true
+  pub within : length ledger.journal ≤ ledger.limit
+  pub small_limit : ledger.limit ≤ 1000000
+  pub mirrors : Mirrors (roll_of ledger) entries words counts sum
+
+-- the command gives the member of that code a new standing, and nothing else
+pub record IsChange (roll : Roll) (command : Command) (code : List ℕ) (old new : Standing) : Type 0 where
+  pub known : standing_among code roll.members ≡ Some old
+  pub seat : can_receive roll new.chair ≡ true
+  pub effect : step roll command ≡ update roll code new

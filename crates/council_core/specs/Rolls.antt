@@ -1,0 +1,156 @@
+-- The roll: members in order of entry, and the open chairs. What a command makes of it.
+use Rattle.std.specs.Prelude.{ℕ, ◌+◌, ◌≤◌, ◌==◌, Bool, true, false, not, ◌&&◌, if◌then◌else◌, List, [], ◌∷◌, ◌++◌, length, map, filter, sum_by, Option, None, Some, Result, Ok, Err, is_ok, IsTrue, nat_eq}
+use Rattle.std.specs.List.{list_any, range_with_len}
+use Rattle.std.specs.Option.{option_map_or}
+use Rattle.std.specs.Map.{lookup}
+use Rattle.std.specs.Cmp.Lexicographic.{pointwise}
+use Rattle.std.specs.Result.{result_unwrap_or}
+use Rattle.council_core.specs.declared.refusals.Refusal.{Refusal}
+use Rattle.council_core.specs.declared.refusals.Refusal.TheVariants.{ChairOpen, ChairNotOpen, ChairHasMembers, UnknownMember, MemberSuspended, AlreadyThere, AlreadySuspended, NotSuspended}
+use Rattle.council_core.specs.declared.commands.Command.{Command}
+use Rattle.council_core.specs.declared.commands.Command.TheVariants.{Open, Close, Move, SetVotes, Suspend, Restore}
+use Rattle.council_core.specs.declared.commands.Standing.{Standing}
+
+-- a member's entry: its code, and its votes, chair and suspension
+abbrev pub Entry : Type 0
+Entry = List ℕ × Standing
+
+-- code for code, letter by letter
+abbrev pub same_code : List ℕ → List ℕ → Bool
+same_code a b = pointwise nat_eq a b
+
+abbrev pub same_chair : Option ℕ → Option ℕ → Bool
+same_chair None None = true
+same_chair None (Some d) = false
+same_chair (Some c) None = false
+same_chair (Some c) (Some d) = c == d
+
+pub record Roll : Type 0 where
+  pub members : List Entry
+  pub open_chairs : List ℕ
+
+-- the members that a register begins with, and their votes
+abbrev pub Opening : Type 0
+Opening = List (List ℕ × ℕ)
+
+-- a member at the beginning: in no chair, not suspended
+abbrev pub entered : List ℕ × ℕ → Entry
+entered m = (m.0, record { votes = m.1; chair = None; suspended = false })
+
+abbrev pub opening_roll : Opening → Roll
+opening_roll opening = record { members = map entered opening; open_chairs = [] }
+
+abbrev pub is_open : Roll → ℕ → Bool
+is_open r c = list_any (λ d. c == d) r.open_chairs
+
+-- a member of the chair, suspended or not
+abbrev pub sits_in : ℕ → Standing → Bool
+sits_in c s = same_chair s.chair (Some c)
+
+abbrev pub has_members : Roll → ℕ → Bool
+has_members r c = list_any (λ m. sits_in c m.1) r.members
+
+-- the standing at a code, if there is a member of that code
+abbrev pub standing_among : List ℕ → List Entry → Option Standing
+standing_among code ms = lookup (same_code code) ms
+
+-- the members, with a new standing for one
+abbrev pub with_standing : List ℕ → Standing → List Entry → List Entry
+with_standing code s [] = []
+with_standing code s (m ∷ ms) = if same_code code m.0 then (m.0, s) ∷ ms else m ∷ with_standing code s ms
+
+abbrev pub update : Roll → List ℕ → Standing → Result Roll Refusal
+update r code s = Ok (record r { members = with_standing code s r.members })
+
+abbrev pub open_chair : Roll → ℕ → Result Roll Refusal
+open_chair r c = if is_open r c then Err ChairOpen else Ok (record r { open_chairs = c ∷ r.open_chairs })
+
+abbrev pub closed : Roll → ℕ → Roll
+closed r c = record r { open_chairs = filter (λ d. not (c == d)) r.open_chairs }
+
+abbrev pub close_chair : Roll → ℕ → Result Roll Refusal
+close_chair r c =
+    if is_open r c
+    then (if has_members r c then Err ChairHasMembers else Ok (closed r c))
+    else Err ChairNotOpen
+
+-- no chair, or an open one
+abbrev pub can_receive : Roll → Option ℕ → Bool
+can_receive r to = option_map_or (is_open r) to true
+
+abbrev pub move_member : Roll → List ℕ → Option ℕ → Standing → Result Roll Refusal
+move_member r code to s =
+    if s.suspended then Err MemberSuspended
+    else (if can_receive r to
+    then (if same_chair s.chair to then Err AlreadyThere else update r code (record s { chair = to }))
+    else Err ChairNotOpen)
+
+abbrev pub suspend_member : Roll → List ℕ → Standing → Result Roll Refusal
+suspend_member r code s = if s.suspended then Err AlreadySuspended else update r code (record s { suspended = true })
+
+abbrev pub restore_member : Roll → List ℕ → Standing → Result Roll Refusal
+restore_member r code s = if s.suspended then update r code (record s { suspended = false }) else Err NotSuspended
+
+-- what is done with the member of that code, if there is one
+abbrev pub with_member : Roll → List ℕ → (Standing → Result Roll Refusal) → Result Roll Refusal
+with_member r code f = option_map_or f (standing_among code r.members) (Err UnknownMember)
+
+-- the next roll, or the first refusal
+abbrev pub step : Roll → Command → Result Roll Refusal
+step r (Open c) = open_chair r c
+step r (Close c) = close_chair r c
+step r (Move code to) = with_member r code (move_member r code to)
+step r (SetVotes code n) = with_member r code (λ s. update r code (record s { votes = n }))
+step r (Suspend code) = with_member r code (suspend_member r code)
+step r (Restore code) = with_member r code (restore_member r code)
+
+-- the roll after a command; a refused one leaves it
+abbrev pub after : Roll → Command → Roll
+after r command = result_unwrap_or (step r command) r
+
+-- the roll after each command in turn
+abbrev pub fold_from : Roll → List Command → Roll
+fold_from r [] = r
+fold_from r (command ∷ rest) = fold_from (after r command) rest
+
+abbrev pub roll_after : Opening → List Command → Roll
+roll_after opening commands = fold_from (opening_roll opening) commands
+
+abbrev pub all_accepted : Roll → List Command → Bool
+all_accepted r [] = true
+all_accepted r (command ∷ rest) = is_ok (step r command) && all_accepted (after r command) rest
+
+-- each command is accepted in its turn, and there are no more than a million
+abbrev pub IsLegal : Opening → List Command → Type 0
+IsLegal opening commands = IsTrue (all_accepted (opening_roll opening) commands) × (length commands ≤ 1000000)
+
+-- a member's votes, unless it is suspended
+abbrev pub counted : Standing → ℕ
+counted s = if s.suspended then 0 else s.votes
+
+abbrev pub votes_in : ℕ → Standing → ℕ
+votes_in c s = if sits_in c s then counted s else 0
+
+abbrev pub weight : Roll → ℕ → ℕ
+weight r c = sum_by (λ m. votes_in c m.1) r.members
+
+abbrev pub total : Roll → ℕ
+total r = sum_by (λ m. counted m.1) r.members
+
+-- the numbers of all chairs
+abbrev pub chair_numbers : List ℕ
+chair_numbers = range_with_len 1 32
+
+abbrev pub cast : Roll → ℕ
+cast r = sum_by (λ c. if is_open r c then weight r c else 0) chair_numbers
+
+-- 0 for a closed chair, else its weight and one
+abbrev pub chair_word : Roll → ℕ → ℕ
+chair_word r c = if is_open r c then weight r c + 1 else 0
+
+-- the 34 numbers of a roll after so many commands
+abbrev pub words_of : Roll → ℕ → List ℕ
+words_of r front = map (chair_word r) chair_numbers ++ total r ∷ front ∷ []
+
+abbrev pub sheet : Opening → List Command → List ℕ
+sheet opening commands = words_of (roll_after opening commands) (length commands)

@@ -1,0 +1,75 @@
+-- The sequential register, and what the records of readers may hold.
+use Rattle.std.specs.Prelude.{◌≡◌, ℕ, ◌+◌, ◌≤◌, List, [], ◌∷◌, length, take, Result, Ok, Err, ⊤, Contains, All}
+use Rattle.std.specs.List.Sorted.{IsNonDecreasing}
+use Rattle.council_core.specs.Rolls.{Opening, IsLegal, sheet}
+use Rattle.council_core.specs.Sheets.{front_of}
+use Rattle.council_core.specs.Ledgers.{Ledger, verdict_of, appended}
+use Rattle.council_core.specs.declared.refusals.Refusal.{Refusal}
+use Rattle.council_core.specs.declared.commands.Command.{Command}
+
+pub record Sequential : Type 0 where
+  pub ledger : Ledger
+  pub published : ℕ
+
+pub data Call : Type 0 where
+  submit : Command → Call
+  publish : Call
+  read : Call
+
+pub data Reply : Type 0 where
+  accepted : ℕ → Reply
+  refused : Refusal → Reply
+  published : ℕ → Reply
+  reading : List ℕ → Reply
+
+-- the sheet of the commands published
+abbrev pub shown : Sequential → List ℕ
+shown s = sheet s.ledger.opening (take s.published s.ledger.journal)
+
+-- a refused command changes nothing
+abbrev pub submitted : Sequential → Command → Result ⊤ Refusal → Sequential × Reply
+submitted s command (Ok u) = (record s { ledger = appended s.ledger command }, accepted (length s.ledger.journal + 1))
+submitted s command (Err e) = (s, refused e)
+
+-- the next state and the reply
+abbrev pub respond : Sequential → Call → Sequential × Reply
+respond s (submit command) =
+    submitted s command (verdict_of s.ledger command)
+respond s publish = (record s { published = length s.ledger.journal }, published (length s.ledger.journal))
+respond s read = (s, reading (shown s))
+
+-- the replies to calls in turn
+abbrev pub replies_of : Sequential → List Call → List Reply
+replies_of s [] = []
+replies_of s (call ∷ calls) = (respond s call).1 ∷ replies_of (respond s call).0 calls
+
+-- the state after calls in turn
+abbrev pub state_after : Sequential → List Call → Sequential
+state_after s [] = s
+state_after s (call ∷ calls) = state_after (respond s call).0 calls
+
+-- ascending, and each the length of a list of first commands
+abbrev pub AreCuts : List Command → List ℕ → Type 0
+AreCuts commands cuts = IsNonDecreasing cuts × All (λ cut. cut ≤ length commands) cuts
+
+-- the sheet of one of the cuts
+abbrev pub IsCutSheet : Opening → List Command → List ℕ → List ℕ → Type 0
+IsCutSheet opening commands cuts words = (cut : ℕ) × Contains cuts cut × (words ≡ sheet opening (take cut commands))
+
+-- readings, oldest first: each is the sheet of a cut, and none has a front below the one before
+abbrev pub IsRecordFrom : Opening → List Command → List ℕ → ℕ → List (List ℕ) → Type 0
+IsRecordFrom opening commands cuts low [] = Unit {0}
+IsRecordFrom opening commands cuts low (words ∷ rest) =
+    IsCutSheet opening commands cuts words × (low ≤ front_of words) × IsRecordFrom opening commands cuts (front_of words) rest
+
+-- the readings of each reader are such a record
+abbrev pub AreRecords : Opening → List Command → List ℕ → List (List (List ℕ)) → Type 0
+AreRecords opening commands cuts [] = Unit {0}
+AreRecords opening commands cuts (sheets ∷ rest) =
+    IsRecordFrom opening commands cuts 0 sheets × AreRecords opening commands cuts rest
+
+-- legal records: a legal list of commands, cuts of it in order, and each reader's readings of sheets of cuts
+pub record AreLegalRecords (opening : Opening) (commands : List Command) (cuts : List ℕ) (records : List (List (List ℕ))) : Type 0 where
+  pub legal : IsLegal opening commands
+  pub in_order : AreCuts commands cuts
+  pub readings : AreRecords opening commands cuts records

@@ -1,0 +1,42 @@
+-- A sheet's 34 numbers: a word for each chair, the total, and the front.
+use Rattle.std.specs.Prelude.{ℕ, ◌+◌, ◌-◌, ◌^◌, ◌≤◌, ◌<◌, ◌==◌, Option, None, Some, if◌then◌else◌, List, [], ◌∷◌, sum_by, take, slice_index}
+
+-- an open chair: its number and its weight
+abbrev pub Chair : Type 0
+Chair = ℕ × ℕ
+
+-- the open chairs among the words of the chairs from c on
+abbrev pub open_from : ℕ → List ℕ → List Chair
+open_from c [] = []
+open_from c (word ∷ rest) = if word == 0 then open_from (c + 1) rest else (c, word - 1) ∷ open_from (c + 1) rest
+
+-- the open chairs of a sheet, by number
+abbrev pub open_chairs : List ℕ → List Chair
+open_chairs words = open_from 1 (take 32 words)
+
+-- the weight of a set of chairs
+abbrev pub weight_of : List Chair → ℕ
+weight_of chairs = sum_by (λ c. c.1) chairs
+
+-- what a word says of its chair's weight
+abbrev pub weight_in : ℕ → ℕ
+weight_in word = word - 1
+
+-- the votes of the open chairs
+abbrev pub cast_of : List ℕ → ℕ
+cast_of words = sum_by weight_in (take 32 words)
+
+abbrev pub total_of : List ℕ → ℕ
+total_of words = slice_index words 32
+
+abbrev pub front_of : List ℕ → ℕ
+front_of words = slice_index words 33
+
+abbrev pub weight_word : List ℕ → ℕ → Option ℕ
+weight_word words c = let word = slice_index words (c - 1) in if word == 0 then None else Some (word - 1)
+
+pub record IsSheet (words : List ℕ) : Type 0 where
+  pub chairs : (k : ℕ) → k < 32 → slice_index words k ≤ 2 ^ 48 + 1
+  pub cast : cast_of words ≤ total_of words
+  pub total : total_of words ≤ 2 ^ 48
+  pub front : front_of words ≤ 1000000

@@ -1,0 +1,38 @@
+//! What changes the register, and what it knows of a member.
+use crate::values::{ChairId, MemberCode, Votes};
+
+/// A change of the register. `Register::apply` says which are refused, and why.
+#[derive(Clone, Copy)]
+pub enum Command {
+    /// Opens a chair that is closed.
+    Open(ChairId),
+    /// Closes an open chair that has no members, suspended ones counted.
+    Close(ChairId),
+    /// Seats a member in an open chair, or in none: its constituency from then on (Article XII,
+    /// Section 3(i)).
+    Move(MemberCode, Option<ChairId>),
+    /// Gives a member, suspended or not, a number of votes.
+    SetVotes(MemberCode, Votes),
+    /// Suspends a member's voting rights: its votes are neither cast nor counted in the total
+    /// voting power, and it keeps its place in its chair (Schedule L).
+    Suspend(MemberCode),
+    /// Ends a suspension: the member's votes count again where it sits.
+    Restore(MemberCode),
+}
+
+/// What the register knows of a member beside its code.
+#[derive(Clone, Copy)]
+pub struct Standing {
+    pub votes: Votes,
+    pub chair: Option<ChairId>,
+    pub suspended: bool,
+}
+
+/// A member as it stands after the commands accepted.
+#[derive(Clone, Copy)]
+pub struct MemberRow {
+    pub code: MemberCode,
+    pub votes: Votes,
+    pub chair: Option<ChairId>,
+    pub suspended: bool,
+}

@@ -1,0 +1,20 @@
+//! The register of members, their votes and the chairs that cast them.
+#![tactic(auto)]
+
+mod commands;
+mod laws;
+mod refusals;
+mod registers;
+mod sheets;
+mod stores;
+mod tallies;
+#[cfg(test)]
+mod tests;
+mod values;
+
+pub use commands::{Command, MemberRow, Standing};
+pub use laws::{cast_law, coalitions_law, prefix_law, sheet_law};
+pub use refusals::Refusal;
+pub use registers::Register;
+pub use sheets::Sheet;
+pub use values::{ChairId, MemberCode, Votes};

@@ -1,0 +1,144 @@
+//! The numbers and codes that commands speak of.
+ghost use Rattle.std.specs.Prelude.{◌≡◌, ◌≤◌, ◌<◌, ◌↔◌, ◌^◌, ℕ, length, List, All, IsOk, IfOk, IsOkUnless, IsErrOf};
+ghost use Rattle.council_core.specs.declared.refusals.Refusal.TheVariants.{BadChair, BadMember, VotesTooLarge};
+ghost use Rattle.council_core.specs.Codes.{IsCode};
+
+use crate::refusals::Refusal;
+use std::marker::Model;
+
+/// A chair: the Executive Director, by number from 1 to 32, who casts the votes of its members
+/// as one block (Articles of Agreement, Article XII, Section 3(i)).
+#[derive(Clone, Copy, PartialEq, Eq)]
+pub struct ChairId {
+    number: u8,
+}
+
+impl Model for ChairId {
+    ghost use Rattle.std.specs.Prelude.{ℕ, ◌≤◌};
+
+    ghost Value = { ℕ };
+
+    ghost view = { λ c. c.number };
+
+    ghost invariant = { λ c. (1 ≤ c.number) × (c.number ≤ 32) };
+
+    ghost inverse = { λ n. record { number = n } };
+}
+
+impl Default for ChairId {
+    /// Chair 1.
+    fn default() -> ChairId
+        ensures { result ≡ 1 }
+    {
+        ChairId { number: 1 }
+    }
+}
+
+impl ChairId {
+    /// The chair of a number. A number that is 0 or above 32 is refused as `BadChair`.
+    pub fn new(number: u8) -> Result<ChairId, Refusal>
+        ensures in_range { IsOk result ↔ ((1 ≤ number) × (number ≤ 32)) }
+        ensures kept { IfOk result (λ c. c ≡ number) }
+        ensures refused { IsOkUnless result BadChair }
+    {
+        if 1 <= number && number <= 32 {
+            Ok(ChairId { number })
+        } else {
+            Err(Refusal::BadChair)
+        }
+    }
+
+    /// Its number, from 1 to 32.
+    pub fn number(&self) -> u8
+        ensures same { result ≡ self.now }
+        ensures low { 1 ≤ result }
+        ensures high { result ≤ 32 }
+    {
+        self.number
+    }
+}
+
+/// The votes of one member, basic and quota-based votes together, from 0 to 2^40 votes (Articles
+/// of Agreement, Article XII, Section 5(a)).
+#[derive(Clone, Copy, PartialEq, Eq)]
+pub struct Votes {
+    count: u64,
+}
+
+impl Model for Votes {
+    ghost use Rattle.std.specs.Prelude.{ℕ, ◌≤◌, ◌^◌};
+
+    ghost Value = { ℕ };
+
+    ghost view = { λ v. v.count };
+
+    ghost invariant = { λ v. v.count ≤ 2 ^ 40 };
+
+    ghost inverse = { λ n. record { count = n } };
+}
+
+impl Votes {
+    /// So many votes. A number above 2^40 is refused as `VotesTooLarge`.
+    pub fn new(number: u64) -> Result<Votes, Refusal>
+        ensures in_range { IsOk result ↔ (number ≤ 2 ^ 40) }
+        ensures kept { IfOk result (λ v. v ≡ number) }
+        ensures refused { IsOkUnless result VotesTooLarge }
+    {
+        if number <= 1 << 40 {
+            Ok(Votes { count: number })
+        } else {
+            Err(Refusal::VotesTooLarge)
+        }
+    }
+
+    /// How many votes, from 0 to 2^40.
+    pub fn number(&self) -> u64
+        ensures same { result ≡ self.now }
+        ensures high { result ≤ 2 ^ 40 }
+    {
+        self.count
+    }
+}
+
+/// A member, by a code of three ASCII capitals.
+#[derive(Clone, Copy, PartialEq, Eq, Hash)]
+pub struct MemberCode {
+    letters: [u8; 3],
+}
+
+impl Model for MemberCode {
+    ghost use Rattle.std.specs.Prelude.{ℕ, List};
+    ghost use Rattle.council_core.specs.Codes.{IsCode};
+
+    ghost Value = { List ℕ };
+
+    ghost view = { λ m. m.letters };
+
+    ghost invariant = { λ m. IsCode m.letters };
+
+    ghost inverse = { λ l. record { letters = l } };
+}
+
+impl MemberCode {
+    /// The member of a code. A text that is not just three ASCII capitals is refused as `BadMember`.
+    pub fn new(text: &[u8]) -> Result<MemberCode, Refusal>
+        ensures in_range { IsOk result ↔ IsCode text.now }
+        ensures kept { IfOk result (λ m. m ≡ text.now) }
+        ensures refused { IsOkUnless result BadMember }
+    {
+        match text {
+            [a @ b'A'..=b'Z', b @ b'A'..=b'Z', c @ b'A'..=b'Z'] => Ok(MemberCode {
+                letters: [*a, *b, *c],
+            }),
+            _ => Err(Refusal::BadMember),
+        }
+    }
+
+    /// The three letters of its code.
+    pub fn letters(&self) -> [u8; 3]
+        ensures same { result ≡ self.now }
+        ensures code { IsCode result }
+    {
+        self.letters
+    }
+}

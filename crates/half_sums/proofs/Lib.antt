@@ -1,0 +1,4 @@
+pub mod Merging
+pub mod SubsetFacts
+pub mod SetSums
+pub mod MaskLemmas

@@ -1,0 +1,38 @@
+-- Entries: the sets of a half's chairs by weight and slots, as lists of subset sums (Horowitz and Sahni 1974).
+use Rattle.std.specs.Prelude.{ℕ, ◌≡◌, ◌+◌, ◌^◌, ◌≤◌, List, [], ◌∷◌, map, bit_or, length, refl}
+use Rattle.std.specs.List.{All}
+use Rattle.std.specs.List.Sorted.{IsPermutation, IsNonDecreasingBy}
+use Rattle.half_sums.specs.declared.entry.Entry.{Entry}
+use Rattle.council_core.specs.Sheets.{weight_of}
+use Rattle.council_core.specs.Coalitions.{subsets}
+use Rattle.half_sums.specs.Masks.{mask_of}
+
+-- a set of chairs, each a slot and a weight, by its weight and its slots
+abbrev pub entry_of : List (ℕ × ℕ) → Entry
+entry_of s = record { sum = weight_of s; mask = mask_of s }
+
+-- an entry for each set of the chairs
+abbrev pub entries_of : List (ℕ × ℕ) → List Entry
+entries_of chairs = map entry_of (subsets chairs)
+
+-- an entry with one more chair
+abbrev pub joined : ℕ → ℕ → Entry → Entry
+joined weight bit e = record { sum = e.sum + weight; mask = bit_or e.mask bit }
+
+-- each subset of the chairs once, ascending by sum
+pub record AreSubsets (chairs : List (ℕ × ℕ)) (entries : List Entry) : Type 0 where
+  pub each_once : IsPermutation (entries_of chairs) entries
+  pub ascending : IsNonDecreasingBy (λ e. e.sum) entries
+
+-- what every list of a half has: at most 65,536 entries, ascending, no sum above 2^48
+pub record IsHalf (entries : List Entry) : Type 0 where
+  pub few : length entries ≤ 65536
+  pub ascending : IsNonDecreasingBy (λ e. e.sum) entries
+  pub small : All (λ e. e.sum ≤ 2 ^ 48) entries
+
+-- worked example: chairs of 50, 49 and 1 votes
+abbrev pub three : List (ℕ × ℕ)
+three = (0, 50) ∷ (1, 49) ∷ (2, 1) ∷ []
+
+pub three_entries : entries_of three ≡ record { sum = 0; mask = 0 } ∷ record { sum = 1; mask = 4 } ∷ record { sum = 49; mask = 2 } ∷ record { sum = 50; mask = 6 } ∷ record { sum = 50; mask = 1 } ∷ record { sum = 51; mask = 5 } ∷ record { sum = 99; mask = 3 } ∷ record { sum = 100; mask = 7 } ∷ []
+three_entries = refl

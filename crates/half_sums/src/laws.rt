@@ -1,0 +1,7 @@
+//! A law of the lists that `HalfSums::rebuild` makes.
+ghost use Rattle.half_sums.specs.Laws.{MaskLaw};
+
+/// In the list of a half no mask stands twice, and each mask over the slots of its chairs stands exactly once.
+pub fn mask_law()
+    ensures masks { MaskLaw }
+{}

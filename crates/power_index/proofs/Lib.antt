@@ -1,0 +1,7 @@
+pub mod BoardLaw
+pub mod WorkedCases
+pub mod HalfLemmas
+pub mod Bounds
+pub mod RowLemmas
+pub mod TallyLemmas
+pub mod IndicesLemmas

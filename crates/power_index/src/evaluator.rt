@@ -1,0 +1,138 @@
+//! The sheet held, with the subset sums of its two halves.
+ghost use Rattle.std.specs.Prelude.{◌≡◌, ℕ, ◌≤◌, ◌↔◌, IfOk, IsOkUnless, IsTrue, replicate, slice_index};
+ghost use Rattle.council_core.specs.declared.refusals.Refusal.TheVariants.{OutOfMemory};
+ghost use Rattle.majority_rule.specs.Winning.{wins};
+ghost use Rattle.power_index.specs.Halves.{changed_halves};
+ghost use Rattle.power_index.specs.Counts.{AreCounts};
+ghost use Rattle.power_index.specs.Tallies.{IsTally};
+ghost use Rattle.power_index.specs.Indices.{AreIndices, indices_of};
+
+use crate::halves::refresh;
+use crate::indices::{Fraction, Indices};
+use crate::rows::{Tally, coalition_count, rows};
+use council_core::{Refusal, Sheet};
+use half_sums::HalfSums;
+use majority_rule::{Majority, quota};
+use std::alloc::Global;
+use std::marker::Model;
+use swing_walk::{Counts, count, swings};
+
+/// A sheet, and what its indices are counted from.
+///
+/// It takes memory once, in `new`: for each half a list of 65,536 entries of 16 bytes, and as much scratch. No other
+/// call takes any.
+#[derive(Drop)]
+pub struct Evaluator {
+    sheet: Sheet,
+    left: HalfSums,
+    right: HalfSums,
+}
+
+impl Model for Evaluator {
+    ghost use Rattle.std.specs.Prelude.{ℕ, List};
+    ghost use Rattle.power_index.specs.Halves.{AreHalves};
+
+    ghost Value = { List ℕ };
+
+    ghost view = { λ e. e.sheet };
+
+    ghost invariant = { λ e. AreHalves e.sheet e.left e.right };
+}
+
+impl Evaluator {
+    /// Holds the sheet of zeros: no chair open, no votes, no command accepted.
+    ///
+    /// `OutOfMemory`, the only refusal, comes where the room for the two halves was not granted. Nothing is left
+    /// behind then.
+    pub fn new(alloc: Global) -> Result<Evaluator, Refusal>
+        ensures blank { IfOk result (λ e. e ≡ replicate 34 0) }
+        ensures memory { IsOkUnless result OutOfMemory }
+    {
+        let sheet = blank();
+        let left = HalfSums::new(alloc)?;
+        let right = HalfSums::new(alloc)?;
+        Ok(Evaluator { sheet, left, right })
+    }
+
+    /// Holds another sheet, and answers in how many halves it differs from the one before: chairs 1 to 16, and
+    /// chairs 17 to 32. Only those halves are rebuilt. The total and the front belong to neither.
+    pub fn set(&mut self, sheet: &Sheet) -> u8
+        ensures changed { result ≡ changed_halves self.old sheet.now }
+        ensures held { self.new ≡ sheet.now }
+    {
+        let old = self.sheet.words();
+        let new = sheet.words();
+        let left = refresh(&mut self.left, &old, &new, 0);
+        let right = refresh(&mut self.right, &old, &new, 16);
+        self.sheet = *sheet;
+        left + right
+    }
+
+    /// The indices of the sheet held, under a majority.
+    ///
+    /// The first clause says every field by its definition, the quota as the least weight that wins. The second
+    /// gives the same as a value that computes.
+    pub fn evaluate(&self, majority: Majority) -> Indices
+        ensures exact { AreIndices majority self.now result }
+        ensures same { result ≡ indices_of majority self.now }
+    {
+        let quota = quota(majority, &self.sheet);
+        let tally = self.tally(majority, quota);
+        let chairs = self.sheet.chairs();
+        let words = self.sheet.words();
+        let coalitions = coalition_count(chairs);
+        Indices {
+            majority,
+            front: self.sheet.front(),
+            chairs,
+            quota,
+            cast: self.sheet.cast(),
+            total: self.sheet.total(),
+            winning: tally.winning,
+            coalitions,
+            act: Fraction {
+                num: tally.winning,
+                den: coalitions,
+            },
+            rows: rows(&words, &tally, chairs),
+        }
+    }
+
+    /// The winning coalitions of the sheet held, and the swings of each place, by the quota of a majority.
+    fn tally(&self, majority: Majority, quota: u64) -> Tally
+        requires quota { (w : ℕ) → (quota ≤ w) ↔ IsTrue (wins majority self.now w) }
+        ensures counts { IsTally self.now result }
+        ensures majority { result.majority ≡ majority }
+    {
+        let counts = self.counts(quota);
+        Tally {
+            majority,
+            winning: counts.winning,
+            swings: swings(&counts),
+        }
+    }
+
+    /// The pairs of the two halves that reach a quota.
+    fn counts(&self, quota: u64) -> Counts
+        ensures counts { AreCounts quota self.now result.winning (λ place. slice_index result.with_chair place) }
+    {
+        count(self.left.entries(), self.right.entries(), quota)
+    }
+
+    /// The sheet held: the last one that was set, or the sheet of zeros.
+    pub fn sheet(&self) -> Sheet
+        ensures held { result ≡ self.now }
+    {
+        self.sheet
+    }
+}
+
+/// The sheet of zeros.
+fn blank() -> Sheet
+    ensures zeros { result ≡ replicate 34 0 }
+{
+    match Sheet::from_words(&[0; 34]) {
+        Ok(sheet) => sheet,
+        Err(_) => unreachable!(),
+    }
+}

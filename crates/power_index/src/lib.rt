@@ -1,0 +1,25 @@
+//! The exact voting power indices of a sheet, counted over all coalitions of its open chairs.
+//!
+//! An [`Evaluator`] holds one sheet and the ordered subset sums of its two halves. A new sheet rebuilds only the
+//! halves whose words differ, and an evaluation is one walk over the two lists (Horowitz and Sahni 1974), so that
+//! 32 chairs cost two lists of 65,536 sums in place of 2^32 coalitions.
+#![tactic(auto)]
+
+ghost use Rattle.power_index.specs.Counts.{HalvesLaw};
+
+mod evaluator;
+mod halves;
+mod indices;
+mod rows;
+
+pub use evaluator::Evaluator;
+pub use indices::{ChairPower, Fraction, Indices};
+
+/// The law on which an evaluation stands: pairs of sets of the two halves of a sheet are the coalitions of its open
+/// chairs, each once. So their counts give omega and the swings of every place, and meet what `swings` asks for.
+pub fn halves_law()
+    ensures counts { HalvesLaw }
+{}
+
+#[cfg(test)]
+mod tests;

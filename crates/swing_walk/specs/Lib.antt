@@ -1,0 +1,4 @@
+pub mod Pairs
+pub mod Laws
+pub mod Walks
+pub mod Tallies

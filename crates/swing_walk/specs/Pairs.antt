@@ -1,0 +1,33 @@
+-- Pairs of a left and a right entry, counted one by one.
+use Rattle.std.specs.Prelude.{ℕ, ◌+◌, ◌-◌, ◌*◌, ◌==◌, Bool, List, nat_le, nat_lt, cond, ◌&&◌}
+use Rattle.std.specs.List.{sum_by, count_by}
+use Rattle.std.specs.Int.{bit_at}
+use Rattle.half_sums.specs.declared.entry.Entry.{Entry}
+
+-- how many pairs pass a test
+abbrev pub pairs_where : (Entry → Entry → Bool) → List Entry → List Entry → ℕ
+pairs_where test left right = sum_by (λ l. count_by (test l) right) left
+
+-- the sums of a pair reach the quota
+abbrev pub reaches : ℕ → Entry → Entry → Bool
+reaches quota l r = nat_le quota (l.sum + r.sum)
+
+-- an entry has the chair of a slot
+abbrev pub has : ℕ → Entry → Bool
+has slot e = bit_at e.mask slot == 1
+
+-- a pair has the chair of a place: 0 to 15 on the left, 16 to 31 on the right
+abbrev pub has_place : ℕ → Entry → Entry → Bool
+has_place place l r = cond (nat_lt place 16) (has place l) (has (place - 16) r)
+
+-- how many pairs reach the quota
+abbrev pub winning_pairs : ℕ → List Entry → List Entry → ℕ
+winning_pairs quota left right = pairs_where (reaches quota) left right
+
+-- how many pairs reach the quota and have the chair of a place
+abbrev pub winning_with : ℕ → ℕ → List Entry → List Entry → ℕ
+winning_with quota place left right = pairs_where (λ l r. reaches quota l r && has_place place l r) left right
+
+-- the swings of a chair from the winning sets and those that have it: 2 * with_chair - winning (Banzhaf 1965)
+abbrev pub swings_of : ℕ → ℕ → ℕ
+swings_of winning with_chair = cond (with_chair == 0) 0 (2 * with_chair - winning)

@@ -1,0 +1,26 @@
+//! The laws of counting over the coalitions of a board.
+ghost use Rattle.swing_walk.specs.Laws.{SwingLaw, CoalitionLaw, PairLaw, CountLaw, BoundLaw, HalvesLaw};
+
+/// `eta + omega = 2 * omega_with` at each chair, for any rule in which a superset of a winning set wins (Felsenthal and
+/// Machover 1998).
+pub fn swing_law()
+    ensures swings { SwingLaw }
+{}
+
+/// The pairs of two halves are the coalitions of their board, each once, so that the counts of the pairs are omega and
+/// omega with a chair.
+pub fn pair_law()
+    ensures coalitions { CoalitionLaw }
+    ensures counts { PairLaw }
+{}
+
+/// What `swings` gives for the counts of a board is the swings.
+pub fn count_law()
+    ensures swings { CountLaw }
+    ensures bound { BoundLaw }
+{}
+
+/// The counts of two halves meet what `swings` asks, and its answer is the swings of each chair by the definition.
+pub fn halves_law()
+    ensures halves { HalvesLaw }
+{}

@@ -1,0 +1,71 @@
+//! Amounts per chair, kept by the bytes of the masks that they come with.
+ghost use Rattle.std.specs.Prelude.{◌≡◌, ℕ, ◌+◌, ◌-◌, ◌*◌, ◌^◌, ◌<◌, ◌≤◌, length, slice_index};
+ghost use Rattle.std.specs.Int.{bit_at};
+ghost use Rattle.swing_walk.specs.Tallies.{marked, total, IsEven, low_weight, high_weight};
+
+/// Amounts by mask: per value of the low byte of the masks and per value of the high one.
+#[derive(Drop)]
+pub(crate) struct Tally {
+    pub(crate) low: [u64; 256],
+    pub(crate) high: [u64; 256],
+}
+
+impl Tally {
+    /// No amounts.
+    pub(crate) fn new() -> Tally
+        ensures none { (slot : ℕ) → marked slot result ≡ 0 }
+        ensures total { total result ≡ 0 }
+        ensures even { IsEven result }
+    {
+        Tally {
+            low: [0; 256],
+            high: [0; 256],
+        }
+    }
+
+    /// Takes in an amount that comes with this mask.
+    pub(crate) fn add(&mut self, mask: u16, amount: u64)
+        requires even { IsEven self.old }
+        requires room { total self.old + amount < 2 ^ 64 }
+        ensures marked { (slot : ℕ) → marked slot self.new ≡ marked slot self.old + bit_at mask slot * amount }
+        ensures total { total self.new ≡ total self.old + amount }
+        ensures even { IsEven self.new }
+    {
+        self.low[usize::from(mask % 256)] += amount;
+        self.high[usize::from(mask / 256)] += amount;
+    }
+
+    /// Per slot the amounts whose masks have it.
+    pub(crate) fn by_slot(&self) -> [u64; 16]
+        requires even { IsEven self.now }
+        requires room { total self.now < 2 ^ 63 }
+        ensures marked { (slot : ℕ) → slot < 16 → slice_index result slot ≡ marked slot self.now }
+    {
+        let mut totals = [0; 16];
+        for byte in 0..256u16 {
+            let at = usize::from(byte);
+            add_byte(&mut totals, byte, self.low[at], self.high[at]);
+        }
+        totals
+    }
+}
+
+/// Adds what a byte stands for: one amount at its slots as a low byte, and another at its slots as a high one.
+fn add_byte(totals: &mut [u64; 16], byte: u16, low: u64, high: u64)
+    requires byte { byte < 256 }
+    requires room { (slot : ℕ) → slot < 16 → slice_index totals.old slot + low + high < 2 ^ 64 }
+    ensures more { (slot : ℕ) → slot < 16 → slice_index totals.new slot ≡ slice_index totals.old slot + (low_weight slot byte * low + high_weight slot byte * high) }
+{
+    for slot in 0..8 {
+        totals[slot] += at_bit(byte, slot, low);
+        totals[8 + slot] += at_bit(byte, slot, high);
+    }
+}
+
+/// The amount where the mask has the slot, else 0.
+fn at_bit(mask: u16, slot: usize, amount: u64) -> u64
+    requires slot { slot < 16 }
+    ensures amount { result ≡ bit_at mask slot * amount }
+{
+    if (mask >> slot) & 1 == 1 { amount } else { 0 }
+}
