@@ -1,24 +1,22 @@
 -- The run of a whole input, and its end.
-use Rattle.std.proofs.Common.{◌≡◌, ◌<◌, ◌≤◌, ◌+◌, ◌⊎◌, inl, inr, ℕ, Bool, true, false, List, [], ◌∷◌, ◌++◌, length, Option, Some, None, IfSome, IfOk, IsErrOf, Result, Ok, Err, refl, sym, ap, ◌∙◌, subst, append_assoc, arith}
+use Rattle.std.proofs.Common.{◌≡◌, ◌<◌, ◌≤◌, ◌⊎◌, inl, inr, ℕ, true, false, List, [], ◌∷◌, ◌++◌, length, Option, Some, None, IfSome, Result, Ok, Err, refl, sym, ap, ◌∙◌, subst}
 use Rattle.std.proofs.lemmas.Bool.{le-leb, lt-leb}
 use Rattle.std.proofs.lemmas.List.{append-nil}
 use Rattle.std.proofs.KnownBytes.{Appends-nil, Appends-trans}
 use Rattle.std.specs.Io.KnownBytes.{Appends}
 use Rattle.csv.specs.Reading.{default_config, records, strip_bom}
 use Rattle.council_core.specs.Ledgers.{start_verdict}
-use Rattle.council_core.specs.Rolls.{Opening}
 use Rattle.council_core.specs.Sequential.{Sequential}
 use Rattle.council_core.specs.declared.refusals.Refusal.TheVariants as why
 use Rattle.board_report.specs.Lines.{Line, fault_line}
 use Rattle.board_report.specs.Requests.{Row, is_header}
-use Rattle.board_report.specs.Text.{Opened, Run, fault_at, in_range, end_lines, line_text, opened_run, opening_of, output, records_run, replay_step, run_of, script_run, started, started_run, stops, text_of}
-use Rattle.board_report.specs.Output.{AppendsFront, Ends, AppendsLines, IsBroken, IsBrokenOff, IsFrontOf, IsOutputOf, Opens, Plays, Replays, Starts, StopsIn, fault_of}
+use Rattle.board_report.specs.Text.{Opened, Run, fault_at, in_range, end_lines, line_text, opened_run, opening_of, output, records_run, replay_step, run_of, script_run, started_run, stops, text_of}
+use Rattle.board_report.specs.Output.{AppendsFront, Ends, AppendsLines, IsBroken, IsFrontOf, Opens, Plays, Replays, Starts, StopsIn, fault_of}
 use Rattle.board_report.specs.declared.bounds.Limits.{Limits}
 use Rattle.board_report.specs.declared.faults.Fault.{Fault}
-use Rattle.board_report.specs.declared.opening.OpeningRead.{OpeningRead}
 use Rattle.board_report.specs.declared.stops.Stop.{Stop}
 use Rattle.board_report.specs.declared.stops.Stop.TheVariants as stop
-use Rattle.board_report.proofs.PlayFacts.{appends-same, front-after, front-before, front-none, front-whole, lines-then, text-after}
+use Rattle.board_report.proofs.PlayFacts.{appends-same, front-after, front-before, front-none, lines-then, text-after}
 
 run-out_of_range : (lim : Limits) (bytes : List ℕ) → in_range lim ≡ false → run_of lim bytes ≡ stops (fault_at why.BadLimit 0)
 unfolding run_of

@@ -42,22 +42,32 @@ fn sheet_of(weights: &[u64], outside: u64) -> Result<Sheet, Refusal> {
     Sheet::from_words(&words)
 }
 
+// The words of the chairs of a sheet.
+fn chair_words(sheet: &Sheet) -> [u64; 32] {
+    let words = sheet.words();
+    let mut chairs = [0; 32];
+    for place in 0..32 {
+        chairs[place] = words[place];
+    }
+    chairs
+}
+
 // The swings of the chair at a place.
-fn swings_at(words: &[u64; 34], place: usize, quota: u64) -> u64 {
-    let mut others = *words;
+fn swings_at(chairs: &[u64; 32], place: usize, quota: u64) -> u64 {
+    let mut others = *chairs;
     let Some(word) = others.get_mut(place) else {
         return 0;
     };
     let own = word.saturating_sub(1);
     *word = 0;
-    plain::swings(&others[..32], 0, own, quota)
+    plain::swings(&others, 0, own, quota)
 }
 
 // Whether each row has the chair's swings, and the fractions over them.
-fn rows_agree(indices: &Indices, words: &[u64; 34], all: u64) -> bool {
+fn rows_agree(indices: &Indices, chairs: &[u64; 32], all: u64) -> bool {
     indices.rows.as_slice().iter().all(|row| {
         let place = row.chair.number() as usize - 1;
-        let swings = swings_at(words, place, indices.quota);
+        let swings = swings_at(chairs, place, indices.quota);
         let over = |den: u64| Fraction { num: swings, den };
         let if_any = |den: u64| if den == 0 { None } else { Some(over(den)) };
         row.swings == swings
@@ -68,17 +78,23 @@ fn rows_agree(indices: &Indices, words: &[u64; 34], all: u64) -> bool {
     })
 }
 
-fn agrees<R: Abort>(rt: &R, indices: &Indices, sheet: &Sheet) {
-    let words = sheet.words();
+// The swings of all open chairs.
+fn all_swings(chairs: &[u64; 32], quota: u64) -> u64 {
     let mut all = 0u64;
     for place in 0..32 {
-        if words[place] > 0 {
-            all = all.wrapping_add(swings_at(&words, place, indices.quota));
+        if chairs[place] > 0 {
+            all = all.wrapping_add(swings_at(chairs, place, quota));
         }
     }
-    assert!(rt; indices.winning == plain::winning(&words[..32], 0, indices.quota));
+    all
+}
+
+fn agrees<R: Abort>(rt: &R, indices: &Indices, sheet: &Sheet) {
+    let chairs = chair_words(sheet);
+    let all = all_swings(&chairs, indices.quota);
+    assert!(rt; indices.winning == plain::winning(&chairs, 0, indices.quota));
     assert!(rt; indices.rows.len() == sheet.chairs() as usize);
-    assert!(rt; rows_agree(indices, &words, all));
+    assert!(rt; rows_agree(indices, &chairs, all));
 }
 
 #[test]

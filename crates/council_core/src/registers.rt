@@ -100,10 +100,13 @@ impl Register {
         self.journal().len() as u32
     }
 
-    /// The commands accepted, in order. Each was accepted in its turn, and there are at most a million.
+    /// The commands accepted, in order. Each was accepted in its turn, and there are at most as many as
+    /// the limit, which is at most a million.
     pub fn journal(&self) -> &[Command]
         ensures commands { result.now ≡ self.now.journal }
-        ensures legal { IsLegal self.now.opening result.now }
+        ensures legal { IsLegal self.now.opening self.now.journal }
+        ensures within { length self.now.journal ≤ self.now.limit }
+        ensures limit { self.now.limit ≤ 1000000 }
     {
         self.journal.as_slice()
     }

@@ -1,24 +1,17 @@
 -- How large the counts of a board can be, and that a quota and its majority win alike.
-use Rattle.std.proofs.Common.{◌≡◌, ℕ, ◌+◌, ◌-◌, ◌^◌, ◌≤◌, Bool, true, false, cond, List, [], ◌∷◌, map, length, take, get_or, arith, refl, sym, ap, ◌∙◌, eqb, leb, inl, inr}
+use Rattle.std.proofs.Common.{◌≡◌, ℕ, ◌+◌, ◌-◌, ◌^◌, ◌≤◌, Bool, true, false, cond, List, ◌∷◌, length, take, get_or, arith, refl, sym, ap, ◌∙◌, eqb, leb, inl, inr}
 use Rattle.std.specs.Prelude.{◌&&◌, not, IsTrue, ◌↔◌}
 use Rattle.std.proofs.lemmas.Bool.{cases_Bool, leb-true, leb-false}
-use Rattle.std.proofs.lemmas.List.{length-append, length-map, length-take}
+use Rattle.std.proofs.lemmas.List.{length-take}
 use Rattle.std.proofs.lemmas.List.Sums.{count_by-le-length}
-use Rattle.std.proofs.Math.Nat.{pow-suc}
 use Rattle.council_core.specs.Sheets.{Chair, open_chairs, weight_of}
 use Rattle.council_core.specs.Coalitions.{Rule, has_chair, omega_of, eta_of, reaching, subsets}
 use Rattle.council_core.proofs.OpenChairs.{length-open}
+use Rattle.council_core.proofs.CoalitionLemmas.{length-subsets}
 use Rattle.majority_rule.specs.declared.majorities.Majority.{Majority}
 use Rattle.majority_rule.specs.Winning.{wins, rule_of}
 use Rattle.swing_walk.proofs.Coalitions.{sum_agree}
 use Rattle.power_index.specs.Counts.{eta_at}
-
--- there are 2 ^ n sets
-pub length-subsets : {X : Type 0} (xs : List X) → length (subsets xs) ≡ 2 ^ length xs
-length-subsets [] = refl
-length-subsets {X} (x ∷ xs) =
-    let f : List X → List X = λ s. x ∷ s in
-    omega (arith, length-append (subsets xs) (map f (subsets xs)), length-map (subsets xs) f, length-subsets xs, pow-suc 2 (length xs))
 
 pub omega_bound : (wins : Rule) (chairs : List Chair) → omega_of wins chairs ≤ 2 ^ length chairs
 omega_bound wins chairs = omega (arith, count_by-le-length wins (subsets chairs), length-subsets chairs)

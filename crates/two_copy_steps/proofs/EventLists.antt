@@ -1,0 +1,104 @@
+-- Over every list of events.
+use Rattle.std.proofs.Common.{◌≡◌, ℕ, suc, get_or, ◌+◌, ◌<◌, ◌≤◌, List, [], ◌∷◌, ◌++◌, length, take, drop, refl, sym, ap, ◌∙◌, subst, arith, length-append, take-append-drop}
+use Rattle.std.proofs.lemmas.List.Elements.{Contains-push, Contains-get_or}
+use Rattle.std.proofs.Math.Seq.{take-length, take-suc}
+use Rattle.std.specs.Prelude.{Contains}
+use Rattle.council_core.specs.declared.commands.Command.{Command}
+use Rattle.council_core.specs.Ledgers.{Ledger}
+use Rattle.two_copy_steps.specs.declared.events.Event.{Event}
+use Rattle.two_copy_steps.specs.declared.events.Note.{Note}
+use Rattle.two_copy_steps.specs.Turns.{TwoCopies, turn, started, after, notes}
+use Rattle.two_copy_steps.specs.Passes.{Passes, opened, passed, passes, IsLawful, HasLegalRecords, NoneUnder}
+use Rattle.two_copy_steps.specs.Effects.{Thread, thread_of, beside, AllAnswer}
+use Rattle.two_copy_steps.proofs.TurnSteps.{turn_keeps, records_are, none_under}
+use Rattle.two_copy_steps.proofs.Replies.{Agrees, event_agrees}
+use Rattle.two_copy_steps.proofs.Journals.{IsAccepted, IsWithin, journal_accepted, journal_grows, journal_within}
+use Rattle.two_copy_steps.proofs.Starts.{start_lawful, start_agrees}
+
+pub always_accepted : (events : List Event) (m : TwoCopies) → IsAccepted m.ledger.opening m.ledger.journal → IsAccepted (after m events).ledger.opening (after m events).ledger.journal
+always_accepted [] m h = h
+always_accepted (event ∷ events) m h = always_accepted events (turn m event).0 (journal_accepted m h event)
+
+pub always_lawful : (events : List Event) (m : TwoCopies) (p : Passes) → IsLawful IsAccepted m p → IsAccepted m.ledger.opening m.ledger.journal → IsLawful IsAccepted (after m events) (passes m p events)
+always_lawful [] m p l h = l
+always_lawful (event ∷ events) m p l h = always_lawful events (turn m event).0 (passed m p event) (turn_keeps IsAccepted m p l h event) (journal_accepted m h event)
+
+-- each note is the reply of the register of one thread
+pub all_answer : (events : List Event) (m : TwoCopies) (p : Passes) → IsLawful IsAccepted m p → IsAccepted m.ledger.opening m.ledger.journal → (t : Thread) → Agrees t m → AllAnswer t m events
+all_answer [] m p l h t a = tt
+all_answer (event ∷ events) m p l h t a =
+    let g = event_agrees IsAccepted m p l t a event in
+    (g.1, all_answer events (turn m event).0 (passed m p event) (turn_keeps IsAccepted m p l h event) (journal_accepted m h event) (beside t m event) g.0)
+
+pub always_grows : (events : List Event) (m : TwoCopies) (n : ℕ) → n ≤ length m.ledger.journal → n ≤ length (after m events).ledger.journal
+always_grows [] m n h = h
+always_grows (event ∷ events) m n h = always_grows events (turn m event).0 n (journal_grows n m h event)
+
+pub always_within : (events : List Event) (m : TwoCopies) → IsWithin m.ledger → IsWithin (after m events).ledger
+always_within [] m h = h
+always_within (event ∷ events) m h = always_within events (turn m event).0 (journal_within m h event)
+
+-- a list of events followed by another
+pub after_append : (events more : List Event) (m : TwoCopies) → after m (events ++ more) ≡ after (after m events) more
+after_append [] more m = refl
+after_append (event ∷ events) more m = after_append events more (turn m event).0
+
+pub notes_append : (events more : List Event) (m : TwoCopies) → notes m (events ++ more) ≡ notes m events ++ notes (after m events) more
+notes_append [] more m = refl
+notes_append (event ∷ events) more m = ap (λ (l : List Note). (turn m event).1 ∷ l) (notes_append events more (turn m event).0)
+
+-- the records are legal, where the journal has at most a million commands
+pub legal_records : (m : TwoCopies) (p : Passes) → IsLawful IsAccepted m p → length m.ledger.journal ≤ 1000000 → HasLegalRecords m p
+legal_records m p l few =
+    let w = m.writer in
+    let o = l.state.writer in
+    let begins = ap (length {A = Command}) o.begins.1 in
+    let extends = ap (length {A = Command}) l.extends.1 in
+    let last : Contains p.cuts (length w.published) = subst (λ (cuts : List ℕ). Contains cuts (length w.published)) (sym o.last_cut.1) (Contains-push o.last_cut.0 (length w.published)) in
+    record {
+      legal = (subst (IsAccepted m.ledger.opening) (take-length w.published) (o.cuts (length w.published) last).1, omega (arith, length-append w.published o.begins.0, length-append w.taken l.extends.0));
+      in_order = (o.ascending, λ k d h. (o.cuts _ (Contains-get_or p.cuts k d h)).0);
+      readings = records_are IsAccepted m p l;
+    }
+
+module _ (ledger : Ledger) (readers : ℕ) (accepted : IsAccepted ledger.opening ledger.journal) where
+  -- from the start
+  pub run_lawful : (events : List Event) → IsLawful IsAccepted (after (started ledger readers) events) (passes (started ledger readers) (opened ledger readers) events)
+  run_lawful events = always_lawful events (started ledger readers) (opened ledger readers) (start_lawful IsAccepted ledger readers accepted) accepted
+
+  pub run_answers : (events : List Event) → AllAnswer (thread_of ledger) (started ledger readers) events
+  run_answers events = all_answer events (started ledger readers) (opened ledger readers) (start_lawful IsAccepted ledger readers accepted) accepted (thread_of ledger) (start_agrees ledger readers)
+
+  pub run_apart : (events : List Event) → NoneUnder (after (started ledger readers) events)
+  run_apart events = none_under IsAccepted (after (started ledger readers) events) (passes (started ledger readers) (opened ledger readers) events) (run_lawful events)
+
+  pub run_records : (events : List Event) → length (after (started ledger readers) events).ledger.journal ≤ 1000000
+      → HasLegalRecords (after (started ledger readers) events) (passes (started ledger readers) (opened ledger readers) events)
+  run_records events few = legal_records (after (started ledger readers) events) (passes (started ledger readers) (opened ledger readers) events) (run_lawful events) few
+
+  -- after the first events of a list whose last journal is short enough
+  pub run_records_first : (events : List Event) (k : ℕ) → length (after (started ledger readers) events).ledger.journal ≤ 1000000
+      → HasLegalRecords (after (started ledger readers) (take k events)) (passes (started ledger readers) (opened ledger readers) (take k events))
+  run_records_first events k few =
+      let m : TwoCopies = after (started ledger readers) (take k events) in
+      let grown = always_grows (drop k events) m (length m.ledger.journal) (omega arith) in
+      let whole = ap (λ (z : TwoCopies). length z.ledger.journal) (sym (after_append (take k events) (drop k events) (started ledger readers)) ∙ ap (after (started ledger readers)) (take-append-drop k events)) in
+      run_records (take k events) (omega arith)
+
+one_more : (events : List Event) (k : ℕ) (event : Event) → k < length events → event ≡ get_or events k event → take (k + 1) events ≡ take k events ++ event ∷ []
+one_more events k event h at =
+    let next : k + 1 ≡ suc k = omega arith in
+    ap (λ (n : ℕ). take n events) next ∙ (take-suc events k event h ∙ ap (λ (e : Event). take k events ++ e ∷ []) (sym at))
+
+-- the first events of a list, with one more
+pub after_more : (m : TwoCopies) (events : List Event) (k : ℕ) (event : Event) → k < length events → event ≡ get_or events k event
+    → after m (take (k + 1) events) ≡ (turn (after m (take k events)) event).0
+after_more m events k event h at = ap (after m) (one_more events k event h at) ∙ after_append (take k events) (event ∷ []) m
+
+pub notes_more : (m : TwoCopies) (events : List Event) (k : ℕ) (event : Event) → k < length events → event ≡ get_or events k event
+    → notes m (take (k + 1) events) ≡ notes m (take k events) ++ (turn (after m (take k events)) event).1 ∷ []
+notes_more m events k event h at = ap (notes m) (one_more events k event h at) ∙ notes_append (take k events) (event ∷ []) m
+
+pub notes_long : (m : TwoCopies) (events : List Event) → length (notes m events) ≡ length events
+notes_long m [] = refl
+notes_long m (event ∷ events) = ap suc (notes_long (turn m event).0 events)

@@ -1,0 +1,168 @@
+-- A reader at rest reads nothing older than what is published by then.
+use Rattle.std.proofs.Common.{◌≡◌, ◌≢◌, ⊎_elim, ℕ, zero, suc, eqb, ◌≤◌, Bool, true, false, cond, List, [], ◌∷◌, ◌++◌, length, get_or, take, set, Option, None, Some, slice_get, refl, sym, ap, ◌∙◌, subst, arith, length-append, length-take, le_trans, le_refl, eq-eqb, ne_eqb}
+use Rattle.std.proofs.lemmas.Option.{same_Some}
+use Rattle.council_core.specs.declared.commands.Command.{Command}
+use Rattle.council_core.specs.Rolls.{sheet}
+use Rattle.council_core.specs.Ledgers.{Ledger, verdict_of}
+use Rattle.council_core.specs.Sheets.{front_of}
+use Rattle.council_core.specs.Sequential.{Sequential, Reply, reading, respond}
+use Rattle.council_core.specs.Sequential as sequential
+use Rattle.two_copy_steps.specs.declared.events.Event.{Event}
+use Rattle.two_copy_steps.specs.declared.events.Event.TheVariants.{Submit, Publish, Writer, Reader}
+use Rattle.two_copy_steps.specs.declared.events.Note.TheVariants.{Read, Skipped}
+use Rattle.two_copy_steps.specs.declared.views.Writing.{Writing}
+use Rattle.two_copy_steps.specs.declared.views.Stage.{Stage}
+use Rattle.two_copy_steps.specs.declared.views.Stage.TheVariants.{AtRest, Arrived, Reading, Leaving}
+use Rattle.two_copy_steps.specs.declared.views.Phase.{Phase}
+use Rattle.two_copy_steps.specs.declared.views.Phase.TheVariants.{Idle, Seeing, Filling, Swapping}
+use Rattle.two_copy_steps.specs.Deeds.{stage_deed, phase_deed, seeing, first_false}
+use Rattle.two_copy_steps.specs.Turns.{TwoCopies, turn, submitted, published_by, is_pending, is_idle, reader_turn, started, after}
+use Rattle.two_copy_steps.specs.Passes.{Passes, opened, passed, passes, IsLawful}
+use Rattle.two_copy_steps.specs.Effects.{Thread, thread_of, replied_at, replied_to, beside}
+use Rattle.two_copy_steps.proofs.Lists.{at_set}
+use Rattle.two_copy_steps.proofs.TurnSteps.{turn_keeps}
+use Rattle.two_copy_steps.proofs.Replies.{Agrees, event_agrees}
+use Rattle.two_copy_steps.proofs.Journals.{IsAccepted, journal_accepted}
+use Rattle.two_copy_steps.proofs.Starts.{start_lawful, start_agrees}
+use Rattle.two_copy_steps.proofs.EventLists.{run_lawful, always_accepted, after_append}
+
+looked_published : (w : Writing) (r : ℕ) (b : Bool) → (cond b (seeing 34 w (set w.seen_out r true)) (record w { phase = Idle })).published ≡ w.published
+looked_published w r true = refl
+looked_published w r false = refl
+
+-- what is published never gets shorter
+published_grows : (m : TwoCopies) (p : Passes) → IsLawful IsAccepted m p → (event : Event) → length m.writer.published ≤ length (turn m event).0.writer.published
+published_grows m p l (Submit command) =
+    elim (is_idle m.writer.phase) as (λ b. length m.writer.published ≤ length (cond b (submitted m command (verdict_of m.ledger command)) (m, Skipped)).0.writer.published) [ true ↦ omega arith | false ↦ omega arith ]
+published_grows m p l Publish =
+    elim (is_idle m.writer.phase) as (λ b. length m.writer.published ≤ length (cond b (published_by m (is_pending m)) (m, Skipped)).0.writer.published) [
+      | true ↦ elim (is_pending m) as (λ c. length m.writer.published ≤ length (published_by m c).0.writer.published) [ true ↦ omega arith | false ↦ omega arith ]
+      | false ↦ omega arith
+    ]
+published_grows m p l Writer = by_phase m.writer.phase
+  where
+    by_phase : (phase : Phase) → length m.writer.published ≤ length ((phase_deed 34 (sheet m.ledger.opening) m.writer phase).after (get_or m.words (phase_deed 34 (sheet m.ledger.opening) m.writer phase).word 0)).published
+    by_phase Idle = omega arith
+    by_phase Seeing =
+        let r : ℕ = first_false m.writer.seen_out in
+        let same = ap (length {A = Command}) (looked_published m.writer r (eqb (get_or m.words (phase_deed 34 (sheet m.ledger.opening) m.writer Seeing).word 0) 0)) in
+        omega arith
+    by_phase (Filling k) = omega arith
+    by_phase Swapping = let b = l.state.writer.begins in let longer = ap (length {A = Command}) b.1 in omega (arith, length-append m.writer.published b.0)
+published_grows m p l (Reader zero) = omega arith
+published_grows m p l (Reader (suc r)) =
+    elim (slice_get m.readers r) as (λ o. length m.writer.published ≤ length (reader_turn m r o).0.writer.published) [ None ↦ omega arith | Some stage ↦ omega arith ]
+
+-- a reader that is reading was replied no older sheet
+abbrev FreshAt : ℕ → Option Reply → Stage → Type 0
+FreshAt low given AtRest = Unit {0}
+FreshAt low given Arrived = Unit {0}
+FreshAt low given (Reading side words) = (numbers : List ℕ) × (given ≡ Some (reading numbers)) × (low ≤ front_of numbers)
+FreshAt low given (Leaving side words) = (numbers : List ℕ) × (given ≡ Some (reading numbers)) × (low ≤ front_of numbers)
+
+abbrev Fresh : ℕ → ℕ → Thread → TwoCopies → Type 0
+Fresh low r t m = (low ≤ length m.writer.published) × ((stage : Stage) → slice_get m.readers r ≡ Some stage → FreshAt low (t.replied (suc r)) stage)
+
+shown_front : (m : TwoCopies) (p : Passes) → IsLawful IsAccepted m p → front_of (sheet m.ledger.opening (take (length m.writer.published) m.ledger.journal)) ≡ length m.writer.published
+shown_front m p l =
+    let begins = ap (length {A = Command}) l.state.writer.begins.1 in
+    let extends = ap (length {A = Command}) l.extends.1 in
+    let kept = length-take (length m.writer.published) m.ledger.journal in
+    omega (arith, length-append m.writer.published l.state.writer.begins.0, length-append m.writer.taken l.extends.0)
+
+module _ (low r : ℕ) (m : TwoCopies) (p : Passes) (l : IsLawful IsAccepted m p) (t : Thread) (a : Agrees t m) (f : Fresh low r t m) where
+  -- the reader's own step
+  own : (stage : Stage) → slice_get m.readers r ≡ Some stage → FreshAt low (replied_at t (suc r) stage (suc r)) ((stage_deed 34 r stage).after (get_or m.words (stage_deed 34 r stage).word 0))
+  own AtRest at = tt
+  own Arrived at =
+      let given : Option Reply = Some (respond t.register sequential.read).1 in
+      let here : cond (eqb (suc r) (suc r)) given (t.replied (suc r)) ≡ given = ap (λ (b : Bool). cond b given (t.replied (suc r))) (eq-eqb (suc r) (suc r) refl) in
+      let is : given ≡ Some (reading (sheet m.ledger.opening (take (length m.writer.published) m.ledger.journal))) = ap (λ (s : Sequential). let g : Option Reply = Some (respond s sequential.read).1 in g) a.register in
+      let front = shown_front m p l in
+      let short = f.0 in
+      (sheet m.ledger.opening (take (length m.writer.published) m.ledger.journal), here ∙ is, omega arith)
+  own (Reading side words) at =
+      elim (eqb (length (words ++ get_or m.words (stage_deed 34 r (Reading side words)).word 0 ∷ [])) 34)
+      as (λ b. FreshAt low (t.replied (suc r)) (cond b (Leaving side (words ++ get_or m.words (stage_deed 34 r (Reading side words)).word 0 ∷ [])) (Reading side (words ++ get_or m.words (stage_deed 34 r (Reading side words)).word 0 ∷ []))))
+      [ true ↦ f.1 (Reading side words) at | false ↦ f.1 (Reading side words) at ]
+  own (Leaving side words) at = tt
+
+  -- another's step replies nothing to this reader
+  apart : (q : ℕ) (stage : Stage) → r ≢ q → replied_at t (suc q) stage (suc r) ≡ t.replied (suc r)
+  apart q AtRest ne = ap (λ (b : Bool). cond b None (t.replied (suc r))) (ne_eqb (suc r) (suc q) (λ e. ne (omega arith)))
+  apart q Arrived ne = ap (λ (b : Bool). cond b (Some (respond t.register sequential.read).1) (t.replied (suc r))) (ne_eqb (suc r) (suc q) (λ e. ne (omega arith)))
+  apart q (Reading side words) ne = refl
+  apart q (Leaving side words) ne = refl
+
+  fresh_reader : (q : ℕ) (o : Option Stage) → slice_get m.readers q ≡ o → (stage : Stage) → slice_get (reader_turn m q o).0.readers r ≡ Some stage → FreshAt low (replied_to t (suc q) o (suc r)) stage
+  fresh_reader q None is stage at = f.1 stage at
+  fresh_reader q (Some s) is stage at =
+      ⊎_elim
+      (λ (h : (r ≡ q) × ((stage_deed 34 q s).after (get_or m.words (stage_deed 34 q s).word 0) ≡ stage)).
+      subst (FreshAt low (replied_at t (suc q) s (suc r))) h.1
+      (subst (λ (k : ℕ). FreshAt low (replied_at t (suc k) s (suc r)) ((stage_deed 34 k s).after (get_or m.words (stage_deed 34 k s).word 0))) h.0 (own s (ap (slice_get m.readers) h.0 ∙ is))))
+      (λ (h : (r ≢ q) × (slice_get m.readers r ≡ Some stage)). subst (λ (g : Option Reply). FreshAt low g stage) (sym (apart q s h.0)) (f.1 stage h.1))
+      (at_set m.readers q r ((stage_deed 34 q s).after (get_or m.words (stage_deed 34 q s).word 0)) stage at)
+
+  fresh_stage : (event : Event) (stage : Stage) → slice_get (turn m event).0.readers r ≡ Some stage → FreshAt low ((beside t m event).replied (suc r)) stage
+  fresh_stage (Submit command) =
+      elim (is_idle m.writer.phase) as (λ b. (stage : Stage) → slice_get (cond b (submitted m command (verdict_of m.ledger command)) (m, Skipped)).0.readers r ≡ Some stage → FreshAt low (t.replied (suc r)) stage) [ true ↦ f.1 | false ↦ f.1 ]
+  fresh_stage Publish =
+      elim (is_idle m.writer.phase) as (λ b. (stage : Stage) → slice_get (cond b (published_by m (is_pending m)) (m, Skipped)).0.readers r ≡ Some stage → FreshAt low (t.replied (suc r)) stage) [
+        | true ↦ elim (is_pending m) as (λ c. (stage : Stage) → slice_get (published_by m c).0.readers r ≡ Some stage → FreshAt low (t.replied (suc r)) stage) [ true ↦ f.1 | false ↦ f.1 ]
+        | false ↦ f.1
+      ]
+  fresh_stage Writer = f.1
+  fresh_stage (Reader zero) = f.1
+  fresh_stage (Reader (suc q)) = fresh_reader q (slice_get m.readers q) refl
+
+  pub stays_fresh : (event : Event) → Fresh low r (beside t m event) (turn m event).0
+  stays_fresh event = (le_trans f.0 (published_grows m p l event), fresh_stage event)
+
+  -- what it then reads
+  pub reads_fresh : (words : List ℕ) → (turn m (Reader (suc r))).1 ≡ Read (suc r) words → low ≤ front_of words
+  reads_fresh words told = by_stage (slice_get m.readers r) refl told
+    where
+      same_sheet : (x y : List ℕ) → Some (reading x) ≡ Some (reading y) → x ≡ y
+      same_sheet x y e = cc
+
+      read_words : (n k : ℕ) (x y : List ℕ) → Read n x ≡ Read k y → x ≡ y
+      read_words n k x y e = cc
+
+      by_stage : (o : Option Stage) → slice_get m.readers r ≡ o → (reader_turn m r o).1 ≡ Read (suc r) words → low ≤ front_of words
+      by_stage None at e = absurd cc
+      by_stage (Some AtRest) at e = absurd cc
+      by_stage (Some Arrived) at e = absurd cc
+      by_stage (Some (Reading side ws)) at e = absurd cc
+      by_stage (Some (Leaving side ws)) at e =
+          let g = f.1 (Leaving side ws) at in
+          let held = a.held r (Leaving side ws) at in
+          let is : g.0 ≡ words = same_sheet g.0 ws (sym g.1 ∙ held) ∙ read_words (suc r) (suc r) ws words e in
+          subst (λ (x : List ℕ). low ≤ front_of x) is g.2
+
+-- whatever follows
+fresh_read : (low r : ℕ) (more : List Event) (m : TwoCopies) (p : Passes) → IsLawful IsAccepted m p → IsAccepted m.ledger.opening m.ledger.journal → (t : Thread) → Agrees t m → Fresh low r t m
+    → (words : List ℕ) → (turn (after m more) (Reader (suc r))).1 ≡ Read (suc r) words → low ≤ front_of words
+fresh_read low r [] m p l h t a f words told = reads_fresh low r m p l t a f words told
+fresh_read low r (event ∷ more) m p l h t a f words told =
+    fresh_read low r more (turn m event).0 (passed m p event) (turn_keeps IsAccepted m p l h event) (journal_accepted m h event) (beside t m event) (event_agrees IsAccepted m p l t a event).0
+    (stays_fresh low r m p l t a f event) words told
+
+agrees_after : (events : List Event) (m : TwoCopies) (p : Passes) → IsLawful IsAccepted m p → IsAccepted m.ledger.opening m.ledger.journal → (t : Thread) → Agrees t m → (t' : Thread) × Agrees t' (after m events)
+agrees_after [] m p l h t a = (t, a)
+agrees_after (event ∷ events) m p l h t a =
+    agrees_after events (turn m event).0 (passed m p event) (turn_keeps IsAccepted m p l h event) (journal_accepted m h event) (beside t m event) (event_agrees IsAccepted m p l t a event).0
+
+module _ (ledger : Ledger) (readers : ℕ) (accepted : IsAccepted ledger.opening ledger.journal) where
+  -- a reader at rest after some events reads, whatever follows, nothing older than what is published by then
+  pub run_fresh : (events more : List Event) (r : ℕ) (words : List ℕ) → slice_get (after (started ledger readers) events).readers r ≡ Some AtRest
+      → (turn (after (started ledger readers) (events ++ more)) (Reader (suc r))).1 ≡ Read (suc r) words → length (after (started ledger readers) events).writer.published ≤ front_of words
+  run_fresh events more r words rest told =
+      let start : TwoCopies = started ledger readers in
+      let m : TwoCopies = after start events in
+      let l = run_lawful ledger readers accepted events in
+      let t = agrees_after events start (opened ledger readers) (start_lawful IsAccepted ledger readers accepted) accepted (thread_of ledger) (start_agrees ledger readers) in
+      let low : ℕ = length m.writer.published in
+      fresh_read low r more m (passes start (opened ledger readers) events) l (always_accepted events start accepted) t.0 t.1
+      (le_refl low, λ stage at. subst (FreshAt low (t.0.replied (suc r))) (same_Some AtRest stage (sym rest ∙ at)) tt)
+      words (ap (λ (x : TwoCopies). (turn x (Reader (suc r))).1) (sym (after_append events more start)) ∙ told)

@@ -1,0 +1,13 @@
+pub mod Lists
+pub mod Records
+pub mod ReaderSteps
+pub mod WriterSteps
+pub mod TurnSteps
+pub mod Replies
+pub mod Journals
+pub mod Starts
+pub mod EventLists
+pub mod Fixed
+pub mod Steps
+pub mod Cases
+pub mod Fresh

@@ -1,0 +1,305 @@
+-- What the machine keeps, step by step.
+use Rattle.std.proofs.Common.{◌≡◌, ◌≢◌, ◌⊎◌, ⊎_elim, ℕ, zero, suc, eqb, ◌+◌, ◌-◌, ◌<◌, ◌≤◌, Bool, true, false, cond, List, [], ◌∷◌, ◌++◌, length, get_or, take, set, replicate, Option, Some, slice_get, Result, Ok, Err, IfOk, OnErr, refl, sym, ap, ◌∙◌, subst, arith, length-set, length-append, eq-eqb, ne_eqb, length-take}
+use Rattle.std.specs.Prelude.{⊤, nat_lt}
+use Rattle.std.proofs.lemmas.List.{set-get_or, take-append-le, length-replicate}
+use Rattle.std.proofs.lemmas.Bool.{lt-ltb}
+use Rattle.std.proofs.lemmas.Option.{slice_get_past}
+use Rattle.std.proofs.Math.Seq.{take-length}
+use Rattle.council_core.specs.declared.commands.Command.{Command}
+use Rattle.council_core.specs.declared.refusals.Refusal.{Refusal}
+use Rattle.council_core.specs.Rolls.{sheet}
+use Rattle.council_core.specs.Ledgers.{Ledger, sheet_of, verdict_of, appended}
+use Rattle.council_core.specs.Sheets.{front_of, IsSheet}
+use Rattle.two_copy_steps.specs.declared.events.Event.{Event}
+use Rattle.two_copy_steps.specs.declared.events.Event.TheVariants.{Submit, Publish, Writer, Reader}
+use Rattle.two_copy_steps.specs.declared.events.Note.{Note}
+use Rattle.two_copy_steps.specs.declared.events.Note.TheVariants.{Skipped}
+use Rattle.two_copy_steps.specs.declared.views.Writing.{Writing}
+use Rattle.two_copy_steps.specs.declared.views.Stage.{Stage}
+use Rattle.two_copy_steps.specs.declared.views.Stage.TheVariants.{AtRest, Arrived, Reading, Leaving}
+use Rattle.two_copy_steps.specs.declared.views.Phase.{Phase}
+use Rattle.two_copy_steps.specs.declared.views.Phase.TheVariants.{Idle, Seeing, Filling, Swapping}
+use Rattle.two_copy_steps.specs.Deeds.{all_true, first_false, place, seeing, stage_deed, phase_deed}
+use Rattle.two_copy_steps.specs.Lawful.{IsPublishable, Stands, Fills}
+use Rattle.two_copy_steps.specs.Turns.{TwoCopies, turn, handed, started, submitted, published_by, is_pending, is_idle, reader_turn, stage_note}
+use Rattle.two_copy_steps.specs.Passes.{Passes, opened, passed, record_at, state_of, IsLawful}
+use Rattle.two_copy_steps.specs.Machines.{IsReadable, seen_as, IsMachine}
+use Rattle.two_copy_steps.proofs.ReaderSteps.{leaving_reads}
+use Rattle.two_copy_steps.proofs.WriterSteps.{first_inside}
+use Rattle.two_copy_steps.proofs.TurnSteps.{view_at, viewed_at, viewed_length, written_keeps, publish_keeps, accepted_keeps, step_keeps}
+use Rattle.two_copy_steps.proofs.Starts.{start_lawful}
+
+-- a second write to a place
+pub set_set : {A : Type 0} (xs : List A) (i : ℕ) (a b : A) → set (set xs i a) i b ≡ set xs i b
+set_set [] i a b = refl
+set_set (x ∷ xs) zero a b = refl
+set_set (x ∷ xs) (suc i) a b = ap (λ l. x ∷ l) (set_set xs i a b)
+
+-- the writer's step, by its phase
+abbrev wrote : TwoCopies → Phase → TwoCopies
+wrote m phase =
+    let d = phase_deed 34 (sheet m.ledger.opening) m.writer phase in
+    let found = get_or m.words d.word 0 in
+    record m { words = set m.words d.word (d.becomes found); writer = d.after found }
+
+wrote_at : (m : TwoCopies) (phase : Phase) → m.writer.phase ≡ phase → wrote m phase ≡ (turn m Writer).0
+wrote_at m phase e = ap (wrote m) (sym e)
+
+module _ (L : Ledger) (W : List ℕ) (s n : ℕ) (t : List ℕ) (ph : Phase) (so : List Bool) (R : List Stage) where
+  abbrev old : TwoCopies
+  old = seen_as L W s n t ph so R
+
+  -- a load changes no word
+  loads : (i : ℕ) (w : Writing) → (let m : TwoCopies = record old { writer = w } in m) ≡ (let m : TwoCopies = record old { words = set W i (get_or W i 0); writer = w } in m)
+  loads i w = ap (λ (words : List ℕ). let m : TwoCopies = record old { words = words; writer = w } in m) (sym (set-get_or W i 0))
+
+  abbrev looked : Bool → Writing
+  looked b = cond b (seeing 34 old.writer (set so (first_false so) true)) (record old.writer { phase = Idle })
+
+  pub gave_up : ph ≡ Seeing → get_or W (69 + first_false so) 0 ≢ 0 → seen_as L W s n t Idle so R ≡ (turn old Writer).0
+  gave_up e ne =
+      ap (λ (b : Bool). let m : TwoCopies = record old { writer = looked b } in m) (sym (ne_eqb (get_or W (69 + first_false so) 0) 0 ne))
+      ∙ (loads (69 + first_false so) (looked (eqb (get_or W (69 + first_false so) 0) 0)) ∙ wrote_at old Seeing e)
+
+  pub saw_out : ph ≡ Seeing → get_or W (69 + first_false so) 0 ≡ 0
+      → seen_as L W s n t (cond (all_true (set so (first_false so) true)) (Filling 0) Seeing) (set so (first_false so) true) R ≡ (turn old Writer).0
+  saw_out e is =
+      ap (λ (b : Bool). let m : TwoCopies = record old { writer = looked b } in m) (sym (eq-eqb (get_or W (69 + first_false so) 0) 0 is))
+      ∙ (loads (69 + first_false so) (looked (eqb (get_or W (69 + first_false so) 0) 0)) ∙ wrote_at old Seeing e)
+
+  -- the reader's step
+  pub no_reader : (number : ℕ) → (number ≡ 0) ⊎ (length R < number) → (turn old (Reader number)) ≡ (old, Skipped)
+  no_reader zero none = refl
+  no_reader (suc r) none = ap (reader_turn old r) (slice_get_past R r (⊎_elim (λ (e : suc r ≡ 0). let z : length R ≤ r = omega arith in z) (λ (past : length R < suc r). let z : length R ≤ r = omega arith in z) none))
+
+  pub reader_reads : (number r : ℕ) (stage : Stage) (W' : List ℕ) (R' : List Stage) → number ≡ suc r → slice_get R r ≡ Some stage
+      → (let d = stage_deed 34 r stage in (W' ≡ set W d.word (d.becomes (get_or W d.word 0))) × (R' ≡ set R r (d.after (get_or W d.word 0))))
+      → seen_as L W' s n t ph so R' ≡ (turn old (Reader number)).0
+  reader_reads number r stage W' R' e at h =
+      (λ i. seen_as L (h.0 i) s n t ph so (h.1 i)) ∙ (ap (λ (o : Option Stage). (reader_turn old r o).0) (sym at) ∙ ap (λ (k : ℕ). (turn old (Reader k)).0) (sym e))
+
+  pub reader_tells : (number r : ℕ) (stage : Stage) → number ≡ suc r → slice_get R r ≡ Some stage → stage_note (suc r) stage ≡ (turn old (Reader number)).1
+  reader_tells number r stage e at = ap (λ (o : Option Stage). (reader_turn old r o).1) (sym at) ∙ ap (λ (k : ℕ). (turn old (Reader k)).1) (sym e)
+
+  module _ (k : IsMachine L W s n t ph so R) where
+    abbrev p : Passes
+    p = k.lawful.0
+
+    -- a reader's step stands in its place
+    pub wide_enough : 69 + length R ≤ length W
+    wide_enough = let wide = k.lawful.1.state.wide in omega (arith, viewed_length R p.records)
+
+    pub first_there : ph ≡ Seeing → (first_false so < length so) × (first_false so < 4) × (69 + first_false so < length W)
+    first_there e =
+        let some : all_true so ≡ false = subst (Fills L.opening (IsPublishable L.opening) W old.writer) e k.lawful.1.state.writer.fills in
+        let below = first_inside so some in
+        let flags = k.lawful.1.state.writer.flags in
+        let few = k.few in
+        let wide = wide_enough in
+        let long = viewed_length R p.records in
+        (below, omega arith, omega arith)
+
+    pub readable : (r : ℕ) (stage : Stage) → slice_get R r ≡ Some stage → IsReadable stage
+    readable r stage at =
+        by_stage stage at (k.lawful.1.state.each_reader r (view_at stage (record_at p.records r)) (viewed_at R p.records r stage at)).stands
+      where
+        by_stage : (stage : Stage) → slice_get R r ≡ Some stage → Stands L.opening (IsPublishable L.opening) W (state_of old k.lawful.0).writer (record_at k.lawful.0.records r) r stage → IsReadable stage
+        by_stage AtRest at h = tt
+        by_stage Arrived at h = tt
+        by_stage (Reading side words) at h = h.1
+        by_stage (Leaving side words) at h =
+            let is = leaving_reads L.opening (IsPublishable L.opening) (state_of old k.lawful.0) k.lawful.1.state r side words (record_at k.lawful.0.records r)
+            (viewed_at R k.lawful.0.records r (Leaving side words) at) in
+            (h.1, subst IsSheet (sym is.1) is.2.1)
+
+    -- a word is stored
+    pub filled_in : (j : ℕ) (W' : List ℕ) → ph ≡ Filling j → W' ≡ set W (place 34 (1 - s) j) (get_or t j 0)
+        → seen_as L W' s n t (cond (eqb (j + 1) 34) Swapping (Filling (j + 1))) so R ≡ (turn old Writer).0
+    filled_in j W' e is =
+        ap (λ (words : List ℕ). seen_as L words s n t (cond (eqb (j + 1) 34) Swapping (Filling (j + 1))) so R)
+        (is ∙ ap (λ (numbers : List ℕ). set W (place 34 (1 - s) j) (get_or numbers j 0)) k.sheet_is)
+        ∙ wrote_at old (Filling j) e
+
+    -- side is stored
+    pub swapped_in : ph ≡ Swapping → seen_as L (set W 0 (1 - s)) (1 - s) (front_of t) t Idle (replicate (length so) false) R ≡ (turn old Writer).0
+    swapped_in e = wrote_at old Swapping e
+
+    -- a publication begins
+    published_long : length (take n L.journal) ≡ n
+    published_long = let within = k.published_within in length-take n L.journal ∙ omega arith
+
+    pub begun_in : is_idle ph ≡ true → n < length L.journal → seen_as L W s n (sheet_of L) (cond (all_true so) (Filling 0) Seeing) so R ≡ (turn old Publish).0
+    begun_in idle pending =
+        let is : is_pending old ≡ true = ap (λ (x : ℕ). nat_lt x (length L.journal)) published_long ∙ lt-ltb n (length L.journal) pending in
+        ap (λ (commands : List Command). let m : TwoCopies = record old { writer = record { side = s; published = take n L.journal; taken = commands; phase = cond (all_true so) (Filling 0) Seeing; seen_out = so } } in m) (take-length L.journal)
+        ∙ (ap (λ (b : Bool). (published_by old b).0) (sym is) ∙ ap (λ (b : Bool). (cond b (published_by old (is_pending old)) (old, Skipped)).0) (sym idle))
+
+    -- what is kept is lawful after an event, if it is the machine after that event
+    pub stays : (event : Event) (W' : List ℕ) (s' n' : ℕ) (t' : List ℕ) (ph' : Phase) (so' : List Bool) (R' : List Stage) → seen_as L W' s' n' t' ph' so' R' ≡ (turn old event).0
+        → n' ≤ length L.journal → front_of t' ≤ length L.journal → t' ≡ sheet L.opening (take (front_of t') L.journal) → length R' ≡ length R
+        → IsLawful IsPublishable (turn old event).0 (passed old p event) → IsMachine L W' s' n' t' ph' so' R'
+    stays event W' s' n' t' ph' so' R' is within taken sheet_is long l =
+        record {
+          published_within = within;
+          taken_within = taken;
+          sheet_is = sheet_is;
+          few = subst (λ (x : ℕ). x ≤ 4) (sym long) k.few;
+          lawful = (passed old p event, subst (λ (m : TwoCopies). IsLawful IsPublishable m (passed old p event)) (sym is) l);
+        }
+
+    -- the writer's steps
+    pub writer_stays : (W' : List ℕ) (s' n' : ℕ) (ph' : Phase) (so' : List Bool) → seen_as L W' s' n' t ph' so' R ≡ (turn old Writer).0 → n' ≤ length L.journal → IsMachine L W' s' n' t ph' so' R
+    writer_stays W' s' n' ph' so' is within = stays Writer W' s' n' t ph' so' R is within k.taken_within k.sheet_is refl (written_keeps IsPublishable old p k.lawful.1)
+
+    pub reader_stays : (number : ℕ) (W' : List ℕ) (R' : List Stage) → seen_as L W' s n t ph so R' ≡ (turn old (Reader number)).0 → length R' ≡ length R → IsMachine L W' s n t ph so R'
+    reader_stays number W' R' is long = stays (Reader number) W' s n t ph so R' is k.published_within k.taken_within k.sheet_is long (step_keeps IsPublishable old p k.lawful.1 number)
+
+    pub publish_stays : (t' : List ℕ) (ph' : Phase) → t' ≡ sheet_of L → IsPublishable L.opening L.journal → seen_as L W s n t' ph' so R ≡ (turn old Publish).0 → IsMachine L W s n t' ph' so R
+    publish_stays t' ph' e legal is =
+        let front : front_of t' ≡ length L.journal = ap front_of e in
+        stays Publish W s n t' ph' so R is k.published_within (omega arith)
+        (e ∙ ap (sheet L.opening) (sym (take-length L.journal) ∙ ap (λ (x : ℕ). take x L.journal) (sym front))) refl (publish_keeps IsPublishable old p k.lawful.1 legal)
+
+    -- a command is accepted
+    pub submitted_in : (L' : Ledger) (command : Command) → L' ≡ appended L command → seen_as L' W s n t ph so R ≡ (let m : TwoCopies = record old { ledger = appended L command } in m)
+    submitted_in L' command e =
+        ap (λ (l : Ledger). seen_as l W s n t ph so R) e
+        ∙ (λ i. let m : TwoCopies = record {
+          ledger = appended L command;
+          words = W;
+          writer = record {
+            side = s;
+            published = take-append-le n L.journal (command ∷ []) k.published_within i;
+            taken = take-append-le (front_of t) L.journal (command ∷ []) k.taken_within i;
+            phase = ph;
+            seen_out = so;
+          };
+          readers = R;
+        } in m)
+
+    pub submit_stays : (L' : Ledger) (command : Command) → L' ≡ appended L command → is_idle ph ≡ true → IsMachine L' W s n t ph so R
+    submit_stays L' command e idle =
+        let more = length-append L.journal (command ∷ []) in
+        let within = k.published_within in
+        let taken = k.taken_within in
+        let F : Ledger → Type 0 = λ l. IsMachine l W s n t ph so R in
+        subst F (sym e) record {
+          published_within = omega arith;
+          taken_within = omega arith;
+          sheet_is = k.sheet_is ∙ ap (sheet L.opening) (sym (take-append-le (front_of t) L.journal (command ∷ []) k.taken_within));
+          few = k.few;
+          lawful = (p, subst (λ (m : TwoCopies). IsLawful IsPublishable m p) (sym (submitted_in (appended L command) command refl)) (accepted_keeps IsPublishable old p k.lawful.1 command idle));
+        }
+
+    -- whatever the verdict
+    pub handed_in : (L' : Ledger) (command : Command) (v : Result ⊤ Refusal) → L' ≡ (handed L command v).0 → seen_as L' W s n t ph so R ≡ (submitted old command v).0
+    handed_in L' command (Ok u) e = submitted_in L' command e
+    handed_in L' command (Err refusal) e = ap (λ (l : Ledger). seen_as l W s n t ph so R) e
+
+    handed_stays : (L' : Ledger) (command : Command) (v : Result ⊤ Refusal) → L' ≡ (handed L command v).0 → is_idle ph ≡ true → IsMachine L' W s n t ph so R
+    handed_stays L' command (Ok u) e idle = submit_stays L' command e idle
+    handed_stays L' command (Err refusal) e idle = let F : Ledger → Type 0 = λ l. IsMachine l W s n t ph so R in subst F (sym e) k
+
+    pub handed_machine : (L' : Ledger) (command : Command) (r : Result Note Refusal) → is_idle ph ≡ true → IfOk r (λ note. (L', note) ≡ handed L command (verdict_of L command)) → OnErr r (L' ≡ L)
+        → IsMachine L' W s n t ph so R
+    handed_machine L' command (Ok note) idle told same = handed_stays L' command (verdict_of L command) (ap (λ (x : Ledger × Note). x.0) told) idle
+    handed_machine L' command (Err refusal) idle told same = let F : Ledger → Type 0 = λ l. IsMachine l W s n t ph so R in subst F (sym same) k
+
+    pub handed_turn : (L' : Ledger) (command : Command) (r : Result Note Refusal) → is_idle ph ≡ true → IfOk r (λ note. (L', note) ≡ handed L command (verdict_of L command))
+        → IfOk r (λ note. seen_as L' W s n t ph so R ≡ (turn old (Submit command)).0) × IfOk r (λ note. note ≡ (turn old (Submit command)).1)
+    handed_turn L' command (Ok note) idle told = (
+      handed_in L' command (verdict_of L command) (ap (λ (x : Ledger × Note). x.0) told) ∙ ap (λ (b : Bool). (cond b (submitted old command (verdict_of L command)) (old, Skipped)).0) (sym idle),
+      ap (λ (x : Ledger × Note). x.1) told ∙ ap (λ (b : Bool). (cond b (submitted old command (verdict_of L command)) (old, Skipped)).1) (sym idle),
+    )
+    handed_turn L' command (Err refusal) idle told = (tt, tt)
+
+    -- the same steps, as the code takes them
+    module _ (now : TwoCopies) (is : old ≡ now) where
+      phase_is : (phase : Phase) → now.writer.phase ≡ phase → ph ≡ phase
+      phase_is phase e = ap (λ (m : TwoCopies). m.writer.phase) is ∙ e
+
+      pub first_at : now.writer.phase ≡ Seeing → (r : ℕ) → r ≡ first_false so → (r < length so) × (r < 4) × (69 + r < length W)
+      first_at e r first = subst (λ (x : ℕ). (x < length so) × (x < 4) × (69 + x < length W)) (sym first) (first_there (phase_is Seeing e))
+
+      pub gave_up_at : now.writer.phase ≡ Seeing → (r found : ℕ) → r ≡ first_false so → found ≡ get_or W (69 + r) 0 → (found ≡ 0 → ⊥) → seen_as L W s n t Idle so R ≡ (turn old Writer).0
+      gave_up_at e r found first load ne =
+          gave_up (phase_is Seeing e) (λ z. ne (load ∙ (ap (λ (x : ℕ). get_or W (69 + x) 0) first ∙ z)))
+
+      pub saw_out_at : now.writer.phase ≡ Seeing → (r found : ℕ) (so' : List Bool) (ph' : Phase) → r ≡ first_false so → found ≡ get_or W (69 + r) 0 → found ≡ 0 → so' ≡ set so r true
+          → ph' ≡ cond (all_true so') (Filling 0) Seeing → seen_as L W s n t ph' so' R ≡ (turn old Writer).0
+      saw_out_at e r found so' ph' first load z out next =
+          let set_is : so' ≡ set so (first_false so) true = out ∙ ap (λ (x : ℕ). set so x true) first in
+          let phase : ph' ≡ cond (all_true (set so (first_false so) true)) (Filling 0) Seeing = next ∙ ap (λ (x : List Bool). let y : Phase = cond (all_true x) (Filling 0) Seeing in y) set_is in
+          (λ i. seen_as L W s n t (phase i) (set_is i) R) ∙ saw_out (phase_is Seeing e) (sym (load ∙ ap (λ (x : ℕ). get_or W (69 + x) 0) first) ∙ z)
+
+      pub filled_at : (j at : ℕ) (words W' : List ℕ) (ph' : Phase) → now.writer.phase ≡ Filling j → words ≡ t → at ≡ place 34 (1 - s) j → W' ≡ set W at (get_or words j 0)
+          → ph' ≡ cond (eqb (j + 1) 34) Swapping (Filling (j + 1)) → seen_as L W' s n t ph' so R ≡ (turn old Writer).0
+      filled_at j at words W' ph' e same there stored next =
+          ap (λ (x : Phase). seen_as L W' s n t x so R) next
+          ∙ filled_in j W' (phase_is (Filling j) e) (stored ∙ ((λ i. set W (there i) (get_or words j 0)) ∙ ap (λ (x : List ℕ). set W (place 34 (1 - s) j) (get_or x j 0)) same))
+
+      pub swapped_at : (W' : List ℕ) (n' : ℕ) (so' : List Bool) → now.writer.phase ≡ Swapping → W' ≡ set W 0 (1 - s) → n' ≡ front_of t → so' ≡ replicate (length so) false
+          → seen_as L W' (1 - s) n' t Idle so' R ≡ (turn old Writer).0
+      swapped_at W' n' so' e stored front out = (λ i. seen_as L (stored i) (1 - s) (front i) t Idle (out i) R) ∙ swapped_in (phase_is Swapping e)
+
+      pub swap_machine : (W' : List ℕ) (n' : ℕ) (so' : List Bool) → now.writer.phase ≡ Swapping → W' ≡ set W 0 (1 - s) → n' ≡ front_of t → so' ≡ replicate (length so) false
+          → IsMachine L W' (1 - s) n' t Idle so' R
+      swap_machine W' n' so' e stored front out = writer_stays W' (1 - s) n' Idle so' (swapped_at W' n' so' e stored front out) (let within = k.taken_within in omega arith)
+
+      pub skipped_at : (number : ℕ) → (number ≡ 0) ⊎ (length R < number) → (turn now (Reader number)) ≡ (now, Skipped)
+      skipped_at number none = subst (λ (m : TwoCopies). (turn m (Reader number)) ≡ (m, Skipped)) is (no_reader number none)
+
+      module _ (number : ℕ) (some : number ≡ 0 → ⊥) (within : number ≤ length R) (stage : Stage) (found : slice_get R (number - 1) ≡ Some stage) where
+        number_is : number ≡ suc (number - 1)
+        number_is = by_cases number some
+          where
+            by_cases : (x : ℕ) → (x ≡ 0 → ⊥) → x ≡ suc (x - 1)
+            by_cases zero h = absurd (h refl)
+            by_cases (suc x) h = omega arith
+
+        pub seat_within : 69 + (number - 1) < length W
+        seat_within = let wide = wide_enough in let h = number_is in omega arith
+
+        pub seat_readable : IsReadable stage
+        seat_readable = readable (number - 1) stage found
+
+        module _ (seats : List Stage) (put : seats ≡ set R (number - 1) AtRest) (W' : List ℕ) (next : Stage) (R' : List Stage)
+            (words : let d = stage_deed 34 (number - 1) stage in W' ≡ set W d.word (d.becomes (get_or W d.word 0))) (after : let d = stage_deed 34 (number - 1) stage in next ≡ d.after (get_or W d.word 0))
+            (put_back : R' ≡ set seats (number - 1) next) where
+          seats_are : R' ≡ set R (number - 1) next
+          seats_are = put_back ∙ (ap (λ (x : List Stage). set x (number - 1) next) put ∙ set_set R (number - 1) AtRest next)
+
+          pub read_at : seen_as L W' s n t ph so R' ≡ (turn old (Reader number)).0
+          read_at = reader_reads number (number - 1) stage W' R' number_is found (words, seats_are ∙ ap (set R (number - 1)) after)
+
+          pub read_machine : IsMachine L W' s n t ph so R'
+          read_machine = reader_stays number W' R' read_at (ap (length {A = Stage}) seats_are ∙ length-set R (number - 1) next)
+
+        pub read_note : (note : Note) → note ≡ stage_note (suc (number - 1)) stage → note ≡ (turn old (Reader number)).1
+        read_note note e = e ∙ reader_tells number (number - 1) stage number_is found
+
+-- the machine at its start
+pub started_in : (L : Ledger) (readers : ℕ) → seen_as L (0 ∷ sheet_of L ++ sheet_of L ++ replicate readers 0) 0 (length L.journal) (sheet_of L) Idle (replicate readers true) (replicate readers AtRest) ≡ started L readers
+started_in L readers =
+    λ i. let m : TwoCopies = record {
+      ledger = L;
+      words = 0 ∷ sheet_of L ++ sheet_of L ++ replicate readers 0;
+      writer = record { side = 0; published = take-length L.journal i; taken = take-length L.journal i; phase = Idle; seen_out = replicate readers true };
+      readers = replicate readers AtRest;
+    } in m
+
+pub start_is : (L : Ledger) (readers : ℕ) (W : List ℕ) (n : ℕ) (t : List ℕ) (so : List Bool) (R : List Stage) → readers ≤ 4 → IsPublishable L.opening L.journal
+    → W ≡ 0 ∷ sheet_of L ++ sheet_of L ++ replicate readers 0 → n ≡ length L.journal → t ≡ sheet_of L → so ≡ replicate readers true → R ≡ replicate readers AtRest
+    → (seen_as L W 0 n t Idle so R ≡ started L readers) × IsMachine L W 0 n t Idle so R
+start_is L readers W n t so R few legal w e x f r =
+    let is : seen_as L W 0 n t Idle so R ≡ started L readers = (λ i. seen_as L (w i) 0 (e i) (x i) Idle (f i) (r i)) ∙ started_in L readers in
+    let front : front_of t ≡ length L.journal = ap front_of x in (
+      is,
+      record {
+        published_within = omega arith;
+        taken_within = omega arith;
+        sheet_is = x ∙ ap (sheet L.opening) (sym (take-length L.journal) ∙ ap (λ (y : ℕ). take y L.journal) (sym front));
+        few = subst (λ (y : ℕ). y ≤ 4) (sym (ap (length {A = Stage}) r ∙ length-replicate readers AtRest)) few;
+        lawful = (opened L readers, subst (λ (m : TwoCopies). IsLawful IsPublishable m (opened L readers)) (sym is) (start_lawful IsPublishable L readers legal));
+      },
+    )

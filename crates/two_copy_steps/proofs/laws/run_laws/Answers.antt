@@ -1,0 +1,21 @@
+use Rattle.two_copy_steps.specs.Turns.{started}
+use Rattle.two_copy_steps.proofs.EventLists.{run_records, run_apart, run_answers, always_within}
+use Rattle.std.proofs.Common.{arith}
+use Rattle.two_copy_steps.proofs.Fresh.{run_fresh}
+use Rattle.two_copy_steps.proofs.laws.run_laws.Goals as goal
+
+pub returns-clause-records : goal.returns-clause-records
+returns-clause-records c = λ ledger readers k events.
+    let w = always_within events (started ledger readers) (k.within, k.small) in
+    let short = w.0 in
+    let small = w.1 in
+    run_records ledger readers k.legal.0 events (omega arith)
+
+pub returns-clause-apart : goal.returns-clause-apart
+returns-clause-apart c = λ ledger readers k events. run_apart ledger readers k.legal.0 events
+
+pub returns-clause-replies : goal.returns-clause-replies
+returns-clause-replies c = λ ledger readers k events. run_answers ledger readers k.legal.0 events
+
+pub returns-clause-fresh : goal.returns-clause-fresh
+returns-clause-fresh c = λ ledger readers k events more r words rest told. run_fresh ledger readers k.legal.0 events more r words rest told

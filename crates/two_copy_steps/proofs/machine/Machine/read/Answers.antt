@@ -1,0 +1,54 @@
+use Rattle.std.proofs.Common.{◌≡◌, ◌<◌, ◌⊎◌, inl, inr, length, ◌∙◌, ap, sym, arith}
+use Rattle.two_copy_steps.specs.declared.events.Note.{Note}
+use Rattle.two_copy_steps.specs.declared.events.Event.TheVariants.{Reader}
+use Rattle.two_copy_steps.specs.Turns.{TwoCopies, turn}
+use Rattle.two_copy_steps.proofs.Steps.{skipped_at, seat_within, seat_readable, read_at, read_machine, read_note}
+use Rattle.two_copy_steps.proofs.machine.Machine.read.Goals as goal
+use Rattle.two_copy_steps.proofs.machine.Machine.read.Goals.{then-number-eq0-via-then-number-eq0, then-number-eq0-via-else-number-eq0+then-len-number}
+
+none : (c : goal.Joined-then-number-eq0) → (c.args.number ≡ 0) ⊎ (length c.self.inside.seats < c.args.number)
+none c =
+    elim c.then-number-eq0.branch [
+      | then-number-eq0-via-then-number-eq0 w ↦ inl w.if-number-eq0.true
+      | then-number-eq0-via-else-number-eq0+then-len-number w ↦ inr (let e = w.len.ensures in let h = w.if-len-number.true in omega arith)
+    ]
+
+pub returns-then-number-eq0-clause-machine : goal.returns-then-number-eq0-clause-machine
+returns-then-number-eq0-clause-machine c = ap (λ (x : TwoCopies × Note). x.0) (sym (skipped_at _ _ _ _ _ _ _ _ c.self.invariant _ c.self.view_is c.args.number (none c)))
+
+pub returns-then-number-eq0-clause-note : goal.returns-then-number-eq0-clause-note
+returns-then-number-eq0-clause-note c = ap (λ (x : TwoCopies × Note). x.1) (sym (skipped_at _ _ _ _ _ _ _ _ c.self.invariant _ c.self.view_is c.args.number (none c)))
+
+pub advance-next-requires-clause-within : goal.advance-next-requires-clause-within
+advance-next-requires-clause-within c =
+    let e = c.len.ensures in
+    let h = c.if-len-number.false in
+    seat_within _ _ _ _ _ _ _ _ c.self.invariant _ c.self.view_is _ c.if-number-eq0.false (omega arith) _ c.replace-stage.ensures.found
+
+pub advance-next-requires-clause-readable : goal.advance-next-requires-clause-readable
+advance-next-requires-clause-readable c =
+    let e = c.len.ensures in
+    let h = c.if-len-number.false in
+    seat_readable _ _ _ _ _ _ _ _ c.self.invariant _ c.self.view_is _ c.if-number-eq0.false (omega arith) _ c.replace-stage.ensures.found
+
+pub invariant_of-self : goal.invariant_of-self
+invariant_of-self c =
+    let e = c.len.ensures in
+    let h = c.if-len-number.false in
+    read_machine _ _ _ _ _ _ _ _ c.self.invariant _ c.self.view_is _ c.if-number-eq0.false (omega arith) _ c.replace-stage.ensures.found _ c.replace-stage.ensures.put _ _ _
+    c.advance-next.ensures.words c.advance-next.ensures.stage c.replace-at_rest.ensures.put
+
+pub returns-clause-machine : goal.returns-clause-machine
+returns-clause-machine c =
+    let e = c.len.ensures in
+    let h = c.if-len-number.false in
+    read_at _ _ _ _ _ _ _ _ c.self.invariant _ c.self.view_is _ c.if-number-eq0.false (omega arith) _ c.replace-stage.ensures.found _ c.replace-stage.ensures.put _ _ _
+    c.advance-next.ensures.words c.advance-next.ensures.stage c.replace-at_rest.ensures.put
+    ∙ ap (λ (m : TwoCopies). (turn m (Reader c.args.number)).0) c.self.view_is
+
+pub returns-clause-note : goal.returns-clause-note
+returns-clause-note c =
+    let e = c.len.ensures in
+    let h = c.if-len-number.false in
+    read_note _ _ _ _ _ _ _ _ c.self.invariant _ c.self.view_is _ c.if-number-eq0.false (omega arith) _ c.replace-stage.ensures.found _ c.advance-next.ensures.note
+    ∙ ap (λ (m : TwoCopies). (turn m (Reader c.args.number)).1) c.self.view_is

@@ -1,0 +1,7 @@
+use Rattle.std.proofs.Common.{◌≡◌, ℕ, ◌+◌, ◌<◌, ◌≤◌, length, get_or}
+use Rattle.two_copy_steps.proofs.table.Table.start.Given as goal
+
+abbrev pub invariant-loop-i : goal.invariant-loop-i
+invariant-loop-i l =
+    (length l.all ≡ 73) × (get_or l.all 0 0 ≡ 0) × ((k : ℕ) → k < l.i → get_or l.all (1 + k) 0 ≡ get_or l.sheet k 0)
+    × ((k : ℕ) → k < l.i → get_or l.all (35 + k) 0 ≡ get_or l.sheet k 0) × ((k : ℕ) → 69 ≤ k → k < 73 → get_or l.all k 0 ≡ 0)

@@ -1,0 +1,115 @@
+-- The state of words and views, and which states are lawful.
+use Rattle.std.specs.Prelude.{◌≡◌, ◌≢◌, ℕ, ◌+◌, ◌<◌, ◌≤◌, true, false, List, [], ◌∷◌, ◌++◌, length, take, slice_index, slice_get, slice_set, Some, Contains}
+use Rattle.std.specs.List.Sorted.{IsNonDecreasing}
+use Rattle.council_core.specs.declared.commands.Command.{Command}
+use Rattle.council_core.specs.Rolls.{Opening, sheet, IsLegal}
+use Rattle.council_core.specs.Sequential.{IsRecordFrom}
+use Rattle.council_core.specs.Sheets.{front_of, IsSheet}
+use Rattle.two_copy_steps.specs.declared.views.ReaderView.{ReaderView}
+use Rattle.two_copy_steps.specs.declared.views.WriterView.{WriterView}
+use Rattle.two_copy_steps.specs.declared.views.Writing.{Writing}
+use Rattle.two_copy_steps.specs.declared.views.Stage.{Stage}
+use Rattle.two_copy_steps.specs.declared.views.Stage.TheVariants.{AtRest, Arrived, Reading, Leaving}
+use Rattle.two_copy_steps.specs.declared.views.Phase.{Phase}
+use Rattle.two_copy_steps.specs.declared.views.Phase.TheVariants.{Idle, Seeing, Filling, Swapping}
+use Rattle.two_copy_steps.specs.Deeds.{all_true, other, place, pin, reader_deed, writer_deed, begun}
+
+pub record State : Type 0 where
+  pub words : List ℕ
+  pub writer : WriterView
+  pub readers : List ReaderView
+
+-- the reader at r, whose view is given, takes its step
+abbrev pub read_by : State → ℕ → ReaderView → State
+read_by s r v =
+    let d = reader_deed 34 r v in
+    let found = slice_index s.words d.word in
+    record { words = slice_set s.words d.word (d.becomes found); writer = s.writer; readers = slice_set s.readers r (d.after found) }
+
+-- the writer takes its step; an opening's sheets are stored
+abbrev pub written_by : Opening → State → State
+written_by opening s =
+    let d = writer_deed 34 (sheet opening) s.writer in
+    let found = slice_index s.words d.word in
+    record { words = slice_set s.words d.word (d.becomes found); writer = d.after found; readers = s.readers }
+
+-- the writer begins to publish these commands; no word is touched
+abbrev pub begun_by : State → List Command → State
+begun_by s commands = record s { writer = record s.writer { state = begun 34 commands s.writer.state } }
+
+-- 1 where the reader isn't at rest
+abbrev pub pin_of : Stage → ℕ
+pin_of AtRest = 0
+pin_of Arrived = 1
+pin_of (Reading side words) = 1
+pin_of (Leaving side words) = 1
+
+-- the last front of a record, or the number given where it is empty
+abbrev pub last_front : ℕ → List (List ℕ) → ℕ
+last_front low [] = low
+last_front low (words ∷ rest) = last_front (front_of words) rest
+
+-- the copy that a side names has these numbers
+abbrev pub Shows : List ℕ → ℕ → List ℕ → Type 0
+Shows words side numbers = (i : ℕ) → i < 34 → slice_index words (place 34 side i) ≡ slice_index numbers i
+
+-- the words read are the first ones of the copy that a side names
+abbrev pub IsReadFrom : List ℕ → ℕ → List ℕ → Type 0
+IsReadFrom words side loaded = (i : ℕ) → i < length loaded → slice_index loaded i ≡ slice_index words (place 34 side i)
+
+-- a legal list whose sheet has the numbers of a sheet
+abbrev pub IsPublishable : Opening → List Command → Type 0
+IsPublishable opening commands = IsLegal opening commands × IsSheet (sheet opening commands)
+
+-- an opening, and what is asked of each list of commands that is published
+module _ (opening : Opening) (Legal : List Command → Type 0) where
+  -- the reader at r has loaded this side and not left: that copy has the sheet of one cut, not below any front of its record,
+  -- and where that side isn't the writer's, the reader isn't seen out
+  pub record Beside (words : List ℕ) (v : WriterView) (readings : List (List ℕ)) (r side : ℕ) : Type 0 where
+    pub two : side < 2
+    pub cut : ℕ
+    pub is_cut : Contains v.cuts cut
+    pub shows : Shows words side (sheet opening (take cut v.state.published))
+    pub above : last_front 0 readings ≤ cut
+    pub late : side ≢ v.state.side → slice_get v.state.seen_out r ≡ Some false
+
+  abbrev pub Stands : List ℕ → WriterView → List (List ℕ) → ℕ → Stage → Type 0
+  Stands words v readings r AtRest = Unit {0}
+  Stands words v readings r Arrived = Unit {0}
+  Stands words v readings r (Reading side loaded) = Beside words v readings r side × (length loaded < 34) × IsReadFrom words side loaded
+  Stands words v readings r (Leaving side loaded) =
+      Beside words v readings r side × (length loaded ≡ 34) × IsReadFrom words side loaded × ((earlier : List (List ℕ)) × (readings ≡ earlier ++ loaded ∷ []))
+
+  pub record ReaderOk (words : List ℕ) (v : WriterView) (r : ℕ) (reader : ReaderView) : Type 0 where
+    pub pinned : slice_index words (pin 34 r) ≡ pin_of reader.stage
+    pub stands : Stands words v reader.readings r reader.stage
+    pub record_legal : IsRecordFrom opening v.state.published v.cuts 0 reader.readings
+
+  -- all readers are seen out, and the first k words of the copy not published are those of the sheet of the commands taken
+  abbrev pub Stored : List ℕ → Writing → ℕ → Type 0
+  Stored words w k =
+      (all_true w.seen_out ≡ true)
+      × ((i : ℕ) → i < k → slice_index words (place 34 (other w.side) i) ≡ slice_index (sheet opening w.taken) i)
+
+  abbrev pub Fills : List ℕ → Writing → Phase → Type 0
+  Fills words w Idle = Unit {0}
+  Fills words w Seeing = all_true w.seen_out ≡ false
+  Fills words w (Filling k) = (k < 34) × Stored words w k
+  Fills words w Swapping = Stored words w 34
+
+  pub record WriterOk (words : List ℕ) (v : WriterView) (readers : ℕ) : Type 0 where
+    pub two : v.state.side < 2
+    pub side_is : slice_index words 0 ≡ v.state.side
+    pub flags : length v.state.seen_out ≡ readers
+    pub legal : Legal v.state.taken
+    pub begins : (rest : List Command) × (v.state.published ++ rest ≡ v.state.taken)
+    pub shown : Shows words v.state.side (sheet opening v.state.published)
+    pub last_cut : (earlier : List ℕ) × (v.cuts ≡ earlier ++ length v.state.published ∷ [])
+    pub cuts : (cut : ℕ) → Contains v.cuts cut → (cut ≤ length v.state.published) × Legal (take cut v.state.published)
+    pub ascending : IsNonDecreasing v.cuts
+    pub fills : Fills words v.state v.state.phase
+
+  pub record Lawful (s : State) : Type 0 where
+    pub wide : 69 + length s.readers ≤ length s.words
+    pub writer : WriterOk s.words s.writer (length s.readers)
+    pub each_reader : (r : ℕ) (v : ReaderView) → slice_get s.readers r ≡ Some v → ReaderOk s.words s.writer r v

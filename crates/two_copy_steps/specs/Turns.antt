@@ -1,0 +1,107 @@
+-- The machine as contracts see it, and what each event does to it and tells.
+use Rattle.std.specs.Prelude.{ℕ, zero, suc, ◌+◌, Bool, true, false, List, [], ◌∷◌, ◌++◌, length, replicate, slice_index, slice_get, slice_set, cond, ◌==◌, nat_lt, Option, None, Some, Result, Ok, Err, ⊤}
+use Rattle.council_core.specs.declared.commands.Command.{Command}
+use Rattle.council_core.specs.declared.refusals.Refusal.{Refusal}
+use Rattle.council_core.specs.Rolls.{sheet}
+use Rattle.council_core.specs.Ledgers.{Ledger, verdict_of, appended, sheet_of}
+use Rattle.two_copy_steps.specs.declared.events.Event.{Event}
+use Rattle.two_copy_steps.specs.declared.events.Event.TheVariants.{Submit, Publish, Writer, Reader}
+use Rattle.two_copy_steps.specs.declared.events.Note.{Note}
+use Rattle.two_copy_steps.specs.declared.events.Note.TheVariants.{Accepted, Refused, Began, Moved, Published, Busy, Read, Skipped}
+use Rattle.two_copy_steps.specs.declared.views.Writing.{Writing}
+use Rattle.two_copy_steps.specs.declared.views.Stage.{Stage}
+use Rattle.two_copy_steps.specs.declared.views.Stage.TheVariants.{AtRest, Arrived, Reading, Leaving}
+use Rattle.two_copy_steps.specs.declared.views.Phase.{Phase}
+use Rattle.two_copy_steps.specs.declared.views.Phase.TheVariants.{Idle, Seeing, Filling, Swapping}
+use Rattle.two_copy_steps.specs.Deeds.{first_false, pin, stage_deed, writing_deed, begun}
+
+-- the register, the words (word 0 is side, then copy 0, copy 1 and a pin for each reader), how far the writer is, and each reader's stage
+pub record TwoCopies : Type 0 where
+  pub ledger : Ledger
+  pub words : List ℕ
+  pub writer : Writing
+  pub readers : List Stage
+
+abbrev pub is_idle : Phase → Bool
+is_idle Idle = true
+is_idle Seeing = false
+is_idle (Filling k) = false
+is_idle Swapping = false
+
+-- both copies have the register's sheet, everybody is seen out, and nobody is on the way
+abbrev pub started : Ledger → ℕ → TwoCopies
+started ledger readers =
+    record {
+      ledger = ledger;
+      words = 0 ∷ sheet_of ledger ++ sheet_of ledger ++ replicate readers 0;
+      writer = record { side = 0; published = ledger.journal; taken = ledger.journal; phase = Idle; seen_out = replicate readers true };
+      readers = replicate readers AtRest;
+    }
+
+-- a command is handed to the register: the register after its verdict, and the note
+abbrev pub handed : Ledger → Command → Result ⊤ Refusal → Ledger × Note
+handed ledger command (Ok u) = (appended ledger command, Accepted (length ledger.journal + 1))
+handed ledger command (Err refusal) = (ledger, Refused refusal)
+
+abbrev pub submitted : TwoCopies → Command → Result ⊤ Refusal → TwoCopies × Note
+submitted m command v = let after = handed m.ledger command v in (record m { ledger = after.0 }, after.1)
+
+-- a publication of the whole journal begins, if there is something pending
+abbrev pub published_by : TwoCopies → Bool → TwoCopies × Note
+published_by m true = (record m { writer = begun 34 m.ledger.journal m.writer }, Began)
+published_by m false = (m, Published (length m.writer.published))
+
+-- the register has accepted more commands than are published
+abbrev pub is_pending : TwoCopies → Bool
+is_pending m = nat_lt (length m.writer.published) (length m.ledger.journal)
+
+-- what the writer's step tells, by its phase
+abbrev pub phase_note : TwoCopies → Phase → Note
+phase_note m Idle = Skipped
+phase_note m Seeing = let r = first_false m.writer.seen_out in cond (slice_index m.words (pin 34 r) == 0) Moved (Busy (suc r))
+phase_note m (Filling k) = Moved
+phase_note m Swapping = Published (length m.writer.taken)
+
+-- the writer takes its step
+abbrev pub written : TwoCopies → TwoCopies
+written m =
+    let d = writing_deed 34 (sheet m.ledger.opening) m.writer in
+    let found = slice_index m.words d.word in
+    record m { words = slice_set m.words d.word (d.becomes found); writer = d.after found }
+
+-- what the step of the reader of that number tells, by its stage
+abbrev pub stage_note : ℕ → Stage → Note
+stage_note number AtRest = Moved
+stage_note number Arrived = Moved
+stage_note number (Reading side words) = Moved
+stage_note number (Leaving side words) = Read number words
+
+-- the reader at r takes its step
+abbrev pub read : TwoCopies → ℕ → Stage → TwoCopies
+read m r stage =
+    let d = stage_deed 34 r stage in
+    let found = slice_index m.words d.word in
+    record m { words = slice_set m.words d.word (d.becomes found); readers = slice_set m.readers r (d.after found) }
+
+-- the reader at r, if there is one
+abbrev pub reader_turn : TwoCopies → ℕ → Option Stage → TwoCopies × Note
+reader_turn m r None = (m, Skipped)
+reader_turn m r (Some stage) = (read m r stage, stage_note (suc r) stage)
+
+-- the machine after an event, and the note
+abbrev pub turn : TwoCopies → Event → TwoCopies × Note
+turn m (Submit command) = cond (is_idle m.writer.phase) (submitted m command (verdict_of m.ledger command)) (m, Skipped)
+turn m Publish = cond (is_idle m.writer.phase) (published_by m (is_pending m)) (m, Skipped)
+turn m Writer = (written m, phase_note m m.writer.phase)
+turn m (Reader zero) = (m, Skipped)
+turn m (Reader (suc r)) = reader_turn m r (slice_get m.readers r)
+
+-- the machine after each event in turn
+abbrev pub after : TwoCopies → List Event → TwoCopies
+after m [] = m
+after m (event ∷ events) = after (turn m event).0 events
+
+-- the notes of the events, in order
+abbrev pub notes : TwoCopies → List Event → List Note
+notes m [] = []
+notes m (event ∷ events) = (turn m event).1 ∷ notes (turn m event).0 events

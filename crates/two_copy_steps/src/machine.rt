@@ -1,0 +1,254 @@
+//! The machine.
+ghost use Rattle.std.specs.Prelude.{◌≡◌, ◌≢◌, ℕ, suc, ◌+◌, ◌<◌, ◌≤◌, ◌==◌, ◌↔◌, true, false, if◌then◌else◌, length, take, IsOk, IfOk, IfErr, OnErr, IsOkUnless, Ok, Err};
+ghost use Rattle.council_core.specs.Ledgers.{sheet_of, verdict_of};
+ghost use Rattle.council_core.specs.declared.refusals.Refusal.TheVariants.{OutOfMemory, BadLimit};
+ghost use Rattle.two_copy_steps.specs.declared.events.Event.TheVariants.{Submit, Publish, Writer, Reader};
+ghost use Rattle.two_copy_steps.specs.declared.views.Phase.TheVariants.{Idle, Seeing, Filling, Swapping};
+ghost use Rattle.two_copy_steps.specs.Deeds.{all_true};
+ghost use Rattle.two_copy_steps.specs.Lawful.{IsPublishable};
+ghost use Rattle.two_copy_steps.specs.Turns.{turn, handed, started, written, phase_note, is_idle};
+ghost use Rattle.two_copy_steps.specs.Machines.{IsFew, WantsMemory};
+
+use crate::events::{Event, Note};
+use crate::readers::advance;
+use crate::seats::{Flags, Seats};
+use crate::table::{Table, place};
+use crate::views::{Phase, Stage};
+use council_core::{Command, Refusal, Register, Sheet};
+use std::marker::Model;
+
+/// A register, two copies of its sheet, one writer and one to four readers, all on one thread.
+#[derive(Drop)]
+pub struct Machine {
+    register: Register,
+    table: Table,
+    side: u64,
+    published: u32,
+    taken: Sheet,
+    phase: Phase,
+    seen_out: Flags,
+    seats: Seats,
+}
+
+impl Model for Machine {
+    ghost use Rattle.two_copy_steps.specs.Turns.{TwoCopies};
+    ghost use Rattle.two_copy_steps.specs.Machines.{seen_as, IsMachine};
+
+    ghost Value = { TwoCopies };
+
+    ghost view = { λ m. seen_as m.register m.table m.side m.published m.taken m.phase m.seen_out m.seats };
+
+    ghost invariant = { λ m. IsMachine m.register m.table m.side m.published m.taken m.phase m.seen_out m.seats };
+}
+
+// The register's sheet, and what is known of it.
+fn vouched(register: &Register) -> Sheet
+    ensures sheet { result ≡ sheet_of register.now }
+    ensures publishable { IsPublishable register.now.opening register.now.journal }
+{
+    let sheet = register.sheet();
+    let _in_range = sheet.words();
+    let _legal = register.journal();
+    sheet
+}
+
+// Hands a command to the register, and tells whether it was accepted.
+fn hand_over(register: &mut Register, command: Command) -> Result<Note, Refusal>
+    ensures handed { IfOk result (λ note. (register.new, note) ≡ handed register.old command (verdict_of register.old command)) }
+    ensures unchanged { OnErr result (register.new ≡ register.old) }
+    ensures memory { IsOkUnless result OutOfMemory }
+{
+    match register.apply(command) {
+        Ok(accepted) => Ok(Note::Accepted(accepted)),
+        Err(Refusal::OutOfMemory) => Err(Refusal::OutOfMemory),
+        Err(refusal) => Ok(Note::Refused(refusal)),
+    }
+}
+
+impl Machine {
+    /// A machine over this register, with readers numbered from 1. Both copies have the register's
+    /// sheet, and everybody is at rest. It is refused with `BadLimit`, and the register is handed
+    /// back, unless there are one to four readers.
+    pub fn start(register: Register, readers: u8) -> Result<Machine, (Register, Refusal)>
+        ensures in_range { IsOk result ↔ IsFew readers }
+        ensures started { IfOk result (λ m. m ≡ started register readers) }
+        ensures refused { IfErr result (λ e. (e.0 ≡ register) × (e.1 ≡ BadLimit)) }
+    {
+        if readers == 0 || 4 < readers {
+            return Err((register, Refusal::BadLimit));
+        }
+        let sheet = vouched(&register);
+        Ok(Machine {
+            table: Table::start(&sheet.words(), readers),
+            side: 0,
+            published: register.accepted(),
+            taken: sheet,
+            phase: Phase::Idle,
+            seen_out: Flags::start(readers),
+            seats: Seats::start(readers),
+            register,
+        })
+    }
+
+    /// The register, as the events so far have left it.
+    pub fn register(&self) -> &Register
+        ensures { result.now ≡ self.now.ledger }
+    {
+        &self.register
+    }
+
+    /// How many commands are published.
+    pub fn published(&self) -> u32
+        ensures { result ≡ length self.now.writer.published }
+    {
+        self.published
+    }
+
+    /// One event, and what it tells. Only the handing over of a command can be refused, with
+    /// `OutOfMemory`; the machine is then unchanged.
+    pub fn step(&mut self, event: Event) -> Result<Note, Refusal>
+        ensures machine { IfOk result (λ note. self.new ≡ (turn self.old event).0) }
+        ensures note { IfOk result (λ note. note ≡ (turn self.old event).1) }
+        ensures unchanged { OnErr result (self.new ≡ self.old) }
+        ensures memory { IsOkUnless result OutOfMemory }
+        ensures submit_alone { OnErr result (WantsMemory event) }
+    {
+        match event {
+            Event::Submit(command) => self.submit(command),
+            Event::Publish => Ok(self.begin()),
+            Event::Writer => Ok(self.write()),
+            Event::Reader(number) => Ok(self.read(number)),
+        }
+    }
+
+    fn submit(&mut self, command: Command) -> Result<Note, Refusal>
+        ensures machine { IfOk result (λ note. self.new ≡ (turn self.old (Submit command)).0) }
+        ensures note { IfOk result (λ note. note ≡ (turn self.old (Submit command)).1) }
+        ensures unchanged { OnErr result (self.new ≡ self.old) }
+        ensures memory { IsOkUnless result OutOfMemory }
+    {
+        if !self.is_idle() {
+            return Ok(Note::Skipped);
+        }
+        hand_over(&mut self.register, command)
+    }
+
+    fn is_idle(&self) -> bool
+        ensures { result ≡ is_idle self.now.writer.phase }
+    {
+        matches!(self.phase, Phase::Idle)
+    }
+
+    fn begin(&mut self) -> Note
+        ensures machine { self.new ≡ (turn self.old Publish).0 }
+        ensures note { result ≡ (turn self.old Publish).1 }
+    {
+        if !self.is_idle() {
+            return Note::Skipped;
+        }
+        if self.register.accepted() <= self.published {
+            return Note::Published(self.published);
+        }
+        self.taken = vouched(&self.register);
+        self.phase = phase_after(&self.seen_out);
+        Note::Began
+    }
+
+    fn write(&mut self) -> Note
+        ensures machine { self.new ≡ (turn self.old Writer).0 }
+        ensures note { result ≡ (turn self.old Writer).1 }
+    {
+        match self.phase {
+            Phase::Idle => Note::Skipped,
+            Phase::Seeing => self.see(),
+            Phase::Filling(k) => self.fill(k),
+            Phase::Swapping => self.swap(),
+        }
+    }
+
+    // Loads the pin of the least reader that isn't seen out.
+    fn see(&mut self) -> Note
+        requires { self.old.writer.phase ≡ Seeing }
+        ensures machine { self.new ≡ (turn self.old Writer).0 }
+        ensures note { result ≡ (turn self.old Writer).1 }
+    {
+        let r = self.seen_out.first_false();
+        if self.table.load(69 + r) != 0 {
+            self.phase = Phase::Idle;
+            return Note::Busy(r as u8 + 1);
+        }
+        self.seen_out.set(r);
+        self.phase = phase_after(&self.seen_out);
+        Note::Moved
+    }
+
+    // Stores a word of the copy that isn't published.
+    fn fill(&mut self, k: u64) -> Note
+        requires { self.old.writer.phase ≡ Filling k }
+        ensures machine { self.new ≡ (turn self.old Writer).0 }
+        ensures note { result ≡ (turn self.old Writer).1 }
+    {
+        let word = self.taken.words()[k as usize];
+        self.table.store(place(1 - self.side, k as usize), word);
+        self.phase = phase_past(k);
+        Note::Moved
+    }
+
+    // Stores side: the sheet taken is published.
+    fn swap(&mut self) -> Note
+        requires { self.old.writer.phase ≡ Swapping }
+        ensures machine { self.new ≡ (turn self.old Writer).0 }
+        ensures note { result ≡ (turn self.old Writer).1 }
+    {
+        self.side = 1 - self.side;
+        self.table.store(0, self.side);
+        self.published = self.taken.front();
+        self.seen_out.clear();
+        self.phase = Phase::Idle;
+        Note::Published(self.published)
+    }
+
+    fn read(&mut self, number: u8) -> Note
+        ensures machine { self.new ≡ (turn self.old (Reader number)).0 }
+        ensures note { result ≡ (turn self.old (Reader number)).1 }
+    {
+        if number == 0 || self.seats.len() < number as usize {
+            return Note::Skipped;
+        }
+        let r = number as usize - 1;
+        let stage = self.seats.replace(r, Stage::AtRest);
+        let (next, note) = advance(&mut self.table, r, stage);
+        let _at_rest = self.seats.replace(r, next);
+        note
+    }
+
+    // The register alone.
+    pub(crate) fn into_register(self) -> Register
+        ensures { result ≡ self.ledger }
+    {
+        self.register
+    }
+}
+
+// Filling begins once all readers are seen out.
+fn phase_after(seen_out: &Flags) -> Phase
+    ensures { result ≡ (if all_true seen_out.now then Filling 0 else Seeing) }
+{
+    if seen_out.all_true() {
+        Phase::Filling(0)
+    } else {
+        Phase::Seeing
+    }
+}
+
+// After the last word side is next.
+fn phase_past(k: u64) -> Phase
+    requires { k < 34 }
+    ensures { result ≡ (if k + 1 == 34 then Swapping else Filling (k + 1)) }
+{
+    if k + 1 == 34 {
+        Phase::Swapping
+    } else {
+        Phase::Filling(k + 1)
+    }
+}

@@ -1,0 +1,145 @@
+//! Whole lists of events.
+ghost use Rattle.std.specs.Prelude.{◌≡◌, ◌≤◌, [], ℕ, length, take, vec_capacity, IsOk, IfOk, IfErr, OnOk};
+ghost use Rattle.council_core.specs.Rolls.{IsLegal};
+ghost use Rattle.council_core.specs.declared.refusals.Refusal.TheVariants.{OutOfMemory};
+ghost use Rattle.two_copy_steps.specs.Turns.{started, after, notes};
+ghost use Rattle.two_copy_steps.specs.Machines.{IsFew};
+ghost use Rattle.two_copy_steps.specs.Runs.{machine_after, TellsReplies, KeepsRecordsLegal, StoresUnderNobody, IsFault};
+
+use crate::events::{Event, Note};
+use crate::machine::Machine;
+use council_core::{Refusal, Register};
+use std::alloc::Global;
+use std::marker::Model;
+
+/// What a list of events told, one note for each event.
+#[derive(Drop)]
+pub struct Notes {
+    list: Vec<Note>,
+}
+
+impl Model for Notes {
+    ghost use Rattle.std.specs.Prelude.{List};
+    ghost use Rattle.two_copy_steps.specs.declared.events.Note.{Note};
+
+    ghost Value = { List Note };
+
+    ghost view = { λ n. n.list.items };
+}
+
+impl Notes {
+    /// The notes, in order.
+    pub fn as_slice(&self) -> &[Note]
+        ensures { result.now ≡ self.now }
+    {
+        self.list.as_slice()
+    }
+
+    /// The notes, given back without memory.
+    pub fn into_vec(self) -> Vec<Note>
+        ensures { result.items ≡ self }
+    {
+        self.list
+    }
+}
+
+/// What a list of events told, and the machine after the last of them.
+#[derive(Drop)]
+pub struct RunLog {
+    /// One note for each event.
+    pub notes: Notes,
+    /// The machine after the last event.
+    pub machine: Machine,
+}
+
+/// Why a list of events was not taken to its end.
+#[derive(Drop)]
+pub struct RunFault {
+    /// The register, as the events done left it.
+    pub register: Register,
+    /// How many events were done.
+    pub done: usize,
+    /// `BadLimit`, unless there were to be one to four readers, and else `OutOfMemory`.
+    pub why: Refusal,
+}
+
+/// A machine over this register, taken through the events. Room for the notes is reserved before
+/// the first event. Where it answers the notes, they are those of a register of one thread: each
+/// command, each publication and each reading acts as one of its calls.
+pub fn run(
+    alloc: Global,
+    register: Register,
+    readers: u8,
+    events: &[Event],
+) -> Result<RunLog, RunFault>
+    ensures notes { IfOk result (λ log. log.notes ≡ notes (started register readers) events.now) }
+    ensures machine { IfOk result (λ log. log.machine ≡ machine_after register readers events.now) }
+    ensures replies { IfOk result (λ log. TellsReplies register readers events.now) }
+    ensures records { IfOk result (λ log. KeepsRecordsLegal register readers events.now) }
+    ensures apart { IfOk result (λ log. StoresUnderNobody register readers events.now) }
+    ensures in_range { IfOk result (λ log. IsFew readers) }
+    ensures fault { IfErr result (λ fault. IsFault register readers events.now fault.register fault.done fault.why) }
+{
+    check_legal(&register);
+    let mut machine = match Machine::start(register, readers) {
+        Ok(machine) => machine,
+        Err((register, why)) => {
+            return Err(RunFault {
+                register,
+                done: 0,
+                why,
+            });
+        }
+    };
+    let mut told = match Vec::with_capacity(alloc, events.len()) {
+        Ok(told) => told,
+        Err(_) => return Err(fault(machine, 0)),
+    };
+    match take_all(&mut machine, &mut told, events) {
+        Ok(()) => {
+            check_legal(machine.register());
+            Ok(RunLog {
+                notes: Notes { list: told },
+                machine,
+            })
+        }
+        Err(done) => Err(fault(machine, done)),
+    }
+}
+
+// A register's journal is legal.
+fn check_legal(register: &Register)
+    ensures { IsLegal register.now.opening register.now.journal }
+{
+    let _journal = register.journal();
+}
+
+fn fault(machine: Machine, done: usize) -> RunFault
+    ensures register { result.register ≡ machine.ledger }
+    ensures done { result.done ≡ done }
+    ensures why { result.why ≡ OutOfMemory }
+{
+    RunFault {
+        register: machine.into_register(),
+        done,
+        why: Refusal::OutOfMemory,
+    }
+}
+
+// Takes each event in turn, or answers how many were done where one wanted memory.
+fn take_all(machine: &mut Machine, told: &mut Vec<Note>, events: &[Event]) -> Result<(), usize>
+    requires empty { told.old.items ≡ [] }
+    requires room { length events.now ≤ vec_capacity told.old }
+    ensures machine { OnOk result (machine.new ≡ after machine.old events.now) }
+    ensures notes { OnOk result (told.new.items ≡ notes machine.old events.now) }
+    ensures left { IfErr result (λ done. machine.new ≡ after machine.old (take done events.now)) }
+    ensures within { IfErr result (λ done. done ≤ length events.now) }
+{
+    for (done, event) in events.iter().enumerate() {
+        match machine.step(*event) {
+            Ok(note) => told.push_reserved(note),
+            Err(_) => return Err(done),
+        }
+    }
+    Ok(())
+}
