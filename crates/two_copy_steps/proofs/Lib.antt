@@ -11,3 +11,4 @@ pub mod Fixed
 pub mod Steps
 pub mod Cases
 pub mod Fresh
+pub mod EffectLists

@@ -111,3 +111,13 @@ Answers t m event = Tells (replies_of t.register (effect m event)) t.replied (tu
 abbrev pub AllAnswer : Thread → TwoCopies → List Event → Type 0
 AllAnswer t m [] = Unit {0}
 AllAnswer t m (event ∷ events) = Answers t m event × AllAnswer (beside t m event) (turn m event).0 events
+
+-- the register beside a machine after each event in turn
+abbrev pub beside_all : Thread → TwoCopies → List Event → Thread
+beside_all t m [] = t
+beside_all t m (event ∷ events) = beside_all (beside t m event) (turn m event).0 events
+
+-- what it replies to the calls that each event stands for, event by event
+abbrev pub replies_beside : Thread → TwoCopies → List Event → List Reply
+replies_beside t m [] = []
+replies_beside t m (event ∷ events) = replies_of t.register (effect m event) ++ replies_beside (beside t m event) (turn m event).0 events

@@ -12,6 +12,8 @@ use Rattle.two_copy_steps.specs.declared.views.ReaderView.{ReaderView}
 use Rattle.two_copy_steps.specs.Lawful.{State, Lawful, IsPublishable, read_by, written_by, begun_by}
 use Rattle.two_copy_steps.specs.Turns.{TwoCopies, turn, started, after, notes}
 use Rattle.two_copy_steps.specs.Passes.{Passes, opened, passed, IsLawful, HasLegalRecords, NoneUnder}
+use Rattle.council_core.specs.Sequential.{replies_of, state_after}
+use Rattle.two_copy_steps.specs.Effects.{Thread, effects, beside_all, replies_beside}
 use Rattle.two_copy_steps.specs.Runs.{machine_after, passes_after, TellsReplies}
 
 abbrev pub LawfulFor : Opening → State → Type 0
@@ -65,6 +67,13 @@ abbrev pub FreshLaw : Type 0
 FreshLaw =
     (ledger : Ledger) (readers : ℕ) → IsLedger ledger → (events more : List Event) (r : ℕ) (words : List ℕ) → slice_get (machine_after ledger readers events).readers r ≡ Some AtRest
     → (turn (machine_after ledger readers (events ++ more)) (Reader (suc r))).1 ≡ Read (suc r) words → length (machine_after ledger readers events).writer.published ≤ front_of words
+
+-- the replies that events are compared with, one by one, are those of one run of the sequential register over the list of their
+-- effects, which ends where that run ends
+abbrev pub EffectsLaw : Type 0
+EffectsLaw =
+    (t : Thread) (m : TwoCopies) (events : List Event)
+    → (replies_of t.register (effects m events) ≡ replies_beside t m events) × (state_after t.register (effects m events) ≡ (beside_all t m events).register)
 
 -- the notes of one list followed by another are those of the first, and then those of the second from where the first ended
 abbrev pub NotesLaw : Type 0

@@ -1,5 +1,5 @@
 //! Laws of the machine, as contracts of functions that do nothing: for whoever builds on it.
-ghost use Rattle.two_copy_steps.specs.Laws.{StartLaw, ReaderLaw, WriterLaw, BeginLaw, EventLaw, LedgerLaw, RecordsLaw, UnderLaw, RepliesLaw, FreshLaw, NotesLaw, AfterLaw};
+ghost use Rattle.two_copy_steps.specs.Laws.{EffectsLaw, StartLaw, ReaderLaw, WriterLaw, BeginLaw, EventLaw, LedgerLaw, RecordsLaw, UnderLaw, RepliesLaw, FreshLaw, NotesLaw, AfterLaw};
 
 /// The machine is lawful at its start.
 pub fn start_law()
@@ -28,6 +28,12 @@ pub fn run_laws()
     ensures apart { UnderLaw }
     ensures replies { RepliesLaw }
     ensures fresh { FreshLaw }
+{}
+
+/// What events tell is compared with one run of the sequential register: its replies to the list of
+/// the events' effects, from the register given on.
+pub fn effects_law()
+    ensures run { EffectsLaw }
 {}
 
 /// A list of events may be cut anywhere: what follows goes on from where the first part ended.

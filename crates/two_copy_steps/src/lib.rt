@@ -14,7 +14,7 @@ mod views;
 mod words;
 
 pub use events::{Event, Note};
-pub use laws::{cut_laws, event_law, run_laws, start_law, step_laws};
+pub use laws::{cut_laws, effects_law, event_law, run_laws, start_law, step_laws};
 pub use machine::Machine;
 pub use runs::{Notes, RunFault, RunLog, run};
 pub use views::{Phase, ReaderView, Stage, WriterView, Writing};

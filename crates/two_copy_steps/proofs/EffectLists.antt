@@ -1,0 +1,26 @@
+-- One run of the sequential register over the effects of a list of events.
+use Rattle.std.proofs.Common.{◌≡◌, List, [], ◌∷◌, ◌++◌, refl, ap, ◌∙◌}
+use Rattle.council_core.specs.Sequential.{Sequential, Call, Reply, respond, replies_of, state_after}
+use Rattle.two_copy_steps.specs.declared.events.Event.{Event}
+use Rattle.two_copy_steps.specs.Turns.{TwoCopies, turn}
+use Rattle.two_copy_steps.specs.Effects.{Thread, beside, beside_all, effect, effects, replies_beside}
+
+-- calls after calls
+state_after-append : (s : Sequential) (calls more : List Call) → state_after s (calls ++ more) ≡ state_after (state_after s calls) more
+state_after-append s [] more = refl
+state_after-append s (call ∷ calls) more = state_after-append (respond s call).0 calls more
+
+replies_of-append : (s : Sequential) (calls more : List Call) → replies_of s (calls ++ more) ≡ replies_of s calls ++ replies_of (state_after s calls) more
+replies_of-append s [] more = refl
+replies_of-append s (call ∷ calls) more = ap (λ (rs : List Reply). (respond s call).1 ∷ rs) (replies_of-append (respond s call).0 calls more)
+
+-- the run over the list of effects, event by event
+pub one_run : (events : List Event) (t : Thread) (m : TwoCopies) → (replies_of t.register (effects m events) ≡ replies_beside t m events) × (state_after t.register (effects m events) ≡ (beside_all t m events).register)
+one_run [] t m = (refl, refl)
+one_run (event ∷ events) t m =
+    let later = one_run events (beside t m event) (turn m event).0 in
+    let first = effect m event in
+    let rest = effects (turn m event).0 events in (
+      replies_of-append t.register first rest ∙ ap (λ (rs : List Reply). replies_of t.register first ++ rs) later.0,
+      state_after-append t.register first rest ∙ later.1,
+    )
