@@ -1,7 +1,7 @@
 -- What a contract sees of a register: the members it began with, the commands accepted, and their limit.
-use Rattle.std.specs.Prelude.{ℕ, ◌==◌, if◌then◌else◌, List, [], ◌∷◌, ◌++◌, length, Result, Ok, Err, ⊤, Bool, false, ◌||◌, nat_lt}
+use Rattle.std.specs.Prelude.{ℕ, ◌≤◌, ◌==◌, if◌then◌else◌, List, [], ◌∷◌, ◌++◌, length, Result, Ok, Err, ⊤, Bool, false, ◌||◌, nat_lt}
 use Rattle.std.specs.List.{list_any}
-use Rattle.council_core.specs.Rolls.{Roll, Opening, roll_after, same_code, step, sheet}
+use Rattle.council_core.specs.Rolls.{Roll, Opening, IsLegal, roll_after, same_code, step, sheet}
 use Rattle.council_core.specs.declared.refusals.Refusal.{Refusal}
 use Rattle.council_core.specs.declared.refusals.Refusal.TheVariants.{JournalFull, BadLimit, TooManyMembers, DuplicateMember}
 use Rattle.council_core.specs.declared.commands.Command.{Command}
@@ -10,6 +10,12 @@ pub record Ledger : Type 0 where
   pub opening : Opening
   pub journal : List Command
   pub limit : ℕ
+
+-- what holds of every register: its journal is legal and within its limit, which is at most a million
+pub record IsLedger (ledger : Ledger) : Type 0 where
+  pub legal : IsLegal ledger.opening ledger.journal
+  pub within : length ledger.journal ≤ ledger.limit
+  pub small : ledger.limit ≤ 1000000
 
 abbrev pub roll_of : Ledger → Roll
 roll_of l = roll_after l.opening l.journal

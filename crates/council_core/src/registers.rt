@@ -4,11 +4,12 @@ ghost use Rattle.std.specs.List.{list_any};
 ghost use Rattle.std.specs.Prelude.{slice_get};
 ghost use Rattle.std.specs.Option.{option_map};
 ghost use Rattle.council_core.specs.Members.{row_of};
+ghost use Rattle.council_core.specs.Sheets.{IsSheet};
 ghost use Rattle.council_core.specs.Rolls.{IsLegal};
 ghost use Rattle.council_core.specs.Rolls.{step, is_open, can_receive, standing_among, sits_in, same_code, open_chair, close_chair, has_members, update};
 ghost use Rattle.council_core.specs.Verdicts.{Agrees, Follows};
 ghost use Rattle.council_core.specs.Registers.{IsChange};
-ghost use Rattle.council_core.specs.Ledgers.{Ledger, roll_of, verdict_of, room_of, appended, sheet_of, has_duplicate, start_verdict};
+ghost use Rattle.council_core.specs.Ledgers.{Ledger, IsLedger, roll_of, verdict_of, room_of, appended, sheet_of, has_duplicate, start_verdict};
 ghost use Rattle.council_core.specs.declared.commands.Command.TheVariants.{Open, Close, Move, SetVotes, Suspend, Restore};
 ghost use Rattle.council_core.specs.declared.refusals.Refusal.TheVariants.{OutOfMemory};
 
@@ -127,9 +128,12 @@ impl Register {
         }
     }
 
-    /// The sheet after the commands accepted.
+    /// The sheet after the commands accepted. The journal is legal and within its limit, so the sheet's
+    /// numbers are in range.
     pub fn sheet(&self) -> Sheet
         ensures same { result ≡ sheet_of self.now }
+        ensures in_range { IsSheet result }
+        ensures ledger { IsLedger self.now }
     {
         let accepted = self.journal.len() as u32;
         let words = self.tally.words();

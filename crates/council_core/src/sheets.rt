@@ -51,10 +51,18 @@ impl Sheet {
         ensures refused { IsOkUnless result BadSheet }
     {
         if is_in_range(words) {
-            Ok(Sheet { words: *words })
+            Ok(Sheet::of_words(words))
         } else {
             Err(Refusal::BadSheet)
         }
+    }
+
+    /// The sheet that these words are.
+    pub fn of_words(words: &[u64; 34]) -> Sheet
+        requires { IsSheet words.now }
+        ensures { result ≡ words.now }
+    {
+        Sheet { words: *words }
     }
 
     /// The 34 words.

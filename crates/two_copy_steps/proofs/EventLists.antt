@@ -1,10 +1,10 @@
 -- Over every list of events.
-use Rattle.std.proofs.Common.{◌≡◌, ℕ, suc, get_or, ◌+◌, ◌<◌, ◌≤◌, List, [], ◌∷◌, ◌++◌, length, take, drop, refl, sym, ap, ◌∙◌, subst, arith, length-append, take-append-drop}
+use Rattle.std.proofs.Common.{◌≡◌, ℕ, suc, get_or, ◌+◌, ◌<◌, ◌≤◌, List, [], ◌∷◌, ◌++◌, length, take, refl, sym, ap, ◌∙◌, subst, arith, length-append}
 use Rattle.std.proofs.lemmas.List.Elements.{Contains-push, Contains-get_or}
 use Rattle.std.proofs.Math.Seq.{take-length, take-suc}
 use Rattle.std.specs.Prelude.{Contains}
 use Rattle.council_core.specs.declared.commands.Command.{Command}
-use Rattle.council_core.specs.Ledgers.{Ledger}
+use Rattle.council_core.specs.Ledgers.{Ledger, IsLedger}
 use Rattle.two_copy_steps.specs.declared.events.Event.{Event}
 use Rattle.two_copy_steps.specs.declared.events.Note.{Note}
 use Rattle.two_copy_steps.specs.Turns.{TwoCopies, turn, started, after, notes}
@@ -76,14 +76,14 @@ module _ (ledger : Ledger) (readers : ℕ) (accepted : IsAccepted ledger.opening
       → HasLegalRecords (after (started ledger readers) events) (passes (started ledger readers) (opened ledger readers) events)
   run_records events few = legal_records (after (started ledger readers) events) (passes (started ledger readers) (opened ledger readers) events) (run_lawful events) few
 
-  -- after the first events of a list whose last journal is short enough
-  pub run_records_first : (events : List Event) (k : ℕ) → length (after (started ledger readers) events).ledger.journal ≤ 1000000
-      → HasLegalRecords (after (started ledger readers) (take k events)) (passes (started ledger readers) (opened ledger readers) (take k events))
-  run_records_first events k few =
-      let m : TwoCopies = after (started ledger readers) (take k events) in
-      let grown = always_grows (drop k events) m (length m.ledger.journal) (omega arith) in
-      let whole = ap (λ (z : TwoCopies). length z.ledger.journal) (sym (after_append (take k events) (drop k events) (started ledger readers)) ∙ ap (after (started ledger readers)) (take-append-drop k events)) in
-      run_records (take k events) (omega arith)
+-- of a register's ledger the journal stays short enough
+pub ledger_records : (ledger : Ledger) (readers : ℕ) → IsLedger ledger → (events : List Event)
+    → HasLegalRecords (after (started ledger readers) events) (passes (started ledger readers) (opened ledger readers) events)
+ledger_records ledger readers k events =
+    let w = always_within events (started ledger readers) (k.within, k.small) in
+    let short = w.0 in
+    let small = w.1 in
+    run_records ledger readers k.legal.0 events (omega arith)
 
 one_more : (events : List Event) (k : ℕ) (event : Event) → k < length events → event ≡ get_or events k event → take (k + 1) events ≡ take k events ++ event ∷ []
 one_more events k event h at =

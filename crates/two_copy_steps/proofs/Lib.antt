@@ -12,3 +12,8 @@ pub mod Steps
 pub mod Cases
 pub mod Fresh
 pub mod EffectLists
+pub mod StateFacts
+pub mod StageFacts
+pub mod ToldRecords
+pub mod TurnFacts
+pub mod PublicationFacts

@@ -28,3 +28,8 @@ module _ {A : Type 0} where
   inside [] i x e = absurd (none-some x e)
   inside (y ∷ xs) zero x e = omega arith
   inside (y ∷ xs) (suc i) x e = let h = inside xs i x e in omega arith
+
+  pub there : (xs : List A) (i : ℕ) → i < length xs → (x : A) × (slice_get xs i ≡ Some x)
+  there [] i h = absurd (omega arith)
+  there (x ∷ xs) zero h = (x, refl)
+  there (x ∷ xs) (suc i) h = there xs i (omega arith)

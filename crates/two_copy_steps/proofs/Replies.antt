@@ -191,7 +191,7 @@ module _ (Legal : Opening → List Command → Type 0) where
 
   looked_tells : (replied : ℕ → Option Reply) (number : ℕ) (z : Bool) → Tells [] replied (cond z Moved (Busy number))
   looked_tells replied number true = tt
-  looked_tells replied number false = tt
+  looked_tells replied number false = refl
 
   true_not_false : true ≡ false → ⊥
   true_not_false e = cc
@@ -205,7 +205,7 @@ module _ (Legal : Opening → List Command → Type 0) where
         held = subst (λ (vs : List ℕ). AllHeld vs replied m.readers) (sym (set-get_or m.words 0 0)) all;
         begun = busy;
       },
-      tt,
+      refl,
     ),
     tt,
   )
@@ -274,8 +274,8 @@ module _ (Legal : Opening → List Command → Type 0) where
 
   publish_goes : (m : TwoCopies) (p : Passes) → IsLawful Legal m p → (b : Bool) (replied : ℕ → Option Reply) → AllHeld m.words replied m.readers → (is_idle m.writer.phase ≡ false → b ≡ true)
       → (idle pending : Bool) → is_idle m.writer.phase ≡ idle → is_pending m ≡ pending → PublishGoes m b replied idle pending
-  publish_goes m p l b replied all busy false pending is now = (record { register = refl; held = all; begun = busy }, tt)
-  publish_goes m p l b replied all busy true true is now = (record { register = refl; held = all; begun = λ _. refl }, tt)
+  publish_goes m p l b replied all busy false pending is now = (record { register = refl; held = all; begun = busy }, refl)
+  publish_goes m p l b replied all busy true true is now = (record { register = refl; held = all; begun = λ _. refl }, refl)
   publish_goes m p l b replied all busy true false is now =
       let long = not_pending m p l now in (
         record {
@@ -305,13 +305,13 @@ module _ (Legal : Opening → List Command → Type 0) where
 
   submit_goes : (m : TwoCopies) (b : Bool) (replied : ℕ → Option Reply) → AllHeld m.words replied m.readers → (is_idle m.writer.phase ≡ false → b ≡ true) → (command : Command)
       → (idle : Bool) → SubmitGoes m b replied command idle
-  submit_goes m b replied all busy command false = (record { register = refl; held = all; begun = busy }, tt)
+  submit_goes m b replied all busy command false = (record { register = refl; held = all; begun = busy }, refl)
   submit_goes m b replied all busy command true = verdict_goes m b replied all busy command (verdict_of m.ledger command)
 
   reader_goes : (m : TwoCopies) (p : Passes) → IsLawful Legal m p → (b : Bool) (replied : ℕ → Option Reply) → AllHeld m.words replied m.readers → (is_idle m.writer.phase ≡ false → b ≡ true)
       → (r : ℕ) (o : Option Stage) → slice_get m.readers r ≡ o
       → Goes m b (reader_effect o) (reader_turn m r o).1 (reader_turn m r o).0 replied (λ k. replied_to (thread m replied b) (suc r) o k)
-  reader_goes m p l b replied all busy r None at = (record { register = refl; held = all; begun = busy }, tt)
+  reader_goes m p l b replied all busy r None at = (record { register = refl; held = all; begun = busy }, refl)
   reader_goes m p l b replied all busy r (Some stage) at = read_goes m p l b replied all busy r stage at
 
   abbrev EventGoes : Thread → TwoCopies → Event → Type 0
@@ -322,7 +322,7 @@ module _ (Legal : Opening → List Command → Type 0) where
   event_goes m p l b replied all busy (Submit command) = let g = submit_goes m b replied all busy command (is_idle m.writer.phase) in (g.0, (g.1, tt))
   event_goes m p l b replied all busy Publish = let g = publish_goes m p l b replied all busy (is_idle m.writer.phase) (is_pending m) refl refl in (g.0, (g.1, tt))
   event_goes m p l b replied all busy Writer = let g = write_goes m p l b replied all busy m.writer.phase refl in (g.0.0, (g.0.1, g.1))
-  event_goes m p l b replied all busy (Reader zero) = (record { register = refl; held = all; begun = busy }, (tt, tt))
+  event_goes m p l b replied all busy (Reader zero) = (record { register = refl; held = all; begun = busy }, (refl, tt))
   event_goes m p l b replied all busy (Reader (suc r)) = let g = reader_goes m p l b replied all busy r (slice_get m.readers r) refl in (g.0, (g.1, tt))
 
   -- an event keeps the machine in agreement with the register of one thread, and tells what that register replies

@@ -44,7 +44,7 @@ module _ (numbers pins : List ℕ) (long : length numbers ≡ 34) where
       get_or_append_left (0 ∷ numbers ++ numbers) pins 0 (35 + i) (omega (arith, length-append (0 ∷ numbers) numbers))
       ∙ (ap (λ (k : ℕ). get_or (0 ∷ numbers ++ numbers) k 0) (let e : 35 + i ≡ length (0 ∷ numbers) + i = omega arith in e) ∙ get_or-append-add (0 ∷ numbers) numbers i 0)
 
-viewed_start : (n : ℕ) → viewed (replicate n AtRest) (replicate n []) ≡ replicate n (view_at AtRest [])
+pub viewed_start : (n : ℕ) → viewed (replicate n AtRest) (replicate n []) ≡ replicate n (view_at AtRest [])
 viewed_start zero = refl
 viewed_start (suc n) = ap (λ l. view_at AtRest [] ∷ l) (viewed_start n)
 

@@ -8,7 +8,7 @@ use Rattle.std.proofs.Math.Seq.{take-length}
 use Rattle.council_core.specs.declared.commands.Command.{Command}
 use Rattle.council_core.specs.declared.refusals.Refusal.{Refusal}
 use Rattle.council_core.specs.Rolls.{sheet}
-use Rattle.council_core.specs.Ledgers.{Ledger, sheet_of, verdict_of, appended}
+use Rattle.council_core.specs.Ledgers.{Ledger, IsLedger, sheet_of, verdict_of, appended}
 use Rattle.council_core.specs.Sheets.{front_of, IsSheet}
 use Rattle.two_copy_steps.specs.declared.events.Event.{Event}
 use Rattle.two_copy_steps.specs.declared.events.Event.TheVariants.{Submit, Publish, Writer, Reader}
@@ -23,11 +23,16 @@ use Rattle.two_copy_steps.specs.Deeds.{all_true, first_false, place, seeing, sta
 use Rattle.two_copy_steps.specs.Lawful.{IsPublishable, Stands, Fills}
 use Rattle.two_copy_steps.specs.Turns.{TwoCopies, turn, handed, started, submitted, published_by, is_pending, is_idle, reader_turn, stage_note}
 use Rattle.two_copy_steps.specs.Passes.{Passes, opened, passed, record_at, state_of, IsLawful}
-use Rattle.two_copy_steps.specs.Machines.{IsReadable, seen_as, IsMachine}
+use Rattle.two_copy_steps.specs.Machines.{seen_as, IsMachine}
+use Rattle.two_copy_steps.specs.Stages.{IsReadable}
 use Rattle.two_copy_steps.proofs.ReaderSteps.{leaving_reads}
 use Rattle.two_copy_steps.proofs.WriterSteps.{first_inside}
 use Rattle.two_copy_steps.proofs.TurnSteps.{view_at, viewed_at, viewed_length, written_keeps, publish_keeps, accepted_keeps, step_keeps}
 use Rattle.two_copy_steps.proofs.Starts.{start_lawful}
+
+-- what a register is asked for its sheet tells of its journal
+pub publishable : (L : Ledger) (words : List ℕ) → IsLedger L → words ≡ sheet_of L → IsSheet words → IsPublishable L.opening L.journal
+publishable L words legal is in_range = (legal.legal, subst IsSheet is in_range)
 
 -- a second write to a place
 pub set_set : {A : Type 0} (xs : List A) (i : ℕ) (a b : A) → set (set xs i a) i b ≡ set xs i b
@@ -263,11 +268,11 @@ module _ (L : Ledger) (W : List ℕ) (s n : ℕ) (t : List ℕ) (ph : Phase) (so
         pub seat_readable : IsReadable stage
         seat_readable = readable (number - 1) stage found
 
-        module _ (seats : List Stage) (put : seats ≡ set R (number - 1) AtRest) (W' : List ℕ) (next : Stage) (R' : List Stage)
+        module _ (seats : List Stage) (blank : Stage) (put : seats ≡ set R (number - 1) blank) (W' : List ℕ) (next : Stage) (R' : List Stage)
             (words : let d = stage_deed 34 (number - 1) stage in W' ≡ set W d.word (d.becomes (get_or W d.word 0))) (after : let d = stage_deed 34 (number - 1) stage in next ≡ d.after (get_or W d.word 0))
             (put_back : R' ≡ set seats (number - 1) next) where
           seats_are : R' ≡ set R (number - 1) next
-          seats_are = put_back ∙ (ap (λ (x : List Stage). set x (number - 1) next) put ∙ set_set R (number - 1) AtRest next)
+          seats_are = put_back ∙ (ap (λ (x : List Stage). set x (number - 1) next) put ∙ set_set R (number - 1) blank next)
 
           pub read_at : seen_as L W' s n t ph so R' ≡ (turn old (Reader number)).0
           read_at = reader_reads number (number - 1) stage W' R' number_is found (words, seats_are ∙ ap (set R (number - 1)) after)

@@ -57,7 +57,7 @@ thread_of ledger = record { register = record { ledger = ledger; published = len
 -- what the reader of that number has been replied after its step at a stage: nothing at its arrival, and at its load of side the reply to a read
 abbrev pub replied_at : Thread → ℕ → Stage → ℕ → Option Reply
 replied_at t number AtRest k = cond (k == number) None (t.replied k)
-replied_at t number Arrived k = cond (k == number) (Some (respond t.register sequential.read).1) (t.replied k)
+replied_at t number Arrived k = cond (k == number) (slice_get (replies_of t.register (stage_effect Arrived)) 0) (t.replied k)
 replied_at t number (Reading side words) k = t.replied k
 replied_at t number (Leaving side words) k = t.replied k
 
@@ -94,10 +94,10 @@ Tells replies replied (Accepted count) = replies ≡ accepted count ∷ []
 Tells replies replied (Refused refusal) = replies ≡ refused refusal ∷ []
 Tells replies replied (Published front) = replies ≡ published front ∷ []
 Tells replies replied (Read number words) = replied number ≡ Some (reading words)
-Tells replies replied Began = Unit {0}
+Tells replies replied Began = replies ≡ []
 Tells replies replied Moved = Unit {0}
-Tells replies replied (Busy number) = Unit {0}
-Tells replies replied Skipped = Unit {0}
+Tells replies replied (Busy number) = replies ≡ []
+Tells replies replied Skipped = replies ≡ []
 
 -- a store of side comes after a beginning
 abbrev pub SwapsOnce : Bool → Event → Phase → Type 0

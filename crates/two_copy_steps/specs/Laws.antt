@@ -1,23 +1,27 @@
 -- Laws of the machine, for whoever builds on it.
-use Rattle.std.specs.Prelude.{◌≡◌, ℕ, suc, ◌≤◌, List, ◌++◌, length, slice_get, Some}
+use Rattle.std.specs.Prelude.{◌≡◌, ◌≢◌, ℕ, suc, ◌+◌, ◌≤◌, ◌==◌, true, false, List, [], ◌∷◌, ◌++◌, length, slice_get, slice_index, Some, if◌then◌else◌}
 use Rattle.council_core.specs.declared.commands.Command.{Command}
-use Rattle.council_core.specs.Rolls.{Opening, IsLegal}
-use Rattle.council_core.specs.Ledgers.{Ledger}
+use Rattle.council_core.specs.Rolls.{Opening}
+use Rattle.council_core.specs.Ledgers.{Ledger, IsLedger}
 use Rattle.council_core.specs.Sheets.{front_of}
 use Rattle.two_copy_steps.specs.declared.events.Event.{Event}
-use Rattle.two_copy_steps.specs.declared.events.Event.TheVariants.{Reader}
-use Rattle.two_copy_steps.specs.declared.events.Note.TheVariants.{Read}
+use Rattle.two_copy_steps.specs.declared.events.Event.TheVariants.{Submit, Publish, Writer, Reader}
+use Rattle.two_copy_steps.specs.declared.events.Note.TheVariants.{Began, Busy, Read}
+use Rattle.two_copy_steps.specs.declared.views.Stage.{Stage}
 use Rattle.two_copy_steps.specs.declared.views.Stage.TheVariants.{AtRest}
+use Rattle.two_copy_steps.specs.declared.views.Phase.TheVariants.{Filling}
 use Rattle.two_copy_steps.specs.declared.views.ReaderView.{ReaderView}
-use Rattle.two_copy_steps.specs.Lawful.{State, Lawful, IsPublishable, read_by, written_by, begun_by}
+use Rattle.two_copy_steps.specs.Lawful.{State, IsPublishable, read_by, written_by, begun_by}
+use Rattle.two_copy_steps.specs.States.{LawfulFor, HasRecords, IsApart, IsKnown}
 use Rattle.two_copy_steps.specs.Turns.{TwoCopies, turn, started, after, notes}
-use Rattle.two_copy_steps.specs.Passes.{Passes, opened, passed, IsLawful, HasLegalRecords, NoneUnder}
+use Rattle.two_copy_steps.specs.Passes.{Passes, opened, passed, record_at, state_of, IsLawful, HasLegalRecords, NoneUnder}
+use Rattle.two_copy_steps.specs.Deeds.{all_true, pin, stage_deed, reader_deed}
+use Rattle.two_copy_steps.specs.Stages.{steps_taken, sheet_read, IsReadable}
+use Rattle.two_copy_steps.specs.Publications.{IsLeastUnseen, StaySeen, stores_side}
+use Rattle.two_copy_steps.specs.Records.{RecordsAreTold, FrontsNeverFall}
 use Rattle.council_core.specs.Sequential.{replies_of, state_after}
 use Rattle.two_copy_steps.specs.Effects.{Thread, effects, beside_all, replies_beside}
 use Rattle.two_copy_steps.specs.Runs.{machine_after, passes_after, TellsReplies}
-
-abbrev pub LawfulFor : Opening → State → Type 0
-LawfulFor opening s = Lawful opening (IsPublishable opening) s
 
 -- the start over a legal journal, whose sheet is in range, is lawful
 abbrev pub StartLaw : Type 0
@@ -36,15 +40,69 @@ abbrev pub BeginLaw : Type 0
 BeginLaw = (opening : Opening) (s : State) → LawfulFor opening s → (commands rest : List Command) → IsPublishable opening commands → s.writer.state.taken ++ rest ≡ commands
     → LawfulFor opening (begun_by s commands)
 
+-- of every lawful state the records are legal
+abbrev pub StateRecordsLaw : Type 0
+StateRecordsLaw = (opening : Opening) (s : State) → LawfulFor opening s → HasRecords opening s
+
+-- and no word is stored under a reader
+abbrev pub StateUnderLaw : Type 0
+StateUnderLaw = (opening : Opening) (s : State) → LawfulFor opening s → IsApart s
+
+-- and what each reader knows is a legal record and words of a sheet
+abbrev pub StateKnownLaw : Type 0
+StateKnownLaw = (opening : Opening) (s : State) → LawfulFor opening s → (r : ℕ) (v : ReaderView) → slice_get s.readers r ≡ Some v → IsKnown opening v
+
+-- the writer's turn is its step of words and views
+abbrev pub WriterTurnLaw : Type 0
+WriterTurnLaw = (m : TwoCopies) (p : Passes) → state_of (turn m Writer).0 (passed m p Writer) ≡ written_by m.ledger.opening (state_of m p)
+
+-- so is a reader's
+abbrev pub ReaderTurnLaw : Type 0
+ReaderTurnLaw =
+    (m : TwoCopies) (p : Passes) → length p.records ≡ length m.readers → (r : ℕ) (stage : Stage) → slice_get m.readers r ≡ Some stage
+    → state_of (turn m (Reader (suc r))).0 (passed m p (Reader (suc r))) ≡ read_by (state_of m p) r (record { stage = stage; readings = record_at p.records r })
+
+-- a publication that begins takes the whole journal, and touches no word
+abbrev pub BeginTurnLaw : Type 0
+BeginTurnLaw = (m : TwoCopies) (p : Passes) → (turn m Publish).1 ≡ Began → state_of (turn m Publish).0 (passed m p Publish) ≡ begun_by (state_of m p) m.ledger.journal
+
+-- one that doesn't begin leaves words and views as they were, and so does a command
+abbrev pub IdleTurnLaw : Type 0
+IdleTurnLaw = (m : TwoCopies) (p : Passes) → (turn m Publish).1 ≢ Began → state_of (turn m Publish).0 (passed m p Publish) ≡ state_of m p
+
+abbrev pub SubmitTurnLaw : Type 0
+SubmitTurnLaw = (m : TwoCopies) (p : Passes) (command : Command) → state_of (turn m (Submit command)).0 (passed m p (Submit command)) ≡ state_of m p
+
+-- a reader that is in the way is the least that isn't seen out, and its pin is 1; the publication that is given up changes nobody
+abbrev pub BusyLaw : Type 0
+BusyLaw =
+    (m : TwoCopies) (p : Passes) → IsLawful IsPublishable m p → (event : Event) (number : ℕ) → (turn m event).1 ≡ Busy number
+    → (r : ℕ) × (number ≡ suc r) × IsLeastUnseen m.writer.seen_out r × (slice_index m.words (pin 34 r) ≡ 1) × ((turn m event).0.writer.seen_out ≡ m.writer.seen_out)
+
+-- who is seen out stays so until side is stored
+abbrev pub StayLaw : Type 0
+StayLaw = (m : TwoCopies) (event : Event) → stores_side event m.writer.phase ≡ false → StaySeen m.writer.seen_out (turn m event).0.writer.seen_out
+
+-- with everybody seen out a publication that begins fills at once
+abbrev pub AtOnceLaw : Type 0
+AtOnceLaw = (m : TwoCopies) → all_true m.writer.seen_out ≡ true → (turn m Publish).1 ≡ Began → (turn m Publish).0.writer.phase ≡ Filling 0
+
+-- a step moves a reader on by one of the 37 steps of a reading
+abbrev pub CountLaw : Type 0
+CountLaw =
+    (r found : ℕ) (stage : Stage) → IsReadable stage
+    → (steps_taken stage ≤ 36) × (steps_taken ((stage_deed 34 r stage).after found) ≡ (if steps_taken stage == 36 then 0 else steps_taken stage + 1))
+
+-- the load of the last word is the one step that adds to a reader's record, and it adds the words loaded
+abbrev pub GrowthLaw : Type 0
+GrowthLaw =
+    (r found : ℕ) (v : ReaderView) → IsReadable v.stage → let w = (reader_deed 34 r v).after found in
+    (steps_taken v.stage ≢ 35 → w.readings ≡ v.readings)
+    × (steps_taken v.stage ≡ 35 → (words : List ℕ) × (sheet_read w.stage ≡ Some words) × (w.readings ≡ v.readings ++ words ∷ []))
+
 -- each event keeps the machine lawful, with its cuts and records
 abbrev pub EventLaw : Type 0
 EventLaw = (m : TwoCopies) (p : Passes) → IsLawful IsPublishable m p → IsPublishable m.ledger.opening m.ledger.journal → (event : Event) → IsLawful IsPublishable (turn m event).0 (passed m p event)
-
--- a register's ledger: a legal journal within its limit, which is at most a million
-pub record IsLedger (ledger : Ledger) : Type 0 where
-  pub legal : IsLegal ledger.opening ledger.journal
-  pub within : length ledger.journal ≤ ledger.limit
-  pub small : ledger.limit ≤ 1000000
 
 -- each event keeps the journal legal and within its limit
 abbrev pub LedgerLaw : Type 0
@@ -61,6 +119,16 @@ UnderLaw = (ledger : Ledger) (readers : ℕ) → IsLedger ledger → (events : L
 -- over every list of events what is told is what the register of one thread replies
 abbrev pub RepliesLaw : Type 0
 RepliesLaw = (ledger : Ledger) (readers : ℕ) → IsLedger ledger → (events : List Event) → TellsReplies ledger readers events
+
+-- over every list of events each reader's record is what its notes tell, and the words that it is about to leave
+abbrev pub ToldLaw : Type 0
+ToldLaw =
+    (ledger : Ledger) (readers : ℕ) → (events : List Event)
+    → RecordsAreTold (machine_after ledger readers events) (passes_after ledger readers events) (notes (started ledger readers) events)
+
+-- over every list of events no note of a reader tells an older sheet than one before
+abbrev pub NeverOlderLaw : Type 0
+NeverOlderLaw = (ledger : Ledger) (readers : ℕ) → IsLedger ledger → (events : List Event) → FrontsNeverFall (notes (started ledger readers) events)
 
 -- a reader that is at rest after some events reads, whatever follows, nothing older than what is published by then
 abbrev pub FreshLaw : Type 0

@@ -1,8 +1,12 @@
 pub mod Deeds
+pub mod Stages
 pub mod Lawful
 pub mod Turns
 pub mod Passes
+pub mod Records
 pub mod Effects
+pub mod Publications
 pub mod Machines
+pub mod States
 pub mod Runs
 pub mod Laws

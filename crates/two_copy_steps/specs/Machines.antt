@@ -1,23 +1,15 @@
 -- What the machine keeps, and what contracts see of it.
-use Rattle.std.specs.Prelude.{◌≡◌, ℕ, ◌<◌, ◌≤◌, Bool, List, length, take}
+use Rattle.std.specs.Prelude.{◌≡◌, ℕ, ◌≤◌, Bool, true, List, length, take, Ok}
 use Rattle.council_core.specs.Rolls.{sheet}
-use Rattle.council_core.specs.Ledgers.{Ledger}
-use Rattle.council_core.specs.Sheets.{front_of, IsSheet}
+use Rattle.council_core.specs.Ledgers.{Ledger, verdict_of}
+use Rattle.council_core.specs.Sheets.{front_of}
 use Rattle.two_copy_steps.specs.declared.events.Event.{Event}
 use Rattle.two_copy_steps.specs.declared.events.Event.TheVariants.{Submit, Publish, Writer, Reader}
 use Rattle.two_copy_steps.specs.declared.views.Stage.{Stage}
-use Rattle.two_copy_steps.specs.declared.views.Stage.TheVariants.{AtRest, Arrived, Reading, Leaving}
 use Rattle.two_copy_steps.specs.declared.views.Phase.{Phase}
 use Rattle.two_copy_steps.specs.Lawful.{IsPublishable}
-use Rattle.two_copy_steps.specs.Turns.{TwoCopies}
+use Rattle.two_copy_steps.specs.Turns.{TwoCopies, is_idle}
 use Rattle.two_copy_steps.specs.Passes.{Passes, IsLawful}
-
--- a reader that is loading words has some left, and one that has all of them has a sheet
-abbrev pub IsReadable : Stage → Type 0
-IsReadable AtRest = Unit {0}
-IsReadable Arrived = Unit {0}
-IsReadable (Reading side words) = length words < 34
-IsReadable (Leaving side words) = (length words ≡ 34) × IsSheet words
 
 -- the machine by what it keeps: how many commands are published, and the sheet of those last taken
 abbrev pub seen_as : Ledger → List ℕ → ℕ → ℕ → List ℕ → Phase → List Bool → List Stage → TwoCopies
@@ -41,9 +33,9 @@ pub record IsMachine (ledger : Ledger) (words : List ℕ) (side published : ℕ)
 abbrev pub IsFew : ℕ → Type 0
 IsFew readers = (1 ≤ readers) × (readers ≤ 4)
 
--- only the handing over of a command can want memory
-abbrev pub WantsMemory : Event → Type 0
-WantsMemory (Submit command) = Unit {0}
-WantsMemory Publish = ⊥
-WantsMemory Writer = ⊥
-WantsMemory (Reader number) = ⊥
+-- an event that can want memory: a command that the register accepts, while no publication is under way
+abbrev pub WantsMemory : TwoCopies → Event → Type 0
+WantsMemory m (Submit command) = (is_idle m.writer.phase ≡ true) × (verdict_of m.ledger command ≡ Ok tt)
+WantsMemory m Publish = ⊥
+WantsMemory m Writer = ⊥
+WantsMemory m (Reader number) = ⊥

@@ -1,13 +1,15 @@
 -- What is promised of a whole list of events, and what stands where it could not be taken to its end.
-use Rattle.std.specs.Prelude.{◌≡◌, ℕ, ◌≤◌, ◌⊎◌, List, length, take}
+use Rattle.std.specs.Prelude.{◌≡◌, ℕ, ◌≤◌, ◌⊎◌, List, length, take, slice_get, Some}
 use Rattle.council_core.specs.Ledgers.{Ledger}
 use Rattle.council_core.specs.declared.refusals.Refusal.{Refusal}
 use Rattle.council_core.specs.declared.refusals.Refusal.TheVariants.{OutOfMemory, BadLimit}
 use Rattle.two_copy_steps.specs.declared.events.Event.{Event}
+use Rattle.two_copy_steps.specs.declared.events.Note.{Note}
 use Rattle.two_copy_steps.specs.Turns.{TwoCopies, started, after}
+use Rattle.two_copy_steps.specs.Records.{RecordsAreTold}
 use Rattle.two_copy_steps.specs.Passes.{Passes, opened, passes, HasLegalRecords, NoneUnder}
 use Rattle.two_copy_steps.specs.Effects.{thread_of, AllAnswer}
-use Rattle.two_copy_steps.specs.Machines.{IsFew}
+use Rattle.two_copy_steps.specs.Machines.{IsFew, WantsMemory}
 
 -- from the start over a register with so many readers: the machine, and the cuts and records
 abbrev pub machine_after : Ledger → ℕ → List Event → TwoCopies
@@ -29,8 +31,25 @@ KeepsRecordsLegal ledger readers events =
 abbrev pub StoresUnderNobody : Ledger → ℕ → List Event → Type 0
 StoresUnderNobody ledger readers events = (k : ℕ) → NoneUnder (machine_after ledger readers (take k events))
 
--- the register is as the first events left it; the number of readers is refused before any event, and after that only memory was wanting
+-- each reader's record is what the notes tell of it, and the words that it is about to leave
+abbrev pub KeepsRecordsTold : Ledger → ℕ → List Event → List Note → Type 0
+KeepsRecordsTold ledger readers events told =
+    RecordsAreTold (machine_after ledger readers events) (passes_after ledger readers events) told
+
+-- the event at a place can want memory, from this machine on
+abbrev pub WantsMemoryFrom : TwoCopies → List Event → ℕ → Type 0
+WantsMemoryFrom m events place =
+    (event : Event) × (slice_get events place ≡ Some event) × WantsMemory (after m (take place events)) event
+
+-- the number of readers is refused before any event; else memory was wanting, for the notes before any event or for the
+-- event that was next
+abbrev pub HasCause : Ledger → ℕ → List Event → ℕ → Refusal → Type 0
+HasCause ledger readers events done why =
+    ((IsFew readers → ⊥) × (why ≡ BadLimit) × (done ≡ 0))
+    ⊎ (IsFew readers × (why ≡ OutOfMemory) × ((done ≡ 0) ⊎ WantsMemoryFrom (started ledger readers) events done))
+
+-- the register is as the first events left it, and there is a cause
 pub record IsFault (ledger : Ledger) (readers : ℕ) (events : List Event) (register : Ledger) (done : ℕ) (why : Refusal) : Type 0 where
   pub within : done ≤ length events
   pub left : register ≡ (machine_after ledger readers (take done events)).ledger
-  pub cause : ((IsFew readers → ⊥) × (why ≡ BadLimit) × (done ≡ 0)) ⊎ (IsFew readers × (why ≡ OutOfMemory))
+  pub cause : HasCause ledger readers events done why

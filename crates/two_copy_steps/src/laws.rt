@@ -1,5 +1,10 @@
 //! Laws of the machine, as contracts of functions that do nothing: for whoever builds on it.
-ghost use Rattle.two_copy_steps.specs.Laws.{EffectsLaw, StartLaw, ReaderLaw, WriterLaw, BeginLaw, EventLaw, LedgerLaw, RecordsLaw, UnderLaw, RepliesLaw, FreshLaw, NotesLaw, AfterLaw};
+ghost use Rattle.two_copy_steps.specs.Laws.{StartLaw, ReaderLaw, WriterLaw, BeginLaw};
+ghost use Rattle.two_copy_steps.specs.Laws.{StateRecordsLaw, StateUnderLaw, StateKnownLaw};
+ghost use Rattle.two_copy_steps.specs.Laws.{WriterTurnLaw, ReaderTurnLaw, BeginTurnLaw, IdleTurnLaw, SubmitTurnLaw};
+ghost use Rattle.two_copy_steps.specs.Laws.{BusyLaw, StayLaw, AtOnceLaw, CountLaw, GrowthLaw};
+ghost use Rattle.two_copy_steps.specs.Laws.{EventLaw, LedgerLaw, RecordsLaw, UnderLaw, RepliesLaw, FreshLaw, ToldLaw, NeverOlderLaw};
+ghost use Rattle.two_copy_steps.specs.Laws.{EffectsLaw, NotesLaw, AfterLaw};
 
 /// The machine is lawful at its start.
 pub fn start_law()
@@ -12,6 +17,39 @@ pub fn step_laws()
     ensures reader { ReaderLaw }
     ensures writer { WriterLaw }
     ensures begin { BeginLaw }
+{}
+
+/// In every lawful state the records are legal, no word is stored under a reader, and each reader's
+/// words are those of a sheet.
+pub fn state_laws()
+    ensures records { StateRecordsLaw }
+    ensures apart { StateUnderLaw }
+    ensures known { StateKnownLaw }
+{}
+
+/// The machine's turn is one step of words and views: of the writer, of a reader, or the beginning of
+/// a publication; no other event changes them.
+pub fn turn_laws()
+    ensures writer { WriterTurnLaw }
+    ensures reader { ReaderTurnLaw }
+    ensures begin { BeginTurnLaw }
+    ensures idle { IdleTurnLaw }
+    ensures submit { SubmitTurnLaw }
+{}
+
+/// A publication that is given up names the least reader not seen out, whose pin is 1; who is seen
+/// out stays so until side is stored; with everybody seen out a publication fills at once.
+pub fn publication_laws()
+    ensures busy { BusyLaw }
+    ensures stay { StayLaw }
+    ensures at_once { AtOnceLaw }
+{}
+
+/// A reader's stage has a number from 0 to 36, each step moves it on by one of 37, and the record
+/// grows at the load of the last word alone.
+pub fn reading_laws()
+    ensures count { CountLaw }
+    ensures growth { GrowthLaw }
 {}
 
 /// Each event keeps the machine lawful, with its cuts and records, and its journal legal.
@@ -28,6 +66,14 @@ pub fn run_laws()
     ensures apart { UnderLaw }
     ensures replies { RepliesLaw }
     ensures fresh { FreshLaw }
+{}
+
+/// Over every list of events: a reader's record is the sheets that its notes tell, in order, and the
+/// words of the reading that it is about to leave; and no note of a reader tells an older sheet than
+/// one before.
+pub fn record_laws()
+    ensures told { ToldLaw }
+    ensures never_older { NeverOlderLaw }
 {}
 
 /// What events tell is compared with one run of the sequential register: its replies to the list of

@@ -1,19 +1,20 @@
 //! The machine.
 ghost use Rattle.std.specs.Prelude.{◌≡◌, ◌≢◌, ℕ, suc, ◌+◌, ◌<◌, ◌≤◌, ◌==◌, ◌↔◌, true, false, if◌then◌else◌, length, take, IsOk, IfOk, IfErr, OnErr, IsOkUnless, Ok, Err};
-ghost use Rattle.council_core.specs.Ledgers.{sheet_of, verdict_of};
+ghost use Rattle.council_core.specs.Ledgers.{IsLedger, verdict_of};
 ghost use Rattle.council_core.specs.declared.refusals.Refusal.TheVariants.{OutOfMemory, BadLimit};
 ghost use Rattle.two_copy_steps.specs.declared.events.Event.TheVariants.{Submit, Publish, Writer, Reader};
 ghost use Rattle.two_copy_steps.specs.declared.views.Phase.TheVariants.{Idle, Seeing, Filling, Swapping};
 ghost use Rattle.two_copy_steps.specs.Deeds.{all_true};
-ghost use Rattle.two_copy_steps.specs.Lawful.{IsPublishable};
 ghost use Rattle.two_copy_steps.specs.Turns.{turn, handed, started, written, phase_note, is_idle};
 ghost use Rattle.two_copy_steps.specs.Machines.{IsFew, WantsMemory};
+ghost use Rattle.two_copy_steps.specs.Publications.{seen_out_at};
 
 use crate::events::{Event, Note};
 use crate::readers::advance;
 use crate::seats::{Flags, Seats};
-use crate::table::{Table, place};
-use crate::views::{Phase, Stage};
+use crate::stages::ReaderStage;
+use crate::table::{COPY_WORDS, READERS, SIDE, Table, pin, place};
+use crate::views::Phase;
 use council_core::{Command, Refusal, Register, Sheet};
 use std::marker::Model;
 
@@ -41,22 +42,12 @@ impl Model for Machine {
     ghost invariant = { λ m. IsMachine m.register m.table m.side m.published m.taken m.phase m.seen_out m.seats };
 }
 
-// The register's sheet, and what is known of it.
-fn vouched(register: &Register) -> Sheet
-    ensures sheet { result ≡ sheet_of register.now }
-    ensures publishable { IsPublishable register.now.opening register.now.journal }
-{
-    let sheet = register.sheet();
-    let _in_range = sheet.words();
-    let _legal = register.journal();
-    sheet
-}
-
 // Hands a command to the register, and tells whether it was accepted.
 fn hand_over(register: &mut Register, command: Command) -> Result<Note, Refusal>
     ensures handed { IfOk result (λ note. (register.new, note) ≡ handed register.old command (verdict_of register.old command)) }
     ensures unchanged { OnErr result (register.new ≡ register.old) }
     ensures memory { IsOkUnless result OutOfMemory }
+    ensures accepted { OnErr result (verdict_of register.old command ≡ Ok tt) }
 {
     match register.apply(command) {
         Ok(accepted) => Ok(Note::Accepted(accepted)),
@@ -72,12 +63,13 @@ impl Machine {
     pub fn start(register: Register, readers: u8) -> Result<Machine, (Register, Refusal)>
         ensures in_range { IsOk result ↔ IsFew readers }
         ensures started { IfOk result (λ m. m ≡ started register readers) }
+        ensures ledger { IfOk result (λ m. IsLedger m.ledger) }
         ensures refused { IfErr result (λ e. (e.0 ≡ register) × (e.1 ≡ BadLimit)) }
     {
-        if readers == 0 || 4 < readers {
+        if readers == 0 || READERS < readers as usize {
             return Err((register, Refusal::BadLimit));
         }
-        let sheet = vouched(&register);
+        let sheet = register.sheet();
         Ok(Machine {
             table: Table::start(&sheet.words(), readers),
             side: 0,
@@ -92,26 +84,35 @@ impl Machine {
 
     /// The register, as the events so far have left it.
     pub fn register(&self) -> &Register
-        ensures { result.now ≡ self.now.ledger }
+        ensures same { result.now ≡ self.now.ledger }
     {
         &self.register
     }
 
     /// How many commands are published.
     pub fn published(&self) -> u32
-        ensures { result ≡ length self.now.writer.published }
+        ensures number { result ≡ length self.now.writer.published }
     {
         self.published
     }
 
-    /// One event, and what it tells. Only the handing over of a command can be refused, with
-    /// `OutOfMemory`; the machine is then unchanged.
+    /// Whether the reader of this number, counted from 1, is seen out: its pin was at 0 when the writer
+    /// looked since side was last stored, or nothing was published yet. False where there is no such
+    /// reader.
+    pub fn seen_out(&self, reader: u8) -> bool
+        ensures same { result ≡ seen_out_at self.now.writer.seen_out reader }
+    {
+        self.seen_out.has(reader)
+    }
+
+    /// One event, and what it tells. Only the handing over of a command that the register accepts can
+    /// be answered `OutOfMemory`, while no publication is under way; the machine is then unchanged.
     pub fn step(&mut self, event: Event) -> Result<Note, Refusal>
         ensures machine { IfOk result (λ note. self.new ≡ (turn self.old event).0) }
         ensures note { IfOk result (λ note. note ≡ (turn self.old event).1) }
         ensures unchanged { OnErr result (self.new ≡ self.old) }
         ensures memory { IsOkUnless result OutOfMemory }
-        ensures submit_alone { OnErr result (WantsMemory event) }
+        ensures submit_alone { OnErr result (WantsMemory self.old event) }
     {
         match event {
             Event::Submit(command) => self.submit(command),
@@ -126,6 +127,7 @@ impl Machine {
         ensures note { IfOk result (λ note. note ≡ (turn self.old (Submit command)).1) }
         ensures unchanged { OnErr result (self.new ≡ self.old) }
         ensures memory { IsOkUnless result OutOfMemory }
+        ensures accepted { OnErr result (WantsMemory self.old (Submit command)) }
     {
         if !self.is_idle() {
             return Ok(Note::Skipped);
@@ -149,7 +151,7 @@ impl Machine {
         if self.register.accepted() <= self.published {
             return Note::Published(self.published);
         }
-        self.taken = vouched(&self.register);
+        self.taken = self.register.sheet();
         self.phase = phase_after(&self.seen_out);
         Note::Began
     }
@@ -173,7 +175,7 @@ impl Machine {
         ensures note { result ≡ (turn self.old Writer).1 }
     {
         let r = self.seen_out.first_false();
-        if self.table.load(69 + r) != 0 {
+        if self.table.load(pin(r)) != 0 {
             self.phase = Phase::Idle;
             return Note::Busy(r as u8 + 1);
         }
@@ -201,7 +203,7 @@ impl Machine {
         ensures note { result ≡ (turn self.old Writer).1 }
     {
         self.side = 1 - self.side;
-        self.table.store(0, self.side);
+        self.table.store(SIDE, self.side);
         self.published = self.taken.front();
         self.seen_out.clear();
         self.phase = Phase::Idle;
@@ -216,9 +218,9 @@ impl Machine {
             return Note::Skipped;
         }
         let r = number as usize - 1;
-        let stage = self.seats.replace(r, Stage::AtRest);
-        let (next, note) = advance(&mut self.table, r, stage);
-        let _at_rest = self.seats.replace(r, next);
+        let mut stage = self.seats.replace(r, ReaderStage::new());
+        let note = advance(&mut self.table, r, &mut stage);
+        let _at_rest = self.seats.replace(r, stage);
         note
     }
 
@@ -243,10 +245,10 @@ fn phase_after(seen_out: &Flags) -> Phase
 
 // After the last word side is next.
 fn phase_past(k: u64) -> Phase
-    requires { k < 34 }
-    ensures { result ≡ (if k + 1 == 34 then Swapping else Filling (k + 1)) }
+    requires { k < COPY_WORDS }
+    ensures { result ≡ (if k + 1 == COPY_WORDS then Swapping else Filling (k + 1)) }
 {
-    if k + 1 == 34 {
+    if k + 1 == COPY_WORDS as u64 {
         Phase::Swapping
     } else {
         Phase::Filling(k + 1)

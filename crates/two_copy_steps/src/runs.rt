@@ -1,10 +1,11 @@
 //! Whole lists of events.
-ghost use Rattle.std.specs.Prelude.{◌≡◌, ◌≤◌, [], ℕ, length, take, vec_capacity, IsOk, IfOk, IfErr, OnOk};
-ghost use Rattle.council_core.specs.Rolls.{IsLegal};
+ghost use Rattle.std.specs.Prelude.{◌≡◌, ◌≤◌, [], ℕ, length, take, slice_get, Some, vec_capacity, IsOk, IfOk, IfErr, OnOk};
 ghost use Rattle.council_core.specs.declared.refusals.Refusal.TheVariants.{OutOfMemory};
 ghost use Rattle.two_copy_steps.specs.Turns.{started, after, notes};
-ghost use Rattle.two_copy_steps.specs.Machines.{IsFew};
-ghost use Rattle.two_copy_steps.specs.Runs.{machine_after, TellsReplies, KeepsRecordsLegal, StoresUnderNobody, IsFault};
+ghost use Rattle.two_copy_steps.specs.Machines.{IsFew, WantsMemory};
+ghost use Rattle.two_copy_steps.specs.Records.{FrontsNeverFall};
+ghost use Rattle.two_copy_steps.specs.declared.events.Event.{Event};
+ghost use Rattle.two_copy_steps.specs.Runs.{machine_after, TellsReplies, KeepsRecordsTold, WantsMemoryFrom, KeepsRecordsLegal, StoresUnderNobody, IsFault};
 
 use crate::events::{Event, Note};
 use crate::machine::Machine;
@@ -59,7 +60,8 @@ pub struct RunFault {
     pub register: Register,
     /// How many events were done.
     pub done: usize,
-    /// `BadLimit`, unless there were to be one to four readers, and else `OutOfMemory`.
+    /// `BadLimit`, unless there were to be one to four readers, and else `OutOfMemory`: for the notes,
+    /// before any event, or for the command that was next.
     pub why: Refusal,
 }
 
@@ -77,10 +79,11 @@ pub fn run(
     ensures replies { IfOk result (λ log. TellsReplies register readers events.now) }
     ensures records { IfOk result (λ log. KeepsRecordsLegal register readers events.now) }
     ensures apart { IfOk result (λ log. StoresUnderNobody register readers events.now) }
+    ensures told { IfOk result (λ log. KeepsRecordsTold register readers events.now log.notes) }
+    ensures never_older { IfOk result (λ log. FrontsNeverFall log.notes) }
     ensures in_range { IfOk result (λ log. IsFew readers) }
     ensures fault { IfErr result (λ fault. IsFault register readers events.now fault.register fault.done fault.why) }
 {
-    check_legal(&register);
     let mut machine = match Machine::start(register, readers) {
         Ok(machine) => machine,
         Err((register, why)) => {
@@ -97,7 +100,6 @@ pub fn run(
     };
     match take_all(&mut machine, &mut told, events) {
         Ok(()) => {
-            check_legal(machine.register());
             Ok(RunLog {
                 notes: Notes { list: told },
                 machine,
@@ -105,13 +107,6 @@ pub fn run(
         }
         Err(done) => Err(fault(machine, done)),
     }
-}
-
-// A register's journal is legal.
-fn check_legal(register: &Register)
-    ensures { IsLegal register.now.opening register.now.journal }
-{
-    let _journal = register.journal();
 }
 
 fn fault(machine: Machine, done: usize) -> RunFault
@@ -134,6 +129,7 @@ fn take_all(machine: &mut Machine, told: &mut Vec<Note>, events: &[Event]) -> Re
     ensures notes { OnOk result (told.new.items ≡ notes machine.old events.now) }
     ensures left { IfErr result (λ done. machine.new ≡ after machine.old (take done events.now)) }
     ensures within { IfErr result (λ done. done ≤ length events.now) }
+    ensures wanted { IfErr result (λ done. WantsMemoryFrom machine.old events.now done) }
 {
     for (done, event) in events.iter().enumerate() {
         match machine.step(*event) {

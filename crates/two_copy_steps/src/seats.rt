@@ -1,38 +1,44 @@
 //! The readers' stages, and who of them is seen out.
-ghost use Rattle.std.specs.Prelude.{◌≡◌, ℕ, ◌<◌, ◌≤◌, true, false, length, replicate, Some, slice_get, slice_set};
+ghost use Rattle.std.specs.Prelude.{◌≡◌, ℕ, List, Bool, ◌<◌, ◌≤◌, true, false, length, take, replicate, Some, slice_get, slice_set};
+ghost use Rattle.two_copy_steps.specs.declared.views.Stage.{Stage};
 ghost use Rattle.two_copy_steps.specs.declared.views.Stage.TheVariants.{AtRest};
+ghost use Rattle.two_copy_steps.specs.declared.table.TheConstants.{READERS};
 ghost use Rattle.two_copy_steps.specs.Deeds.{all_true, first_false};
+ghost use Rattle.two_copy_steps.specs.Publications.{seen_out_at};
 
-use crate::views::Stage;
+use crate::stages::ReaderStage;
+use crate::table::READERS;
 use std::marker::Model;
 use std::mem;
 
 /// The stage of each reader, of at most four.
 #[derive(Drop)]
 pub(crate) struct Seats {
-    stages: [Stage; 4],
+    stages: [ReaderStage; READERS],
     len: usize,
 }
 
 impl Model for Seats {
-    ghost use Rattle.std.specs.Prelude.{◌≡◌, List, ◌≤◌, length, take};
-    ghost use Rattle.two_copy_steps.specs.declared.views.Stage.{Stage};
-
     ghost Value = { List Stage };
 
     ghost view = { λ s. take s.len s.stages };
 
-    ghost invariant = { λ s. (s.len ≤ 4) × (length s.stages ≡ 4) };
+    ghost invariant = { λ s. (s.len ≤ READERS) × (length s.stages ≡ READERS) };
 }
 
 impl Seats {
     // All at rest.
     pub(crate) fn start(readers: u8) -> Seats
-        requires { readers ≤ 4 }
+        requires { readers ≤ READERS }
         ensures { result ≡ replicate readers AtRest }
     {
         Seats {
-            stages: [Stage::AtRest, Stage::AtRest, Stage::AtRest, Stage::AtRest],
+            stages: [
+                ReaderStage::new(),
+                ReaderStage::new(),
+                ReaderStage::new(),
+                ReaderStage::new(),
+            ],
             len: readers as usize,
         }
     }
@@ -44,9 +50,9 @@ impl Seats {
     }
 
     // Puts a stage in the place of another, and answers that one.
-    pub(crate) fn replace(&mut self, r: usize, stage: Stage) -> Stage
+    pub(crate) fn replace(&mut self, r: usize, stage: ReaderStage) -> ReaderStage
         requires within { r < length self.old }
-        requires few { r < 4 }
+        requires few { r < READERS }
         ensures found { slice_get self.old r ≡ Some result }
         ensures put { self.new ≡ slice_set self.old r stage }
     {
@@ -56,34 +62,68 @@ impl Seats {
 
 /// Whether each reader is seen out, of at most four.
 #[derive(Drop)]
-pub(crate) struct Flags {
-    flags: [bool; 4],
+pub struct Flags {
+    flags: [bool; READERS],
     len: usize,
 }
 
 impl Model for Flags {
-    ghost use Rattle.std.specs.Prelude.{◌≡◌, List, Bool, ◌≤◌, length, take};
-
     ghost Value = { List Bool };
 
     ghost view = { λ f. take f.len f.flags };
 
-    ghost invariant = { λ f. (f.len ≤ 4) × (length f.flags ≡ 4) };
+    ghost invariant = { λ f. (f.len ≤ READERS) × (length f.flags ≡ READERS) };
 }
 
 impl Flags {
-    pub(crate) fn start(readers: u8) -> Flags
-        requires { readers ≤ 4 }
+    // Of each reader, whether it is seen out.
+    fn as_slice(&self) -> &[bool]
+        ensures same { result.now ≡ self.now }
+        ensures few { length result.now ≤ READERS }
+    {
+        &self.flags[..self.len]
+    }
+
+    /// How many readers there are, at most four.
+    pub fn len(&self) -> usize
+        ensures number { result ≡ length self.now }
+        ensures few { result ≤ READERS }
+    {
+        self.as_slice().len()
+    }
+
+    /// Whether the reader at r, counted from 0, is seen out.
+    pub fn get(&self, r: usize) -> bool
+        requires within { r < length self.now }
+        ensures same { slice_get self.now r ≡ Some result }
+    {
+        self.as_slice()[r]
+    }
+
+    /// Whether the reader of this number, counted from 1, is seen out. False where there is no such
+    /// reader.
+    pub fn has(&self, number: u8) -> bool
+        ensures same { result ≡ seen_out_at self.now number }
+    {
+        if number == 0 || self.len < number as usize {
+            return false;
+        }
+        self.flags[number as usize - 1]
+    }
+
+    /// Everybody is seen out.
+    pub fn start(readers: u8) -> Flags
+        requires { readers ≤ READERS }
         ensures { result ≡ replicate readers true }
     {
         Flags {
-            flags: [true; 4],
+            flags: [true; READERS],
             len: readers as usize,
         }
     }
 
-    // The least reader that isn't seen out, or else how many there are.
-    pub(crate) fn first_false(&self) -> usize
+    /// The least reader that isn't seen out, counted from 0, or else how many readers there are.
+    pub fn first_false(&self) -> usize
         ensures { result ≡ first_false self.now }
     {
         for i in 0..self.len {
@@ -94,7 +134,8 @@ impl Flags {
         self.len
     }
 
-    pub(crate) fn all_true(&self) -> bool
+    /// Whether everybody is seen out.
+    pub fn all_true(&self) -> bool
         ensures { result ≡ all_true self.now }
     {
         for i in 0..self.len {
@@ -105,18 +146,19 @@ impl Flags {
         true
     }
 
-    pub(crate) fn set(&mut self, r: usize)
+    /// This reader is seen out.
+    pub fn set(&mut self, r: usize)
         requires within { r < length self.old }
-        requires few { r < 4 }
+        requires few { r < READERS }
         ensures { self.new ≡ slice_set self.old r true }
     {
         self.flags[r] = true;
     }
 
-    // Nobody is seen out.
-    pub(crate) fn clear(&mut self)
+    /// Nobody is seen out.
+    pub fn clear(&mut self)
         ensures { self.new ≡ replicate (length self.old) false }
     {
-        self.flags = [false; 4];
+        self.flags = [false; READERS];
     }
 }

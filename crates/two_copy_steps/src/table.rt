@@ -1,46 +1,88 @@
 //! The shared words.
-ghost use Rattle.std.specs.Prelude.{◌≡◌, ◌≢◌, ℕ, ◌+◌, ◌<◌, ◌≤◌, ◌++◌, ◌∷◌, [], length, replicate, slice_index, slice_set};
-ghost use Rattle.two_copy_steps.specs.Deeds.{place};
+ghost use Rattle.std.specs.Prelude.{◌≡◌, ℕ, List, ◌<◌, ◌≤◌, ◌++◌, ◌∷◌, [], length, replicate, take, slice_index, slice_set};
+ghost use Rattle.two_copy_steps.specs.declared.table.TheConstants.{WORDS};
+ghost use Rattle.two_copy_steps.specs.Deeds.{pin, place};
+ghost use Rattle.two_copy_steps.specs.Stages.{accessed, left_by};
 
+use crate::stages::Access;
 use std::marker::Model;
+
+/// The place of the word that names the copy published.
+pub const SIDE: usize = 0;
+
+/// How many words a copy has: those of a sheet.
+pub const COPY_WORDS: usize = 34;
+
+/// How many readers there are at most.
+pub const READERS: usize = 4;
+
+// Where the copies and the pins begin, and how many words there are at most.
+const COPY_0: usize = SIDE + 1;
+
+const COPY_1: usize = COPY_0 + COPY_WORDS;
+
+const PINS: usize = COPY_1 + COPY_WORDS;
+
+const WORDS: usize = PINS + READERS;
 
 /// Side, then copy 0, copy 1, and a pin for each reader.
 #[derive(Drop)]
-pub(crate) struct Table {
-    all: [u64; 73],
+pub struct Table {
+    all: [u64; WORDS],
     len: usize,
 }
 
 impl Model for Table {
-    ghost use Rattle.std.specs.Prelude.{◌≡◌, ℕ, List, ◌≤◌, length, take};
-
     ghost Value = { List ℕ };
 
     ghost view = { λ t. take t.len t.all };
 
-    ghost invariant = { λ t. (t.len ≤ 73) × (length t.all ≡ 73) };
+    ghost invariant = { λ t. (t.len ≤ WORDS) × (length t.all ≡ WORDS) };
 }
 
 impl Table {
-    // Side 0, a sheet in both copies, and all pins at 0.
-    pub(crate) fn start(sheet: &[u64; 34], readers: u8) -> Table
-        requires { readers ≤ 4 }
-        ensures { result ≡ 0 ∷ sheet.now ++ sheet.now ++ replicate readers 0 }
+    /// Side 0, a sheet in both copies, and all pins at 0, for at most four readers.
+    pub fn start(sheet: &[u64; COPY_WORDS], readers: u8) -> Table
+        requires few { readers ≤ READERS }
+        ensures words { result ≡ 0 ∷ sheet.now ++ sheet.now ++ replicate readers 0 }
     {
-        let mut all = [0; 73];
-        for i in 0..34 {
-            all[1 + i] = sheet[i];
-            all[35 + i] = sheet[i];
+        let mut all = [0; WORDS];
+        for i in 0..COPY_WORDS {
+            all[COPY_0 + i] = sheet[i];
+            all[COPY_1 + i] = sheet[i];
         }
         Table {
             all,
-            len: 69 + readers as usize,
+            len: PINS + readers as usize,
+        }
+    }
+
+    /// The words, in order.
+    pub fn as_slice(&self) -> &[u64]
+        ensures same { result.now ≡ self.now }
+    {
+        &self.all[..self.len]
+    }
+
+    // Does what a step does to its word, and answers the number that is left there.
+    pub(crate) fn touch(&mut self, access: Access) -> u64
+        requires within { accessed access < length self.old }
+        requires low { accessed access < WORDS }
+        ensures words { self.new ≡ slice_set self.old (accessed access) (left_by access (slice_index self.old (accessed access))) }
+        ensures found { result ≡ left_by access (slice_index self.old (accessed access)) }
+    {
+        match access {
+            Access::Load(place) => self.load(place),
+            Access::Store(place, word) => {
+                self.store(place, word);
+                word
+            }
         }
     }
 
     pub(crate) fn load(&self, place: usize) -> u64
         requires within { place < length self.now }
-        requires low { place < 73 }
+        requires low { place < WORDS }
         ensures { result ≡ slice_index self.now place }
     {
         self.all[place]
@@ -48,18 +90,27 @@ impl Table {
 
     pub(crate) fn store(&mut self, place: usize, word: u64)
         requires within { place < length self.old }
-        requires low { place < 73 }
+        requires low { place < WORDS }
         ensures { self.new ≡ slice_set self.old place word }
     {
         self.all[place] = word;
     }
 }
 
-// Where word k of the copy that a side names stands.
-pub(crate) fn place(side: u64, k: usize) -> usize
-    requires { k < 34 }
+/// Where word k of the copy that a side names stands.
+pub fn place(side: u64, k: usize) -> usize
+    requires within { k < COPY_WORDS }
     ensures same { result ≡ place 34 side k }
-    ensures low { result < 69 }
+    ensures low { result < PINS }
 {
-    if side == 0 { 1 + k } else { 35 + k }
+    if side == 0 { COPY_0 + k } else { COPY_1 + k }
+}
+
+/// Where the pin of the reader at r, counted from 0, stands.
+pub fn pin(r: usize) -> usize
+    requires few { r < READERS }
+    ensures same { result ≡ pin 34 r }
+    ensures low { result < WORDS }
+{
+    PINS + r
 }

@@ -165,3 +165,92 @@ fn constructors_refuse(rt: HostRuntime) -> Result<(), Fail> {
     }
     Ok(())
 }
+
+/// Chair 1 opened twice: the second command is refused.
+fn opened_twice() -> Result<[Event; 2], Refusal> {
+    let open = Command::Open(ChairId::new(1)?);
+    Ok([Event::Submit(open), Event::Submit(open)])
+}
+
+#[test]
+fn refused_commands_want_no_memory(rt: HostRuntime) -> Result<(), Fail> {
+    let want = [Line::Accepted(1), Line::Refused(Refusal::ChairOpen)];
+    match Machine::start(one_member(rt.alloc())?, 1) {
+        Ok(mut machine) => {
+            for (event, line) in opened_twice()?.iter().zip(&want) {
+                assert_eq!(rt; line_of(&machine.step(*event)?), Some(*line));
+            }
+            assert_eq!(rt; machine.register().accepted(), 1);
+        }
+        Err((_, why)) => return Err(why.into()),
+    }
+    match run(rt.alloc(), one_member(rt.alloc())?, 1, &opened_twice()?) {
+        Ok(log) => {
+            let told = lines_of(rt.alloc(), log.notes.as_slice())?;
+            assert_eq!(rt; told.as_slice(), want.as_slice());
+        }
+        Err(fault) => assert_eq!(rt; fault.done, 2),
+    }
+    Ok(())
+}
+
+/// The lines of the first events of the schedule above, and nothing where `run` can't be taken to its end.
+fn lines_of_first(
+    alloc: Global,
+    events: &[Event],
+    count: usize,
+) -> Result<Option<Vec<Line>>, Fail> {
+    let some = events.get(..count).unwrap_or_default();
+    match run(alloc, one_member(alloc)?, 1, some) {
+        Ok(log) => Ok(Some(lines_of(alloc, log.notes.as_slice())?)),
+        Err(_) => Ok(None),
+    }
+}
+
+#[test]
+fn events_cut_anywhere(rt: HostRuntime) -> Result<(), Fail> {
+    let events = schedule(rt.alloc())?;
+    let Some(whole) = lines_of_first(rt.alloc(), &events, events.len())? else {
+        assert!(rt; false);
+        return Ok(());
+    };
+    for count in 0..events.len() {
+        match lines_of_first(rt.alloc(), &events, count)? {
+            Some(lines) => assert_eq!(rt; Some(lines.as_slice()), whole.get(..lines.len())),
+            None => assert!(rt; false),
+        }
+    }
+    Ok(())
+}
+
+/// Takes an event so many times.
+fn take(machine: &mut Machine, event: Event, times: usize) -> Result<(), Refusal> {
+    for _ in 0..times {
+        let _note = machine.step(event)?;
+    }
+    Ok(())
+}
+
+#[test]
+fn two_readers_seen_out(rt: HostRuntime) -> Result<(), Fail> {
+    let chair = ChairId::new(1)?;
+    let seat = Command::Move(MemberCode::new(b"AAA")?, Some(chair));
+    let Ok(mut machine) = Machine::start(one_member(rt.alloc())?, 2) else {
+        assert!(rt; false);
+        return Ok(());
+    };
+    assert_eq!(rt; (machine.seen_out(1), machine.seen_out(2)), (true, true));
+    assert_eq!(rt; (machine.seen_out(0), machine.seen_out(3)), (false, false));
+    take(&mut machine, Event::Reader(2), 5)?;
+    take(&mut machine, Event::Submit(Command::Open(chair)), 1)?;
+    take(&mut machine, Event::Publish, 1)?;
+    take(&mut machine, Event::Writer, 35)?;
+    assert_eq!(rt; machine.published(), 1);
+    assert_eq!(rt; (machine.seen_out(1), machine.seen_out(2)), (false, false));
+    take(&mut machine, Event::Submit(seat), 1)?;
+    take(&mut machine, Event::Publish, 1)?;
+    take(&mut machine, Event::Writer, 1)?;
+    assert_eq!(rt; line_of(&machine.step(Event::Writer)?), Some(Line::Busy(2)));
+    assert_eq!(rt; (machine.seen_out(1), machine.seen_out(2)), (true, false));
+    Ok(())
+}

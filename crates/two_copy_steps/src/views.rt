@@ -1,20 +1,18 @@
-//! What each actor knows. The readers' stages and the writer's phase are kept by the machine; of the other types
-//! no value is made: contracts and rules speak of them.
-use crate::words::Words;
+//! What each actor knows. The machine keeps the writer's phase; of the other types no value is made: contracts and rules
+//! speak of them.
 use council_core::Command;
 use std::collections::LinkedList;
 
-/// How far a reader is in its reading.
-#[derive(Drop)]
+/// How far a reader is in its reading, as contracts see a `ReaderStage`.
 pub enum Stage {
     /// Its pin is at 0.
     AtRest,
     /// Its pin is at 1.
     Arrived,
     /// The side that it loaded, and the words read so far.
-    Reading(u64, Words),
+    Reading(u64, LinkedList<u64>),
     /// The side that it loaded, and all words of that copy.
-    Leaving(u64, Words),
+    Leaving(u64, LinkedList<u64>),
 }
 
 /// What a reader knows.

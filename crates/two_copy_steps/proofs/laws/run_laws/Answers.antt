@@ -1,15 +1,9 @@
-use Rattle.two_copy_steps.specs.Turns.{started}
-use Rattle.two_copy_steps.proofs.EventLists.{run_records, run_apart, run_answers, always_within}
-use Rattle.std.proofs.Common.{arith}
+use Rattle.two_copy_steps.proofs.EventLists.{ledger_records, run_apart, run_answers}
 use Rattle.two_copy_steps.proofs.Fresh.{run_fresh}
 use Rattle.two_copy_steps.proofs.laws.run_laws.Goals as goal
 
 pub returns-clause-records : goal.returns-clause-records
-returns-clause-records c = λ ledger readers k events.
-    let w = always_within events (started ledger readers) (k.within, k.small) in
-    let short = w.0 in
-    let small = w.1 in
-    run_records ledger readers k.legal.0 events (omega arith)
+returns-clause-records c = λ ledger readers k events. ledger_records ledger readers k events
 
 pub returns-clause-apart : goal.returns-clause-apart
 returns-clause-apart c = λ ledger readers k events. run_apart ledger readers k.legal.0 events

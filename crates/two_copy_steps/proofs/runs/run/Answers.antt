@@ -1,20 +1,36 @@
-use Rattle.std.proofs.Common.{ℕ, ◌≤◌, length, take, ap, sym, ◌∙◌, subst, refl, inr}
-use Rattle.council_core.specs.Ledgers.{Ledger}
-use Rattle.two_copy_steps.specs.Turns.{TwoCopies, started, after}
-use Rattle.two_copy_steps.proofs.EventLists.{run_answers, run_apart, run_records_first}
+use Rattle.std.proofs.Common.{◌≡◌, ℕ, ◌≤◌, length, take, ap, sym, ◌∙◌, subst, refl, inr}
+use Rattle.council_core.specs.Ledgers.{IsLedger}
+use Rattle.two_copy_steps.specs.Records.{FrontsNeverFall}
+use Rattle.two_copy_steps.specs.Runs.{KeepsRecordsTold, WantsMemoryFrom}
+use Rattle.two_copy_steps.specs.Turns.{TwoCopies, started, after, notes}
+use Rattle.two_copy_steps.proofs.EventLists.{ledger_records, run_answers, run_apart}
+use Rattle.two_copy_steps.proofs.ToldRecords.{run_told, run_never_older}
 use Rattle.two_copy_steps.proofs.runs.run.Goals as goal
 
+-- the register given is the one that the machine started with
+given : (c : goal.In-Ok-take_all) → IsLedger c.args.register
+given c = subst (λ (m : TwoCopies). IsLedger m.ledger) c.in-Ok.ensures.started c.in-Ok.ensures.ledger
+
+told_is : (c : goal.In-Ok-take_all) → c.take_all.new.told.items ≡ notes (started c.args.register c.args.readers) c.args.events.now
+told_is c = c.in-Ok-take_all.ensures.notes ∙ ap (λ (m : TwoCopies). notes m c.args.events.now) c.in-Ok.ensures.started
+
 pub returns-in-Ok-take_all-clause-replies : goal.returns-in-Ok-take_all-clause-replies
-returns-in-Ok-take_all-clause-replies c = run_answers c.args.register c.args.readers c.check_legal.ensures.0 c.args.events.now
+returns-in-Ok-take_all-clause-replies c = run_answers c.args.register c.args.readers (given c).legal.0 c.args.events.now
 
 pub returns-in-Ok-take_all-clause-records : goal.returns-in-Ok-take_all-clause-records
-returns-in-Ok-take_all-clause-records c = λ k.
-    let is = c.register.ensures ∙ ap (λ (m : TwoCopies). m.ledger) (c.in-Ok-take_all.ensures.machine ∙ ap (λ (m : TwoCopies). after m c.args.events.now) c.in-Ok.ensures.started) in
-    run_records_first c.args.register c.args.readers c.check_legal.ensures.0 c.args.events.now k
-    (subst (λ (l : Ledger). length l.journal ≤ 1000000) is c.check_legal-in-Ok-take_all.ensures.1)
+returns-in-Ok-take_all-clause-records c = λ k. ledger_records c.args.register c.args.readers (given c) (take k c.args.events.now)
 
 pub returns-in-Ok-take_all-clause-apart : goal.returns-in-Ok-take_all-clause-apart
-returns-in-Ok-take_all-clause-apart c = λ k. run_apart c.args.register c.args.readers c.check_legal.ensures.0 (take k c.args.events.now)
+returns-in-Ok-take_all-clause-apart c = λ k. run_apart c.args.register c.args.readers (given c).legal.0 (take k c.args.events.now)
+
+pub returns-in-Ok-take_all-clause-told : goal.returns-in-Ok-take_all-clause-told
+returns-in-Ok-take_all-clause-told c =
+    subst (KeepsRecordsTold c.args.register c.args.readers c.args.events.now) (sym (told_is c))
+    (run_told c.args.register c.args.readers c.args.events.now)
+
+pub returns-in-Ok-take_all-clause-never_older : goal.returns-in-Ok-take_all-clause-never_older
+returns-in-Ok-take_all-clause-never_older c =
+    subst FrontsNeverFall (sym (told_is c)) (run_never_older c.args.register c.args.readers c.args.events.now (ledger_records c.args.register c.args.readers (given c) c.args.events.now))
 
 pub returns-in-Err-take_all-clause-fault : goal.returns-in-Err-take_all-clause-fault
 returns-in-Err-take_all-clause-fault c =
@@ -24,5 +40,10 @@ returns-in-Err-take_all-clause-fault c =
       left = c.fault-in-Err-take_all.ensures.register
           ∙ (ap (λ (m : TwoCopies). m.ledger) (c.in-Err-take_all.ensures.left ∙ ap (λ (m : TwoCopies). after m (take c.in-Err-take_all.done c.args.events.now)) c.in-Ok.ensures.started)
           ∙ ap (λ (n : ℕ). (after (started c.args.register c.args.readers) (take n c.args.events.now)).ledger) (sym done));
-      cause = inr (c.in-Ok.ensures.in_range.0 refl, c.fault-in-Err-take_all.ensures.why);
+      cause = inr (
+        c.in-Ok.ensures.in_range.0 refl,
+        c.fault-in-Err-take_all.ensures.why,
+        inr (subst (WantsMemoryFrom (started c.args.register c.args.readers) c.args.events.now) (sym done)
+            (subst (λ (m : TwoCopies). WantsMemoryFrom m c.args.events.now c.in-Err-take_all.done) c.in-Ok.ensures.started c.in-Err-take_all.ensures.wanted)),
+      );
     }

@@ -20,11 +20,11 @@ assemble-requires c =
     (omega (arith, m.same_total, total_small (roll_of l) i.members.entries i.tally.words i.tally.counts i.tally.total m))
     (omega (arith, front, c.self.invariant.within, c.self.invariant.small_limit)))
 
-pub returns : goal.returns
-returns c =
+pub returns-clause-same : goal.returns-clause-same
+returns-clause-same c =
     let i = c.self.inside in
     let m = c.self.invariant.mirrors in
     let l : Ledger = record { opening = i.opening.items; journal = i.journal.items; limit = i.limit } in
     let long : length i.tally.words ≡ 32 = ap length (sym c.words-words.ensures.same) ∙ c.words-words.ensures.long in
     let front : c.len-accepted.result ≡ length i.journal.items = search rules in
-    record { same = c.assemble.ensures ∙ ap (λ (w : List ℕ). w ++ i.tally.total ∷ c.len-accepted.result ∷ []) c.words-words.ensures.same ∙ sheet_is (roll_of l) i.tally.words i.tally.total c.len-accepted.result (length i.journal.items) long m.each_word m.same_total front ∙ ap sheet_of c.self.view_is }
+    c.assemble.ensures ∙ ap (λ (w : List ℕ). w ++ i.tally.total ∷ c.len-accepted.result ∷ []) c.words-words.ensures.same ∙ sheet_is (roll_of l) i.tally.words i.tally.total c.len-accepted.result (length i.journal.items) long m.each_word m.same_total front ∙ ap sheet_of c.self.view_is

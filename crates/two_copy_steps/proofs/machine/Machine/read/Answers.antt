@@ -19,14 +19,14 @@ returns-then-number-eq0-clause-machine c = ap (λ (x : TwoCopies × Note). x.0) 
 pub returns-then-number-eq0-clause-note : goal.returns-then-number-eq0-clause-note
 returns-then-number-eq0-clause-note c = ap (λ (x : TwoCopies × Note). x.1) (sym (skipped_at _ _ _ _ _ _ _ _ c.self.invariant _ c.self.view_is c.args.number (none c)))
 
-pub advance-next-requires-clause-within : goal.advance-next-requires-clause-within
-advance-next-requires-clause-within c =
+pub advance-note-requires-clause-within : goal.advance-note-requires-clause-within
+advance-note-requires-clause-within c =
     let e = c.len.ensures in
     let h = c.if-len-number.false in
     seat_within _ _ _ _ _ _ _ _ c.self.invariant _ c.self.view_is _ c.if-number-eq0.false (omega arith) _ c.replace-stage.ensures.found
 
-pub advance-next-requires-clause-readable : goal.advance-next-requires-clause-readable
-advance-next-requires-clause-readable c =
+pub advance-note-requires-clause-readable : goal.advance-note-requires-clause-readable
+advance-note-requires-clause-readable c =
     let e = c.len.ensures in
     let h = c.if-len-number.false in
     seat_readable _ _ _ _ _ _ _ _ c.self.invariant _ c.self.view_is _ c.if-number-eq0.false (omega arith) _ c.replace-stage.ensures.found
@@ -35,20 +35,20 @@ pub invariant_of-self : goal.invariant_of-self
 invariant_of-self c =
     let e = c.len.ensures in
     let h = c.if-len-number.false in
-    read_machine _ _ _ _ _ _ _ _ c.self.invariant _ c.self.view_is _ c.if-number-eq0.false (omega arith) _ c.replace-stage.ensures.found _ c.replace-stage.ensures.put _ _ _
-    c.advance-next.ensures.words c.advance-next.ensures.stage c.replace-at_rest.ensures.put
+    read_machine _ _ _ _ _ _ _ _ c.self.invariant _ c.self.view_is _ c.if-number-eq0.false (omega arith) _ c.replace-stage.ensures.found _ _ c.replace-stage.ensures.put _ _ _
+    c.advance-note.ensures.words c.advance-note.ensures.stage c.replace-at_rest.ensures.put
 
 pub returns-clause-machine : goal.returns-clause-machine
 returns-clause-machine c =
     let e = c.len.ensures in
     let h = c.if-len-number.false in
-    read_at _ _ _ _ _ _ _ _ c.self.invariant _ c.self.view_is _ c.if-number-eq0.false (omega arith) _ c.replace-stage.ensures.found _ c.replace-stage.ensures.put _ _ _
-    c.advance-next.ensures.words c.advance-next.ensures.stage c.replace-at_rest.ensures.put
+    read_at _ _ _ _ _ _ _ _ c.self.invariant _ c.self.view_is _ c.if-number-eq0.false (omega arith) _ c.replace-stage.ensures.found _ _ c.replace-stage.ensures.put _ _ _
+    c.advance-note.ensures.words c.advance-note.ensures.stage c.replace-at_rest.ensures.put
     ∙ ap (λ (m : TwoCopies). (turn m (Reader c.args.number)).0) c.self.view_is
 
 pub returns-clause-note : goal.returns-clause-note
 returns-clause-note c =
     let e = c.len.ensures in
     let h = c.if-len-number.false in
-    read_note _ _ _ _ _ _ _ _ c.self.invariant _ c.self.view_is _ c.if-number-eq0.false (omega arith) _ c.replace-stage.ensures.found _ c.advance-next.ensures.note
+    read_note _ _ _ _ _ _ _ _ c.self.invariant _ c.self.view_is _ c.if-number-eq0.false (omega arith) _ c.replace-stage.ensures.found _ c.advance-note.ensures.note
     ∙ ap (λ (m : TwoCopies). (turn m (Reader c.args.number)).1) c.self.view_is

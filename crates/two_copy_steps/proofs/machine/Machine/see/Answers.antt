@@ -1,17 +1,16 @@
-use Rattle.std.proofs.Common.{◌∙◌, ap, arith}
+use Rattle.std.proofs.Common.{ℕ, ◌<◌, length, get_or, ◌∙◌, ap, sym, subst, arith}
 use Rattle.two_copy_steps.specs.declared.events.Event.TheVariants.{Writer}
 use Rattle.two_copy_steps.specs.Turns.{TwoCopies, turn}
 use Rattle.two_copy_steps.proofs.Steps.{first_at, gave_up_at, saw_out_at, writer_stays}
 use Rattle.two_copy_steps.proofs.machine.Machine.see.Goals as goal
 
-pub overflow_add-r : goal.overflow_add-r
-overflow_add-r c = let h = (first_at _ _ _ _ _ _ _ _ c.self.invariant _ c.self.view_is c.requires _ c.first_false-r.ensures).1 in omega arith
+pub pin-requires : goal.pin-requires
+pin-requires c = let h = (first_at _ _ _ _ _ _ _ _ c.self.invariant _ c.self.view_is c.requires _ c.first_false-r.ensures).1 in omega arith
 
 pub load-requires-clause-within : goal.load-requires-clause-within
-load-requires-clause-within c = (first_at _ _ _ _ _ _ _ _ c.self.invariant _ c.self.view_is c.requires _ c.first_false-r.ensures).2
-
-pub load-requires-clause-low : goal.load-requires-clause-low
-load-requires-clause-low c = let h = (first_at _ _ _ _ _ _ _ _ c.self.invariant _ c.self.view_is c.requires _ c.first_false-r.ensures).1 in omega arith
+load-requires-clause-within c =
+    let h = (first_at _ _ _ _ _ _ _ _ c.self.invariant _ c.self.view_is c.requires _ c.first_false-r.ensures).2 in
+    subst (λ (x : ℕ). x < length c.self.inside.table) (sym c.pin.ensures.same) h
 
 pub overflow_cast-result : goal.overflow_cast-result
 overflow_cast-result c = let h = (first_at _ _ _ _ _ _ _ _ c.self.invariant _ c.self.view_is c.requires _ c.first_false-r.ensures).1 in omega arith
@@ -22,11 +21,11 @@ overflow_add-result c = let h = (first_at _ _ _ _ _ _ _ _ c.self.invariant _ c.s
 pub invariant_of-self : goal.invariant_of-self
 invariant_of-self c =
     writer_stays _ _ _ _ _ _ _ _ c.self.invariant _ _ _ _ _
-    (gave_up_at _ _ _ _ _ _ _ _ c.self.invariant _ c.self.view_is c.requires _ _ c.first_false-r.ensures c.load.ensures c.if-load-ne0.true) c.self.invariant.published_within
+    (gave_up_at _ _ _ _ _ _ _ _ c.self.invariant _ c.self.view_is c.requires _ _ c.first_false-r.ensures (c.load.ensures ∙ ap (λ (x : ℕ). get_or c.self.inside.table x 0) c.pin.ensures.same) c.if-load-ne0.true) c.self.invariant.published_within
 
 pub returns-then-load-ne0-clause-machine : goal.returns-then-load-ne0-clause-machine
 returns-then-load-ne0-clause-machine c =
-    gave_up_at _ _ _ _ _ _ _ _ c.self.invariant _ c.self.view_is c.requires _ _ c.first_false-r.ensures c.load.ensures c.if-load-ne0.true
+    gave_up_at _ _ _ _ _ _ _ _ c.self.invariant _ c.self.view_is c.requires _ _ c.first_false-r.ensures (c.load.ensures ∙ ap (λ (x : ℕ). get_or c.self.inside.table x 0) c.pin.ensures.same) c.if-load-ne0.true
     ∙ ap (λ (m : TwoCopies). (turn m Writer).0) c.self.view_is
 
 pub set-requires-clause-within : goal.set-requires-clause-within
@@ -38,5 +37,5 @@ set-requires-clause-few c = (first_at _ _ _ _ _ _ _ _ c.self.invariant _ c.self.
 pub invariant_of-self-2 : goal.invariant_of-self-2
 invariant_of-self-2 c =
     writer_stays _ _ _ _ _ _ _ _ c.self.invariant _ _ _ _ _
-    (saw_out_at _ _ _ _ _ _ _ _ c.self.invariant _ c.self.view_is c.requires _ _ _ _ c.first_false-r.ensures c.load.ensures c.if-load-ne0.false c.set.ensures c.phase_after-self-inside.ensures)
+    (saw_out_at _ _ _ _ _ _ _ _ c.self.invariant _ c.self.view_is c.requires _ _ _ _ c.first_false-r.ensures (c.load.ensures ∙ ap (λ (x : ℕ). get_or c.self.inside.table x 0) c.pin.ensures.same) c.if-load-ne0.false c.set.ensures c.phase_after-self-inside.ensures)
     c.self.invariant.published_within

@@ -1,0 +1,96 @@
+-- What holds of every lawful state.
+use Rattle.std.proofs.Common.{◌≡◌, ℕ, zero, suc, List, [], ◌∷◌, length, map, Some, slice_get, Contains, refl, sym, ◌∙◌, subst, arith}
+use Rattle.std.proofs.lemmas.List.Elements.{Contains-get_or, Contains-push}
+use Rattle.std.proofs.lemmas.Option.{none-some, same_Some}
+use Rattle.std.proofs.Math.Seq.{take-length}
+use Rattle.council_core.specs.Rolls.{Opening, IsLegal}
+use Rattle.council_core.specs.Sequential.{IsRecordFrom, AreRecords, AreLegalRecords}
+use Rattle.council_core.specs.Sheets.{IsSheet}
+use Rattle.two_copy_steps.specs.declared.views.ReaderView.{ReaderView}
+use Rattle.two_copy_steps.specs.declared.views.Stage.{Stage}
+use Rattle.two_copy_steps.specs.declared.views.Stage.TheVariants.{AtRest, Arrived, Reading, Leaving}
+use Rattle.two_copy_steps.specs.declared.views.Phase.{Phase}
+use Rattle.two_copy_steps.specs.declared.views.Phase.TheVariants.{Idle, Seeing, Filling, Swapping}
+use Rattle.two_copy_steps.specs.Deeds.{other}
+use Rattle.two_copy_steps.specs.Lawful.{State, IsPublishable, Beside, Stands}
+use Rattle.two_copy_steps.specs.Passes.{side_held, side_filled}
+use Rattle.two_copy_steps.specs.Stages.{IsReadable}
+use Rattle.two_copy_steps.specs.States.{LawfulFor, readings_of, EndsWith, IsKnown, HasRecords, IsApart}
+use Rattle.two_copy_steps.proofs.ReaderSteps.{reader, leaving_reads}
+use Rattle.two_copy_steps.proofs.WriterSteps.{no_reader_there}
+
+module _ (opening : Opening) (s : State) (l : LawfulFor opening s) where
+  legal : IsLegal opening s.writer.state.published
+  legal =
+      let w = s.writer.state in
+      let o = l.writer in
+      let last : Contains s.writer.cuts (length w.published) = subst (λ (cuts : List ℕ). Contains cuts (length w.published)) (sym o.last_cut.1) (Contains-push o.last_cut.0 (length w.published)) in
+      (subst (IsPublishable opening) (take-length w.published) (o.cuts (length w.published) last).1).0
+
+  -- the list published, its cuts and some records
+  with_records : (records : List (List (List ℕ))) → AreRecords opening s.writer.state.published s.writer.cuts records
+      → AreLegalRecords opening s.writer.state.published s.writer.cuts records
+  with_records records each =
+      let o = l.writer in
+      record {
+        legal = legal;
+        in_order = (o.ascending, λ k d h. (o.cuts _ (Contains-get_or s.writer.cuts k d h)).0);
+        readings = each;
+      }
+
+  from_each : (vs : List ReaderView) → ((r : ℕ) (v : ReaderView) → slice_get vs r ≡ Some v → IsRecordFrom opening s.writer.state.published s.writer.cuts 0 v.readings)
+      → AreRecords opening s.writer.state.published s.writer.cuts (map readings_of vs)
+  from_each [] each = tt
+  from_each (v ∷ vs) each = (each 0 v refl, from_each vs (λ r u e. each (suc r) u e))
+
+  -- the records are legal
+  pub state_records : HasRecords opening s
+  state_records = with_records (map readings_of s.readers) (from_each s.readers (λ r v e. (l.each_reader r v e).record_legal))
+
+  beside : (r side : ℕ) (readings : List (List ℕ)) (stage : Stage) → Stands opening (IsPublishable opening) s.words s.writer readings r stage → side_held stage ≡ Some side
+      → Beside opening (IsPublishable opening) s.words s.writer readings r side
+  beside r side readings AtRest h e = absurd (none-some side e)
+  beside r side readings Arrived h e = absurd (none-some side e)
+  beside r side readings (Reading t words) h e = subst (Beside opening (IsPublishable opening) s.words s.writer readings r) (same_Some t side e) h.0
+  beside r side readings (Leaving t words) h e = subst (Beside opening (IsPublishable opening) s.words s.writer readings r) (same_Some t side e) h.0
+
+  not_other : (side : ℕ) → side ≡ other side → ⊥
+  not_other zero e = omega arith
+  not_other (suc t) e = omega arith
+
+  apart_at : (phase : Phase) → s.writer.state.phase ≡ phase → (side r : ℕ) (v : ReaderView) → side_filled s.writer.state.side phase ≡ Some side → slice_get s.readers r ≡ Some v → side_held v.stage ≡ Some side → ⊥
+  apart_at Idle is side r v e at held = none-some side e
+  apart_at Seeing is side r v e at held = none-some side e
+  apart_at Swapping is side r v e at held = none-some side e
+  apart_at (Filling k) is side r v e at held =
+      let same = no_reader_there opening (IsPublishable opening) s k l is r side v.readings (beside r side v.readings v.stage (l.each_reader r v at).stands held) in
+      not_other s.writer.state.side (sym same ∙ sym (same_Some (other s.writer.state.side) side e))
+
+  -- no word is stored under a reader
+  pub state_apart : IsApart s
+  state_apart side r v e at held = apart_at s.writer.state.phase refl side r v e at held
+
+  readable : (r : ℕ) (stage : Stage) (readings : List (List ℕ)) → slice_get s.readers r ≡ Some (reader stage readings) → Stands opening (IsPublishable opening) s.words s.writer readings r stage → IsReadable stage
+  readable r AtRest readings at h = tt
+  readable r Arrived readings at h = tt
+  readable r (Reading side words) readings at h = h.1
+  readable r (Leaving side words) readings at h =
+      let cut = leaving_reads opening (IsPublishable opening) s l r side words readings at in (h.1, subst IsSheet (sym cut.1) cut.2.1)
+
+  ends : (r : ℕ) (stage : Stage) (readings : List (List ℕ)) → Stands opening (IsPublishable opening) s.words s.writer readings r stage → EndsWith readings stage
+  ends r AtRest readings h = tt
+  ends r Arrived readings h = tt
+  ends r (Reading side words) readings h = tt
+  ends r (Leaving side words) readings h = h.3
+
+  -- what a reader knows
+  pub state_known : (r : ℕ) (v : ReaderView) → slice_get s.readers r ≡ Some v → IsKnown opening v
+  state_known r v at =
+      let ok = l.each_reader r v at in
+      record {
+        list = s.writer.state.published;
+        cuts = s.writer.cuts;
+        records = with_records (v.readings ∷ []) (ok.record_legal, tt);
+        readable = readable r v.stage v.readings at ok.stands;
+        ends = ends r v.stage v.readings ok.stands;
+      }

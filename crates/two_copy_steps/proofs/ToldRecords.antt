@@ -1,0 +1,280 @@
+-- Over every list of events a record is what the notes tell of its reader.
+use Rattle.std.proofs.Common.{◌≡◌, ◌≢◌, ⊎_elim, ℕ, zero, suc, eqb, ◌<◌, ◌≤◌, Bool, true, false, cond, List, [], ◌∷◌, ◌++◌, length, get_or, set, replicate, Option, None, Some, slice_get, Result, Ok, Err, refl, sym, ap, ◌∙◌, subst, arith, append_assoc, append-nil, length-set, eq-eqb, ne_eqb, take, le_trans}
+use Rattle.std.specs.Prelude.{⊤}
+use Rattle.std.specs.List.Sorted.{IsNonDecreasingBy}
+use Rattle.std.proofs.lemmas.List.{take-append-le, take_all}
+use Rattle.std.proofs.lemmas.List.Sorted.{IsNonDecreasingBy-from_default, IsNonDecreasingBy-short, IsNonDecreasingBy-take}
+use Rattle.std.proofs.lemmas.Option.{none-some, same_Some}
+use Rattle.council_core.specs.declared.commands.Command.{Command}
+use Rattle.council_core.specs.declared.refusals.Refusal.{Refusal}
+use Rattle.council_core.specs.Ledgers.{Ledger, verdict_of}
+use Rattle.council_core.specs.Rolls.{Opening}
+use Rattle.council_core.specs.Sheets.{front_of}
+use Rattle.council_core.specs.Sequential.{IsRecordFrom, AreRecords}
+use Rattle.two_copy_steps.specs.declared.events.Event.{Event}
+use Rattle.two_copy_steps.specs.declared.events.Event.TheVariants.{Submit, Publish, Writer, Reader}
+use Rattle.two_copy_steps.specs.declared.events.Note.{Note}
+use Rattle.two_copy_steps.specs.declared.events.Note.TheVariants.{Moved, Busy, Read, Skipped}
+use Rattle.two_copy_steps.specs.declared.views.Stage.{Stage}
+use Rattle.two_copy_steps.specs.declared.views.Stage.TheVariants.{AtRest, Arrived, Reading, Leaving}
+use Rattle.two_copy_steps.specs.declared.views.Phase.{Phase}
+use Rattle.two_copy_steps.specs.declared.views.Phase.TheVariants.{Idle, Seeing, Filling, Swapping}
+use Rattle.two_copy_steps.specs.Deeds.{recorded, entered, stage_deed}
+use Rattle.two_copy_steps.specs.Stages.{about_to_leave}
+use Rattle.two_copy_steps.specs.Turns.{TwoCopies, turn, submitted, published_by, is_pending, is_idle, phase_note, reader_turn, stage_note, started, after, notes}
+use Rattle.two_copy_steps.specs.Passes.{Passes, opened, passed, passes, reader_passed, record_at, HasLegalRecords}
+use Rattle.two_copy_steps.specs.Records.{told_of, sheets_told, RecordsAreTold, FrontsNeverFall}
+use Rattle.two_copy_steps.proofs.Lists.{at_set, inside, there}
+
+-- a record after a write
+record_here : (records : List (List (List ℕ))) (r : ℕ) (x : List (List ℕ)) → r < length records → record_at (set records r x) r ≡ x
+record_here [] r x h = absurd (omega arith)
+record_here (y ∷ records) zero x h = refl
+record_here (y ∷ records) (suc r) x h = record_here records r x (omega arith)
+
+record_else : (records : List (List (List ℕ))) (r q : ℕ) (x : List (List ℕ)) → q ≢ r → record_at (set records r x) q ≡ record_at records q
+record_else [] r q x ne = refl
+record_else (y ∷ records) zero zero x ne = absurd (ne refl)
+record_else (y ∷ records) zero (suc q) x ne = refl
+record_else (y ∷ records) (suc r) zero x ne = refl
+record_else (y ∷ records) (suc r) (suc q) x ne = record_else records r q x (λ e. ne (ap suc e))
+
+-- what a reader's own step adds, to its record and to what is told of it
+own_loaded : (side : ℕ) (words : List ℕ) (b : Bool) (readings told : List (List ℕ)) → readings ≡ told ++ []
+    → entered (cond b (Leaving side words) (Reading side words)) readings ≡ (told ++ []) ++ about_to_leave (cond b (Leaving side words) (Reading side words))
+own_loaded side words true readings told e = ap (λ (l : List (List ℕ)). l ++ words ∷ []) e
+own_loaded side words false readings told e = e ∙ sym (append-nil (told ++ []))
+
+own : (r found : ℕ) (stage : Stage) (readings told : List (List ℕ)) → readings ≡ told ++ about_to_leave stage
+    → recorded stage ((stage_deed 34 r stage).after found) readings ≡ (told ++ told_of (suc r) (stage_note (suc r) stage)) ++ about_to_leave ((stage_deed 34 r stage).after found)
+own r found AtRest readings told e = e ∙ sym (append-nil (told ++ []))
+own r found Arrived readings told e = e ∙ sym (append-nil (told ++ []))
+own r found (Reading side words) readings told e = own_loaded side (words ++ found ∷ []) (eqb (length (words ++ found ∷ [])) 34) readings told e
+own r found (Leaving side words) readings told e =
+    e ∙ (ap (λ (b : Bool). told ++ cond b (words ∷ []) []) (sym (eq-eqb (suc r) (suc r) refl)) ∙ sym (append-nil (told ++ told_of (suc r) (Read (suc r) words))))
+
+-- another reader's step tells nothing of this one
+others : (r number : ℕ) (stage : Stage) → number ≢ suc r → told_of number (stage_note (suc r) stage) ≡ []
+others r number AtRest ne = refl
+others r number Arrived ne = refl
+others r number (Reading side words) ne = refl
+others r number (Leaving side words) ne = ap (λ (b : Bool). cond b (words ∷ []) []) (ne_eqb (suc r) number (λ e. ne (sym e)))
+
+-- where readers and records stand as they did, and nothing is told of a reader
+abbrev Tells : TwoCopies → Passes → (ℕ → List (List ℕ)) → Type 0
+Tells m p told = (r : ℕ) (stage : Stage) → slice_get m.readers r ≡ Some stage → record_at p.records r ≡ told r ++ about_to_leave stage
+
+abbrev After : TwoCopies → Passes → (ℕ → List (List ℕ)) → Note → Type 0
+After m p told note = Tells m p (λ r. told r ++ told_of (suc r) note)
+
+silent : (m : TwoCopies) (p : Passes) (told : ℕ → List (List ℕ)) → Tells m p told → Tells m p (λ r. told r ++ [])
+silent m p told h r stage at = h r stage at ∙ ap (λ (l : List (List ℕ)). l ++ about_to_leave stage) (sym (append-nil (told r)))
+
+after_submit : (m : TwoCopies) (p : Passes) (told : ℕ → List (List ℕ)) → Tells m p told → (command : Command) (v : Result ⊤ Refusal) → let t = submitted m command v in After t.0 p told t.1
+after_submit m p told h command (Ok u) = silent m p told h
+after_submit m p told h command (Err refusal) = silent m p told h
+
+after_publish : (m : TwoCopies) (p : Passes) (told : ℕ → List (List ℕ)) → Tells m p told → (b : Bool) → let t = published_by m b in After t.0 p told t.1
+after_publish m p told h true = silent m p told h
+after_publish m p told h false = silent m p told h
+
+quiet_look : (m : TwoCopies) (number k : ℕ) (b : Bool) → told_of number (cond b Moved (Busy k)) ≡ []
+quiet_look m number k true = refl
+quiet_look m number k false = refl
+
+quiet_writer : (m : TwoCopies) (number : ℕ) (phase : Phase) → told_of number (phase_note m phase) ≡ []
+quiet_writer m number Idle = refl
+quiet_writer m number Seeing = quiet_look m number _ _
+quiet_writer m number (Filling k) = refl
+quiet_writer m number Swapping = refl
+
+after_read : (m : TwoCopies) (p : Passes) (told : ℕ → List (List ℕ)) → Tells m p told → length p.records ≡ length m.readers → (r : ℕ) (o : Option Stage) → slice_get m.readers r ≡ o
+    → let t = reader_turn m r o in After t.0 (reader_passed m p r o) told t.1
+after_read m p told h long r None at = silent m p told h
+after_read m p told h long r (Some stage) at = λ q later there.
+    let d = stage_deed 34 r stage in
+    let found : ℕ = get_or m.words d.word 0 in
+    let readings : List (List ℕ) = recorded stage (d.after found) (record_at p.records r) in
+    let here : r < length p.records = let i = inside m.readers r stage at in omega arith in
+    ⊎_elim
+    (λ (e : (q ≡ r) × (d.after found ≡ later)).
+    ap (λ (k : ℕ). record_at (set p.records r readings) k) e.0
+    ∙ (record_here p.records r readings here
+    ∙ (own r found stage (record_at p.records r) (told r) (h r stage at)
+    ∙ λ i. (told (sym e.0 i) ++ told_of (suc (sym e.0 i)) (stage_note (suc r) stage)) ++ about_to_leave (e.1 i))))
+    (λ (e : (q ≢ r) × (slice_get m.readers q ≡ Some later)).
+    record_else p.records r q readings e.0
+    ∙ (h q later e.1
+    ∙ ap (λ (l : List (List ℕ)). l ++ about_to_leave later) (sym (append-nil (told q)) ∙ ap (λ (l : List (List ℕ)). told q ++ l) (sym (others r (suc q) stage (λ s. e.0 (omega arith)))))))
+    (at_set m.readers r q (d.after found) later there)
+
+after_event : (m : TwoCopies) (p : Passes) (told : ℕ → List (List ℕ)) → Tells m p told → length p.records ≡ length m.readers → (event : Event) → After (turn m event).0 (passed m p event) told (turn m event).1
+after_event m p told h long (Submit command) =
+    elim (is_idle m.writer.phase) as (λ b. let t = cond b (submitted m command (verdict_of m.ledger command)) (m, Skipped) in After t.0 p told t.1) [ true ↦ after_submit m p told h command (verdict_of m.ledger command) | false ↦ silent m p told h ]
+after_event m p told h long Publish =
+    elim (is_idle m.writer.phase) as (λ b. let t = cond b (published_by m (is_pending m)) (m, Skipped) in After t.0 p told t.1) [ true ↦ after_publish m p told h (is_pending m) | false ↦ silent m p told h ]
+after_event m p told h long Writer = λ r stage at.
+    silent m p told h r stage at ∙ ap (λ (l : List (List ℕ)). (told r ++ l) ++ about_to_leave stage) (sym (quiet_writer m (suc r) m.writer.phase))
+after_event m p told h long (Reader zero) = silent m p told h
+after_event m p told h long (Reader (suc r)) = after_read m p told h long r (slice_get m.readers r) refl
+
+-- there are as many records as readers
+as_many : (m : TwoCopies) (p : Passes) → length p.records ≡ length m.readers → (event : Event) → length (passed m p event).records ≡ length (turn m event).0.readers
+as_many m p long (Submit command) =
+    elim (is_idle m.writer.phase) as (λ b. length p.records ≡ length (cond b (submitted m command (verdict_of m.ledger command)) (m, Skipped)).0.readers) [ true ↦ long | false ↦ long ]
+as_many m p long Publish =
+    elim (is_idle m.writer.phase) as (λ b. length p.records ≡ length (cond b (published_by m (is_pending m)) (m, Skipped)).0.readers) [
+      | true ↦ elim (is_pending m) as (λ c. length p.records ≡ length (published_by m c).0.readers) [ true ↦ long | false ↦ long ]
+      | false ↦ long
+    ]
+as_many m p long Writer = long
+as_many m p long (Reader zero) = long
+as_many m p long (Reader (suc r)) =
+    elim (slice_get m.readers r) as (λ o. length (reader_passed m p r o).records ≡ length (reader_turn m r o).0.readers) [
+      | None ↦ long
+      | Some stage ↦ let d = stage_deed 34 r stage in
+          let found : ℕ = get_or m.words d.word 0 in
+          length-set p.records r (recorded stage (d.after found) (record_at p.records r)) ∙ (long ∙ sym (length-set m.readers r (d.after found)))
+    ]
+
+told_all : (events : List Event) (m : TwoCopies) (p : Passes) (told : ℕ → List (List ℕ)) → Tells m p told → length p.records ≡ length m.readers
+    → Tells (after m events) (passes m p events) (λ r. told r ++ sheets_told (suc r) (notes m events))
+told_all [] m p told h long = silent m p told h
+told_all (event ∷ events) m p told h long = λ r stage at.
+    told_all events (turn m event).0 (passed m p event) (λ q. told q ++ told_of (suc q) (turn m event).1) (after_event m p told h long event) (as_many m p long event) r stage at
+    ∙ ap (λ (l : List (List ℕ)). l ++ about_to_leave stage) (append_assoc (told r) (told_of (suc r) (turn m event).1) (sheets_told (suc r) (notes (turn m event).0 events)))
+
+stage_at_start : (n r : ℕ) (stage : Stage) → slice_get (replicate n AtRest) r ≡ Some stage → AtRest ≡ stage
+stage_at_start zero r stage e = absurd (none-some stage e)
+stage_at_start (suc n) zero stage e = same_Some AtRest stage e
+stage_at_start (suc n) (suc r) stage e = stage_at_start n r stage e
+
+record_at_start : (n r : ℕ) → record_at (replicate n []) r ≡ []
+record_at_start zero r = refl
+record_at_start (suc n) zero = refl
+record_at_start (suc n) (suc r) = record_at_start n r
+
+as_many_at_start : (n : ℕ) → length {A = List (List ℕ)} (replicate n []) ≡ length {A = Stage} (replicate n AtRest)
+as_many_at_start zero = refl
+as_many_at_start (suc n) = ap suc (as_many_at_start n)
+
+-- a reader that isn't there tells nothing
+absent_set : {A : Type 0} (xs : List A) (i j : ℕ) (x : A) → slice_get xs j ≡ None → slice_get (set xs i x) j ≡ None
+absent_set [] i j x e = refl
+absent_set (y ∷ xs) zero zero x e = absurd (none-some y (sym e))
+absent_set (y ∷ xs) zero (suc j) x e = e
+absent_set (y ∷ xs) (suc i) zero x e = e
+absent_set (y ∷ xs) (suc i) (suc j) x e = absent_set xs i j x e
+
+abbrev IsAbsent : TwoCopies → ℕ → Type 0
+IsAbsent m number = (r : ℕ) → number ≡ suc r → slice_get m.readers r ≡ None
+
+absent_after : (m : TwoCopies) (number : ℕ) → IsAbsent m number → (event : Event) → IsAbsent (turn m event).0 number × (told_of number (turn m event).1 ≡ [])
+absent_after m number h (Submit command) =
+    elim (is_idle m.writer.phase) as (λ b. let t = cond b (submitted m command (verdict_of m.ledger command)) (m, Skipped) in IsAbsent t.0 number × (told_of number t.1 ≡ [])) [
+      | true ↦ elim (verdict_of m.ledger command) as (λ v. let t = submitted m command v in IsAbsent t.0 number × (told_of number t.1 ≡ [])) [ Ok u ↦ (h, refl) | Err refusal ↦ (h, refl) ]
+      | false ↦ (h, refl)
+    ]
+absent_after m number h Publish =
+    elim (is_idle m.writer.phase) as (λ b. let t = cond b (published_by m (is_pending m)) (m, Skipped) in IsAbsent t.0 number × (told_of number t.1 ≡ [])) [
+      | true ↦ elim (is_pending m) as (λ c. let t = published_by m c in IsAbsent t.0 number × (told_of number t.1 ≡ [])) [ true ↦ (h, refl) | false ↦ (h, refl) ]
+      | false ↦ (h, refl)
+    ]
+absent_after m number h Writer = (h, quiet_writer m number m.writer.phase)
+absent_after m number h (Reader zero) = (h, refl)
+absent_after m number h (Reader (suc r)) = by_stage (slice_get m.readers r) refl
+  where
+    by_stage : (o : Option Stage) → slice_get m.readers r ≡ o → IsAbsent (reader_turn m r o).0 number × (told_of number (reader_turn m r o).1 ≡ [])
+    by_stage None at = (h, refl)
+    by_stage (Some stage) at =
+        let d = stage_deed 34 r stage in (
+          λ q e. absent_set m.readers r q (d.after (get_or m.words d.word 0)) (h q e),
+          others r number stage (λ e. none-some stage (sym (h r e) ∙ at)),
+        )
+
+absent_all : (events : List Event) (m : TwoCopies) (number : ℕ) → IsAbsent m number → sheets_told number (notes m events) ≡ []
+absent_all [] m number h = refl
+absent_all (event ∷ events) m number h =
+    let t = absent_after m number h event in
+    ap (λ (l : List (List ℕ)). l ++ sheets_told number (notes (turn m event).0 events)) t.1 ∙ absent_all events (turn m event).0 number t.0
+
+-- the fronts of a record never fall
+fronts_above : (opening : Opening) (commands : List Command) (cuts : List ℕ) (low : ℕ) (readings : List (List ℕ)) → IsRecordFrom opening commands cuts low readings
+    → (j : ℕ) → j < length readings → low ≤ front_of (get_or readings j [])
+fronts_above opening commands cuts low [] h j lt = absurd (omega arith)
+fronts_above opening commands cuts low (words ∷ rest) h zero lt = h.1
+fronts_above opening commands cuts low (words ∷ rest) h (suc j) lt = le_trans h.1 (fronts_above opening commands cuts (front_of words) rest h.2 j (omega arith))
+
+fronts_rise : (opening : Opening) (commands : List Command) (cuts : List ℕ) (low : ℕ) (readings : List (List ℕ)) → IsRecordFrom opening commands cuts low readings
+    → (i j : ℕ) → i ≤ j → j < length readings → front_of (get_or readings i []) ≤ front_of (get_or readings j [])
+fronts_rise opening commands cuts low [] h i j le lt = absurd (omega arith)
+fronts_rise opening commands cuts low (words ∷ rest) h zero zero le lt = omega arith
+fronts_rise opening commands cuts low (words ∷ rest) h zero (suc j) le lt = fronts_above opening commands cuts (front_of words) rest h.2 j (omega arith)
+fronts_rise opening commands cuts low (words ∷ rest) h (suc i) zero le lt = absurd (omega arith)
+fronts_rise opening commands cuts low (words ∷ rest) h (suc i) (suc j) le lt = fronts_rise opening commands cuts (front_of words) rest h.2 i j (omega arith) (omega arith)
+
+record_of : (opening : Opening) (commands : List Command) (cuts : List ℕ) (records : List (List (List ℕ))) → AreRecords opening commands cuts records → (r : ℕ) → IsRecordFrom opening commands cuts 0 (record_at records r)
+record_of opening commands cuts [] h r = tt
+record_of opening commands cuts (x ∷ records) h zero = h.0
+record_of opening commands cuts (x ∷ records) h (suc r) = record_of opening commands cuts records h.1 r
+
+first_rise : (readings rest whole : List (List ℕ)) → whole ≡ readings ++ rest → IsNonDecreasingBy front_of whole → IsNonDecreasingBy front_of readings
+first_rise readings rest whole e up =
+    subst (IsNonDecreasingBy front_of) (ap (take (length readings)) e ∙ (take-append-le (length readings) readings rest (omega arith) ∙ take_all (length readings) readings (omega arith)))
+    (IsNonDecreasingBy-take front_of (length readings) whole up)
+
+nothing_falls : IsNonDecreasingBy front_of []
+nothing_falls = IsNonDecreasingBy-short front_of [] (omega arith)
+
+-- there are always as many readers
+same_readers : (m : TwoCopies) (event : Event) → length (turn m event).0.readers ≡ length m.readers
+same_readers m (Submit command) =
+    elim (is_idle m.writer.phase) as (λ b. length (cond b (submitted m command (verdict_of m.ledger command)) (m, Skipped)).0.readers ≡ length m.readers) [ true ↦ refl | false ↦ refl ]
+same_readers m Publish =
+    elim (is_idle m.writer.phase) as (λ b. length (cond b (published_by m (is_pending m)) (m, Skipped)).0.readers ≡ length m.readers) [
+      | true ↦ elim (is_pending m) as (λ c. length (published_by m c).0.readers ≡ length m.readers) [ true ↦ refl | false ↦ refl ]
+      | false ↦ refl
+    ]
+same_readers m Writer = refl
+same_readers m (Reader zero) = refl
+same_readers m (Reader (suc r)) =
+    elim (slice_get m.readers r) as (λ o. length (reader_turn m r o).0.readers ≡ length m.readers) [
+      | None ↦ refl
+      | Some stage ↦ let d = stage_deed 34 r stage in length-set m.readers r (d.after (get_or m.words d.word 0))
+    ]
+
+readers_all : (events : List Event) (m : TwoCopies) → length (after m events).readers ≡ length m.readers
+readers_all [] m = refl
+readers_all (event ∷ events) m = readers_all events (turn m event).0 ∙ same_readers m event
+
+module _ (ledger : Ledger) (readers : ℕ) (events : List Event) where
+  abbrev m : TwoCopies
+  m = after (started ledger readers) events
+
+  abbrev p : Passes
+  p = passes (started ledger readers) (opened ledger readers) events
+
+  abbrev told : ℕ → List (List ℕ)
+  told number = sheets_told number (notes (started ledger readers) events)
+
+  pub run_told : RecordsAreTold (after (started ledger readers) events) (passes (started ledger readers) (opened ledger readers) events) (notes (started ledger readers) events)
+  run_told =
+      told_all events (started ledger readers) (opened ledger readers) (λ r. [])
+      (λ r stage at. record_at_start readers r ∙ ap about_to_leave (stage_at_start readers r stage at)) (as_many_at_start readers)
+
+  from_record : AreRecords m.ledger.opening m.writer.published p.cuts p.records → (r : ℕ) (stage : Stage) → slice_get m.readers r ≡ Some stage → IsNonDecreasingBy front_of (told (suc r))
+  from_record legal r stage at =
+      first_rise (told (suc r)) (about_to_leave stage) (record_at p.records r) (run_told r stage at)
+      (IsNonDecreasingBy-from_default front_of (record_at p.records r) []
+      (fronts_rise m.ledger.opening m.writer.published p.cuts 0 (record_at p.records r) (record_of m.ledger.opening m.writer.published p.cuts p.records legal r)))
+
+  never_older_of : AreRecords m.ledger.opening m.writer.published p.cuts p.records → (r : ℕ) (o : Option Stage) → slice_get (started ledger readers).readers r ≡ o → IsNonDecreasingBy front_of (told (suc r))
+  never_older_of legal r (Some stage) at =
+      let later = there m.readers r (subst (λ (n : ℕ). r < n) (sym (readers_all events (started ledger readers))) (inside (started ledger readers).readers r stage at)) in
+      from_record legal r later.0 later.1
+  never_older_of legal r None at =
+      subst (IsNonDecreasingBy front_of) (sym (absent_all events (started ledger readers) (suc r) (λ q e. ap (slice_get (started ledger readers).readers) (let same : q ≡ r = omega arith in same) ∙ at))) nothing_falls
+
+  pub run_never_older : HasLegalRecords (after (started ledger readers) events) (passes (started ledger readers) (opened ledger readers) events) → FrontsNeverFall (notes (started ledger readers) events)
+  run_never_older legal zero = subst (IsNonDecreasingBy front_of) (sym (absent_all events (started ledger readers) zero (λ r e. absurd (omega arith)))) nothing_falls
+  run_never_older legal (suc r) = never_older_of legal.readings r (slice_get (started ledger readers).readers r) refl

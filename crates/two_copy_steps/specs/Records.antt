@@ -1,0 +1,35 @@
+-- What the notes of a list of events tell of each reader's record.
+use Rattle.std.specs.Prelude.{◌≡◌, ℕ, suc, ◌==◌, List, [], ◌∷◌, ◌++◌, slice_get, cond, Some}
+use Rattle.std.specs.List.Sorted.{IsNonDecreasingBy}
+use Rattle.council_core.specs.Sheets.{front_of}
+use Rattle.two_copy_steps.specs.declared.events.Note.{Note}
+use Rattle.two_copy_steps.specs.declared.events.Note.TheVariants.{Accepted, Refused, Began, Moved, Published, Busy, Read, Skipped}
+use Rattle.two_copy_steps.specs.declared.views.Stage.{Stage}
+use Rattle.two_copy_steps.specs.Turns.{TwoCopies}
+use Rattle.two_copy_steps.specs.Passes.{Passes, record_at}
+use Rattle.two_copy_steps.specs.Stages.{about_to_leave}
+
+-- the sheet that a note tells of the reader of a number, if it does
+abbrev pub told_of : ℕ → Note → List (List ℕ)
+told_of number (Read reader words) = cond (reader == number) (words ∷ []) []
+told_of number (Accepted count) = []
+told_of number (Refused refusal) = []
+told_of number Began = []
+told_of number Moved = []
+told_of number (Published front) = []
+told_of number (Busy reader) = []
+told_of number Skipped = []
+
+-- the sheets that notes tell of the reader of a number, in order
+abbrev pub sheets_told : ℕ → List Note → List (List ℕ)
+sheets_told number [] = []
+sheets_told number (note ∷ rest) = told_of number note ++ sheets_told number rest
+
+-- each reader's record is the sheets told of it, in order, and the words of the reading that it is about to leave
+abbrev pub RecordsAreTold : TwoCopies → Passes → List Note → Type 0
+RecordsAreTold m p told =
+    (r : ℕ) (stage : Stage) → slice_get m.readers r ≡ Some stage → record_at p.records r ≡ sheets_told (suc r) told ++ about_to_leave stage
+
+-- among the notes of one reader the fronts never fall
+abbrev pub FrontsNeverFall : List Note → Type 0
+FrontsNeverFall told = (number : ℕ) → IsNonDecreasingBy front_of (sheets_told number told)

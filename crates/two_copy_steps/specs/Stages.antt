@@ -1,0 +1,59 @@
+-- How far a reader is: by number, by what it keeps, and what its next step does.
+use Rattle.std.specs.Prelude.{◌≡◌, ℕ, ◌+◌, ◌<◌, List, [], ◌∷◌, length, take, Option, None, Some}
+use Rattle.council_core.specs.Sheets.{IsSheet}
+use Rattle.two_copy_steps.specs.declared.views.Stage.{Stage}
+use Rattle.two_copy_steps.specs.declared.views.Stage.TheVariants.{AtRest, Arrived, Reading, Leaving}
+use Rattle.two_copy_steps.specs.declared.stages.Access.{Access}
+use Rattle.two_copy_steps.specs.declared.stages.Access.TheVariants.{Load, Store}
+use Rattle.two_copy_steps.specs.declared.stages.ReaderPhase.{ReaderPhase}
+use Rattle.two_copy_steps.specs.declared.stages.ReaderPhase.TheVariants as phase
+use Rattle.two_copy_steps.specs.Deeds.{loaded}
+
+-- of the 37 steps of a reading, how many are taken: a number from 0 to 36
+abbrev pub steps_taken : Stage → ℕ
+steps_taken AtRest = 0
+steps_taken Arrived = 1
+steps_taken (Reading side words) = 2 + length words
+steps_taken (Leaving side words) = 36
+
+-- a reader that is loading words has some left, and one that has all of them has a sheet
+abbrev pub IsReadable : Stage → Type 0
+IsReadable AtRest = Unit {0}
+IsReadable Arrived = Unit {0}
+IsReadable (Reading side words) = length words < 34
+IsReadable (Leaving side words) = (length words ≡ 34) × IsSheet words
+
+-- the sheet that the step from a stage answers, if it is the last of a reading
+abbrev pub sheet_read : Stage → Option (List ℕ)
+sheet_read AtRest = None
+sheet_read Arrived = None
+sheet_read (Reading side words) = None
+sheet_read (Leaving side words) = Some words
+
+-- the words of the reading that a reader is about to leave, if it is
+abbrev pub about_to_leave : Stage → List (List ℕ)
+about_to_leave AtRest = []
+about_to_leave Arrived = []
+about_to_leave (Reading side words) = []
+about_to_leave (Leaving side words) = words ∷ []
+
+-- the stage of a reader by what it keeps: the side counts once it is loaded, and of the words those that are loaded
+abbrev pub stage_of : ReaderPhase → ℕ → List ℕ → Stage
+stage_of phase.AtRest side words = AtRest
+stage_of phase.Arrived side words = Arrived
+stage_of (phase.Reading k) side words = Reading side (take k words)
+stage_of phase.Leaving side words = Leaving side words
+
+-- the phase after word k is loaded
+abbrev pub IsPhasePast : ℕ → ReaderPhase → Type 0
+IsPhasePast k phase = (side : ℕ) (words : List ℕ) → length words ≡ 34 → stage_of phase side words ≡ loaded 34 side (take (k + 1) words)
+
+-- the place of the word that is touched
+abbrev pub accessed : Access → ℕ
+accessed (Load place) = place
+accessed (Store place word) = place
+
+-- what is left in the word where this number was found
+abbrev pub left_by : Access → ℕ → ℕ
+left_by (Load place) found = found
+left_by (Store place word) found = word
