@@ -226,7 +226,9 @@ fn events_cut_anywhere(rt: HostRuntime) -> Result<(), Fail> {
 /// Takes an event so many times.
 fn take(machine: &mut Machine, event: Event, times: usize) -> Result<(), Refusal> {
     for _ in 0..times {
-        let _note = machine.step(event)?;
+        if let Err(why) = machine.step(event) {
+            return Err(why);
+        }
     }
     Ok(())
 }
