@@ -1,0 +1,76 @@
+//! A reader that answers indices.
+ghost use Rattle.std.specs.Prelude.{◌≡◌, ◌≤◌, Some, replicate, IfOk, IfErr, OnOk, OnErr, IsOkUnless};
+ghost use Rattle.council_core.specs.Sheets.{front_of};
+ghost use Rattle.council_core.specs.declared.refusals.Refusal.TheVariants.{NoEntry, OutOfMemory};
+ghost use Rattle.power_index.specs.Indices.{AreIndices, indices_of};
+ghost use Rattle.board_share.specs.Readers.{IsLegalSheet, last_front_of, last_of, number_of};
+
+use crate::readers::Reader;
+use council_core::{Refusal, Sheet};
+use majority_rule::Majority;
+use power_index::{Evaluator, Indices};
+use std::alloc::Global;
+use std::marker::Model;
+
+/// A reader with the room to count indices.
+#[derive(Drop)]
+pub struct Analyst {
+    reader: Reader,
+    evaluator: Evaluator,
+}
+
+impl Model for Analyst {
+    ghost use Rattle.board_share.specs.Analysts.{Asking};
+
+    ghost Value = { Asking };
+
+    ghost view = { λ a. record { reader = a.reader; sheet = a.evaluator } };
+}
+
+impl Analyst {
+    /// An analyst that has asked nothing. With `OutOfMemory`, its only refusal, the reader is handed back.
+    pub fn new(alloc: Global, reader: Reader) -> Result<Analyst, (Reader, Refusal)>
+        ensures reader { IfOk result (λ a. a.reader ≡ reader) }
+        ensures blank { IfOk result (λ a. a.sheet ≡ replicate 34 0) }
+        ensures returned { IfErr result (λ e. e.0 ≡ reader) }
+        ensures memory { IfErr result (λ e. e.1 ≡ OutOfMemory) }
+    {
+        match Evaluator::new(alloc) {
+            Ok(evaluator) => Ok(Analyst { reader, evaluator }),
+            Err(why) => Err((reader, why)),
+        }
+    }
+
+    /// The indices of the sheet of one reading. It is refused as `Reader::read` says, and nothing changes
+    /// then.
+    pub fn ask(&mut self, majority: Majority) -> Result<Indices, Refusal>
+        ensures opening { self.new.reader.opening ≡ self.old.reader.opening }
+        ensures number { number_of self.new.reader ≡ number_of self.old.reader }
+        ensures last { OnOk result (last_of self.new.reader ≡ Some self.new.sheet) }
+        ensures sheet { OnOk result (IsLegalSheet self.old.reader.opening self.new.sheet) }
+        ensures not_older { OnOk result (last_front_of self.old.reader ≤ front_of self.new.sheet) }
+        ensures exact { IfOk result (AreIndices majority self.new.sheet) }
+        ensures same { IfOk result (λ i. i ≡ indices_of majority self.new.sheet) }
+        ensures unchanged { OnErr result (self.new ≡ self.old) }
+        ensures no_entry { IsOkUnless result NoEntry }
+    {
+        let reading = self.reader.read()?;
+        let _halves = self.evaluator.set(&reading.sheet);
+        Ok(self.evaluator.evaluate(majority))
+    }
+
+    /// The sheet of the last `ask`, or 34 zeros before the first.
+    pub fn sheet(&self) -> Sheet
+        ensures same { result ≡ self.now.sheet }
+    {
+        self.evaluator.sheet()
+    }
+
+    /// The reader.
+    pub fn into_reader(self) -> Reader
+        ensures same { result ≡ self.reader }
+    {
+        let Analyst { reader, .. } = self;
+        reader
+    }
+}
