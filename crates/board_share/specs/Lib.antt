@@ -1,7 +1,11 @@
+pub mod Seats
+pub mod Rule
+pub mod Steps
 pub mod Readers
 pub mod Writers
 pub mod Openings
 pub mod Analysts
-pub mod Publications
-pub mod Rule
+pub mod Audits
+pub mod AuditWalks
+pub mod AuditLaws
 pub mod Laws

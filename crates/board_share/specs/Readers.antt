@@ -1,31 +1,93 @@
--- What contracts see of a reader.
-use Rattle.std.specs.Prelude.{◌≡◌, ℕ, List, Option, None}
+-- What contracts see of a reader, and how its seat keeps it.
+use Rattle.std.specs.Prelude.{◌≡◌, ℕ, suc, ◌<◌, ◌++◌, List, [], ◌∷◌, Option, None, Some}
 use Rattle.std.specs.Option.{option_map_or}
-use Rattle.council_core.specs.declared.commands.Command.{Command}
+use Rattle.atomic_table.specs.Table.{Me}
+use Rattle.atomic_table.specs.Seated.{TableId}
 use Rattle.council_core.specs.Rolls.{Opening, IsLegal, sheet}
 use Rattle.council_core.specs.Sheets.{front_of}
+use Rattle.council_core.specs.Sequential.{AreLegalRecords}
+use Rattle.council_core.specs.declared.commands.Command.{Command}
+use Rattle.two_copy_steps.specs.declared.views.ReaderView.{ReaderView}
+use Rattle.two_copy_steps.specs.declared.views.Stage.{Stage}
+use Rattle.two_copy_steps.specs.declared.views.Stage.TheVariants.{AtRest}
+use Rattle.two_copy_steps.specs.Deeds.{pin, reader_deed}
+use Rattle.two_copy_steps.specs.States.{IsKnown}
+use Rattle.board_share.specs.declared.views.View.{View}
+use Rattle.board_share.specs.Seats.{Part, reads}
+use Rattle.board_share.specs.Rule.{fresh}
+use Rattle.board_share.specs.Steps.{bare}
 
--- the members and votes of the opening, which reader it is, counted from 1, and the sheet that it read
--- last, if it has read
+-- the members and votes of the opening, which reader it is, counted from 0, how far it is in its reading, and its readings so far
 pub record Pass : Type 0 where
   pub opening : Opening
-  pub number : ℕ
-  pub last : Option (List ℕ)
+  pub place : ℕ
+  pub stage : Stage
+  pub readings : List (List ℕ)
 
+abbrev pub known_by : Pass → ReaderView
+known_by p = record { stage = p.stage; readings = p.readings }
+
+-- a reader that has read nothing
+abbrev pub new_pass : Opening → ℕ → Pass
+new_pass opening r = record { opening = opening; place = r; stage = AtRest; readings = [] }
+
+-- the reader took one step of the machine, on some word found
+pub record TookStep (before after : Pass) : Type 0 where
+  pub found : ℕ
+  pub knows : known_by after ≡ (reader_deed 34 before.place (known_by before)).after found
+
+-- which reader it is, counted from 1
 abbrev pub number_of : Pass → ℕ
-number_of p = p.number
+number_of p = suc p.place
 
+-- the last of some readings, if there is one
+abbrev pub last_read : List (List ℕ) → Option (List ℕ)
+last_read [] = None
+last_read (words ∷ []) = Some words
+last_read (words ∷ more ∷ rest) = last_read (more ∷ rest)
+
+-- the sheet that it read last, if it has read
 abbrev pub last_of : Pass → Option (List ℕ)
-last_of p = p.last
+last_of p = last_read p.readings
 
 -- the front of that sheet, and 0 where there is none
 abbrev pub last_front_of : Pass → ℕ
 last_front_of p = option_map_or front_of (last_of p) 0
 
+-- the readings are a legal record, of some legal list and its cuts
+abbrev pub HasLegalRecord : Pass → Type 0
+HasLegalRecord p = (list : List Command) × (cuts : List ℕ) × AreLegalRecords p.opening list cuts (p.readings ∷ [])
+
 -- the sheet of some legal list of commands
 abbrev pub IsLegalSheet : Opening → List ℕ → Type 0
 IsLegalSheet opening words = (list : List Command) × IsLegal opening list × (words ≡ sheet opening list)
 
--- a reader that has read nothing
-abbrev pub new_pass : Opening → ℕ → Pass
-new_pass opening number = record { opening = opening; number = number; last = None }
+-- the one reader of a seat
+abbrev pub sole : List (Option Part) → Part
+sole [] = ([], fresh)
+sole (None ∷ xs) = sole xs
+sole (Some x ∷ xs) = x
+
+-- by what the reader keeps beside its seat: which one it is, and its stage
+abbrev pub pass_of : View → ℕ → Stage → Pass
+pass_of v r stage = record { opening = (sole v.readers).0; place = r; stage = stage; readings = (sole v.readers).1.readings }
+
+-- a seat of the table is that of this reader alone
+pub record IsReader (table seat : TableId) (me : Me Unit View) (p : Pass) : Type 0 where
+  pub same : seat ≡ table
+  pub within : pin 34 p.place < table.words
+  pub few : p.place < 4
+  pub alone : me ≡ bare (reads p.place (p.opening, known_by p))
+  pub known : IsKnown p.opening (known_by p)
+
+-- after a step from a pass the seat is that of the same reader, at this stage
+pub record Stepped (table : TableId) (p : Pass) (seat : TableId) (me : Me Unit View) (stage : Stage) : Type 0 where
+  pub seat_is : IsReader table seat me (pass_of me.0 p.place stage)
+  pub opening_is : (pass_of me.0 p.place stage).opening ≡ p.opening
+  pub took : TookStep p (pass_of me.0 p.place stage)
+
+-- after a whole reading the seat is that of the same reader at the same stage, and its record has one sheet more
+pub record HasRead (table : TableId) (p : Pass) (seat : TableId) (me : Me Unit View) (words : List ℕ) : Type 0 where
+  pub seat_is : IsReader table seat me (pass_of me.0 p.place p.stage)
+  pub opening_is : (pass_of me.0 p.place p.stage).opening ≡ p.opening
+  pub reading_is : (pass_of me.0 p.place p.stage).readings ≡ p.readings ++ words ∷ []

@@ -1,9 +1,10 @@
 //! A reader that answers indices.
-ghost use Rattle.std.specs.Prelude.{◌≡◌, ◌≤◌, Some, replicate, IfOk, IfErr, OnOk, OnErr, IsOkUnless};
+ghost use Rattle.std.specs.Prelude.{◌≡◌, ◌≤◌, ◌++◌, ◌∷◌, [], Some, replicate, IfOk, IfErr};
 ghost use Rattle.council_core.specs.Sheets.{front_of};
-ghost use Rattle.council_core.specs.declared.refusals.Refusal.TheVariants.{NoEntry, OutOfMemory};
+ghost use Rattle.council_core.specs.declared.refusals.Refusal.TheVariants.{OutOfMemory};
+ghost use Rattle.two_copy_steps.specs.declared.views.Stage.TheVariants.{AtRest};
 ghost use Rattle.power_index.specs.Indices.{AreIndices, indices_of};
-ghost use Rattle.board_share.specs.Readers.{IsLegalSheet, last_front_of, last_of, number_of};
+ghost use Rattle.board_share.specs.Readers.{HasLegalRecord, IsLegalSheet, last_front_of, last_of, number_of};
 
 use crate::readers::Reader;
 use council_core::{Refusal, Sheet};
@@ -21,15 +22,20 @@ pub struct Analyst {
 
 impl Model for Analyst {
     ghost use Rattle.board_share.specs.Analysts.{Asking};
+    ghost use Rattle.two_copy_steps.specs.declared.views.Stage.TheVariants.{AtRest};
+    ghost use Rattle.std.specs.Prelude.{◌≡◌};
 
     ghost Value = { Asking };
 
     ghost view = { λ a. record { reader = a.reader; sheet = a.evaluator } };
+
+    ghost invariant = { λ a. a.reader.stage ≡ AtRest };
 }
 
 impl Analyst {
     /// An analyst that has asked nothing. With `OutOfMemory`, its only refusal, the reader is handed back.
     pub fn new(alloc: Global, reader: Reader) -> Result<Analyst, (Reader, Refusal)>
+        requires rest { reader.stage ≡ AtRest }
         ensures reader { IfOk result (λ a. a.reader ≡ reader) }
         ensures blank { IfOk result (λ a. a.sheet ≡ replicate 34 0) }
         ensures returned { IfErr result (λ e. e.0 ≡ reader) }
@@ -41,22 +47,21 @@ impl Analyst {
         }
     }
 
-    /// The indices of the sheet of one reading. It is refused as `Reader::read` says, and nothing changes
-    /// then.
-    pub fn ask(&mut self, majority: Majority) -> Result<Indices, Refusal>
+    /// The indices of the sheet of one reading.
+    pub fn ask(&mut self, majority: Majority) -> Indices
         ensures opening { self.new.reader.opening ≡ self.old.reader.opening }
         ensures number { number_of self.new.reader ≡ number_of self.old.reader }
-        ensures last { OnOk result (last_of self.new.reader ≡ Some self.new.sheet) }
-        ensures sheet { OnOk result (IsLegalSheet self.old.reader.opening self.new.sheet) }
-        ensures not_older { OnOk result (last_front_of self.old.reader ≤ front_of self.new.sheet) }
-        ensures exact { IfOk result (AreIndices majority self.new.sheet) }
-        ensures same { IfOk result (λ i. i ≡ indices_of majority self.new.sheet) }
-        ensures unchanged { OnErr result (self.new ≡ self.old) }
-        ensures no_entry { IsOkUnless result NoEntry }
+        ensures reading { self.new.reader.readings ≡ self.old.reader.readings ++ self.new.sheet ∷ [] }
+        ensures last { last_of self.new.reader ≡ Some self.new.sheet }
+        ensures sheet { IsLegalSheet self.old.reader.opening self.new.sheet }
+        ensures not_older { last_front_of self.old.reader ≤ front_of self.new.sheet }
+        ensures record_legal { HasLegalRecord self.new.reader }
+        ensures exact { AreIndices majority self.new.sheet result }
+        ensures same { result ≡ indices_of majority self.new.sheet }
     {
-        let reading = self.reader.read()?;
+        let reading = self.reader.read();
         let _halves = self.evaluator.set(&reading.sheet);
-        Ok(self.evaluator.evaluate(majority))
+        self.evaluator.evaluate(majority)
     }
 
     /// The sheet of the last `ask`, or 34 zeros before the first.
@@ -66,9 +71,10 @@ impl Analyst {
         self.evaluator.sheet()
     }
 
-    /// The reader.
+    /// The reader, at rest.
     pub fn into_reader(self) -> Reader
         ensures same { result ≡ self.reader }
+        ensures rest { result.stage ≡ AtRest }
     {
         let Analyst { reader, .. } = self;
         reader

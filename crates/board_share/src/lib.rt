@@ -1,27 +1,34 @@
-//! The running board: one writer publishes the sheets of its register to one to four readers, each in
-//! a thread of its own.
+//! The running board: one writer and its readers in threads of their own, over two copies of a sheet in shared words.
 #![tactic(auto)]
 
 mod analysts;
-mod eyes;
-mod history;
+#[cfg(test)]
+mod audit_tests;
+mod audits;
+mod busy;
 mod laws;
 mod opening;
-mod pens;
-mod published;
+mod publishing;
 mod readers;
 mod readings;
 mod rule;
+mod steps;
 #[cfg(test)]
 mod tests;
+#[cfg(test)]
+mod thread_tests;
+mod views;
+mod word_writers;
+mod writer_steps;
 mod writers;
 
 pub use analysts::Analyst;
-pub use history::History;
-pub use laws::rule_law;
+pub use audits::{AuditFault, audit};
+pub use busy::Busy;
+pub use laws::{audit_fault_laws, audit_law, rule_laws, seat_laws};
 pub use opening::start;
-pub use published::Published;
 pub use readers::Reader;
 pub use readings::Reading;
-pub use rule::Seen;
+pub use rule::{Board, TwoCopies};
+pub use views::{Beginning, Members, View};
 pub use writers::Writer;

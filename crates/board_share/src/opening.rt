@@ -1,22 +1,25 @@
 //! How a board begins.
-ghost use Rattle.std.specs.Prelude.{◌≡◌, ◌⊎◌, ◌≤◌, IfOk, IfErr, OnOk};
-ghost use Rattle.council_core.specs.declared.refusals.Refusal.TheVariants.{BadLimit, NoEntry, OutOfMemory};
+ghost use Rattle.std.specs.Prelude.{◌≡◌, ℕ, ◌+◌, ◌-◌, ◌≤◌, length, IfOk, IfErr, OnOk};
+ghost use Rattle.std.specs.Arc.{arc_value};
+ghost use Rattle.council_core.specs.declared.refusals.Refusal.TheVariants.{OutOfMemory, BadLimit};
 ghost use Rattle.two_copy_steps.specs.Machines.{IsFew};
-ghost use Rattle.board_share.specs.Openings.{new_passes, new_publisher};
+ghost use Rattle.board_share.specs.Openings.{new_publisher, new_passes, IsSplitting};
 
-use crate::pens::Pen;
 use crate::readers::Reader;
+use crate::rule::{Board, Cut};
+use crate::views::{Beginning, View};
+use crate::word_writers::WordWriter;
 use crate::writers::Writer;
+use atomic_table::{Seat, Table};
 use council_core::{Refusal, Register};
-use std::alloc::Global;
-use std::sync::Wait;
+use std::alloc::{AllocError, Global};
+use std::sync::Arc;
+use two_copy_steps::READERS;
 
 /// A board over this register, with readers numbered from 1. The register's sheet is published, and
 /// nobody has read. It is refused, and the register handed back, with `BadLimit` unless there are one
-/// to four readers, and then with `OutOfMemory`, or with `NoEntry` where `left_right` has no entry for
-/// a reader.
-pub fn start<R: Wait>(
-    rt: &R,
+/// to four readers, and then with `OutOfMemory`.
+pub fn start(
     alloc: Global,
     register: Register,
     readers: u8,
@@ -26,37 +29,66 @@ pub fn start<R: Wait>(
     ensures readers { IfOk result (λ b. b.1.items ≡ new_passes register.opening readers) }
     ensures returned { IfErr result (λ e. e.0 ≡ register) }
     ensures limit { IfErr result (λ e. (IsFew readers → ⊥) → e.1 ≡ BadLimit) }
-    ensures memory { IfErr result (λ e. IsFew readers → (e.1 ≡ OutOfMemory) ⊎ (e.1 ≡ NoEntry)) }
+    ensures memory { IfErr result (λ e. IsFew readers → e.1 ≡ OutOfMemory) }
 {
-    if readers == 0 || 4 < readers {
+    if readers == 0 || READERS < readers as usize {
         return Err((register, Refusal::BadLimit));
     }
-    let Ok(mut pen) = Pen::open(rt, alloc, &register, usize::from(readers)) else {
-        return Err((register, Refusal::OutOfMemory));
-    };
-    match seat_all(alloc, &mut pen, readers) {
-        Ok(seats) => Ok((Writer::new(register, pen), seats)),
-        Err(why) => {
-            pen.end(rt);
-            Err((register, why))
+    let begun = Beginning { register, readers };
+    match seat_all(alloc, &begun) {
+        Ok((board, seat, all)) => {
+            let Beginning { register, .. } = begun;
+            let words = WordWriter::new(board, seat, register, readers);
+            Ok((Writer::new(words), all))
+        }
+        Err(_) => {
+            let Beginning { register, .. } = begun;
+            Err((register, Refusal::OutOfMemory))
         }
     }
 }
 
-// So many readers, numbered from 1.
-fn seat_all(alloc: Global, pen: &mut Pen, readers: u8) -> Result<Vec<Reader>, Refusal>
-    ensures same { pen.new ≡ pen.old }
-    ensures passes { IfOk result (λ v. v.items ≡ new_passes pen.old.opening readers) }
-    ensures why { IfErr result (λ e. (e ≡ OutOfMemory) ⊎ (e ≡ NoEntry)) }
+// The shared words, the writer's seat and the readers.
+fn seat_all(
+    alloc: Global,
+    begun: &Beginning,
+) -> Result<(Arc<Board>, Seat<(), View>, Vec<Reader>), AllocError>
+    requires few { begun.now.readers ≤ READERS }
+    ensures writer { IfOk result (λ b. IsSplitting begun.now (arc_value b.0).shared.table_id b.1.table_id b.1.me begun.now.readers 0) }
+    ensures readers { IfOk result (λ b. b.2.items ≡ new_passes begun.now.register.opening begun.now.readers) }
 {
-    let mut seats = Vec::new(alloc);
-    for count in 0..readers {
-        let Some(eye) = pen.seat() else {
-            return Err(Refusal::NoEntry);
-        };
-        if seats.push(Reader::new(count + 1, eye)).is_err() {
-            return Err(Refusal::OutOfMemory);
-        }
+    let (board, mut seat) = lay(alloc, begun)?;
+    let readers = seat_readers(alloc, &board, &mut seat, begun)?;
+    Ok((board, seat, readers))
+}
+
+// The shared words, and a seat for the writer and all readers.
+fn lay(alloc: Global, begun: &Beginning) -> Result<(Arc<Board>, Seat<(), View>), AllocError>
+    requires few { begun.now.readers ≤ READERS }
+    ensures laid { IfOk result (λ b. IsSplitting begun.now (arc_value b.0).shared.table_id b.1.table_id b.1.me 0 begun.now.readers) }
+{
+    let sheet = begun.register.sheet();
+    let words = two_copy_steps::Table::start(&sheet.words(), begun.readers);
+    let (table, seat) = Table::of_words(alloc, words.as_slice(), begun)?;
+    Ok((Arc::new(alloc, table)?, seat))
+}
+
+// Gives each reader a seat of its own.
+fn seat_readers(
+    alloc: Global,
+    board: &Arc<Board>,
+    seat: &mut Seat<(), View>,
+    begun: &Beginning,
+) -> Result<Vec<Reader>, AllocError>
+    requires few { begun.now.readers ≤ READERS }
+    requires whole { IsSplitting begun.now (arc_value board.now).shared.table_id seat.old.table_id seat.old.me 0 begun.now.readers }
+    ensures writer { OnOk result (IsSplitting begun.now (arc_value board.now).shared.table_id seat.new.table_id seat.new.me begun.now.readers 0) }
+    ensures readers { IfOk result (λ all. all.items ≡ new_passes begun.now.register.opening begun.now.readers) }
+{
+    let mut all = Vec::with_capacity(alloc, begun.readers as usize)?;
+    for r in 0..begun.readers {
+        let mine = board.shared.split_seat::<Cut>(seat);
+        all.push_reserved(Reader::new(Arc::try_clone(board)?, mine, r));
     }
-    Ok(seats)
+    Ok(all)
 }

@@ -1,71 +1,98 @@
 //! One reader.
-ghost use Rattle.std.specs.Prelude.{◌≡◌, ◌≤◌, [], None, Some, IfOk, OnErr, IsOkUnless};
+ghost use Rattle.std.specs.Prelude.{◌≡◌, ◌↔◌, ◌+◌, ◌≤◌, ◌++◌, ◌∷◌, ◌==◌, [], Some, IsSome, IfSome, IsTrue, if◌then◌else◌};
+ghost use Rattle.std.specs.Option.{option_map};
+ghost use Rattle.std.specs.Arc.{arc_value};
 ghost use Rattle.council_core.specs.Sheets.{front_of};
-ghost use Rattle.council_core.specs.declared.refusals.Refusal.TheVariants.{NoEntry};
-ghost use Rattle.board_share.specs.Readers.{IsLegalSheet, last_front_of, last_of, number_of};
+ghost use Rattle.two_copy_steps.specs.Stages.{sheet_read, steps_taken};
+ghost use Rattle.two_copy_steps.specs.declared.views.Stage.TheVariants.{AtRest};
+ghost use Rattle.board_share.specs.Readers.{HasLegalRecord, IsLegalSheet, IsReader, TookStep, last_front_of, last_of, number_of, pass_of};
 
-use crate::eyes::Eye;
 use crate::readings::Reading;
-use council_core::{Refusal, Sheet};
+use crate::rule::Board;
+use crate::steps::{advance, read_all};
+use crate::views::View;
+use atomic_table::Seat;
 use std::marker::Model;
+use std::sync::Arc;
+use two_copy_steps::{READERS, ReaderStage};
 
-/// One reader. It reads one sheet after another.
+/// One reader. It reads one sheet after another, each in 37 steps.
 #[derive(Drop)]
 pub struct Reader {
-    number: u8,
-    last: Option<Sheet>,
-    eye: Eye,
+    board: Arc<Board>,
+    seat: Seat<(), View>,
+    place: u8,
+    stage: ReaderStage,
 }
 
 impl Model for Reader {
-    ghost use Rattle.std.specs.Prelude.{◌≡◌};
-    ghost use Rattle.board_share.specs.Readers.{Pass};
-    ghost use Rattle.board_share.specs.Rule.{last_read};
+    ghost use Rattle.board_share.specs.Readers.{Pass, IsReader, pass_of};
+    ghost use Rattle.std.specs.Option.{option_map};
+    ghost use Rattle.std.specs.Arc.{arc_value};
 
     ghost Value = { Pass };
 
-    ghost view = { λ r. record { opening = r.eye.opening; number = r.number; last = r.last } };
+    ghost view = { λ r. pass_of r.seat.me.0 r.place r.stage };
 
-    ghost invariant = { λ r. last_read r.eye.readings ≡ r.last };
+    ghost invariant = { λ r. IsReader (arc_value r.board).shared.table_id r.seat.table_id r.seat.me (pass_of r.seat.me.0 r.place r.stage) };
 }
 
 impl Reader {
-    // The reader of a pass that has read nothing.
-    pub(crate) fn new(number: u8, eye: Eye) -> Reader
-        requires fresh { eye.readings ≡ [] }
-        ensures { result ≡ record { opening = eye.opening; number = number; last = None } }
+    // The reader of a seat, which has read nothing.
+    pub(crate) fn new(board: Arc<Board>, seat: Seat<(), View>, place: u8) -> Reader
+        requires { IsReader (arc_value board).shared.table_id seat.table_id seat.me (pass_of seat.me.0 place AtRest) }
+        ensures { result ≡ pass_of seat.me.0 place AtRest }
     {
         Reader {
-            number,
-            last: None,
-            eye,
+            board,
+            seat,
+            place,
+            stage: ReaderStage::new(),
         }
     }
 
     /// Which reader it is, counted from 1.
     pub fn number(&self) -> u8
         ensures same { result ≡ number_of self.now }
+        ensures few { result ≤ READERS }
     {
-        self.number
+        self.place + 1
     }
 
-    /// One reading: the sheet that is published, taken at one step. It is refused with `NoEntry` where
-    /// `left_right` has no place for it, and nothing changes then.
-    pub fn read(&mut self) -> Result<Reading, Refusal>
+    /// No reading is in progress.
+    pub fn at_rest(&self) -> bool
+        ensures same { IsTrue result ↔ (self.now.stage ≡ AtRest) }
+    {
+        self.stage.is_at_rest()
+    }
+
+    /// The next of the 37 steps of a reading: one load or one store of one word. The last step
+    /// answers the reading.
+    pub fn step(&mut self) -> Option<Reading>
         ensures opening { self.new.opening ≡ self.old.opening }
         ensures number { number_of self.new ≡ number_of self.old }
-        ensures last { IfOk result (λ r. last_of self.new ≡ Some r.sheet) }
-        ensures sheet { IfOk result (λ r. IsLegalSheet self.old.opening r.sheet) }
-        ensures not_older { IfOk result (λ r. last_front_of self.old ≤ front_of r.sheet) }
-        ensures unchanged { OnErr result (self.new ≡ self.old) }
-        ensures no_entry { IsOkUnless result NoEntry }
+        ensures step { TookStep self.old self.new }
+        ensures count { steps_taken self.new.stage ≡ (if steps_taken self.old.stage == 36 then 0 else steps_taken self.old.stage + 1) }
+        ensures answer { IsSome result ↔ (steps_taken self.old.stage ≡ 36) }
+        ensures words { option_map (λ x. x.sheet) result ≡ sheet_read self.old.stage }
+        ensures last { IfSome result (λ x. last_of self.new ≡ Some x.sheet) }
+        ensures record_legal { HasLegalRecord self.new }
     {
-        match self.eye.look() {
-            Some(sheet) => {
-                self.last = Some(sheet);
-                Ok(Reading { sheet })
-            }
-            None => Err(Refusal::NoEntry),
-        }
+        advance(&self.board, &mut self.seat, self.place, &mut self.stage)
+    }
+
+    /// One reading, all 37 steps of it: the sheet that is published when the second step is taken.
+    pub fn read(&mut self) -> Reading
+        requires rest { self.old.stage ≡ AtRest }
+        ensures opening { self.new.opening ≡ self.old.opening }
+        ensures number { number_of self.new ≡ number_of self.old }
+        ensures rest { self.new.stage ≡ AtRest }
+        ensures reading { self.new.readings ≡ self.old.readings ++ result.sheet ∷ [] }
+        ensures last { last_of self.new ≡ Some result.sheet }
+        ensures sheet { IsLegalSheet self.old.opening result.sheet }
+        ensures not_older { last_front_of self.old ≤ front_of result.sheet }
+        ensures record_legal { HasLegalRecord self.new }
+    {
+        read_all(&self.board, &mut self.seat, self.place)
     }
 }

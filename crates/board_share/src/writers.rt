@@ -1,49 +1,43 @@
 //! The writer.
-ghost use Rattle.std.specs.Prelude.{◌≡◌, ◌≤◌, false, length, take, IfOk, IsOk, OnOk, OnErr, IsOkUnless};
+ghost use Rattle.std.specs.Prelude.{◌≡◌, ℕ, suc, ◌≤◌, ◌++◌, ◌∷◌, [], true, false, length, IfOk, IfErr, OnOk, OnErr, IsOk};
 ghost use Rattle.council_core.specs.Rolls.{IsLegal};
 ghost use Rattle.council_core.specs.Ledgers.{verdict_of, appended};
 ghost use Rattle.council_core.specs.Verdicts.{Follows};
 ghost use Rattle.council_core.specs.declared.refusals.Refusal.TheVariants.{OutOfMemory};
-ghost use Rattle.board_share.specs.Publications.{first_of};
-ghost use Rattle.board_share.specs.Writers.{is_pending, cuts_after};
+ghost use Rattle.two_copy_steps.specs.Deeds.{all_true, first_false};
+ghost use Rattle.two_copy_steps.specs.Publications.{StaySeen, seen_out_at};
+ghost use Rattle.board_share.specs.Writers.{IsIdle, publisher_of, is_pending, cuts_after, seen_out_after};
 
-use crate::pens::Pen;
-use council_core::{Command, Refusal, Register};
+use crate::busy::Busy;
+use crate::publishing::publish_all;
+use crate::word_writers::WordWriter;
+use council_core::{Command, Refusal};
 use std::marker::Model;
 use std::sync::Wait;
+use std::thread;
 
 /// The writer of a board: it hands commands to the register, and publishes all that were accepted.
-///
-/// Where it is dropped, readers go on with what it published last.
 #[derive(Drop)]
 pub struct Writer {
-    register: Register,
-    front: u32,
-    pen: Pen,
+    words: WordWriter,
 }
 
 impl Model for Writer {
-    ghost use Rattle.board_share.specs.Publications.{IsPublished};
-    ghost use Rattle.board_share.specs.Writers.{Publisher};
+    ghost use Rattle.board_share.specs.Writers.{Publisher, IsIdle, publisher_of};
 
     ghost Value = { Publisher };
 
-    ghost view = { λ w. record { ledger = w.register; published = w.pen.list; cuts = w.pen.cuts } };
+    ghost view = { λ w. publisher_of w.words };
 
-    ghost invariant = { λ w. IsPublished w.register w.front w.pen };
+    ghost invariant = { λ w. IsIdle w.words };
 }
 
 impl Writer {
-    // The writer of a register that is published.
-    pub(crate) fn new(register: Register, pen: Pen) -> Writer
-        requires first { pen ≡ first_of register }
-        ensures { result ≡ record { ledger = register; published = register.journal; cuts = pen.cuts } }
+    pub(crate) fn new(words: WordWriter) -> Writer
+        requires { IsIdle words }
+        ensures { result ≡ publisher_of words }
     {
-        Writer {
-            front: register.accepted(),
-            register,
-            pen,
-        }
+        Writer { words }
     }
 
     /// Hands a command to the register, and answers how many commands were accepted, this one with
@@ -54,33 +48,49 @@ impl Writer {
         ensures refused { OnErr result (self.new ≡ self.old) }
         ensures published { self.new.published ≡ self.old.published }
         ensures cuts { self.new.cuts ≡ self.old.cuts }
+        ensures seen_out { self.new.seen_out ≡ self.old.seen_out }
     {
-        self.register.apply(command)
+        self.words.submit(command)
     }
 
-    /// Publishes all commands at one step, and answers how many there are. It may wait for readers. It
-    /// is refused with `OutOfMemory` alone, and nothing changes then. With nothing pending it answers
-    /// at once.
-    pub fn publish<R: Wait>(&mut self, rt: &R) -> Result<u32, Refusal>
+    /// Publishes all commands, and answers how many there are. It is `Busy`, and publishes nothing,
+    /// where a reader is found in the middle of a reading; those that were seen out stay so.
+    pub fn try_publish(&mut self) -> Result<u32, Busy>
         ensures ledger { self.new.ledger ≡ self.old.ledger }
         ensures front { IfOk result (λ n. n ≡ length self.old.ledger.journal) }
         ensures published { OnOk result (self.new.published ≡ self.old.ledger.journal) }
         ensures cuts { OnOk result (self.new.cuts ≡ cuts_after self.old) }
-        ensures unchanged { OnErr result (self.new ≡ self.old) }
-        ensures memory { IsOkUnless result OutOfMemory }
-        ensures nothing_pending { is_pending self.old ≡ false → IsOk result × (self.new ≡ self.old) }
+        ensures seen_out { OnOk result (self.new.seen_out ≡ seen_out_after self.old) }
+        ensures readers { length self.new.seen_out ≡ length self.old.seen_out }
+        ensures unchanged { OnErr result ((self.new.published ≡ self.old.published) × (self.new.cuts ≡ self.old.cuts)) }
+        ensures stay { OnErr result (StaySeen self.old.seen_out self.new.seen_out) }
+        ensures busy { IfErr result (λ b. (b.reader ≡ suc (first_false self.new.seen_out)) × (all_true self.new.seen_out ≡ false)) }
+        ensures sure { all_true self.old.seen_out ≡ true → IsOk result }
+        ensures nothing_pending { is_pending self.old ≡ false → IsOk result }
     {
-        let front = self.register.accepted();
-        if front <= self.front {
-            return Ok(front);
+        if self.words.register().accepted() <= self.words.published() {
+            return Ok(self.words.published());
         }
-        match self.pen.publish(rt, &self.register) {
-            Ok(()) => {
-                self.front = front;
-                Ok(front)
+        publish_all(&mut self.words)?;
+        Ok(self.words.published())
+    }
+
+    /// Publishes all commands, and answers how many there are. It waits for readers, for good where
+    /// one was dropped in the middle of a reading.
+    pub fn publish<R: Wait>(&mut self, rt: &R) -> u32
+        ensures ledger { self.new.ledger ≡ self.old.ledger }
+        ensures front { result ≡ length self.old.ledger.journal }
+        ensures published { self.new.published ≡ self.old.ledger.journal }
+        ensures cuts { self.new.cuts ≡ cuts_after self.old }
+        ensures seen_out { self.new.seen_out ≡ seen_out_after self.old }
+    {
+        for _ in rt.forever() {
+            if let Ok(front) = self.try_publish() {
+                return front;
             }
-            Err(_) => Err(Refusal::OutOfMemory),
+            thread::yield_now();
         }
+        unreachable!()
     }
 
     /// The commands accepted, in order.
@@ -88,13 +98,24 @@ impl Writer {
         ensures commands { result.now ≡ self.now.ledger.journal }
         ensures legal { IsLegal self.now.ledger.opening self.now.ledger.journal }
     {
-        self.register.journal()
+        self.words.register().journal()
     }
 
     /// How many commands are published.
     pub fn published(&self) -> u32
         ensures number { result ≡ length self.now.published }
     {
-        self.front
+        self.words.published()
+    }
+
+    /// Whether the reader of a number, counted from 1, is seen out: it was at rest at some time since
+    /// the last publication, or nothing was published yet. False where there is no such reader.
+    pub fn seen_out(&self, reader: u8) -> bool
+        ensures same { result ≡ seen_out_at self.now.seen_out reader }
+    {
+        if reader == 0 || self.words.readers() < reader as usize {
+            return false;
+        }
+        self.words.is_seen_out(reader as usize - 1)
     }
 }

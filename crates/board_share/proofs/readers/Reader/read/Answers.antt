@@ -1,12 +1,24 @@
-use Rattle.std.proofs.Common.{subst, ◌≤◌}
-use Rattle.council_core.specs.Sheets.{front_of}
-use Rattle.board_share.specs.Readers.{Pass, last_front_of}
-use Rattle.board_share.proofs.Passes.{last_is, no_older}
+use Rattle.std.proofs.Common.{◌∙◌, ◌++◌, ◌∷◌, [], ap, subst}
+use Rattle.council_core.specs.Rolls.{Opening}
+use Rattle.two_copy_steps.specs.declared.views.Stage.TheVariants.{AtRest}
+use Rattle.board_share.specs.Readers.{Pass, pass_of, IsLegalSheet}
+use Rattle.board_share.proofs.WholeReadings.{above, last_legal, last_is}
 use Rattle.board_share.proofs.readers.Reader.read.Goals as goal
 
-pub invariant_of-self : goal.invariant_of-self
-invariant_of-self c = last_is _ _ _ c.in-Some.ensures.reading
+pub returns-clause-sheet : goal.returns-clause-sheet
+returns-clause-sheet c =
+    let e = c.read_all.ensures.read in
+    let known = e.seat_is.known in
+    subst (λ (o : Opening). IsLegalSheet o c.read_all.result.sheet) (e.opening_is ∙ ap (λ (p : Pass). p.opening) c.self.view_is)
+    (last_legal (pass_of c.read_all.new.seat.me.0 c.self.inside.place AtRest) _ _ (known.list, known.cuts, known.records) e.reading_is)
 
-pub returns-in-Some-clause-not_older : goal.returns-in-Some-clause-not_older
-returns-in-Some-clause-not_older c =
-    subst (λ (p : Pass). last_front_of p ≤ front_of c.in-Some.sheet) c.self.view_is (no_older c.self.inside.eye.readings c.self.inside.last (front_of c.in-Some.sheet) c.self.invariant c.in-Some.ensures.not_older)
+pub returns-clause-not_older : goal.returns-clause-not_older
+returns-clause-not_older c =
+    let e = c.read_all.ensures.read in
+    let known = e.seat_is.known in
+    above (pass_of c.read_all.new.seat.me.0 c.self.inside.place AtRest) _ _ (known.list, known.cuts, known.records)
+    (e.reading_is ∙ ap (λ (p : Pass). p.readings ++ c.read_all.result.sheet ∷ []) c.self.view_is)
+
+pub returns-clause-last : goal.returns-clause-last
+returns-clause-last c =
+    last_is (pass_of c.read_all.new.seat.me.0 c.self.inside.place AtRest).readings _ _ c.read_all.ensures.read.reading_is

@@ -1,0 +1,102 @@
+-- A publication, step by step.
+use Rattle.std.proofs.Common.{◌≡◌, ℕ, zero, suc, eqb, ◌<◌, Bool, true, false, cond, List, [], ◌∷◌, length, take, set, Some, slice_get, refl, sym, ap, ◌∙◌, arith}
+use Rattle.std.proofs.lemmas.Option.{none-some}
+use Rattle.two_copy_steps.specs.declared.views.WriterView.{WriterView}
+use Rattle.two_copy_steps.specs.declared.views.Phase.{Phase}
+use Rattle.two_copy_steps.specs.declared.views.Phase.TheVariants.{Idle, Seeing, Filling}
+use Rattle.two_copy_steps.specs.Deeds.{all_true, first_false, seeing}
+use Rattle.two_copy_steps.specs.Publications.{StaySeen}
+use Rattle.board_share.specs.Writers.{Desk, known_at, Wrote, Underway, IsIdle, IsSeeing}
+use Rattle.board_share.proofs.Desks.{deed_in}
+
+-- who is seen out, one by one
+pub first_at : (bs : List Bool) (r : ℕ) → slice_get bs r ≡ Some false → all_true (take r bs) ≡ true → (first_false bs ≡ r) × (all_true bs ≡ false)
+first_at [] r e h = absurd (none-some false e)
+first_at (true ∷ bs) zero e h = absurd cc
+first_at (false ∷ bs) zero e h = (refl, refl)
+first_at (true ∷ bs) (suc r) e h = let f = first_at bs r e h in (ap suc f.0, f.1)
+first_at (false ∷ bs) (suc r) e h = absurd cc
+
+pub one_more_out : (bs : List Bool) (r : ℕ) → slice_get bs r ≡ Some true → all_true (take r bs) ≡ true → all_true (take (suc r) bs) ≡ true
+one_more_out [] r e h = absurd (none-some true e)
+one_more_out (true ∷ bs) zero e h = refl
+one_more_out (false ∷ bs) zero e h = absurd cc
+one_more_out (true ∷ bs) (suc r) e h = one_more_out bs r e h
+one_more_out (false ∷ bs) (suc r) e h = absurd cc
+
+pub one_set_out : (bs : List Bool) (r : ℕ) → r < length bs → all_true (take r bs) ≡ true → all_true (take (suc r) (set bs r true)) ≡ true
+one_set_out [] r l h = absurd (omega arith)
+one_set_out (b ∷ bs) zero l h = refl
+one_set_out (true ∷ bs) (suc r) l h = one_set_out bs r (omega arith) h
+one_set_out (false ∷ bs) (suc r) l h = absurd cc
+
+pub stays_set : (bs : List Bool) (r : ℕ) → StaySeen bs (set bs r true)
+stays_set [] r q e = e
+stays_set (b ∷ bs) zero zero e = refl
+stays_set (b ∷ bs) zero (suc q) e = e
+stays_set (b ∷ bs) (suc r) zero e = e
+stays_set (b ∷ bs) (suc r) (suc q) e = stays_set bs r q e
+
+pub all_there : (bs : List Bool) (q : ℕ) → all_true bs ≡ true → q < length bs → slice_get bs q ≡ Some true
+all_there [] q e h = absurd (omega arith)
+all_there (true ∷ bs) zero e h = refl
+all_there (true ∷ bs) (suc q) e h = all_there bs q e (omega arith)
+all_there (false ∷ bs) q e h = absurd cc
+
+-- what the writer knows after its step from a phase
+pub knows_after : (d d' : Desk) (found : ℕ) (p : Phase) → Wrote d d' found → (known_at d).state.phase ≡ p → known_at d' ≡ (deed_in d.ledger.opening (known_at d) p).after found
+knows_after d d' found p w e = w.knows ∙ ap (λ (q : Phase). (deed_in d.ledger.opening (known_at d) q).after found) e
+
+pub way_on : (a b c : Desk) → Underway a b → Underway b c → Underway a c
+way_on a b c x y = record { ledger = y.ledger ∙ x.ledger; side = y.side ∙ x.side; published = y.published ∙ x.published; taken = y.taken ∙ x.taken; cuts = y.cuts ∙ x.cuts }
+
+-- a step that leaves side, lists and cuts
+way : (d d' : Desk) (found : ℕ) (v : WriterView) → Wrote d d' found → known_at d' ≡ v → v.state.side ≡ (known_at d).state.side → v.state.published ≡ (known_at d).state.published → v.state.taken ≡ (known_at d).state.taken
+    → v.cuts ≡ (known_at d).cuts → Underway d d'
+way d d' found v w e a b c k =
+    record {
+      ledger = w.ledger;
+      side = ap (λ (x : WriterView). x.state.side) e ∙ a;
+      published = ap (λ (x : WriterView). x.state.published) e ∙ b;
+      taken = ap (λ (x : WriterView). x.state.taken) e ∙ c;
+      cuts = ap (λ (x : WriterView). x.cuts) e ∙ k;
+    }
+
+-- a pin was loaded
+abbrev looked : WriterView → Bool → WriterView
+looked v b = record { state = cond b (seeing 34 v.state (set v.state.seen_out (first_false v.state.seen_out) true)) (record v.state { phase = Idle }); cuts = v.cuts }
+
+module _ (d d' : Desk) (found : ℕ) (w : Wrote d d' found) (e : (known_at d).state.phase ≡ Seeing) (out : Bool) (is : out ≡ eqb found 0) where
+  after_look : known_at d' ≡ looked (known_at d) out
+  after_look = knows_after d d' found Seeing w e ∙ ap (looked (known_at d)) (sym is)
+
+  look_at : (b : Bool) → out ≡ b → known_at d' ≡ looked (known_at d) b
+  look_at b h = after_look ∙ ap (looked (known_at d)) h
+
+  -- it was at 0
+  pub out_way : out ≡ true → Underway d d'
+  out_way h = way d d' found (looked (known_at d) true) w (look_at true h) refl refl refl refl
+
+  pub out_is : out ≡ true → (known_at d').state.seen_out ≡ set (known_at d).state.seen_out (first_false (known_at d).state.seen_out) true
+  out_is h = ap (λ (x : WriterView). x.state.seen_out) (look_at true h)
+
+  pub out_seeing : out ≡ true → IsSeeing d → IsSeeing d'
+  out_seeing h s =
+      record {
+        taken = (out_way h).taken ∙ (s.taken ∙ ap (λ l. l.journal) (sym w.ledger));
+        phase = ap (λ (x : WriterView). x.state.phase) (look_at true h) ∙ ap (λ (o : List Bool). cond (all_true o) (Filling 0) Seeing) (sym (out_is h));
+      }
+
+  -- it was at 1
+  pub in_way : out ≡ false → Underway d d'
+  in_way h = way d d' found (looked (known_at d) false) w (look_at false h) refl refl refl refl
+
+  pub in_is : out ≡ false → (known_at d').state.seen_out ≡ (known_at d).state.seen_out
+  in_is h = ap (λ (x : WriterView). x.state.seen_out) (look_at false h)
+
+  pub in_idle : out ≡ false → IsIdle d'
+  in_idle h = record { due = w.due; phase = ap (λ (x : WriterView). x.state.phase) (look_at false h) }
+
+-- where somebody isn't seen out, a pin is loaded next
+pub looks : (d : Desk) → IsSeeing d → all_true (known_at d).state.seen_out ≡ false → (known_at d).state.phase ≡ Seeing
+looks d s e = s.phase ∙ ap (λ (b : Bool). cond b (Filling 0) Seeing) e

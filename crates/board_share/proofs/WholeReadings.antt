@@ -1,0 +1,90 @@
+-- A reading, step by step.
+use Rattle.std.proofs.Common.{◌≡◌, ℕ, zero, suc, eqb, ◌+◌, ◌<◌, ◌≤◌, Bool, true, false, cond, take, length-take, List, [], ◌∷◌, ◌++◌, length, Option, None, Some, IfSome, refl, sym, ap, ◌∙◌, subst, arith, length-append, eq-eqb, ne_eqb}
+use Rattle.std.proofs.lemmas.Option.{none-some, same_Some}
+use Rattle.std.specs.Option.{option_map, option_map_or}
+use Rattle.std.specs.Prelude.{IsTrue, is_ok, ◌&&◌}
+use mathlib.Core.Logic.{dite}
+use native.Mathlib.Decide.{ℕ_discrete}
+use Rattle.council_core.specs.Rolls.{Opening, Roll, opening_roll, after, step, all_accepted, sheet}
+use Rattle.council_core.specs.Sheets.{front_of}
+use Rattle.council_core.specs.Sequential.{IsRecordFrom}
+use Rattle.council_core.specs.declared.commands.Command.{Command}
+use Rattle.two_copy_steps.specs.declared.views.ReaderView.{ReaderView}
+use Rattle.two_copy_steps.specs.declared.views.Stage.{Stage}
+use Rattle.two_copy_steps.specs.declared.views.Stage.TheVariants.{AtRest, Arrived, Reading, Leaving}
+use Rattle.two_copy_steps.specs.Deeds.{recorded, stage_deed}
+use Rattle.two_copy_steps.specs.Lawful.{last_front}
+use Rattle.two_copy_steps.specs.Stages.{IsReadable}
+use Rattle.two_copy_steps.specs.States.{EndsWith}
+use Rattle.board_share.specs.declared.readings.Reading as reading
+use Rattle.two_copy_steps.specs.Stages.{sheet_read, steps_taken}
+use Rattle.two_copy_steps.proofs.StageFacts as stages
+use Rattle.board_share.specs.Readers.{Pass, TookStep, HasLegalRecord, IsLegalSheet, last_of, last_read}
+
+-- the steps are counted one by one
+pub counted : (p p' : Pass) → TookStep p p' → IsReadable p.stage → steps_taken p'.stage ≡ cond (eqb (steps_taken p.stage) 36) 0 (steps_taken p.stage + 1)
+counted p p' t h = ap (λ (v : ReaderView). steps_taken v.stage) t.knows ∙ stages.counted p.place t.found p.stage h
+
+-- the last of some readings, with one more
+pub last_pushed : (before : List (List ℕ)) (words : List ℕ) → last_read (before ++ words ∷ []) ≡ Some words
+last_pushed [] words = refl
+last_pushed (x ∷ []) words = refl
+last_pushed (x ∷ y ∷ rest) words = last_pushed (y ∷ rest) words
+
+pub last_is : (readings before : List (List ℕ)) (words : List ℕ) → readings ≡ before ++ words ∷ [] → last_read readings ≡ Some words
+last_is readings before words e = ap last_read e ∙ last_pushed before words
+
+-- its front
+pub front_is : (low : ℕ) (readings : List (List ℕ)) → last_front low readings ≡ option_map_or front_of (last_read readings) low
+front_is low [] = refl
+front_is low (x ∷ []) = refl
+front_is low (x ∷ y ∷ rest) = front_after low (front_of x) y rest
+  where
+    front_after : (a b : ℕ) (z : List ℕ) (more : List (List ℕ)) → last_front (front_of z) more ≡ option_map_or front_of (last_read (z ∷ more)) a
+    front_after a b z [] = refl
+    front_after a b z (u ∷ more) = front_after a b u more
+
+-- what is answered is the last sheet of the record
+ended_at : (r : ℕ) (st : Stage) (found : ℕ) (readings : List (List ℕ)) (words : List ℕ) → sheet_read st ≡ Some words → EndsWith readings st
+    → (earlier : List (List ℕ)) × (recorded st ((stage_deed 34 r st).after found) readings ≡ earlier ++ words ∷ [])
+ended_at r AtRest found readings words e h = absurd (none-some words e)
+ended_at r Arrived found readings words e h = absurd (none-some words e)
+ended_at r (Reading s ws) found readings words e h = absurd (none-some words e)
+ended_at r (Leaving s ws) found readings words e h = (h.0, h.1 ∙ ap (λ (w : List ℕ). h.0 ++ w ∷ []) (same_Some ws words e))
+
+pub ended : (p p' : Pass) (answer : Option reading.Reading) → TookStep p p' → option_map (λ x. x.sheet) answer ≡ sheet_read p.stage → EndsWith p.readings p.stage
+    → IfSome answer (λ x. last_of p' ≡ Some x.sheet)
+ended p p' None t e h = tt
+ended p p' (Some x) t e h =
+    let f = ended_at p.place p.stage t.found p.readings x.sheet (sym e) h in
+    ap last_read (ap (λ (v : ReaderView). v.readings) t.knows ∙ f.1) ∙ last_pushed f.0 x.sheet
+
+last_above : (opening : Opening) (list : List Command) (cuts : List ℕ) (low : ℕ) (before : List (List ℕ)) (words : List ℕ) → IsRecordFrom opening list cuts low (before ++ words ∷ [])
+    → last_front low before ≤ front_of words
+last_above opening list cuts low [] words h = h.1
+last_above opening list cuts low (x ∷ xs) words h = last_above opening list cuts (front_of x) xs words h.2
+
+-- the last sheet of a legal record has no lower front than the one before
+pub above : (p : Pass) (before : List (List ℕ)) (words : List ℕ) → HasLegalRecord p → p.readings ≡ before ++ words ∷ [] → option_map_or front_of (last_read before) 0 ≤ front_of words
+above p before words h e =
+    subst (λ (n : ℕ). n ≤ front_of words) (front_is 0 before) (last_above p.opening h.0 h.1 0 before words (subst (λ (x : List (List ℕ)). IsRecordFrom p.opening h.0 h.1 0 x) e h.2.readings.0))
+
+-- the first commands of a legal list are one
+accepted_take : (r : Roll) (k : ℕ) (list : List Command) → IsTrue (all_accepted r list) → IsTrue (all_accepted r (take k list))
+accepted_take r zero list h = refl
+accepted_take r (suc k) [] h = h
+accepted_take r (suc k) (c ∷ cs) h =
+    elim (is_ok (step r c)) as (λ b. IsTrue (b && all_accepted (after r c) cs) → IsTrue (b && all_accepted (after r c) (take k cs))) [ true ↦ λ g. accepted_take (after r c) k cs g | false ↦ λ g. g ] h
+
+last_cut : (opening : Opening) (list : List Command) (cuts : List ℕ) (low : ℕ) (before : List (List ℕ)) (words : List ℕ) → IsRecordFrom opening list cuts low (before ++ words ∷ [])
+    → (cut : ℕ) × (words ≡ sheet opening (take cut list))
+last_cut opening list cuts low [] words h = (h.0.0, h.0.2)
+last_cut opening list cuts low (x ∷ xs) words h = last_cut opening list cuts (front_of x) xs words h.2
+
+-- the last sheet of a legal record is that of a legal list
+pub last_legal : (p : Pass) (before : List (List ℕ)) (words : List ℕ) → HasLegalRecord p → p.readings ≡ before ++ words ∷ [] → IsLegalSheet p.opening words
+last_legal p before words h e =
+    let c = last_cut p.opening h.0 h.1 0 before words (subst (λ (x : List (List ℕ)). IsRecordFrom p.opening h.0 h.1 0 x) e h.2.readings.0) in
+    let legal = h.2.legal in
+    let few = legal.1 in
+    (take c.0 h.0, (accepted_take (opening_roll p.opening) c.0 h.0 legal.0, omega (arith, length-take c.0 h.0)), c.1)

@@ -1,0 +1,164 @@
+//! The writer's register and its seat.
+ghost use Rattle.std.specs.Prelude.{◌≡◌, ◌↔◌, ℕ, ◌<◌, ◌≤◌, ◌==◌, true, false, Some, None, length, replicate, slice_get, slice_index, IfOk, OnErr, IsTrue};
+ghost use Rattle.std.specs.Arc.{arc_value};
+ghost use Rattle.council_core.specs.Rolls.{sheet};
+ghost use Rattle.council_core.specs.Ledgers.{sheet_of, verdict_of, appended};
+ghost use Rattle.council_core.specs.Verdicts.{Follows};
+ghost use Rattle.council_core.specs.declared.refusals.Refusal.TheVariants.{OutOfMemory};
+ghost use Rattle.two_copy_steps.specs.declared.views.Phase.TheVariants.{Seeing, Filling, Swapping};
+ghost use Rattle.two_copy_steps.specs.Deeds.{all_true};
+ghost use Rattle.board_share.specs.Steps.{begun_with};
+ghost use Rattle.board_share.specs.Writers.{Begins, IsWriter, Wrote, desk_of, known_at};
+
+use crate::rule::{Board, Taken};
+use crate::views::View;
+use crate::writer_steps::{load, store};
+use atomic_table::Seat;
+use council_core::{Command, Refusal, Register};
+use std::marker::Model;
+use std::sync::Arc;
+use two_copy_steps::{COPY_WORDS, Flags, READERS, SIDE, pin, place};
+
+/// The writer, step by step. Contracts see its register, what its seat knows, and whether a
+/// publication has begun that has taken no step yet.
+#[derive(Drop)]
+pub(crate) struct WordWriter {
+    board: Arc<Board>,
+    seat: Seat<(), View>,
+    register: Register,
+    side: u64,
+    published: u32,
+    seen_out: Flags,
+    // A publication has begun and has taken no step yet. Contracts alone read it: what a seat knows
+    // changes only at a step, so a beginning shows there with the first one.
+    begun: bool,
+}
+
+impl Model for WordWriter {
+    ghost use Rattle.board_share.specs.Writers.{Desk, IsWriter, desk_of};
+    ghost use Rattle.std.specs.Arc.{arc_value};
+
+    ghost Value = { Desk };
+
+    ghost view = { λ w. desk_of w.register w.seat.me.0 w.begun };
+
+    ghost invariant = { λ w. IsWriter (arc_value w.board).shared.table_id w.seat.table_id w.seat.me (desk_of w.register w.seat.me.0 w.begun) w.side w.published w.seen_out };
+}
+
+impl WordWriter {
+    // The writer of a seat that knows the start of a board.
+    pub(crate) fn new(
+        board: Arc<Board>,
+        seat: Seat<(), View>,
+        register: Register,
+        readers: u8,
+    ) -> WordWriter
+        requires few { readers ≤ READERS }
+        requires seat { IsWriter (arc_value board).shared.table_id seat.table_id seat.me (desk_of register seat.me.0 false) 0 (length register.journal) (replicate readers true) }
+        ensures { result ≡ desk_of register seat.me.0 false }
+    {
+        WordWriter {
+            board,
+            seat,
+            side: 0,
+            published: register.accepted(),
+            seen_out: Flags::start(readers),
+            begun: false,
+            register,
+        }
+    }
+
+    pub(crate) fn register(&self) -> &Register
+        ensures { result.now ≡ self.now.ledger }
+    {
+        &self.register
+    }
+
+    // How many commands are published.
+    pub(crate) fn published(&self) -> u32
+        ensures number { result ≡ length (known_at self.now).state.published }
+        ensures begins { Begins (known_at self.now).state.published self.now.ledger.journal }
+    {
+        self.published
+    }
+
+    // How many readers there are, at most four.
+    pub(crate) fn readers(&self) -> usize
+        ensures number { result ≡ length (known_at self.now).state.seen_out }
+        ensures few { result ≤ READERS }
+    {
+        self.seen_out.len()
+    }
+
+    // Whether the reader at r is seen out.
+    pub(crate) fn is_seen_out(&self, r: usize) -> bool
+        requires { r < length (known_at self.now).state.seen_out }
+        ensures { slice_get (known_at self.now).state.seen_out r ≡ Some result }
+    {
+        self.seen_out.get(r)
+    }
+
+    pub(crate) fn submit(&mut self, command: Command) -> Result<u32, Refusal>
+        requires idle { self.old.due ≡ None }
+        ensures verdict { Follows (verdict_of self.old.ledger command) result OutOfMemory }
+        ensures accepted { IfOk result (λ n. (self.new.ledger ≡ appended self.old.ledger command) × (n ≡ length self.new.ledger.journal)) }
+        ensures refused { OnErr result (self.new.ledger ≡ self.old.ledger) }
+        ensures kept { (self.new.held ≡ self.old.held) × (self.new.due ≡ None) }
+    {
+        self.register.apply(command)
+    }
+
+    // Begins a publication of all commands, and answers their sheet. No word is touched.
+    pub(crate) fn begin(&mut self) -> [u64; COPY_WORDS]
+        ensures ledger { self.new.ledger ≡ self.old.ledger }
+        ensures begun { known_at self.new ≡ begun_with (Some self.old.ledger.journal) (known_at self.old) }
+        ensures words { result ≡ sheet_of self.old.ledger }
+    {
+        let sheet = self.register.sheet();
+        self.begun = true;
+        sheet.words()
+    }
+
+    // Loads the pin of the least reader that isn't seen out, and tells whether it is out now.
+    pub(crate) fn see<J: Taken>(&mut self) -> bool
+        requires list { J.list ≡ self.old.due }
+        requires phase { (known_at self.old).state.phase ≡ Seeing }
+        requires some { all_true (known_at self.old).state.seen_out ≡ false }
+        ensures { (found : ℕ) × Wrote self.old self.new found × (result ≡ (found == 0)) }
+    {
+        let r = self.seen_out.first_false();
+        let found = load::<J>(&self.board, &mut self.seat, pin(r));
+        self.begun = false;
+        if found != 0 {
+            return false;
+        }
+        self.seen_out.set(r);
+        true
+    }
+
+    // Stores word k of the copy that isn't published.
+    pub(crate) fn fill<J: Taken>(&mut self, k: usize, word: u64)
+        requires list { J.list ≡ self.old.due }
+        requires phase { (known_at self.old).state.phase ≡ Filling k }
+        requires within { k < COPY_WORDS }
+        requires word { word ≡ slice_index (sheet self.old.ledger.opening (known_at self.old).state.taken) k }
+        ensures { Wrote self.old self.new word }
+    {
+        store::<J>(&self.board, &mut self.seat, place(1 - self.side, k), word);
+        self.begun = false;
+    }
+
+    // Stores side: all commands are published.
+    pub(crate) fn swap<J: Taken>(&mut self)
+        requires list { J.list ≡ self.old.due }
+        requires phase { (known_at self.old).state.phase ≡ Swapping }
+        requires whole { (known_at self.old).state.taken ≡ self.old.ledger.journal }
+        ensures { (found : ℕ) × Wrote self.old self.new found }
+    {
+        self.side = 1 - self.side;
+        store::<J>(&self.board, &mut self.seat, SIDE, self.side);
+        self.begun = false;
+        self.published = self.register.accepted();
+        self.seen_out.clear();
+    }
+}
