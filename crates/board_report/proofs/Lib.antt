@@ -4,3 +4,12 @@ pub mod ScriptFacts
 pub mod WriteFacts
 pub mod OpeningFacts
 pub mod ReplayFacts
+pub mod TraceFacts
+pub mod PartFacts
+pub mod WorkFacts
+pub mod PlanFacts
+pub mod OutcomeFacts
+pub mod ServeFacts
+pub mod AuditFacts
+pub mod CutFacts
+pub mod ProgramFacts

@@ -1,112 +1,144 @@
 -- The run of a whole input, and its end.
-use Rattle.std.proofs.Common.{◌≡◌, ◌<◌, ◌≤◌, ◌⊎◌, inl, inr, ℕ, true, false, List, [], ◌∷◌, ◌++◌, length, Option, Some, None, IfSome, Result, Ok, Err, refl, sym, ap, ◌∙◌, subst}
+use Rattle.std.proofs.Common.{◌≡◌, ◌<◌, ◌≤◌, ◌⊎◌, inl, inr, ℕ, true, false, List, [], ◌∷◌, ◌++◌, length, replicate, Option, Some, None, IfSome, IfErr, Result, Ok, Err, refl, sym, ap, ◌∙◌, subst, arith}
 use Rattle.std.proofs.lemmas.Bool.{le-leb, lt-leb}
-use Rattle.std.proofs.lemmas.List.{append-nil}
+use Rattle.std.proofs.lemmas.List.{append-nil, length-replicate}
 use Rattle.std.proofs.KnownBytes.{Appends-nil, Appends-trans}
 use Rattle.std.specs.Io.KnownBytes.{Appends}
 use Rattle.csv.specs.Reading.{default_config, records, strip_bom}
-use Rattle.council_core.specs.Ledgers.{start_verdict}
-use Rattle.council_core.specs.Sequential.{Sequential}
+use Rattle.council_core.specs.Ledgers.{Ledger, start_verdict}
 use Rattle.council_core.specs.declared.refusals.Refusal.TheVariants as why
 use Rattle.board_report.specs.Lines.{Line, fault_line}
 use Rattle.board_report.specs.Requests.{Row, is_header}
-use Rattle.board_report.specs.Text.{Opened, Run, fault_at, in_range, end_lines, line_text, opened_run, opening_of, output, records_run, replay_step, run_of, script_run, started_run, stops, text_of}
-use Rattle.board_report.specs.Output.{AppendsFront, Ends, AppendsLines, IsBroken, IsFrontOf, Opens, Plays, Replays, Starts, StopsIn, fault_of}
+use Rattle.board_report.specs.Text.{Begun, Opened, Run, begun_of, begun_run, begun_with, end_lines, fault_at, in_range, line_text, opened_of, opening_of, output, started_with, text_of}
+use Rattle.board_report.specs.Output.{AppendsFront, AppendsLines, Ends, Fails, IsBroken, IsFrontOf, Plays, Replays, Starts, StopsIn, fault_of}
 use Rattle.board_report.specs.declared.bounds.Limits.{Limits}
 use Rattle.board_report.specs.declared.faults.Fault.{Fault}
 use Rattle.board_report.specs.declared.stops.Stop.{Stop}
 use Rattle.board_report.specs.declared.stops.Stop.TheVariants as stop
 use Rattle.board_report.proofs.PlayFacts.{appends-same, front-after, front-before, front-none, lines-then, text-after}
 
-run-out_of_range : (lim : Limits) (bytes : List ℕ) → in_range lim ≡ false → run_of lim bytes ≡ stops (fault_at why.BadLimit 0)
-unfolding run_of
-run-out_of_range lim bytes e = rw e refl
+begun-out_of_range : (lim : Limits) (bytes : List ℕ) → in_range lim ≡ false → begun_of lim bytes ≡ Err (fault_at why.BadLimit 0)
+unfolding begun_of
+begun-out_of_range lim bytes e = rw e refl
 
-run-too_long : (lim : Limits) (bytes : List ℕ) → in_range lim ≡ true → 4194304 < length bytes → run_of lim bytes ≡ stops (fault_at why.TooLong 0)
-unfolding run_of
-run-too_long lim bytes e h = rw (e, lt-leb _ _ h) refl
+begun-too_long : (lim : Limits) (bytes : List ℕ) → in_range lim ≡ true → 4194304 < length bytes → begun_of lim bytes ≡ Err (fault_at why.TooLong 0)
+unfolding begun_of
+begun-too_long lim bytes e h = rw (e, lt-leb _ _ h) refl
 
-run-records : (lim : Limits) (bytes : List ℕ) → in_range lim ≡ true → length bytes ≤ 4194304 → run_of lim bytes ≡ records_run lim (records default_config (strip_bom bytes))
-unfolding run_of
-run-records lim bytes e h = rw (e, le-leb _ _ h) refl
+pub begun-records : (lim : Limits) (bytes : List ℕ) → in_range lim ≡ true → length bytes ≤ 4194304 → begun_of lim bytes ≡ begun_with lim (opened_of (records default_config (strip_bom bytes)))
+unfolding begun_of
+begun-records lim bytes e h = rw (e, le-leb _ _ h) refl
 
-run-opened : (lim : Limits) (rs ss : List Row) (r : Row) → rs ≡ r ∷ ss → is_header r ≡ true → records_run lim rs ≡ opened_run lim (opening_of [] 2 ss)
-run-opened lim rs ss r e h = rw (e, h) refl
+-- limits out of range
+pub fails-by_limits : (o : Option (List ℕ)) (d : Stop) (lim : Limits) → in_range lim ≡ false → d ≡ stop.Told (fault_at why.BadLimit 0) → IfSome o (λ bytes. Fails d (begun_of lim bytes))
+fails-by_limits None d lim e s = tt
+fails-by_limits (Some bytes) d lim e s = rw s (begun-out_of_range lim bytes e)
+
+read-fails : (bytes : List ℕ) (e : Stop) (lim : Limits) → in_range lim ≡ true
+    → (e ≡ stop.OutOfMemory) ⊎ (e ≡ stop.ReadFault) ⊎ (e ≡ stop.Told (fault_at why.TooLong 0))
+    → (e ≡ stop.Told (fault_at why.TooLong 0) → 4194304 < length bytes) → Fails e (begun_of lim bytes)
+read-fails bytes e lim fits (inl m) long = rw m tt
+read-fails bytes e lim fits (inr (inl d)) long = rw d tt
+read-fails bytes e lim fits (inr (inr t)) long = rw t (begun-too_long lim bytes fits (long t))
+
+-- the input could not be read
+pub fails-reading : (o : Option (List ℕ)) (e : Stop) (lim : Limits) → in_range lim ≡ true
+    → (e ≡ stop.OutOfMemory) ⊎ (e ≡ stop.ReadFault) ⊎ (e ≡ stop.Told (fault_at why.TooLong 0))
+    → (e ≡ stop.Told (fault_at why.TooLong 0) → IfSome o (λ bytes. 4194304 < length bytes))
+    → IfSome o (λ bytes. Fails e (begun_of lim bytes))
+fails-reading None e lim fits causes long = tt
+fails-reading (Some bytes) e lim fits causes long = read-fails bytes e lim fits causes long
+
+-- some bytes have the fault, or it is one that may come with any
+pub some-limits : (d : Stop) (lim : Limits) → in_range lim ≡ false → d ≡ stop.Told (fault_at why.BadLimit 0) → (bytes : List ℕ) × Fails d (begun_of lim bytes)
+some-limits d lim e s = ([], rw s (begun-out_of_range lim [] e))
+
+-- a text of any length
+some-text : (n : ℕ) → (bytes : List ℕ) × (length bytes ≡ n)
+some-text n = (replicate n 0, length-replicate n 0)
+
+some-long : (n : ℕ) → 4194304 < n → (bytes : List ℕ) × (4194304 < length bytes)
+some-long n h = let b = some-text n in (b.0, omega (arith, b.1, h))
+
+from-long : (e : Stop) (lim : Limits) → in_range lim ≡ true → e ≡ stop.Told (fault_at why.TooLong 0) → (bytes : List ℕ) × (4194304 < length bytes) → (bytes : List ℕ) × Fails e (begun_of lim bytes)
+from-long e lim fits t b = (b.0, rw t (begun-too_long lim b.0 fits b.1))
+
+some-reading : (e : Stop) (lim : Limits) → in_range lim ≡ true → (e ≡ stop.OutOfMemory) ⊎ (e ≡ stop.ReadFault) ⊎ (e ≡ stop.Told (fault_at why.TooLong 0)) → (bytes : List ℕ) × Fails e (begun_of lim bytes)
+some-reading e lim fits (inl m) = ([], rw m tt)
+some-reading e lim fits (inr (inl d)) = ([], rw d tt)
+some-reading e lim fits (inr (inr t)) = from-long e lim fits t (some-long 4194305 (omega arith))
+
+pub some-input : {A : Type 0} (r : Result A Stop) (lim : Limits) → in_range lim ≡ true → IfErr r (λ e. (e ≡ stop.OutOfMemory) ⊎ (e ≡ stop.ReadFault) ⊎ (e ≡ stop.Told (fault_at why.TooLong 0)))
+    → IfErr r (λ e. (bytes : List ℕ) × Fails e (begun_of lim bytes))
+some-input (Ok a) lim fits causes = tt
+some-input (Err e) lim fits causes = some-reading e lim fits causes
+
+-- the same of an answer
+pub fails-input : {A : Type 0} (o : Option (List ℕ)) (r : Result A Stop) (lim : Limits) → in_range lim ≡ true
+    → IfErr r (λ e. (e ≡ stop.OutOfMemory) ⊎ (e ≡ stop.ReadFault) ⊎ (e ≡ stop.Told (fault_at why.TooLong 0)))
+    → (r ≡ Err (stop.Told (fault_at why.TooLong 0)) → IfSome o (λ bytes. 4194304 < length bytes))
+    → IfErr r (λ e. IfSome o (λ bytes. Fails e (begun_of lim bytes)))
+fails-input o (Ok a) lim fits causes long = tt
+fails-input o (Err e) lim fits causes long = fails-reading o e lim fits causes (λ same. long (ap Err same))
+
+-- the opening of records, the first of which is the header
+pub opened-header : (rs ss : List Row) (r : Row) → rs ≡ r ∷ ss → is_header r ≡ true → opened_of rs ≡ opening_of [] 2 ss
+opened-header rs ss r e h = rw (e, h) refl
+
+pub fails-opening : (e : Stop) (lim : Limits) (spec : Result Opened Fault) → Fails e spec → Fails e (begun_with lim spec)
+fails-opening stop.OutOfMemory lim spec p = tt
+fails-opening stop.ReadFault lim spec p = tt
+fails-opening stop.WriteFault lim spec p = absurd p
+fails-opening (stop.Told f) lim spec p = rw p refl
+
+pub fails-starting : (e : Stop) (lim : Limits) (p : Opened) → Starts lim p.0 (Err e) → Fails e (started_with lim (start_verdict p.0 lim.journal) p)
+fails-starting stop.OutOfMemory lim p s = tt
+fails-starting stop.ReadFault lim p s = absurd s
+fails-starting stop.WriteFault lim p s = absurd s
+fails-starting (stop.Told f) lim p s = rw (s.1, s.2) refl
+
+pub starts-begun : (ledger : Ledger) (lim : Limits) (p : Opened) → Starts lim p.0 (Ok ledger) → started_with lim (start_verdict p.0 lim.journal) p ≡ Ok (ledger, p.1, p.2)
+starts-begun ledger lim p s = ap (λ v. started_with lim v p) s.0 ∙ ap (λ (t : Ledger). Ok (t, p.1, p.2)) (sym s.1)
 
 nothing-written : (a : Option (List ℕ)) (lines : List Line) → AppendsLines a a lines
 nothing-written a lines = ([], front-none lines, Appends-nil a)
 
-opening-stops : (a : Option (List ℕ)) (e : Stop) (left : List Row) (lim : Limits) (spec : Result Opened Fault) → Opens (Err e) left spec → StopsIn a a e (opened_run lim spec)
-opening-stops a stop.OutOfMemory left lim spec p = nothing-written a _
-opening-stops a stop.ReadFault left lim spec p = nothing-written a _
-opening-stops a stop.WriteFault left lim spec p = absurd p
-opening-stops a (stop.Told f) left lim spec p = rw p (refl, Appends-nil a)
+fails-stop : (a : Option (List ℕ)) (e : Stop) (play : Begun → Run) (spec : Result Begun Fault) → Fails e spec → StopsIn a a e (begun_run play spec)
+fails-stop a stop.OutOfMemory play spec p = nothing-written a _
+fails-stop a stop.ReadFault play spec p = nothing-written a _
+fails-stop a stop.WriteFault play spec p = absurd p
+fails-stop a (stop.Told f) play spec p = rw p (refl, Appends-nil a)
 
-starting-stops : (a : Option (List ℕ)) (e : Stop) (lim : Limits) (p : Opened) → Starts lim p.0 (Err e) → StopsIn a a e (started_run lim (start_verdict p.0 lim.journal) p)
-starting-stops a stop.OutOfMemory lim p s = nothing-written a _
-starting-stops a stop.ReadFault lim p s = absurd s
-starting-stops a stop.WriteFault lim p s = absurd s
-starting-stops a (stop.Told f) lim p s = rw (s.1, s.2) (refl, Appends-nil a)
+-- where nothing came of the input, nothing was written
+pub plays-failed : (a : Option (List ℕ)) (e d : Stop) (play : Begun → Run) (spec : Result Begun Fault) → d ≡ e → Fails e spec → Plays a a (Err d) (begun_run play spec)
+plays-failed a e d play spec same p = let P : Stop → Type 0 = λ s. StopsIn a a s (begun_run play spec) in subst P (sym same) (fails-stop a e play spec p)
 
--- the records after the header
-module _ (a : Option (List ℕ)) (lim : Limits) (rs ss : List Row) (r : Row) (next : rs ≡ r ∷ ss) (header : is_header r ≡ true) where
-  -- where the opening stopped, so did the run
-  pub stopped-opening : (e d : Stop) (left : List Row) → d ≡ e → Opens (Err e) left (opening_of [] 2 ss) → Plays a a (Err d) (records_run lim rs)
-  stopped-opening e d left same p =
-      let P : Stop → Type 0 = λ s. StopsIn a a s (records_run lim rs) in
-      subst P (sym same) (rw (run-opened lim rs ss r next header) (opening-stops a e left lim (opening_of [] 2 ss) p))
+-- the same, where the input is known
+pub plays-failed_input : (o a : Option (List ℕ)) (e d : Stop) (lim : Limits) (play : Begun → Run) → d ≡ e
+    → IfSome o (λ bytes. Fails e (begun_of lim bytes)) → IfSome o (λ bytes. Plays a a (Err d) (begun_run play (begun_of lim bytes)))
+plays-failed_input None a e d lim play same p = tt
+plays-failed_input (Some bytes) a e d lim play same p = plays-failed a e d play (begun_of lim bytes) same p
 
-  run-started : (p : Opened) → opening_of [] 2 ss ≡ Ok p → records_run lim rs ≡ started_run lim (start_verdict p.0 lim.journal) p
-  run-started p opened = run-opened lim rs ss r next header ∙ ap (opened_run lim) opened
+pub some-failed : (a : Option (List ℕ)) (e d : Stop) (lim : Limits) (play : Begun → Run) → d ≡ e → (bytes : List ℕ) × Fails e (begun_of lim bytes) → (bytes : List ℕ) × Plays a a (Err d) (begun_run play (begun_of lim bytes))
+some-failed a e d lim play same p = (p.0, plays-failed a e d play (begun_of lim p.0) same p.1)
 
-  -- where the register was refused, so was the run
-  pub stopped-starting : (e d : Stop) (p : Opened) → opening_of [] 2 ss ≡ Ok p → d ≡ e → Starts lim p.0 (Err e) → Plays a a (Err d) (records_run lim rs)
-  stopped-starting e d p opened same s =
-      let P : Stop → Type 0 = λ t. StopsIn a a t (records_run lim rs) in
-      subst P (sym same) (rw (run-started p opened) (starting-stops a e lim p s))
-
-  -- the script's run is that of the input
-  pub played-script : (b : Option (List ℕ)) (result : Result (Unit {0}) Stop) (p : Opened) (s : Sequential) → opening_of [] 2 ss ≡ Ok p → Starts lim p.0 (Ok s)
-      → Plays a b result (script_run (replay_step lim) s p.1 p.2) → Plays a b result (records_run lim rs)
-  played-script b result p s opened begins played =
-      let same : records_run lim rs ≡ script_run (replay_step lim) s p.1 p.2 =
-      run-started p opened ∙ ap (λ v. started_run lim v p) begins.0 ∙ ap (λ t. script_run (replay_step lim) t p.1 p.2) (sym begins.1) in
-      subst (λ (run : Run). Plays a b result run) (sym same) played
-
--- limits out of range
-pub stopped-by_limits : (o : Option (List ℕ)) (a : Option (List ℕ)) (d : Stop) (lim : Limits) → in_range lim ≡ false → d ≡ stop.Told (fault_at why.BadLimit 0) → IfSome o (λ bytes. Plays a a (Err d) (run_of lim bytes))
-stopped-by_limits None a d lim e s = tt
-stopped-by_limits (Some bytes) a d lim e s = rw (s, run-out_of_range lim bytes e) (refl, Appends-nil a)
-
-read-stops : (bytes : List ℕ) (a : Option (List ℕ)) (e : Stop) (lim : Limits) → in_range lim ≡ true
-    → (e ≡ stop.OutOfMemory) ⊎ (e ≡ stop.ReadFault) ⊎ (e ≡ stop.Told (fault_at why.TooLong 0))
-    → (e ≡ stop.Told (fault_at why.TooLong 0) → 4194304 < length bytes) → StopsIn a a e (run_of lim bytes)
-read-stops bytes a e lim fits (inl m) long = rw m (nothing-written a _)
-read-stops bytes a e lim fits (inr (inl d)) long = rw d (nothing-written a _)
-read-stops bytes a e lim fits (inr (inr t)) long = rw (t, run-too_long lim bytes fits (long t)) (refl, Appends-nil a)
-
--- the input could not be read
-pub stopped-reading : (o : Option (List ℕ)) (a : Option (List ℕ)) (e d : Stop) (lim : Limits) → in_range lim ≡ true → d ≡ e
-    → (e ≡ stop.OutOfMemory) ⊎ (e ≡ stop.ReadFault) ⊎ (e ≡ stop.Told (fault_at why.TooLong 0))
-    → (e ≡ stop.Told (fault_at why.TooLong 0) → IfSome o (λ bytes. 4194304 < length bytes))
-    → IfSome o (λ bytes. Plays a a (Err d) (run_of lim bytes))
-stopped-reading None a e d lim fits same causes long = tt
-stopped-reading (Some bytes) a e d lim fits same causes long =
-    let P : Stop → Type 0 = λ s. StopsIn a a s (run_of lim bytes) in
-    subst P (sym same) (read-stops bytes a e lim fits causes long)
+pub some-played : (a b : Option (List ℕ)) (r : Result (Unit {0}) Stop) (lim : Limits) (play : Begun → Run) (text read : List ℕ) → in_range lim ≡ true → text ≡ read → length read ≤ 4194304
+    → Plays a b r (begun_run play (begun_with lim (opened_of (records default_config (strip_bom text))))) → (bytes : List ℕ) × Plays a b r (begun_run play (begun_of lim bytes))
+some-played a b r lim play text read fits same short p = (read, rw (begun-records lim read fits short, ← same) p)
 
 -- the text that was read is the input
-pub played-input : (o a b : Option (List ℕ)) (r : Result (Unit {0}) Stop) (lim : Limits) (text read : List ℕ) → in_range lim ≡ true → text ≡ read → length read ≤ 4194304
-    → IfSome o (λ bytes. read ≡ bytes) → Plays a b r (records_run lim (records default_config (strip_bom text))) → IfSome o (λ bytes. Plays a b r (run_of lim bytes))
-played-input None a b r lim text read fits same short whole p = tt
-played-input (Some bytes) a b r lim text read fits same short whole p =
-    rw (← whole, run-records lim read fits short, ← same) p
+pub played-input : (o a b : Option (List ℕ)) (r : Result (Unit {0}) Stop) (lim : Limits) (play : Begun → Run) (text read : List ℕ) → in_range lim ≡ true → text ≡ read
+    → length read ≤ 4194304 → IfSome o (λ bytes. read ≡ bytes) → Plays a b r (begun_run play (begun_with lim (opened_of (records default_config (strip_bom text)))))
+    → IfSome o (λ bytes. Plays a b r (begun_run play (begun_of lim bytes)))
+played-input None a b r lim play text read fits same short whole p = tt
+played-input (Some bytes) a b r lim play text read fits same short whole p =
+    rw (← whole, begun-records lim read fits short, ← same) p
 
-line-then : (a b c : Option (List ℕ)) (ls : List Line) (l : Line) → Appends a b (text_of ls) → Appends b c (line_text l) → Appends a c (text_of (ls ++ l ∷ []))
+pub line-then : (a b c : Option (List ℕ)) (ls : List Line) (l : Line) → Appends a b (text_of ls) → Appends b c (line_text l) → Appends a c (text_of (ls ++ l ∷ []))
 line-then a b c ls l p q = lines-then a b c ls (l ∷ []) p (appends-same b c _ _ (sym (append-nil (line_text l))) q)
 
 -- lines, and a front of one more
-front-then : (a b c : Option (List ℕ)) (ls : List Line) (l : Line) → Appends a b (text_of ls) → AppendsFront b c (line_text l) → AppendsFront a c (text_of (ls ++ l ∷ []))
+pub front-then : (a b c : Option (List ℕ)) (ls : List Line) (l : Line) → Appends a b (text_of ls) → AppendsFront b c (line_text l) → AppendsFront a c (text_of (ls ++ l ∷ []))
 front-then a b c ls l p q =
     let P : List ℕ → Type 0 = λ t. IsFrontOf (text_of ls ++ q.0) t in
     let whole : text_of (ls ++ l ∷ []) ≡ text_of ls ++ line_text l = text-after ls (l ∷ []) ∙ ap (λ t. text_of ls ++ t) (append-nil (line_text l)) in
@@ -142,10 +174,10 @@ ended-run a b c stop.WriteFault f g run p e q = cc e
 ended-run a b c (stop.Told h) f g run p e q = told-ends a b c f g run (p.0 ∙ e) p.1 q
 
 -- the same, where the input is known
-pub replayed : (o a b c : Option (List ℕ)) (s : Stop) (f g : Fault) (lim : Limits) → IfSome o (λ bytes. Plays a b (Err s) (run_of lim bytes)) → fault_of s ≡ Some f → Ends b c f g
-    → IfSome o (λ bytes. Replays a c (Err g) (run_of lim bytes))
-replayed None a b c s f g lim p e q = tt
-replayed (Some bytes) a b c s f g lim p e q = ended-run a b c s f g (run_of lim bytes) p e q
+pub replayed : (o a b c : Option (List ℕ)) (s : Stop) (f g : Fault) (run : List ℕ → Run) → IfSome o (λ bytes. Plays a b (Err s) (run bytes)) → fault_of s ≡ Some f → Ends b c f g
+    → IfSome o (λ bytes. Replays a c (Err g) (run bytes))
+replayed None a b c s f g run p e q = tt
+replayed (Some bytes) a b c s f g run p e q = ended-run a b c s f g (run bytes) p e q
 
 cut-by : (a b : Option (List ℕ)) (s : Stop) (run : Run) → fault_of s ≡ None → StopsIn a b s run → Replays a b (Err (fault_at why.WriteFault 0)) run
 cut-by a b stop.OutOfMemory run e p = cc e
@@ -153,7 +185,16 @@ cut-by a b stop.ReadFault run e p = cc e
 cut-by a b stop.WriteFault run e p = cut-run a b run p
 cut-by a b (stop.Told f) run e p = cc e
 
-pub replay-cut : (o a b : Option (List ℕ)) (s : Stop) (g : Fault) (lim : Limits) → IfSome o (λ bytes. Plays a b (Err s) (run_of lim bytes)) → fault_of s ≡ None → g ≡ fault_at why.WriteFault 0
-    → IfSome o (λ bytes. Replays a b (Err g) (run_of lim bytes))
-replay-cut None a b s g lim p e w = tt
-replay-cut (Some bytes) a b s g lim p e w = rw w (cut-by a b s (run_of lim bytes) e p)
+pub replay-cut : (o a b : Option (List ℕ)) (s : Stop) (g : Fault) (run : List ℕ → Run) → IfSome o (λ bytes. Plays a b (Err s) (run bytes)) → fault_of s ≡ None
+    → g ≡ fault_at why.WriteFault 0 → IfSome o (λ bytes. Replays a b (Err g) (run bytes))
+replay-cut None a b s g run p e w = tt
+replay-cut (Some bytes) a b s g run p e w = rw w (cut-by a b s (run bytes) e p)
+
+-- the same of some bytes
+pub some-replayed : (a b c : Option (List ℕ)) (s : Stop) (f g : Fault) (run : List ℕ → Run) → (bytes : List ℕ) × Plays a b (Err s) (run bytes) → fault_of s ≡ Some f → Ends b c f g
+    → (bytes : List ℕ) × Replays a c (Err g) (run bytes)
+some-replayed a b c s f g run p e q = (p.0, ended-run a b c s f g (run p.0) p.1 e q)
+
+pub some-cut : (a b : Option (List ℕ)) (s : Stop) (g : Fault) (run : List ℕ → Run) → (bytes : List ℕ) × Plays a b (Err s) (run bytes) → fault_of s ≡ None → g ≡ fault_at why.WriteFault 0
+    → (bytes : List ℕ) × Replays a b (Err g) (run bytes)
+some-cut a b s g run p e w = (p.0, rw w (cut-by a b s (run p.0) e p.1))

@@ -6,4 +6,14 @@ pub mod Lines
 pub mod Text
 pub mod Script
 pub mod Desks
+pub mod Pens
 pub mod Output
+pub mod Traces
+pub mod Parts
+pub mod Work
+pub mod Threads
+pub mod Plans
+pub mod Outcomes
+pub mod Serving
+pub mod Findings
+pub mod Commands

@@ -1,9 +1,8 @@
 -- What a run has written, by how it ended.
 use Rattle.std.specs.Prelude.{◌≡◌, ◌≤◌, ℕ, length, take, ◌⊎◌, List, [], ◌∷◌, ◌++◌, Option, Some, None, Result, Ok, Err}
 use Rattle.std.specs.Io.KnownBytes.{Appends}
-use Rattle.council_core.specs.Ledgers.{start_verdict}
+use Rattle.council_core.specs.Ledgers.{Ledger, start_verdict}
 use Rattle.council_core.specs.Rolls.{Opening}
-use Rattle.council_core.specs.Sequential.{Sequential}
 use Rattle.council_core.specs.declared.refusals.Refusal.{Refusal}
 use Rattle.council_core.specs.declared.refusals.Refusal.TheVariants as why
 use Rattle.board_report.specs.declared.bounds.Limits.{Limits}
@@ -48,17 +47,21 @@ abbrev pub Plays : Option (List ℕ) → Option (List ℕ) → Result (Unit {0})
 Plays old new (Ok _) run = (run.end ≡ None) × Appends old new (text_of run.lines)
 Plays old new (Err e) run = StopsIn old new e run
 
+-- why nothing came of a reading of the input: want of memory, a failed read, or the fault that its definition says
+abbrev pub Fails : {A : Type 0} → Stop → Result A Fault → Type 0
+Fails stop.OutOfMemory spec = Unit {0}
+Fails stop.ReadFault spec = Unit {0}
+Fails stop.WriteFault spec = ⊥
+Fails (stop.Told f) spec = spec ≡ Err f
+
 -- how the opening was read: it leaves the script's records, or stopped as its definition says
 abbrev pub Opens : Result OpeningRead Stop → List Row → Result Opened Fault → Type 0
 Opens (Ok o) left spec = spec ≡ Ok (o.members.items, o.place, left)
-Opens (Err stop.OutOfMemory) left spec = Unit {0}
-Opens (Err stop.ReadFault) left spec = Unit {0}
-Opens (Err stop.WriteFault) left spec = ⊥
-Opens (Err (stop.Told f)) left spec = spec ≡ Err f
+Opens (Err e) left spec = Fails e spec
 
--- how a desk was opened over these members: it is the sequential register at its start, or stopped as its definition says
-abbrev pub Starts : Limits → Opening → Result Sequential Stop → Type 0
-Starts lim members (Ok s) = (start_verdict members lim.journal ≡ Ok tt) × (s ≡ started lim members)
+-- how a register was started over these members: as its definition says, or not at all
+abbrev pub Starts : Limits → Opening → Result Ledger Stop → Type 0
+Starts lim members (Ok ledger) = (start_verdict members lim.journal ≡ Ok tt) × (ledger ≡ started lim members)
 Starts lim members (Err stop.OutOfMemory) = Unit {0}
 Starts lim members (Err stop.ReadFault) = ⊥
 Starts lim members (Err stop.WriteFault) = ⊥

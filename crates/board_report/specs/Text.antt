@@ -2,7 +2,7 @@
 use Rattle.std.specs.Prelude.{ℕ, ◌+◌, ◌==◌, ◌&&◌, List, [], ◌∷◌, ◌++◌, Bool, true, Option, Some, None, Result, Ok, Err, ⊤, length, nat_le, if◌then◌else◌}
 use Rattle.std.specs.List.{flat_map}
 use Rattle.csv.specs.Reading.{default_config, records, strip_bom}
-use Rattle.council_core.specs.Ledgers.{start_verdict}
+use Rattle.council_core.specs.Ledgers.{Ledger, start_verdict}
 use Rattle.council_core.specs.Refusals.{code_of}
 use Rattle.council_core.specs.Rolls.{Opening}
 use Rattle.council_core.specs.Sequential.{Sequential, respond}
@@ -60,9 +60,13 @@ unfoldable pub script_run : {S : Type 0} → (S → Row → Turn S) → S → �
 script_run step s k [] = prints []
 script_run step s k (r ∷ rs) = run_step k (step s r) (λ t. script_run step t (k + 1) rs)
 
+-- whether there is a reader of that number
+abbrev pub is_reader : Limits → ℕ → Bool
+is_reader lim number = nat_le 1 number && nat_le number lim.readers
+
 -- whether a request is of a reader that there is
 abbrev pub is_served : Limits → Request → Bool
-is_served lim (ask.Read reader m) = nat_le 1 reader && nat_le reader lim.readers
+is_served lim (ask.Read reader m) = is_reader lim reader
 is_served lim (ask.Submit c) = true
 is_served lim ask.Publish = true
 
@@ -95,32 +99,62 @@ opening_of members k (r ∷ rs) =
     else if length members == 256 then Err (fault_at TooManyMembers 0)
     else member_then k (member_of r) (λ m. opening_of (members ++ m ∷ []) (k + 1) rs)
 
--- a register with these members, its opening sheet published
-abbrev pub started : Limits → Opening → Sequential
-started lim members = record { ledger = record { opening = members; journal = []; limit = lim.journal }; published = 0 }
+-- a register with these members, which has accepted nothing
+abbrev pub started : Limits → Opening → Ledger
+started lim members = record { opening = members; journal = []; limit = lim.journal }
 
-abbrev pub started_run : Limits → Result ⊤ Refusal → Opened → Run
-started_run lim (Err why) p = stops (fault_at why 0)
-started_run lim (Ok u) p = script_run (replay_step lim) (started lim p.0) p.1 p.2
+-- what a script begins with: the register, the number of its first record, and its records
+abbrev pub Begun : Type 0
+Begun = Ledger × ℕ × List Row
 
-abbrev pub opened_run : Limits → Result Opened Fault → Run
-opened_run lim (Err f) = stops f
-opened_run lim (Ok p) = started_run lim (start_verdict p.0 lim.journal) p
+abbrev pub started_with : Limits → Result ⊤ Refusal → Opened → Result Begun Fault
+started_with lim (Err why) p = Err (fault_at why 0)
+started_with lim (Ok u) p = Ok (started lim p.0, p.1, p.2)
 
-abbrev pub records_run : Limits → List Row → Run
-records_run lim [] = stops (fault_at BadHeader 0)
-records_run lim (r ∷ rs) = if is_header r then opened_run lim (opening_of [] 2 rs) else stops (fault_at BadHeader 0)
+abbrev pub begun_with : Limits → Result Opened Fault → Result Begun Fault
+begun_with lim (Err f) = Err f
+begun_with lim (Ok p) = started_with lim (start_verdict p.0 lim.journal) p
+
+-- what the records of an input say before the script
+abbrev pub opened_of : List Row → Result Opened Fault
+opened_of [] = Err (fault_at BadHeader 0)
+opened_of (r ∷ rs) = if is_header r then opening_of [] 2 rs else Err (fault_at BadHeader 0)
 
 -- one to four readers, and a journal of one to a million commands
 abbrev pub in_range : Limits → Bool
 in_range lim = nat_le 1 lim.readers && nat_le lim.readers 4 && nat_le 1 lim.journal && nat_le lim.journal 1000000
 
--- what `replay` writes on these bytes, and how it ends, where memory is found and the devices work
-unfoldable pub run_of : Limits → List ℕ → Run
-run_of lim bytes =
+-- what the script of these bytes begins with, or the fault before it
+unfoldable pub begun_of : Limits → List ℕ → Result Begun Fault
+begun_of lim bytes =
     if in_range lim
-    then if nat_le (length bytes) 4194304 then records_run lim (records default_config (strip_bom bytes)) else stops (fault_at TooLong 0)
-    else stops (fault_at BadLimit 0)
+    then if nat_le (length bytes) 4194304 then begun_with lim (opened_of (records default_config (strip_bom bytes))) else Err (fault_at TooLong 0)
+    else Err (fault_at BadLimit 0)
+
+-- the run of what a script begins with, or of the fault before it
+abbrev pub begun_run : (Begun → Run) → Result Begun Fault → Run
+begun_run play (Err f) = stops f
+begun_run play (Ok b) = play b
+
+-- the run of a script on what the register at its start is made into
+abbrev pub played : {S : Type 0} → (Limits → Ledger → S) → (Limits → S → Row → Turn S) → Limits → Begun → Run
+played opened step lim b = script_run (step lim) (opened lim b.0) b.1 b.2
+
+-- the run of these bytes, where each record of their script does such a step
+abbrev pub played_run : {S : Type 0} → (Limits → Ledger → S) → (Limits → S → Row → Turn S) → Limits → List ℕ → Run
+played_run opened step lim bytes = begun_run (played opened step lim) (begun_of lim bytes)
+
+-- a register with no command published, which is the start of a replay
+abbrev pub fresh : Ledger → Sequential
+fresh ledger = record { ledger = ledger; published = 0 }
+
+-- the same, whatever the limits
+abbrev pub replay_start : Limits → Ledger → Sequential
+replay_start lim ledger = fresh ledger
+
+-- what `replay` writes on these bytes, and how it ends, where memory is found and the devices work
+abbrev pub run_of : Limits → List ℕ → Run
+run_of lim bytes = played_run replay_start replay_step lim bytes
 
 abbrev pub end_lines : Option Fault → List Line
 end_lines None = []

@@ -1,15 +1,17 @@
 //! The lines of the output.
-ghost use Rattle.std.specs.Prelude.{◌≡◌, ◌≤◌, ◌+◌, length, codes, decimal};
+ghost use Rattle.std.specs.Prelude.{◌≡◌, ◌≤◌, ◌+◌, ◌∷◌, [], length, codes, decimal, IfSome, IfNone};
 ghost use Rattle.board_report.specs.Desks.{reply_of};
-ghost use Rattle.board_report.specs.Lines.{accepted_line, chair_line, fault_line, published_line, reading_line, refused_line, reply_line};
+ghost use Rattle.board_report.specs.Lines.{accepted_line, busy_line, chair_line, fault_line, published_line, reading_line, refused_line, reply_line, note_lines, sheet_line};
+ghost use Rattle.board_report.specs.Plans.{audit_line, reader_line};
 ghost use Rattle.board_report.specs.Words.{word_of_majority};
 
 use crate::faults::Fault;
 use crate::line::Line;
 use crate::replies::Answer;
-use council_core::Refusal;
+use council_core::{Refusal, Sheet};
 use majority_rule::Majority;
 use power_index::{ChairPower, Indices};
+use two_copy_steps::Note;
 
 fn accepted_line(accepted: u32) -> Line
     ensures text { result ≡ accepted_line accepted }
@@ -49,6 +51,46 @@ pub(crate) fn line_of_answer(answer: Answer) -> Line
         Answer::Refused(why) => refused_line(why),
         Answer::Published(front) => published_line(front),
     }
+}
+
+// The line of a note of the machine, where it has one.
+pub(crate) fn line_of_note(note: Note) -> Option<Line>
+    ensures text { IfSome result (λ line. note_lines note ≡ line ∷ []) }
+    ensures none { IfNone result (note_lines note ≡ []) }
+    ensures fits { IfSome result (λ line. length line + 1 ≤ 256) }
+{
+    match note {
+        Note::Accepted(accepted) => Some(accepted_line(accepted)),
+        Note::Refused(why) => Some(refused_line(why)),
+        Note::Began => Some(Line::new("began")),
+        Note::Moved => None,
+        Note::Published(front) => Some(published_line(front)),
+        Note::Busy(reader) => Some(busy_line(reader)),
+        Note::Read(reader, sheet) => Some(sheet_line(reader, &sheet)),
+        Note::Skipped => Some(Line::new("skipped")),
+    }
+}
+
+fn busy_line(reader: u8) -> Line
+    ensures text { result ≡ busy_line reader }
+    ensures fits { length result + 1 ≤ 256 }
+{
+    let mut line = Line::new("busy");
+    line.number(u64::from(reader));
+    line
+}
+
+// What a reader of the machine read.
+fn sheet_line(reader: u8, sheet: &Sheet) -> Line
+    ensures text { result ≡ sheet_line reader sheet.now }
+    ensures fits { length result + 1 ≤ 256 }
+{
+    let mut line = Line::new("sheet");
+    line.number(u64::from(reader));
+    line.number(u64::from(sheet.front()));
+    line.number(sheet.cast());
+    line.number(sheet.total());
+    line
 }
 
 fn word_of_majority(majority: Majority) -> &'static str
@@ -93,6 +135,27 @@ pub(crate) fn line_of_chair(row: &ChairPower) -> Line
     line.fraction_if_any(row.share);
     line.fraction_if_any(row.prevent);
     line.fraction(row.initiate);
+    line
+}
+
+// How many readings a reader took.
+pub(crate) fn line_of_count(reader: u64, count: u64) -> Line
+    ensures text { result ≡ reader_line reader count }
+    ensures fits { length result + 1 ≤ 256 }
+{
+    let mut line = Line::new("reader");
+    line.number(reader);
+    line.number(count);
+    line
+}
+
+// The audit found nothing.
+pub(crate) fn line_of_audit() -> Line
+    ensures text { result ≡ audit_line }
+    ensures fits { length result + 1 ≤ 256 }
+{
+    let mut line = Line::new("audit");
+    line.word("ok");
     line
 }
 

@@ -1,9 +1,13 @@
 //! What the records of an input ask for.
 ghost use Rattle.std.specs.Prelude.{◌≡◌};
 ghost use Rattle.csv.specs.Records.{fields_of};
-ghost use Rattle.board_report.specs.Requests.{command_of, command_of_one, command_of_two, is_header, is_mark, is_publish, member_of, reading_of, request_of};
-ghost use Rattle.board_report.specs.Words.{chair_of, code_of_member, majority_of, seat_of, votes_of};
+ghost use Rattle.board_report.specs.Requests.{command_of_one, command_of_two, is_header, is_mark, member_of, request_of};
+ghost use Rattle.board_report.specs.Numbers.{number_of};
+ghost use Rattle.board_report.specs.declared.requests.Request.TheVariants.{Read};
+ghost use Rattle.board_report.specs.Text.{is_served};
+ghost use Rattle.board_report.specs.Words.{both, chair_of, code_of_member, majority_of, seat_of, votes_of};
 
+use crate::bounds::Limits;
 use crate::fields::{Fields, fields_in, is_word};
 use crate::numbers::number_of_field;
 use council_core::{ChairId, Command, MemberCode, Votes};
@@ -22,32 +26,21 @@ fn chair_in(field: &[u8]) -> Option<ChairId>
     ensures { result ≡ chair_of field.now }
 {
     let number = number_of_field(field)?;
-    let Ok(number) = u8::try_from(number) else {
-        return None;
-    };
-    match ChairId::new(number) {
-        Ok(chair) => Some(chair),
-        Err(_) => None,
-    }
+    let number = u8::try_from(number).ok()?;
+    ChairId::new(number).ok()
 }
 
 fn votes_in(field: &[u8]) -> Option<Votes>
     ensures { result ≡ votes_of field.now }
 {
     let number = number_of_field(field)?;
-    match Votes::new(number) {
-        Ok(votes) => Some(votes),
-        Err(_) => None,
-    }
+    Votes::new(number).ok()
 }
 
 fn code_in(field: &[u8]) -> Option<MemberCode>
     ensures { result ≡ code_of_member field.now }
 {
-    match MemberCode::new(field) {
-        Ok(code) => Some(code),
-        Err(_) => None,
-    }
+    MemberCode::new(field).ok()
 }
 
 fn seat_in(field: &[u8]) -> Option<Option<ChairId>>
@@ -74,10 +67,9 @@ fn majority_in(field: &[u8]) -> Option<Majority>
     }
 }
 
-fn command_of_one(word: &[u8], argument: &[u8]) -> Option<Command>
+pub(crate) fn command_of_one(word: &[u8], argument: &[u8]) -> Option<Command>
     ensures { result ≡ command_of_one word.now argument.now }
 {
-    let _nowhere: Option<ChairId> = None;
     if is_word(word, "open") {
         return Some(Command::Open(chair_in(argument)?));
     }
@@ -93,10 +85,9 @@ fn command_of_one(word: &[u8], argument: &[u8]) -> Option<Command>
     None
 }
 
-fn command_of_two(word: &[u8], first: &[u8], second: &[u8]) -> Option<Command>
+pub(crate) fn command_of_two(word: &[u8], first: &[u8], second: &[u8]) -> Option<Command>
     ensures { result ≡ command_of_two word.now first.now second.now }
 {
-    let _nowhere: Option<ChairId> = None;
     if is_word(word, "move") {
         let code = code_in(first)?;
         return Some(Command::Move(code, seat_in(second)?));
@@ -108,54 +99,29 @@ fn command_of_two(word: &[u8], first: &[u8], second: &[u8]) -> Option<Command>
     None
 }
 
-// The command of a record, if it is one of the seven command records.
-fn command_in(row: &ByteRecord) -> Option<Command>
-    ensures { result ≡ command_of (fields_of row.now) }
+fn reading_in(reader: &[u8], majority: &[u8]) -> Option<Request>
+    ensures { result ≡ both Read (number_of reader.now) (majority_of majority.now) }
 {
-    match fields_in(row) {
-        Fields::Two(word, argument) => command_of_one(word, argument),
-        Fields::Three(word, first, second) => command_of_two(word, first, second),
-        _ => None,
-    }
-}
-
-fn is_publish_row(row: &ByteRecord) -> bool
-    ensures { result ≡ is_publish (fields_of row.now) }
-{
-    match fields_in(row) {
-        Fields::One(word) => is_word(word, "publish"),
-        _ => false,
-    }
-}
-
-fn reading_in(row: &ByteRecord) -> Option<Request>
-    ensures { result ≡ reading_of (fields_of row.now) }
-{
-    match fields_in(row) {
-        Fields::Three(word, first, second) => {
-            if !is_word(word, "read") {
-                return None;
-            }
-            let reader = number_of_field(first)?;
-            let majority = majority_in(second)?;
-            Some(Request::Read(reader, majority))
-        }
-        _ => None,
-    }
+    let reader = number_of_field(reader)?;
+    let majority = majority_in(majority)?;
+    Some(Request::Read(reader, majority))
 }
 
 // The request of a record, if it is well formed.
 pub(crate) fn request_in(row: &ByteRecord) -> Option<Request>
     ensures { result ≡ request_of (fields_of row.now) }
 {
-    if is_publish_row(row) {
-        return Some(Request::Publish);
+    match fields_in(row) {
+        Fields::One(word) if is_word(word, "publish") => Some(Request::Publish),
+        Fields::Two(word, argument) => Some(Request::Submit(command_of_one(word, argument)?)),
+        Fields::Three(word, reader, majority) if is_word(word, "read") => {
+            reading_in(reader, majority)
+        }
+        Fields::Three(word, first, second) => {
+            Some(Request::Submit(command_of_two(word, first, second)?))
+        }
+        _ => None,
     }
-    if let Some(reading) = reading_in(row) {
-        return Some(reading);
-    }
-    let command = command_in(row)?;
-    Some(Request::Submit(command))
 }
 
 // Whether a record is the first of an input.
@@ -189,5 +155,15 @@ pub(crate) fn member_in(row: &ByteRecord) -> Option<(MemberCode, Votes)>
             Some((code, votes))
         }
         _ => None,
+    }
+}
+
+// Whether a request is of a reader that there is.
+pub(crate) fn is_served(limits: Limits, request: &Request) -> bool
+    ensures known { result ≡ is_served limits request.now }
+{
+    match request {
+        Request::Read(reader, _) => limits.has_reader(*reader),
+        _ => true,
     }
 }

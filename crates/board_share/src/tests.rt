@@ -2,7 +2,7 @@ use crate::{Analyst, Reader, Writer, start};
 use council_core::{ChairId, Command, MemberCode, Refusal, Register, Sheet, Votes};
 use majority_rule::Majority;
 use power_index::Indices;
-use std::alloc::Global;
+use std::alloc::{AllocError, Global};
 use std::sync::Wait;
 use std::test::Fail;
 
@@ -357,5 +357,54 @@ fn writer_dropped(rt: HostRuntime) -> Result<(), Fail> {
         (Some(1), Some(1))
     );
     assert_eq!(rt; read_front(&mut first), Some(1));
+    Ok(())
+}
+
+// While a block of this size is held, `tests/memory` refuses all growth.
+const REFUSING: usize = 77_777_777;
+
+// What calls answer while all growth is refused, where something refuses it. One growth is tried on
+// purpose; whether it was refused can't be told here.
+fn answers_without_memory(
+    alloc: Global,
+    writer: &mut Writer,
+    reader: &mut Reader,
+    analyst: &mut Analyst,
+) -> Result<[u64; 5], AllocError> {
+    let refusing: Vec<u8> = Vec::with_capacity(alloc, REFUSING)?;
+    let _tried: Result<Vec<u8>, AllocError> = Vec::with_capacity(alloc, 8);
+    let published = match try_now(writer) {
+        Tried::Published(front) => u64::from(front),
+        Tried::Busy(_) => 0,
+    };
+    let stepped = front_of(steps(reader, 37)).unwrap_or_default();
+    let read = read_front(reader).unwrap_or_default();
+    let asked = analyst.ask(Majority::Half).quota;
+    let out = u64::from(writer.seen_out(1));
+    drop(refusing);
+    Ok([published, u64::from(stepped), u64::from(read), asked, out])
+}
+
+#[test]
+fn calls_that_take_no_memory(rt: HostRuntime) -> Result<(), Fail> {
+    let (mut writer, mut first, second) = begin_two(rt.alloc())?;
+    submit_open(&mut writer, 1)?;
+    submit_move(&mut writer)?;
+    if !second.at_rest() {
+        assert!(rt; false);
+        return Ok(());
+    }
+    match Analyst::new(rt.alloc(), second) {
+        Ok(mut analyst) => {
+            let answers = answers_without_memory(
+                rt.alloc(),
+                &mut writer,
+                &mut first,
+                &mut analyst,
+            )?;
+            assert_eq!(rt; answers, [2, 2, 2, 6, 0]);
+        }
+        Err((_, why)) => return Err(why.into()),
+    }
     Ok(())
 }

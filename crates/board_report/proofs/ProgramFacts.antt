@@ -1,0 +1,59 @@
+-- What the command line says, as clap found it.
+use Rattle.std.proofs.Common.{◌≡◌, ℕ, ◌∙◌, Bool, true, false, ◌&&◌, not, List, Option, None, Some, Result, Ok, Err, option_map, refl, sym, ap}
+use Rattle.std.specs.Option.{unwrap_or}
+use Rattle.std.specs.Io.KnownBytes.{Keeps}
+use Rattle.std.specs.Str.Parse.{ParsesUnsigned}
+use Rattle.clap.proofs.WalkLemmas.{one_text-rows}
+use Rattle.clap.proofs.OnLiterals.{clap_on_literals}
+use Rattle.clap.specs.Words.{App, ReadsOne, Row, Text, is_simple, one_of, one_text, rows_of, subcommand_of, takes}
+use Rattle.clap.specs.declared.parser.matches.Found.{Found}
+use Rattle.board_report.specs.Commands.{IsSaid, IsTaken, Says, board_app}
+
+-- a command whose fields are plain has no global argument
+pub no-globals : (a b c d : Bool) → (a && (b && (not c && d))) ≡ true → c ≡ false
+no-globals true true false d e = refl
+no-globals true true true d e = cc e
+no-globals true false c d e = cc e
+no-globals false b c d e = cc e
+
+pub keeps-same : (a : Option (List ℕ)) → Keeps a a
+keeps-same None = tt
+keeps-same (Some xs) = refl
+
+module _ {E : Type 0} (bits : ℕ) (gives : List ℕ → Result ℕ E → Type 0) (parses : (t : List ℕ) (x : Result ℕ E) → gives t x → ParsesUnsigned bits 10 t x) where
+  by-text : (t : Text) (default n : ℕ) (r : Option ℕ) → ReadsOne gives t r → Says bits t n → unwrap_or r default ≡ n
+  by-text t default n (Some v) q s = let p = parses t (Ok v) q in p.1 ∙ sym s.same
+  by-text t default n None q s = let p = parses t (Err q.0) q.1 in absurd (p (s.numeral, s.small))
+
+  -- where what was found says a number, it is the number read
+  pub said-number : (f : Found) (id : Text) (default n : ℕ) (r : Option ℕ) → ((t : List ℕ) → one_text f id ≡ Some t → ReadsOne gives t r) → IsSaid bits (one_of id (rows_of f)) n
+      → unwrap_or r default ≡ n
+  said-number f id default n r reads said = by-row (one_of id (rows_of f)) (one_text-rows f id) said
+    where
+      by-row : (o : Option Text) → one_text f id ≡ o → IsSaid bits o n → unwrap_or r default ≡ n
+      by-row None e s = absurd s
+      by-row (Some t) e s = by-text t default n r (reads t e) s
+
+is-simple : is_simple board_app ≡ true
+unfolding clap_on_literals
+is-simple = refl
+
+-- what a parse of the program's command met is what clap found
+module _ (a : App) (words : List Text) (name : Text) (rows : List Row) (same : a ≡ board_app) (taken : IsTaken words name rows) where
+  pub found-as : {X : Type 0} (sub : Option (Text × List Row)) → (is_simple a ≡ true → X × (sub ≡ subcommand_of a words)) → sub ≡ Some (name, rows)
+  found-as sub found = (found (ap is_simple same ∙ is-simple)).1 ∙ ap (λ x. subcommand_of x words) same ∙ taken.found
+
+  pub takes-words : takes a words ≡ true
+  takes-words = ap (λ x. takes x words) same ∙ taken.taken
+
+-- its name, and what was found for it
+pub met-name : {A : Type 0} (f : A → Text) (g : A → List Row) (x : Option A) (n name : Text) (rows : List Row) → Some n ≡ option_map f x → option_map {U = Text × List Row} (λ a. (f a, g a)) x ≡ Some (name, rows) → n ≡ name
+met-name f g None n name rows is found = cc is
+met-name f g (Some a) n name rows is found =
+    let one : n ≡ f a = cc in
+    let other : Some (f a) ≡ Some name = ap (λ (o : Option (Text × List Row)). option_map (λ p. p.0) o) found in
+    cc
+
+pub met-rows : (x : Option (Text × List Row)) (r : List Row) (name : Text) (rows : List Row) → Some r ≡ option_map (λ p. p.1) x → x ≡ Some (name, rows) → r ≡ rows
+met-rows None r name rows is found = cc is
+met-rows (Some p) r name rows is found = let one : r ≡ p.1 = cc in let other : p.1 ≡ rows = cc in one ∙ other

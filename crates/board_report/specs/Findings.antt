@@ -1,0 +1,11 @@
+-- What an audit can find of records whose journal is legal and whose cuts are in order.
+use Rattle.board_share.specs.declared.audits.AuditFault.{AuditFault}
+use Rattle.board_share.specs.declared.audits.AuditFault.TheVariants as found
+
+-- a sheet that is no reading, or want of memory
+abbrev pub CanBeFound : AuditFault → Type 0
+CanBeFound (found.Start why) = ⊥
+CanBeFound (found.BadJournal place) = ⊥
+CanBeFound (found.BadCuts place) = ⊥
+CanBeFound (found.Mismatch reader place) = Unit {0}
+CanBeFound found.OutOfMemory = Unit {0}
