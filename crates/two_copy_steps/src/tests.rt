@@ -223,14 +223,29 @@ fn events_cut_anywhere(rt: HostRuntime) -> Result<(), Fail> {
     Ok(())
 }
 
-/// Takes an event so many times.
-fn take(machine: &mut Machine, event: Event, times: usize) -> Result<(), Refusal> {
-    for _ in 0..times {
-        if let Err(why) = machine.step(event) {
-            return Err(why);
+/// Takes events in turn, and answers what the last of them told.
+fn take_all(machine: &mut Machine, events: &[Event]) -> Result<Option<Line>, Refusal> {
+    let mut last = None;
+    for event in events {
+        match machine.step(*event) {
+            Ok(note) => last = line_of(&note),
+            Err(why) => return Err(why),
         }
     }
-    Ok(())
+    Ok(last)
+}
+
+/// Reader 2 on its way, chair 1 opened, and a publication.
+fn past_a_reader(alloc: Global, chair: ChairId) -> Result<Vec<Event>, AllocError> {
+    let mut events = Vec::new(alloc);
+    repeat(&mut events, &[Event::Reader(2)], 5)?;
+    repeat(
+        &mut events,
+        &[Event::Submit(Command::Open(chair)), Event::Publish],
+        1,
+    )?;
+    repeat(&mut events, &[Event::Writer], 35)?;
+    Ok(events)
 }
 
 #[test]
@@ -243,16 +258,16 @@ fn two_readers_seen_out(rt: HostRuntime) -> Result<(), Fail> {
     };
     assert_eq!(rt; (machine.seen_out(1), machine.seen_out(2)), (true, true));
     assert_eq!(rt; (machine.seen_out(0), machine.seen_out(3)), (false, false));
-    take(&mut machine, Event::Reader(2), 5)?;
-    take(&mut machine, Event::Submit(Command::Open(chair)), 1)?;
-    take(&mut machine, Event::Publish, 1)?;
-    take(&mut machine, Event::Writer, 35)?;
-    assert_eq!(rt; machine.published(), 1);
+    let published = take_all(&mut machine, &past_a_reader(rt.alloc(), chair)?)?;
+    assert_eq!(rt; published, Some(Line::Published(1)));
     assert_eq!(rt; (machine.seen_out(1), machine.seen_out(2)), (false, false));
-    take(&mut machine, Event::Submit(seat), 1)?;
-    take(&mut machine, Event::Publish, 1)?;
-    take(&mut machine, Event::Writer, 1)?;
-    assert_eq!(rt; line_of(&machine.step(Event::Writer)?), Some(Line::Busy(2)));
+    let tries = [
+        Event::Submit(seat),
+        Event::Publish,
+        Event::Writer,
+        Event::Writer,
+    ];
+    assert_eq!(rt; take_all(&mut machine, &tries)?, Some(Line::Busy(2)));
     assert_eq!(rt; (machine.seen_out(1), machine.seen_out(2)), (true, false));
     Ok(())
 }
