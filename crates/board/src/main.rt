@@ -23,5 +23,12 @@ fn main(rt: HostRuntime) -> ExitCode {
         Ok(words) => words,
         Err(_) => return ExitCode::from(words_out_of_memory(&mut err)),
     };
-    ExitCode::from(program(&rt, rt.alloc(), words.as_slice(), &mut input, &mut out, &mut err))
+    ExitCode::from(program(
+        &rt,
+        rt.alloc(),
+        words.as_slice(),
+        &mut input,
+        &mut out,
+        &mut err,
+    ))
 }
