@@ -26,6 +26,7 @@ def build(program, text, uses, more=()):
     source = WORK / "crates" / program / "src"
     source.mkdir(parents=True, exist_ok=True)
     write(source / "main.rt", (HERE / text).read_text())
+    write(WORK / "HANDLES", (TOP / "HANDLES").read_text())
     write(WORK / "crates.txt", "\n".join([*lists, f"{program}: {uses} {' '.join(names)}", ""]))
     built = subprocess.run(["rt", "run"], cwd=source.parent, stdout=subprocess.PIPE, stderr=subprocess.STDOUT, text=True)
     if built.returncode:

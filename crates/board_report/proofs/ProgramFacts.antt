@@ -1,11 +1,12 @@
 -- What the command line says, as clap found it.
-use Rattle.std.proofs.Common.{◌≡◌, ℕ, ◌∙◌, Bool, true, false, ◌&&◌, not, List, Option, None, Some, Result, Ok, Err, option_map, refl, sym, ap}
+use Rattle.std.proofs.Common.{◌≡◌, ℕ, ◌∙◌, Bool, true, false, ◌&&◌, not, List, [], Option, None, Some, Result, Ok, Err, option_map, refl, sym, ap, subst}
 use Rattle.std.specs.Option.{unwrap_or}
 use Rattle.std.specs.Io.KnownBytes.{Keeps}
 use Rattle.std.specs.Str.Parse.{ParsesUnsigned}
 use Rattle.clap.proofs.WalkLemmas.{one_text-rows}
 use Rattle.clap.proofs.OnLiterals.{clap_on_literals}
-use Rattle.clap.specs.Words.{App, ReadsOne, Row, Text, is_simple, one_of, one_text, rows_of, subcommand_of, takes}
+use Rattle.clap.specs.Words.{App, HasKind, Kinds, ReadsOne, Row, Text, fault_of, is_simple, is_simple_and_free, one_of, one_text, rows_of, subcommand_of, takes}
+use Rattle.clap.specs.declared.error.Error.{Error}
 use Rattle.clap.specs.declared.parser.matches.Found.{Found}
 use Rattle.board_report.specs.Commands.{IsSaid, IsTaken, Says, board_app}
 
@@ -37,6 +38,18 @@ module _ {E : Type 0} (bits : ℕ) (gives : List ℕ → Result ℕ E → Type 0
 is-simple : is_simple board_app ≡ true
 unfolding clap_on_literals
 is-simple = refl
+
+is-free : is_simple_and_free board_app ≡ true
+unfolding clap_on_literals
+is-free = refl
+
+-- of words at which the program's command fails, clap says why
+module _ (a : App) (words : List Text) (same : a ≡ board_app) where
+  pub kinds-said : (e : Error) → (is_simple_and_free a ≡ true → HasKind (fault_of a words) e) → HasKind (fault_of board_app words) e
+  kinds-said e said = let P : Kinds → Type 0 = λ kinds. HasKind kinds e in subst P (ap (λ x. fault_of x words) same) (said (ap is_simple_and_free same ∙ is-free))
+
+  pub no-kinds : (is_simple_and_free a ≡ true → fault_of a words ≡ []) → fault_of board_app words ≡ []
+  no-kinds none = sym (ap (λ x. fault_of x words) same) ∙ none (ap is_simple_and_free same ∙ is-free)
 
 -- what a parse of the program's command met is what clap found
 module _ (a : App) (words : List Text) (name : Text) (rows : List Row) (same : a ≡ board_app) (taken : IsTaken words name rows) where

@@ -3,9 +3,11 @@ use Rattle.std.specs.Prelude.{◌≡◌, ℕ, ◌<◌, ◌^◌, ◌⊎◌, List,
 use Rattle.std.specs.Io.KnownBytes.{Keeps}
 use Rattle.std.specs.Str.Parse.{IsNumeral, digits_value, without_leading_plus}
 use Rattle.clap.specs.Simple.{on_top}
-use Rattle.clap.specs.Words.{App, Row, Rule, Text, new_app, new_rule, one_of, subcommand_of, takes, with_rule, with_subcommand}
+use Rattle.clap.specs.Words.{App, IsAmong, Kinds, Row, Rule, Text, new_app, new_rule, one_of, subcommand_of, takes, with_rule, with_subcommand}
 use Rattle.clap.specs.declared.builder.ArgAction.TheVariants.{Set}
 use Rattle.clap.specs.declared.builder.value_parser.ValueParser.TheVariants as parser
+use Rattle.clap.specs.declared.error.kind.ErrorKind.{ErrorKind}
+use Rattle.clap.specs.declared.error.kind.ErrorKind.TheVariants.{DisplayHelp, DisplayVersion}
 use Rattle.council_core.specs.Refusals.{code_of}
 use Rattle.council_core.specs.declared.refusals.Refusal.TheVariants.{OutOfMemory}
 use Rattle.board_report.specs.Lines.{fault_name}
@@ -95,6 +97,22 @@ pub record LacksMemory (status : ℕ) (s : Streams) : Type 0 where
   pub status_is : status ≡ 1
   pub out_kept : Keeps s.out_old s.out_new
   pub said : AppendsFront s.err_old s.err_new (failure_text (code_of OutOfMemory))
+
+-- what the words ask for is a text that clap shows
+abbrev pub IsShown : ErrorKind → Type 0
+IsShown k = (k ≡ DisplayHelp) ⊎ (k ≡ DisplayVersion)
+
+-- the help or the version is shown on standard output; or the words are refused on standard error; or nothing came of
+-- them
+abbrev pub AnswersWords : Kinds → ℕ → Streams → Type 0
+AnswersWords kinds status s =
+    ((status ≡ 0) × Keeps s.err_old s.err_new × ((k : ErrorKind) × IsAmong k kinds × IsShown k))
+    ⊎ ((status ≡ 2) × Keeps s.out_old s.out_new × ((k : ErrorKind) × IsAmong k kinds × (IsShown k → ⊥)))
+    ⊎ LacksMemory status s
+
+-- what goes to standard error where the words are no text
+abbrev pub no_text : Text
+no_text = codes "error: the arguments are not text" ++ 10 ∷ []
 
 -- a call answered Ok, and the status is 0; or a fault, whose name is told, and the status is 1; or nothing came of
 -- the words

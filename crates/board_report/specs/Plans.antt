@@ -1,13 +1,15 @@
 -- What a run of the threads is asked, and what it writes, as functions of the bytes that it reads.
-use Rattle.std.specs.Prelude.{◌≡◌, ℕ, ◌<◌, ◌^◌, ◌++◌, List, [], ◌∷◌, length, map, Result, Ok, Err, codes, decimal}
+use Rattle.std.specs.Prelude.{◌≡◌, ℕ, ◌<◌, ◌^◌, ◌++◌, List, [], ◌∷◌, length, map, Option, IfSome, Result, Ok, Err, codes, decimal}
 use Rattle.council_core.specs.Ledgers.{start_verdict}
 use Rattle.council_core.specs.Sequential.{Call, Reply, Sequential, replies_of}
 use Rattle.board_report.specs.Lines.{Line, line_of, reply_line}
+use Rattle.board_report.specs.Output.{Fails}
 use Rattle.board_report.specs.Parts.{Shares, call_of_order, no_parts, parts_of, shares_of, size_of}
 use Rattle.board_report.specs.Text.{Begun, Run, begun_of, fresh, prints, stops}
 use Rattle.board_report.specs.declared.bounds.Limits.{Limits}
 use Rattle.board_report.specs.declared.faults.Fault.{Fault}
 use Rattle.board_report.specs.declared.plans.Plan.{Plan}
+use Rattle.board_report.specs.declared.stops.Stop.{Stop}
 
 -- the register at its start, and the script's records by who carries them out
 abbrev pub Planned : Type 0
@@ -40,6 +42,15 @@ plan_from lim (Ok b) = planned_with (fresh b.0) (parts_of lim no_parts b.1 b.2)
 -- what these bytes ask, or the fault that they have
 abbrev pub plan_of : ℕ → List ℕ → Result Planned Fault
 plan_of journal bytes = plan_from (two_readers journal) (begun_of (two_readers journal) bytes)
+
+-- these are the bytes that a reader still gives, where it tells them
+abbrev pub AreOf : Option (List ℕ) → List ℕ → Type 0
+AreOf remaining bytes = IfSome remaining (λ known. bytes ≡ known)
+
+-- what the input asks was found, or why nothing came of it
+abbrev pub Finds : Result Plan Stop → Result Planned Fault → Type 0
+Finds (Ok p) spec = spec ≡ Ok (plan_shown p)
+Finds (Err e) spec = Fails e spec
 
 -- how many readings a reader took
 abbrev pub reader_line : ℕ → ℕ → Line

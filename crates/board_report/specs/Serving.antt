@@ -1,5 +1,5 @@
 -- What `serve` has written, by how it ended.
-use Rattle.std.specs.Prelude.{◌≡◌, ℕ, ◌⊎◌, List, [], ◌∷◌, ◌++◌, Option, Some, None, Result, Ok, Err}
+use Rattle.std.specs.Prelude.{◌≡◌, ℕ, ◌⊎◌, Bool, true, false, List, [], ◌∷◌, ◌++◌, Option, Some, None, Result, Ok, Err}
 use Rattle.std.specs.Io.KnownBytes.{Appends}
 use Rattle.council_core.specs.declared.refusals.Refusal.TheVariants as why
 use Rattle.board_report.specs.Lines.{Line, fault_line}
@@ -12,23 +12,27 @@ use Rattle.board_report.specs.declared.served.Served.{Served}
 use Rattle.board_report.specs.declared.stops.Stop.{Stop}
 use Rattle.board_report.specs.declared.stops.Stop.TheVariants as stop
 
--- what is written of these lines and of what the audit found: all, or all but the audit's line where it found a
--- fault, or a front
-abbrev pub Tells : Option (List ℕ) → Option (List ℕ) → Result (Unit {0}) Stop → List Line → Type 0
-Tells old new (Ok _) ls = Appends old new (text_of (ls ++ audit_line ∷ []))
-Tells old new (Err stop.OutOfMemory) ls = ⊥
-Tells old new (Err stop.ReadFault) ls = ⊥
-Tells old new (Err stop.WriteFault) ls = AppendsFront old new (text_of (ls ++ audit_line ∷ []))
-Tells old new (Err (stop.Told f)) ls = (f ≡ fault_at why.Mismatch 0) × Appends old new (text_of ls)
+-- what is written of these lines and of whether the records are legal: all, or all but the audit's line where they
+-- aren't, or a front
+abbrev pub Tells : Option (List ℕ) → Option (List ℕ) → Bool → Result (Unit {0}) Stop → List Line → Type 0
+Tells old new legal (Ok _) ls = (legal ≡ true) × Appends old new (text_of (ls ++ audit_line ∷ []))
+Tells old new legal (Err stop.OutOfMemory) ls = ⊥
+Tells old new legal (Err stop.ReadFault) ls = ⊥
+Tells old new legal (Err stop.WriteFault) ls = AppendsFront old new (text_of (ls ++ audit_line ∷ []))
+Tells old new legal (Err (stop.Told f)) ls =
+    (legal ≡ false) × (f ≡ fault_at why.Mismatch 0) × Appends old new (text_of ls)
+
+-- the threads did what the input asks, and yet some reading is none that the register answers
+abbrev pub Differs : Planned → Type 0
+Differs p = (s : Served) × IsServed p s × (HasRecords p s → ⊥)
 
 -- after which lines which fault may come: the input's, want of memory, a failed read and a closed gate after none,
--- and what the
--- audit finds after those of the work
+-- and after those of the work what the audit finds of readings that differ
 abbrev pub EndsAfter : Result Planned Fault → List Line → Fault → Type 0
 EndsAfter (Err g) front f = (front ≡ []) × ((f ≡ g) ⊎ IsBroken f)
 EndsAfter (Ok p) front f =
     ((front ≡ []) × (IsBroken f ⊎ (f ≡ fault_at why.GateClosed 0)))
-    ⊎ ((front ≡ work_lines p) × (f ≡ fault_at why.Mismatch 0))
+    ⊎ ((front ≡ work_lines p) × (f ≡ fault_at why.Mismatch 0) × Differs p)
 
 -- what `serve` writes where the writer works
 abbrev pub IsServeText : Result Planned Fault → List ℕ → Type 0

@@ -1,11 +1,11 @@
 //! The program: what it does on its words, and its exit status.
-ghost use Rattle.std.specs.Prelude.{◌≡◌, ◌≤◌, List, ℕ, codes, map};
+ghost use Rattle.std.specs.Prelude.{◌≡◌, ◌≢◌, ◌≤◌, List, [], ℕ, codes, map};
 ghost use Rattle.std.specs.String.{string_bytes};
-ghost use Rattle.clap.specs.Words.{Row, found_of, kind_of, rows_of};
+ghost use Rattle.clap.specs.Words.{HasKind, Kinds, Row, fault_of, found_of, kind_of, rows_of};
 ghost use Rattle.clap.specs.declared.error.ErrorKind.TheVariants.{OutOfMemory as LackOfMemory};
 ghost use Rattle.council_core.specs.Refusals.{code_of};
 ghost use Rattle.council_core.specs.declared.refusals.Refusal.TheVariants.{OutOfMemory};
-ghost use Rattle.board_report.specs.Commands.{HasJournal, HasLimits, IsTaken, LacksMemory, RunExits, ServeExits, failure_text, streams};
+ghost use Rattle.board_report.specs.Commands.{AnswersWords, HasJournal, HasLimits, IsTaken, LacksMemory, RunExits, ServeExits, board_app, failure_text, no_text, streams};
 ghost use Rattle.board_report.specs.Output.{AppendsFront};
 ghost use Rattle.board_report.specs.Plans.{plan_of};
 ghost use Rattle.board_report.specs.Text.{run_of};
@@ -69,6 +69,7 @@ fn fail_for_memory<E: Write>(err: &mut E) -> u8
 fn refuse<W: Write, E: Write>(alloc: Global, error: &Error, out: &mut W, err: &mut E) -> u8
     ensures status { result ≤ 2 }
     ensures memory { kind_of error.now ≡ LackOfMemory → LacksMemory result (streams (W.contents out.old) (W.contents out.new) (E.contents err.old) (E.contents err.new)) }
+    ensures answered { (kinds : Kinds) → HasKind kinds error.now → AnswersWords kinds result (streams (W.contents out.old) (W.contents out.new) (E.contents err.old) (E.contents err.new)) }
 {
     if error.kind() == ErrorKind::OutOfMemory {
         return fail_for_memory(err);
@@ -171,7 +172,8 @@ fn run<T: Threads + Wait + Sync, R: Read, W: Write, E: Write>(
 /// gets the reason.
 ///
 /// Where clap takes the words as a command with limits, what is written and the status are those of
-/// `replay`, `trace` or `serve` with these limits.
+/// `replay`, `trace` or `serve` with these limits. Where clap finds a fault in them, or is asked for
+/// help or the version, one of the two streams gets its text and the other stays.
 pub fn program<T: Threads + Wait + Sync, R: Read, W: Write, E: Write>(
     rt: &T,
     alloc: Global,
@@ -184,6 +186,7 @@ pub fn program<T: Threads + Wait + Sync, R: Read, W: Write, E: Write>(
     ensures replays { (rows : List Row) (lim : Limits) → IsTaken (map string_bytes words.now) (codes "replay") rows → HasLimits rows lim → RunExits (run_of lim) (R.remaining input.old) result (streams (W.contents out.old) (W.contents out.new) (E.contents err.old) (E.contents err.new)) }
     ensures traces { (rows : List Row) (lim : Limits) → IsTaken (map string_bytes words.now) (codes "trace") rows → HasLimits rows lim → RunExits (trace_of lim) (R.remaining input.old) result (streams (W.contents out.old) (W.contents out.new) (E.contents err.old) (E.contents err.new)) }
     ensures serves { (rows : List Row) (journal : ℕ) → IsTaken (map string_bytes words.now) (codes "serve") rows → HasJournal rows journal → ServeExits (plan_of journal) (R.remaining input.old) result (streams (W.contents out.old) (W.contents out.new) (E.contents err.old) (E.contents err.new)) }
+    ensures refuses { fault_of board_app (map string_bytes words.now) ≢ [] → AnswersWords (fault_of board_app (map string_bytes words.now)) result (streams (W.contents out.old) (W.contents out.new) (E.contents err.old) (E.contents err.new)) }
 {
     let Ok(command) = board_command(alloc) else {
         return fail_for_memory(err);
@@ -209,6 +212,7 @@ pub fn words_out_of_memory<E: Write>(err: &mut E) -> u8
 /// Answers words that are no text: the reason on standard error, and status 2.
 pub fn words_refused<E: Write>(err: &mut E) -> u8
     ensures status { result ≡ 2 }
+    ensures said { AppendsFront (E.contents err.old) (E.contents err.new) no_text }
 {
     say(err, b"error: the arguments are not text\n");
     2

@@ -1,8 +1,8 @@
 //! A run of one writer thread and two reader threads.
-ghost use Rattle.std.specs.Prelude.{◌≡◌, ◌≤◌, true, IfOk, IfErr, IfSome};
+ghost use Rattle.std.specs.Prelude.{◌≡◌, ◌≤◌, ℕ, List, true, false, IfOk, IfErr, IfSome};
 ghost use Rattle.board_report.specs.Outcomes.{HasRecords, IsOutcome, IsServed};
 ghost use Rattle.board_report.specs.Pens.{GoesOn};
-ghost use Rattle.board_report.specs.Plans.{IsSound, plan_of, plan_shown};
+ghost use Rattle.board_report.specs.Plans.{AreOf, IsSound, plan_of, plan_shown};
 ghost use Rattle.board_report.specs.Serving.{Serves, ServesTo};
 ghost use Rattle.board_report.specs.Work.{IsHeldUp};
 
@@ -33,6 +33,7 @@ fn perform<G: Gate, R: Threads + Wait + Sync>(
     requires sound { IsSound plan }
     ensures done { IfOk result (λ r. IsOutcome (plan_shown plan) r.0) }
     ensures records { IfOk result (λ r. r.1 ≡ true → HasRecords (plan_shown plan) r.0.served) }
+    ensures differs { IfOk result (λ r. r.1 ≡ false → HasRecords (plan_shown plan) r.0.served → ⊥) }
     ensures causes { IfErr result IsHeldUp }
 {
     let Plan { begun, parts } = plan;
@@ -55,7 +56,7 @@ fn serve_to<G: Gate, T: Threads + Wait + Sync, R: Read, W: Write>(
     out: &mut Output<'_, W>,
     journal_limit: u32,
 ) -> Result<Served, Stop>
-    ensures wrote { IfSome (R.remaining input.old) (λ bytes. ServesTo out.old.held out.new.held result (plan_of journal_limit bytes)) }
+    ensures wrote { (bytes : List ℕ) × AreOf (R.remaining input.old) bytes × ServesTo out.old.held out.new.held result (plan_of journal_limit bytes) }
     ensures on { GoesOn out.old out.new }
 {
     let plan = read_plan(alloc, input, journal_limit)?;
@@ -76,6 +77,7 @@ fn serve_all<G: Gate, T: Threads + Wait + Sync, R: Read, W: Write>(
     journal_limit: u32,
 ) -> Result<Served, Fault>
     ensures wrote { IfSome (R.remaining input.old) (λ bytes. Serves out.old.held out.new.held result (plan_of journal_limit bytes)) }
+    ensures some { (bytes : List ℕ) × Serves out.old.held out.new.held result (plan_of journal_limit bytes) }
     ensures on { GoesOn out.old out.new }
 {
     let stop = match serve_to(rt, alloc, gate, input, out, journal_limit) {
@@ -105,6 +107,7 @@ pub fn serve<G: Gate, T: Threads + Wait + Sync, R: Read, W: Write>(
     journal_limit: u32,
 ) -> Result<Served, Fault>
     ensures wrote { IfSome (R.remaining input.old) (λ bytes. Serves (W.contents out.old) (W.contents out.new) result (plan_of journal_limit bytes)) }
+    ensures some { (bytes : List ℕ) × Serves (W.contents out.old) (W.contents out.new) result (plan_of journal_limit bytes) }
     ensures served { IfOk result (λ s. IfSome (R.remaining input.old) (λ bytes. IfOk (plan_of journal_limit bytes) (λ p. IsServed p s))) }
     ensures records { IfOk result (λ s. IfSome (R.remaining input.old) (λ bytes. IfOk (plan_of journal_limit bytes) (λ p. HasRecords p s))) }
 {

@@ -1,5 +1,5 @@
 //! Writing what came of the work of all threads.
-ghost use Rattle.std.specs.Prelude.{◌≡◌, ◌≤◌, ◌∷◌, [], true, map, IsOkUnless, OnOk};
+ghost use Rattle.std.specs.Prelude.{◌≡◌, ◌≤◌, ◌∷◌, [], map, IsOkUnless};
 ghost use Rattle.board_report.specs.Desks.{reply_of};
 ghost use Rattle.board_report.specs.Lines.{reply_line};
 ghost use Rattle.board_report.specs.Output.{Plays};
@@ -61,8 +61,7 @@ pub(crate) fn tell<W: Write>(
     second: u64,
     legal: bool,
 ) -> Result<(), Stop>
-    ensures wrote { Tells out.old.held out.new.held result (lines_of_work (map reply_of answers.now) first second) }
-    ensures legal { OnOk result (legal ≡ true) }
+    ensures wrote { Tells out.old.held out.new.held legal result (lines_of_work (map reply_of answers.now) first second) }
     ensures on { GoesOn out.old out.new }
 {
     write_work(out, answers, first, second)?;

@@ -1,8 +1,8 @@
 use Rattle.std.proofs.Common.{List, inr, map, sym, subst}
 use Rattle.std.specs.String.{string_bytes}
-use Rattle.clap.specs.Words.{Row, app_of, found_of, rows_of, subcommand_rows_of}
-use Rattle.board_report.specs.Commands.{HasJournal, HasLimits}
-use Rattle.board_report.proofs.ProgramFacts.{found-as, met-name, met-rows, takes-words}
+use Rattle.clap.specs.Words.{Row, app_of, fault_of, found_of, rows_of, subcommand_rows_of}
+use Rattle.board_report.specs.Commands.{HasJournal, HasLimits, board_app}
+use Rattle.board_report.proofs.ProgramFacts.{found-as, kinds-said, met-name, met-rows, no-kinds, takes-words}
 use Rattle.board_report.proofs.programs.program.Goals as goal
 
 pub returns-in-Err-clause-replays : goal.returns-in-Err-clause-replays
@@ -19,6 +19,16 @@ pub returns-in-Err-clause-serves : goal.returns-in-Err-clause-serves
 returns-in-Err-clause-serves g c = λ rows journal taken said.
     let words = map string_bytes c.args.words.now in
     inr (inr (c.refuse.ensures.memory (c.in-Err.ensures.passes (takes-words (app_of c.in-Ok.command) words _ rows c.in-Ok.ensures.app taken))))
+
+pub returns-in-Err-clause-refuses : goal.returns-in-Err-clause-refuses
+returns-in-Err-clause-refuses g c = λ some.
+    let words = map string_bytes c.args.words.now in
+    c.refuse.ensures.answered (fault_of board_app words) (kinds-said (app_of c.in-Ok.command) words c.in-Ok.ensures.app c.in-Err.error c.in-Err.ensures.kinds)
+
+pub returns-clause-refuses : goal.returns-clause-refuses
+returns-clause-refuses g c = λ some.
+    let words = map string_bytes c.args.words.now in
+    absurd (some (no-kinds (app_of c.in-Ok.command) words c.in-Ok.ensures.app c.in-Ok-try_get_matches_from.ensures.kinds))
 
 pub returns-clause-replays : goal.returns-clause-replays
 returns-clause-replays g c = λ rows lim taken said.
