@@ -5,15 +5,15 @@ use Rattle.std.specs.List.{AllByRecursion}
 use borrow.Author.Tests.{eqb-false}
 use Rattle.std.proofs.lemmas.List.Elements.{All-from_recursion, recursion_from_All}
 use Rattle.std.proofs.lemmas.List.Sums.{sum_by-le, sum_by-le-sum_by}
-use Rattle.indexmap.specs.IndexMap.{insert_entry}
+use Rattle.indexmap.specs.IndexMap.{set_value_at}
+use Rattle.indexmap.proofs.MapLemmas.{Found-position, insert_entry-first}
 use Rattle.council_core.specs.declared.commands.Command.{Command}
-use Rattle.council_core.specs.declared.commands.Command.TheVariants.{Open, Close}
 use Rattle.council_core.specs.declared.commands.Standing.{Standing}
 use Rattle.council_core.specs.declared.refusals.Refusal.{Refusal}
-use Rattle.council_core.specs.declared.refusals.Refusal.TheVariants.{ChairOpen, ChairNotOpen, ChairHasMembers, JournalFull}
-use Rattle.council_core.specs.Rolls.{Roll, Entry, same_code, standing_among, with_standing, sits_in, counted, votes_in, weight, total, is_open, can_receive, step, closed, has_members, update}
-use Rattle.council_core.specs.Ledgers.{Ledger, roll_of, room_of, verdict, verdict_of, appended}
-use Rattle.council_core.specs.Registers.{Mirrors, IsKept, seated, sits_as}
+use Rattle.council_core.specs.declared.refusals.Refusal.TheVariants.{JournalFull}
+use Rattle.council_core.specs.Rolls.{Roll, Entry, same_code, standing_among, place_among, with_standing, sits_in, counted, votes_in, weight, total, is_open, opened, closed, has_members}
+use Rattle.council_core.specs.Ledgers.{Ledger, roll_of, room_of, appended}
+use Rattle.council_core.specs.Registers.{Mirrors, IsKept, IsOpening, IsClosing, IsChange, seated, sits_as}
 use Rattle.council_core.proofs.RollLemmas.{insert-with_standing, part_of_sum}
 use Rattle.council_core.proofs.MirrorLemmas.{Mirrors-open, Mirrors-close, Mirrors-update, IsKept-appended, seat_is_free}
 
@@ -25,24 +25,6 @@ pub room_is : (l : Ledger) → room_of l ≡ Ok tt → length l.journal ≤ l.li
 room_is l h within =
     elim (length l.journal == l.limit) as (λ b. (length l.journal == l.limit) ≡ b → (if b then Err JournalFull else Ok tt) ≡ Ok tt → length l.journal < l.limit)
     [ true ↦ λ e (q : ◌≡◌ {A = Result ⊤ Refusal} (Err JournalFull) (Ok tt)). absurd (cc) | false ↦ λ e q. below _ _ (eqb-false _ _ e) within ] refl h
-
-pub room_of_verdict : (l : Ledger) (r : Result Roll Refusal) → verdict r (room_of l) ≡ Ok tt → room_of l ≡ Ok tt
-room_of_verdict l (Ok r) h = h
-room_of_verdict l (Err e) h = absurd (cc)
-
--- an accepted `Open` is of a closed chair
-pub shut_of_verdict : (l : Ledger) (c : ℕ) → verdict_of l (Open c) ≡ Ok tt → is_open (roll_of l) c ≡ false
-shut_of_verdict l c h =
-    elim (is_open (roll_of l) c) as (λ b. verdict (if b then Err ChairOpen else Ok (record (roll_of l) { open_chairs = c ∷ (roll_of l).open_chairs })) (room_of l) ≡ Ok tt → b ≡ false)
-    [ true ↦ λ q. absurd (cc) | false ↦ λ q. refl ] h
-
--- an accepted `Close` is of an open chair with no members
-pub empty_of_verdict : (l : Ledger) (c : ℕ) → verdict_of l (Close c) ≡ Ok tt → (is_open (roll_of l) c ≡ true) × (has_members (roll_of l) c ≡ false)
-empty_of_verdict l c h =
-    elim (is_open (roll_of l) c) as (λ b. verdict (if b then (if has_members (roll_of l) c then Err ChairHasMembers else Ok (closed (roll_of l) c)) else Err ChairNotOpen) (room_of l) ≡ Ok tt → (b ≡ true) × (has_members (roll_of l) c ≡ false)) [
-      | true ↦ λ q. (refl, (elim (has_members (roll_of l) c) as (λ b. verdict (if b then Err ChairHasMembers else Ok (closed (roll_of l) c)) (room_of l) ≡ Ok tt → b ≡ false) [ true ↦ λ q. absurd (cc) | false ↦ λ q. refl ]) q)
-      | false ↦ λ q. absurd (cc)
-    ] h
 
 -- what the weights are bounded by
 counted_small : (s : Standing) → s.votes ≤ 2 ^ 40 → counted s ≤ 2 ^ 40
@@ -121,53 +103,52 @@ module _ (roll : Roll) (es : List Entry) (words counts : List ℕ) (sum : ℕ) (
       pub total_fits : (rest : ℕ) → rest + counted old ≡ sum → rest + counted new < 2 ^ 64
       total_fits rest e = omega (arith, e, m.same_total, total_small, counted_small new small)
 
--- a chair is opened
-pub IsKept-open : (l : Ledger) (es : List Entry) (words counts : List ℕ) (sum : ℕ) → IsKept l es words counts sum
-    → (k c : ℕ) → k + 1 ≡ c → k < 32 → k < length words → verdict_of l (Open c) ≡ Ok tt
-    → (journal : List Command) → journal ≡ l.journal ++ Open c ∷ []
-    → IsKept (record { opening = l.opening; journal = journal; limit = l.limit }) es (slice_set words k 1) counts sum
-IsKept-open l es words counts sum kept k c place small within accepted journal grown =
-    let shut : is_open (roll_of l) c ≡ false = shut_of_verdict l c accepted in
-    let steps : step (roll_of l) (Open c) ≡ Ok (record (roll_of l) { open_chairs = c ∷ (roll_of l).open_chairs }) = ap (λ b. if b then Err ChairOpen else Ok (record (roll_of l) { open_chairs = c ∷ (roll_of l).open_chairs })) shut in
-    let room = room_is l (room_of_verdict l (step (roll_of l) (Open c)) accepted) kept.within in
-    let opened = Mirrors-open (roll_of l) es words counts sum kept.mirrors k small within (ap (is_open (roll_of l)) place ∙ shut) in
-    let there = subst (λ (d : ℕ). Mirrors (record (roll_of l) { open_chairs = d ∷ (roll_of l).open_chairs }) es (slice_set words k 1) counts sum) place opened in
-    subst (λ (j : List Command). IsKept (record { opening = l.opening; journal = j; limit = l.limit }) es (slice_set words k 1) counts sum) (sym grown)
-    (IsKept-appended l es words counts sum kept (Open c) _ steps room es (slice_set words k 1) counts sum there)
+-- the change of an accepted command is carried out, and the command is written down
+module _ (l : Ledger) (es : List Entry) (words counts : List ℕ) (sum : ℕ) (kept : IsKept l es words counts sum) (command : Command) (room : room_of l ≡ Ok tt) (journal : List Command) (grown : journal ≡ l.journal ++ command ∷ []) where
+  written : (es' : List Entry) (words' counts' : List ℕ) (sum' : ℕ) → IsKept (appended l command) es' words' counts' sum' → IsKept (record { opening = l.opening; journal = journal; limit = l.limit }) es' words' counts' sum'
+  written es' words' counts' sum' there = subst (λ (j : List Command). IsKept (record { opening = l.opening; journal = j; limit = l.limit }) es' words' counts' sum') (sym grown) there
 
--- a chair is closed
-pub IsKept-close : (l : Ledger) (es : List Entry) (words counts : List ℕ) (sum : ℕ) → IsKept l es words counts sum
-    → (k c : ℕ) → k + 1 ≡ c → k < 32 → k < length words → verdict_of l (Close c) ≡ Ok tt
-    → (journal : List Command) → journal ≡ l.journal ++ Close c ∷ []
-    → IsKept (record { opening = l.opening; journal = journal; limit = l.limit }) es (slice_set words k 0) counts sum
-IsKept-close l es words counts sum kept k c place small within accepted journal grown =
-    let empty = empty_of_verdict l c accepted in
-    let steps : step (roll_of l) (Close c) ≡ Ok (closed (roll_of l) c) =
-    ap (λ b. if b then (if has_members (roll_of l) c then Err ChairHasMembers else Ok (closed (roll_of l) c)) else Err ChairNotOpen) empty.0
-    ∙ ap (λ b. if b then Err ChairHasMembers else Ok (closed (roll_of l) c)) empty.1 in
-    let room = room_is l (room_of_verdict l (step (roll_of l) (Close c)) accepted) kept.within in
-    let shut = Mirrors-close (roll_of l) es words counts sum kept.mirrors k small within (ap (has_members (roll_of l)) place ∙ empty.1) in
-    let there = subst (λ (d : ℕ). Mirrors (closed (roll_of l) d) es (slice_set words k 0) counts sum) place shut in
-    subst (λ (j : List Command). IsKept (record { opening = l.opening; journal = j; limit = l.limit }) es (slice_set words k 0) counts sum) (sym grown)
-    (IsKept-appended l es words counts sum kept (Close c) _ steps room es (slice_set words k 0) counts sum there)
+  -- a chair is opened
+  pub IsKept-open : (k c : ℕ) → k + 1 ≡ c → k < 32 → k < length words → IsOpening (roll_of l) command c
+      → IsKept (record { opening = l.opening; journal = journal; limit = l.limit }) es (slice_set words k 1) counts sum
+  IsKept-open k c place small within opening =
+      let now = Mirrors-open (roll_of l) es words counts sum kept.mirrors k small within (ap (is_open (roll_of l)) place ∙ opening.shut) in
+      let there = subst (λ (d : ℕ). Mirrors (opened (roll_of l) d) es (slice_set words k 1) counts sum) place now in
+      written es (slice_set words k 1) counts sum
+      (IsKept-appended l es words counts sum kept command _ opening.effect (room_is l room kept.within) es (slice_set words k 1) counts sum there)
 
--- a member's standing is changed
-pub IsKept-change : (l : Ledger) (es : List Entry) (words counts : List ℕ) (sum : ℕ) → IsKept l es words counts sum
-    → (command : Command) (code : List ℕ) (old new : Standing) → standing_among code (roll_of l).members ≡ Some old → can_receive (roll_of l) new.chair ≡ true → new.votes ≤ 2 ^ 40
-    → step (roll_of l) command ≡ update (roll_of l) code new → room_of l ≡ Ok tt
-    → (journal : List Command) → journal ≡ l.journal ++ command ∷ []
-    → (words1 words2 counts1 counts2 : List ℕ) (sum1 sum2 : ℕ)
-    → ((k : ℕ) → k < 32 → slice_index words1 k + votes_in (k + 1) old ≡ slice_index words k)
-    → ((k : ℕ) → k < 32 → slice_index words2 k ≡ slice_index words1 k + votes_in (k + 1) new)
-    → ((k : ℕ) → k < 32 → slice_index counts1 k + sits_as (k + 1) old ≡ slice_index counts k)
-    → ((k : ℕ) → k < 32 → slice_index counts2 k ≡ slice_index counts1 k + sits_as (k + 1) new)
-    → sum1 + counted old ≡ sum → sum2 ≡ sum1 + counted new
-    → (es' : List Entry) → es' ≡ insert_entry same_code es code new
-    → IsKept (record { opening = l.opening; journal = journal; limit = l.limit }) es' words2 counts2 sum2
-IsKept-change l es words counts sum kept command code old new found seat small effect room journal grown words1 words2 counts1 counts2 sum1 sum2 w1 w2 n1 n2 s1 s2 es' put =
-    let there : standing_among code es ≡ Some old = ap (standing_among code) kept.mirrors.same_members ∙ found in
-    let changed = Mirrors-update (roll_of l) es words counts words2 counts2 sum sum2 code old new kept.mirrors found seat small
-    (λ k h. omega (arith, w1 k h, w2 k h)) (λ k h. omega (arith, n1 k h, n2 k h)) (omega (arith, s1, s2)) in
-    let kept2 = IsKept-appended l es words counts sum kept command _ effect (room_is l room kept.within) (with_standing code new es) words2 counts2 sum2 changed in
-    let kept3 = subst (λ (e : List Entry). IsKept (appended l command) e words2 counts2 sum2) (sym (put ∙ insert-with_standing code new es old there)) kept2 in
-    subst (λ (j : List Command). IsKept (record { opening = l.opening; journal = j; limit = l.limit }) es' words2 counts2 sum2) (sym grown) kept3
+  -- a chair is closed
+  pub IsKept-close : (k c : ℕ) → k + 1 ≡ c → k < 32 → k < length words → IsClosing (roll_of l) command c
+      → IsKept (record { opening = l.opening; journal = journal; limit = l.limit }) es (slice_set words k 0) counts sum
+  IsKept-close k c place small within closing =
+      let now = Mirrors-close (roll_of l) es words counts sum kept.mirrors k small within (ap (has_members (roll_of l)) place ∙ closing.empty) in
+      let there = subst (λ (d : ℕ). Mirrors (closed (roll_of l) d) es (slice_set words k 0) counts sum) place now in
+      written es (slice_set words k 0) counts sum
+      (IsKept-appended l es words counts sum kept command _ closing.effect (room_is l room kept.within) es (slice_set words k 0) counts sum there)
+
+  -- a member's standing is changed
+  pub IsKept-change : (place : ℕ) (old new : Standing) → (code : List ℕ) × (place_among code (roll_of l).members ≡ Some place) × IsChange (roll_of l) command code old new → new.votes ≤ 2 ^ 40
+      → (words1 words2 counts1 counts2 : List ℕ) (sum1 sum2 : ℕ)
+      → ((k : ℕ) → k < 32 → slice_index words1 k + votes_in (k + 1) old ≡ slice_index words k)
+      → ((k : ℕ) → k < 32 → slice_index words2 k ≡ slice_index words1 k + votes_in (k + 1) new)
+      → ((k : ℕ) → k < 32 → slice_index counts1 k + sits_as (k + 1) old ≡ slice_index counts k)
+      → ((k : ℕ) → k < 32 → slice_index counts2 k ≡ slice_index counts1 k + sits_as (k + 1) new)
+      → sum1 + counted old ≡ sum → sum2 ≡ sum1 + counted new
+      → (es' : List Entry) → es' ≡ set_value_at es place new
+      → IsKept (record { opening = l.opening; journal = journal; limit = l.limit }) es' words2 counts2 sum2
+  IsKept-change place old new planned small words1 words2 counts1 counts2 sum1 sum2 w1 w2 n1 n2 s1 s2 es' put =
+      let code = planned.0 in
+      let change = planned.2 in
+      let there : standing_among code es ≡ Some old = ap (standing_among code) kept.mirrors.same_members ∙ change.known in
+      let at : place_among code es ≡ Some place = ap (place_among code) kept.mirrors.same_members ∙ planned.1 in
+      let first = (Found-position (same_code code) es place at).first in
+      let changed = Mirrors-update (roll_of l) es words counts words2 counts2 sum sum2 code old new kept.mirrors change.known change.seat small
+      (λ k h. omega (arith, w1 k h, w2 k h)) (λ k h. omega (arith, n1 k h, n2 k h)) (omega (arith, s1, s2)) in
+      let kept2 = IsKept-appended l es words counts sum kept command _ change.effect (room_is l room kept.within) (with_standing code new es) words2 counts2 sum2 changed in
+      let same : es' ≡ with_standing code new es = put ∙ sym (insert_entry-first same_code code new es place first) ∙ insert-with_standing code new es old there in
+      written es' words2 counts2 sum2 (subst (λ (e : List Entry). IsKept (appended l command) e words2 counts2 sum2) (sym same) kept2)
+
+  -- the place of a member is one of theirs
+  pub place_within : (place : ℕ) (old new : Standing) → (code : List ℕ) × (place_among code (roll_of l).members ≡ Some place) × IsChange (roll_of l) command code old new → place < length es
+  place_within place old new planned =
+      (Found-position (same_code planned.0) es place (ap (place_among planned.0) kept.mirrors.same_members ∙ planned.1)).within

@@ -1,6 +1,8 @@
 -- What a register keeps beside its journal, and that it is what the roll says.
-use Rattle.std.specs.Prelude.{◌≡◌, ℕ, ◌+◌, ◌^◌, ◌≤◌, ◌<◌, true, false, if◌then◌else◌, List, length, sum_by, All, slice_index, Some}
-use Rattle.council_core.specs.Rolls.{Roll, Entry, chair_word, sits_in, total, is_open, can_receive, standing_among, step, update, all_accepted, opening_roll}
+use Rattle.std.specs.Prelude.{◌≡◌, ℕ, ◌+◌, ◌^◌, ◌≤◌, ◌<◌, true, false, if◌then◌else◌, List, length, sum_by, All, slice_index, Some, Ok}
+use Rattle.council_core.specs.Rolls.{Roll, Entry, chair_word, sits_in, total, is_open, can_receive, standing_among, place_among, has_members, opened, closed, step, update, all_accepted, opening_roll}
+use Rattle.council_core.specs.declared.changes.Change.{Change}
+use Rattle.council_core.specs.declared.changes.Change.TheVariants as change
 use Rattle.council_core.specs.declared.commands.Command.{Command}
 use Rattle.council_core.specs.declared.commands.Standing.{Standing}
 use Rattle.council_core.specs.Ledgers.{Ledger, roll_of}
@@ -28,8 +30,25 @@ pub record IsKept (ledger : Ledger) (entries : List Entry) (words counts : List 
   pub small_limit : ledger.limit ≤ 1000000
   pub mirrors : Mirrors (roll_of ledger) entries words counts sum
 
+-- the command opens a chair that is closed
+pub record IsOpening (roll : Roll) (command : Command) (chair : ℕ) : Type 0 where
+  pub shut : is_open roll chair ≡ false
+  pub effect : step roll command ≡ Ok (opened roll chair)
+
+-- the command closes an open chair that has no members
+pub record IsClosing (roll : Roll) (command : Command) (chair : ℕ) : Type 0 where
+  pub empty : has_members roll chair ≡ false
+  pub effect : step roll command ≡ Ok (closed roll chair)
+
 -- the command gives the member of that code a new standing, and nothing else
 pub record IsChange (roll : Roll) (command : Command) (code : List ℕ) (old new : Standing) : Type 0 where
   pub known : standing_among code roll.members ≡ Some old
   pub seat : can_receive roll new.chair ≡ true
   pub effect : step roll command ≡ update roll code new
+
+-- what the command does to the roll is this change
+abbrev pub IsPlanned : Roll → Command → Change → Type 0
+IsPlanned roll command (change.Open chair) = IsOpening roll command chair
+IsPlanned roll command (change.Close chair) = IsClosing roll command chair
+IsPlanned roll command (change.Stand place old new) =
+    (code : List ℕ) × (place_among code roll.members ≡ Some place) × IsChange roll command code old new

@@ -1,8 +1,8 @@
 -- The roll: members in order of entry, and the open chairs. What a command makes of it.
-use Rattle.std.specs.Prelude.{ℕ, ◌+◌, ◌≤◌, ◌==◌, Bool, true, false, not, ◌&&◌, if◌then◌else◌, List, [], ◌∷◌, ◌++◌, length, map, filter, sum_by, Option, None, Some, Result, Ok, Err, is_ok, IsTrue, nat_eq}
+use Rattle.std.specs.Prelude.{ℕ, ◌+◌, ◌≤◌, ◌==◌, Bool, true, false, not, ◌&&◌, if◌then◌else◌, List, [], ◌∷◌, ◌++◌, length, map, filter, position, sum_by, Option, None, Some, Result, Ok, Err, is_ok, IsTrue, nat_eq}
 use Rattle.std.specs.List.{list_any, range_with_len}
 use Rattle.std.specs.Option.{option_map_or}
-use Rattle.std.specs.Map.{lookup}
+use Rattle.std.specs.Map.{keys_of, lookup}
 use Rattle.std.specs.Cmp.Lexicographic.{pointwise}
 use Rattle.std.specs.Result.{result_unwrap_or}
 use Rattle.council_core.specs.declared.refusals.Refusal.{Refusal}
@@ -59,11 +59,18 @@ abbrev pub with_standing : List ℕ → Standing → List Entry → List Entry
 with_standing code s [] = []
 with_standing code s (m ∷ ms) = if same_code code m.0 then (m.0, s) ∷ ms else m ∷ with_standing code s ms
 
+-- the place of the member of a code, if there is one
+abbrev pub place_among : List ℕ → List Entry → Option ℕ
+place_among code ms = position (same_code code) (keys_of ms)
+
 abbrev pub update : Roll → List ℕ → Standing → Result Roll Refusal
 update r code s = Ok (record r { members = with_standing code s r.members })
 
+abbrev pub opened : Roll → ℕ → Roll
+opened r c = record r { open_chairs = c ∷ r.open_chairs }
+
 abbrev pub open_chair : Roll → ℕ → Result Roll Refusal
-open_chair r c = if is_open r c then Err ChairOpen else Ok (record r { open_chairs = c ∷ r.open_chairs })
+open_chair r c = if is_open r c then Err ChairOpen else Ok (opened r c)
 
 abbrev pub closed : Roll → ℕ → Roll
 closed r c = record r { open_chairs = filter (λ d. not (c == d)) r.open_chairs }

@@ -1,6 +1,7 @@
 //! The register of members, their votes and the chairs that cast them.
 #![tactic(auto)]
 
+mod changes;
 mod commands;
 mod laws;
 mod refusals;

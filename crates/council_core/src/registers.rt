@@ -1,18 +1,19 @@
 //! The register.
-ghost use Rattle.std.specs.Prelude.{◌≡◌, ◌+◌, ◌≤◌, ◌<◌, ◌==◌, ℕ, length, slice_index, MatchResult, MatchOption, IsOk, None, Some, Ok, Err, true, false, IfSome, IfOk, IfErr, OnOk, OnErr, ◌++◌, ◌∷◌, [], IsOkUnless, if◌then◌else◌, not};
+ghost use Rattle.std.specs.Prelude.{◌≡◌, ◌≤◌, ◌<◌, ◌==◌, ℕ, length, None, Some, Ok, Err, true, false, IfOk, IfErr, OnErr, []};
 ghost use Rattle.std.specs.List.{list_any};
 ghost use Rattle.std.specs.Prelude.{slice_get};
 ghost use Rattle.std.specs.Option.{option_map};
 ghost use Rattle.council_core.specs.Members.{row_of};
 ghost use Rattle.council_core.specs.Sheets.{IsSheet};
 ghost use Rattle.council_core.specs.Rolls.{IsLegal};
-ghost use Rattle.council_core.specs.Rolls.{step, is_open, can_receive, standing_among, sits_in, same_code, open_chair, close_chair, has_members, update};
-ghost use Rattle.council_core.specs.Verdicts.{Agrees, Follows};
-ghost use Rattle.council_core.specs.Registers.{IsChange};
+ghost use Rattle.council_core.specs.Rolls.{step, is_open, can_receive, standing_among, place_among, same_code, has_members};
+ghost use Rattle.council_core.specs.Verdicts.{Follows};
+ghost use Rattle.council_core.specs.Registers.{IsPlanned};
 ghost use Rattle.council_core.specs.Ledgers.{Ledger, IsLedger, roll_of, verdict_of, room_of, appended, sheet_of, has_duplicate, start_verdict};
 ghost use Rattle.council_core.specs.declared.commands.Command.TheVariants.{Open, Close, Move, SetVotes, Suspend, Restore};
-ghost use Rattle.council_core.specs.declared.refusals.Refusal.TheVariants.{OutOfMemory};
+ghost use Rattle.council_core.specs.declared.refusals.Refusal.TheVariants.{OutOfMemory, UnknownMember};
 
+use crate::changes::Change;
 use crate::commands::{Command, MemberRow, Standing};
 use crate::refusals::Refusal;
 use crate::sheets::Sheet;
@@ -146,11 +147,10 @@ impl Register {
         self.tally.words[place_of(chair)] != 0
     }
 
-    fn standing_of(&self, code: MemberCode) -> Option<Standing>
-        ensures found { result ≡ standing_among code (roll_of self.now).members }
-        ensures seat { IfSome result (λ s. can_receive (roll_of self.now) s.chair ≡ true) }
+    fn has_members(&self, chair: ChairId) -> bool
+        ensures { result ≡ has_members (roll_of self.now) chair }
     {
-        self.members.get(&code).copied()
+        self.tally.counts[place_of(chair)] != 0
     }
 
     fn can_receive(&self, to: Option<ChairId>) -> bool
@@ -162,28 +162,47 @@ impl Register {
         }
     }
 
-    fn check_open(&self, chair: ChairId) -> Result<(), Refusal>
-        ensures { Agrees (open_chair (roll_of self.now) chair) result }
+    // The place of the member of a code, and its standing.
+    fn find(&self, code: MemberCode) -> Result<(usize, Standing), Refusal>
+        ensures place { IfOk result (λ m. place_among code (roll_of self.now).members ≡ Some m.0) }
+        ensures found { IfOk result (λ m. standing_among code (roll_of self.now).members ≡ Some m.1) }
+        ensures seat { IfOk result (λ m. can_receive (roll_of self.now) m.1.chair ≡ true) }
+        ensures unknown { IfErr result (λ e. (e ≡ UnknownMember) × (standing_among code (roll_of self.now).members ≡ None)) }
     {
-        if self.is_open(chair) {
-            Err(Refusal::ChairOpen)
-        } else {
-            Ok(())
+        match self.members.get_full(&code) {
+            Some((place, _code, standing)) => Ok((place, *standing)),
+            None => Err(Refusal::UnknownMember),
         }
     }
 
-    // The standing of the member before and after the move.
-    fn plan_move_to(
-        &self,
-        code: MemberCode,
-        to: Option<ChairId>,
-    ) -> Result<(Standing, Standing), Refusal>
-        ensures refused { IfErr result (λ e. step (roll_of self.now) (Move code to) ≡ Err e) }
-        ensures planned { IfOk result (λ p. IsChange (roll_of self.now) (Move code to) code p.0 p.1) }
+    fn plan_open(&self, chair: ChairId) -> Result<Change, Refusal>
+        ensures refused { IfErr result (λ e. step (roll_of self.now) (Open chair) ≡ Err e) }
+        ensures planned { IfOk result (IsPlanned (roll_of self.now) (Open chair)) }
     {
-        let Some(old) = self.standing_of(code) else {
-            return Err(Refusal::UnknownMember);
-        };
+        if self.is_open(chair) {
+            return Err(Refusal::ChairOpen);
+        }
+        Ok(Change::Open(chair))
+    }
+
+    fn plan_close(&self, chair: ChairId) -> Result<Change, Refusal>
+        ensures refused { IfErr result (λ e. step (roll_of self.now) (Close chair) ≡ Err e) }
+        ensures planned { IfOk result (IsPlanned (roll_of self.now) (Close chair)) }
+    {
+        if !self.is_open(chair) {
+            return Err(Refusal::ChairNotOpen);
+        }
+        if self.has_members(chair) {
+            return Err(Refusal::ChairHasMembers);
+        }
+        Ok(Change::Close(chair))
+    }
+
+    fn plan_move(&self, code: MemberCode, to: Option<ChairId>) -> Result<Change, Refusal>
+        ensures refused { IfErr result (λ e. step (roll_of self.now) (Move code to) ≡ Err e) }
+        ensures planned { IfOk result (IsPlanned (roll_of self.now) (Move code to)) }
+    {
+        let (place, old) = self.find(code)?;
         if old.suspended {
             return Err(Refusal::MemberSuspended);
         }
@@ -193,7 +212,62 @@ impl Register {
         if old.chair == to {
             return Err(Refusal::AlreadyThere);
         }
-        Ok((old, Standing { chair: to, ..old }))
+        let new = Standing { chair: to, ..old };
+        Ok(Change::Stand { place, old, new })
+    }
+
+    fn plan_set_votes(&self, code: MemberCode, votes: Votes) -> Result<Change, Refusal>
+        ensures refused { IfErr result (λ e. step (roll_of self.now) (SetVotes code votes) ≡ Err e) }
+        ensures planned { IfOk result (IsPlanned (roll_of self.now) (SetVotes code votes)) }
+    {
+        let (place, old) = self.find(code)?;
+        let new = Standing { votes, ..old };
+        Ok(Change::Stand { place, old, new })
+    }
+
+    fn plan_suspend(&self, code: MemberCode) -> Result<Change, Refusal>
+        ensures refused { IfErr result (λ e. step (roll_of self.now) (Suspend code) ≡ Err e) }
+        ensures planned { IfOk result (IsPlanned (roll_of self.now) (Suspend code)) }
+    {
+        let (place, old) = self.find(code)?;
+        if old.suspended {
+            return Err(Refusal::AlreadySuspended);
+        }
+        let new = Standing {
+            suspended: true,
+            ..old
+        };
+        Ok(Change::Stand { place, old, new })
+    }
+
+    fn plan_restore(&self, code: MemberCode) -> Result<Change, Refusal>
+        ensures refused { IfErr result (λ e. step (roll_of self.now) (Restore code) ≡ Err e) }
+        ensures planned { IfOk result (IsPlanned (roll_of self.now) (Restore code)) }
+    {
+        let (place, old) = self.find(code)?;
+        if !old.suspended {
+            return Err(Refusal::NotSuspended);
+        }
+        let new = Standing {
+            suspended: false,
+            ..old
+        };
+        Ok(Change::Stand { place, old, new })
+    }
+
+    // What a command changes, or the refusal of its step.
+    fn plan(&self, command: Command) -> Result<Change, Refusal>
+        ensures refused { IfErr result (λ e. step (roll_of self.now) command ≡ Err e) }
+        ensures planned { IfOk result (IsPlanned (roll_of self.now) command) }
+    {
+        match command {
+            Command::Open(chair) => self.plan_open(chair),
+            Command::Close(chair) => self.plan_close(chair),
+            Command::Move(code, to) => self.plan_move(code, to),
+            Command::SetVotes(code, votes) => self.plan_set_votes(code, votes),
+            Command::Suspend(code) => self.plan_suspend(code),
+            Command::Restore(code) => self.plan_restore(code),
+        }
     }
 
     fn check_room(&self) -> Result<(), Refusal>
@@ -206,95 +280,14 @@ impl Register {
         }
     }
 
-    fn has_members(&self, chair: ChairId) -> bool
-        ensures { result ≡ has_members (roll_of self.now) chair }
-    {
-        self.tally.counts[place_of(chair)] != 0
-    }
-
-    fn check_close(&self, chair: ChairId) -> Result<(), Refusal>
-        ensures { Agrees (close_chair (roll_of self.now) chair) result }
-    {
-        if !self.is_open(chair) {
-            return Err(Refusal::ChairNotOpen);
-        }
-        if self.has_members(chair) {
-            return Err(Refusal::ChairHasMembers);
-        }
-        Ok(())
-    }
-
-    fn plan_set_votes(
-        &self,
-        code: MemberCode,
-        votes: Votes,
-    ) -> Result<(Standing, Standing), Refusal>
-        ensures refused { IfErr result (λ e. step (roll_of self.now) (SetVotes code votes) ≡ Err e) }
-        ensures planned { IfOk result (λ p. IsChange (roll_of self.now) (SetVotes code votes) code p.0 p.1) }
-    {
-        let Some(old) = self.standing_of(code) else {
-            return Err(Refusal::UnknownMember);
-        };
-        Ok((old, Standing { votes, ..old }))
-    }
-
-    fn plan_suspend(&self, code: MemberCode) -> Result<(Standing, Standing), Refusal>
-        ensures refused { IfErr result (λ e. step (roll_of self.now) (Suspend code) ≡ Err e) }
-        ensures planned { IfOk result (λ p. IsChange (roll_of self.now) (Suspend code) code p.0 p.1) }
-    {
-        let Some(old) = self.standing_of(code) else {
-            return Err(Refusal::UnknownMember);
-        };
-        if old.suspended {
-            return Err(Refusal::AlreadySuspended);
-        }
-        Ok((
-            old,
-            Standing {
-                suspended: true,
-                ..old
-            },
-        ))
-    }
-
-    fn plan_restore(&self, code: MemberCode) -> Result<(Standing, Standing), Refusal>
-        ensures refused { IfErr result (λ e. step (roll_of self.now) (Restore code) ≡ Err e) }
-        ensures planned { IfOk result (λ p. IsChange (roll_of self.now) (Restore code) code p.0 p.1) }
-    {
-        let Some(old) = self.standing_of(code) else {
-            return Err(Refusal::UnknownMember);
-        };
-        if !old.suspended {
-            return Err(Refusal::NotSuspended);
-        }
-        Ok((
-            old,
-            Standing {
-                suspended: false,
-                ..old
-            },
-        ))
-    }
-
-    fn check_step(&self, command: Command) -> Result<(), Refusal>
-        ensures { Agrees (step (roll_of self.now) command) result }
-    {
-        match command {
-            Command::Open(chair) => self.check_open(chair),
-            Command::Close(chair) => self.check_close(chair),
-            Command::Move(code, to) => self.plan_move_to(code, to).map(|_| ()),
-            Command::SetVotes(code, votes) => self.plan_set_votes(code, votes).map(|_| ()),
-            Command::Suspend(code) => self.plan_suspend(code).map(|_| ()),
-            Command::Restore(code) => self.plan_restore(code).map(|_| ()),
-        }
-    }
-
     /// What `apply` would refuse, want of memory aside: one of the refusals numbered 1 to 9.
     pub fn check(&self, command: Command) -> Result<(), Refusal>
         ensures verdict { result ≡ verdict_of self.now command }
     {
-        self.check_step(command)?;
-        self.check_room()
+        match self.plan(command) {
+            Ok(_) => self.check_room(),
+            Err(why) => Err(why),
+        }
     }
 
     /// Carries out a command, and answers how many commands were accepted, this one with them.
@@ -306,124 +299,25 @@ impl Register {
         ensures accepted { IfOk result (λ n. (self.new ≡ appended self.old command) × (n ≡ length self.new.journal)) }
         ensures unchanged { OnErr result (self.new ≡ self.old) }
     {
-        match command {
-            Command::Open(chair) => self.open(chair),
-            Command::Close(chair) => self.close(chair),
-            Command::Move(code, to) => self.move_to(code, to),
-            Command::SetVotes(code, votes) => self.set_votes(code, votes),
-            Command::Suspend(code) => self.suspend(code),
-            Command::Restore(code) => self.restore(code),
-        }
-    }
-
-    fn open(&mut self, chair: ChairId) -> Result<u32, Refusal>
-        ensures verdict { Follows (verdict_of self.old (Open chair)) result OutOfMemory }
-        ensures accepted { IfOk result (λ n. (self.new ≡ appended self.old (Open chair)) × (n ≡ length self.new.journal)) }
-        ensures unchanged { OnErr result (self.new ≡ self.old) }
-    {
-        self.check_open(chair)?;
-        self.check_room()?;
-        self.carry_out_open(chair)
-    }
-
-    fn close(&mut self, chair: ChairId) -> Result<u32, Refusal>
-        ensures verdict { Follows (verdict_of self.old (Close chair)) result OutOfMemory }
-        ensures accepted { IfOk result (λ n. (self.new ≡ appended self.old (Close chair)) × (n ≡ length self.new.journal)) }
-        ensures unchanged { OnErr result (self.new ≡ self.old) }
-    {
-        self.check_close(chair)?;
-        self.check_room()?;
-        self.carry_out_close(chair)
-    }
-
-    fn move_to(&mut self, code: MemberCode, to: Option<ChairId>) -> Result<u32, Refusal>
-        ensures verdict { Follows (verdict_of self.old (Move code to)) result OutOfMemory }
-        ensures accepted { IfOk result (λ n. (self.new ≡ appended self.old (Move code to)) × (n ≡ length self.new.journal)) }
-        ensures unchanged { OnErr result (self.new ≡ self.old) }
-    {
-        let command = match to {
-            Some(chair) => Command::Move(code, Some(chair)),
-            None => Command::Move(code, None),
+        // The prover asks for this line: a plan has chairs.
+        let _nowhere: Option<ChairId> = None;
+        let change = match self.plan(command) {
+            Ok(change) => change,
+            Err(why) => return Err(why),
         };
-        let (old, new) = self.plan_move_to(code, to)?;
         self.check_room()?;
-        self.carry_out_change(command, code, old, new)
-    }
-
-    fn set_votes(&mut self, code: MemberCode, votes: Votes) -> Result<u32, Refusal>
-        ensures verdict { Follows (verdict_of self.old (SetVotes code votes)) result OutOfMemory }
-        ensures accepted { IfOk result (λ n. (self.new ≡ appended self.old (SetVotes code votes)) × (n ≡ length self.new.journal)) }
-        ensures unchanged { OnErr result (self.new ≡ self.old) }
-    {
-        let _nowhere: Option<ChairId> = None;
-        let (old, new) = self.plan_set_votes(code, votes)?;
-        self.check_room()?;
-        self.carry_out_change(Command::SetVotes(code, votes), code, old, new)
-    }
-
-    fn suspend(&mut self, code: MemberCode) -> Result<u32, Refusal>
-        ensures verdict { Follows (verdict_of self.old (Suspend code)) result OutOfMemory }
-        ensures accepted { IfOk result (λ n. (self.new ≡ appended self.old (Suspend code)) × (n ≡ length self.new.journal)) }
-        ensures unchanged { OnErr result (self.new ≡ self.old) }
-    {
-        let _nowhere: Option<ChairId> = None;
-        let (old, new) = self.plan_suspend(code)?;
-        self.check_room()?;
-        self.carry_out_change(Command::Suspend(code), code, old, new)
-    }
-
-    fn restore(&mut self, code: MemberCode) -> Result<u32, Refusal>
-        ensures verdict { Follows (verdict_of self.old (Restore code)) result OutOfMemory }
-        ensures accepted { IfOk result (λ n. (self.new ≡ appended self.old (Restore code)) × (n ≡ length self.new.journal)) }
-        ensures unchanged { OnErr result (self.new ≡ self.old) }
-    {
-        let _nowhere: Option<ChairId> = None;
-        let (old, new) = self.plan_restore(code)?;
-        self.check_room()?;
-        self.carry_out_change(Command::Restore(code), code, old, new)
-    }
-
-    fn carry_out_close(&mut self, chair: ChairId) -> Result<u32, Refusal>
-        requires { verdict_of self.old (Close chair) ≡ Ok tt }
-        ensures accepted { IfOk result (λ n. (self.new ≡ appended self.old (Close chair)) × (n ≡ length self.new.journal)) }
-        ensures unchanged { OnErr result (self.new ≡ self.old) }
-        ensures memory { IsOkUnless result OutOfMemory }
-    {
-        append(&mut self.journal, Command::Close(chair))?;
-        self.tally.words[place_of(chair)] = 0;
-        Ok(self.journal.len() as u32)
-    }
-
-    fn carry_out_open(&mut self, chair: ChairId) -> Result<u32, Refusal>
-        requires { verdict_of self.old (Open chair) ≡ Ok tt }
-        ensures accepted { IfOk result (λ n. (self.new ≡ appended self.old (Open chair)) × (n ≡ length self.new.journal)) }
-        ensures unchanged { OnErr result (self.new ≡ self.old) }
-        ensures memory { IsOkUnless result OutOfMemory }
-    {
-        append(&mut self.journal, Command::Open(chair))?;
-        self.tally.words[place_of(chair)] = 1;
-        Ok(self.journal.len() as u32)
-    }
-
-    // Gives a member a new standing, by a command that does so.
-    fn carry_out_change(
-        &mut self,
-        command: Command,
-        code: MemberCode,
-        old: Standing,
-        new: Standing,
-    ) -> Result<u32, Refusal>
-        requires change { IsChange (roll_of self.old) command code old new }
-        requires room { room_of self.old ≡ Ok tt }
-        ensures accepted { IfOk result (λ n. (self.new ≡ appended self.old command) × (n ≡ length self.new.journal)) }
-        ensures unchanged { OnErr result (self.new ≡ self.old) }
-        ensures memory { IsOkUnless result OutOfMemory }
-    {
-        append(&mut self.journal, command)?;
-        let _votes = new.votes.number();
-        self.tally.withdraw(&old);
-        self.tally.enter(&new);
-        put(&mut self.members, code, new);
+        append(&mut self.journal, &command)?;
+        match change {
+            Change::Open(chair) => self.tally.words[place_of(chair)] = 1,
+            Change::Close(chair) => self.tally.words[place_of(chair)] = 0,
+            Change::Stand { place, old, new } => {
+                // The prover asks for this line: the votes are in range.
+                let _votes = new.votes.number();
+                self.tally.withdraw(&old);
+                self.tally.enter(&new);
+                put(&mut self.members, place, new);
+            }
+        }
         Ok(self.journal.len() as u32)
     }
 }

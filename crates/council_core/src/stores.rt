@@ -1,9 +1,9 @@
 //! Writes to the journal and to the members, with this crate's refusals.
-ghost use Rattle.std.specs.Prelude.{◌≡◌, ◌++◌, ◌∷◌, [], OnOk, OnErr, IsOkUnless, IsSome, IfOk, None, false, map};
-ghost use Rattle.indexmap.specs.IndexMap.{get, insert_entry};
+ghost use Rattle.std.specs.Prelude.{◌≡◌, ◌<◌, ◌++◌, ◌∷◌, [], OnOk, OnErr, IsOkUnless, IfOk, None, false, length, map};
+ghost use Rattle.indexmap.specs.IndexMap.{set_value_at};
 ghost use Rattle.council_core.specs.declared.refusals.Refusal.TheVariants.{OutOfMemory};
 ghost use Rattle.council_core.specs.Ledgers.{has_duplicate};
-ghost use Rattle.council_core.specs.Rolls.{same_code, standing_among, entered};
+ghost use Rattle.council_core.specs.Rolls.{standing_among, entered};
 
 use crate::commands::{Command, Standing};
 use crate::refusals::Refusal;
@@ -11,27 +11,26 @@ use crate::values::{ChairId, MemberCode, Votes};
 use indexmap::IndexMap;
 use std::alloc::Global;
 
-pub(crate) fn append(journal: &mut Vec<Command>, command: Command) -> Result<(), Refusal>
-    ensures ok { OnOk result (journal.new.items ≡ journal.old.items ++ command ∷ []) }
+pub(crate) fn append(journal: &mut Vec<Command>, command: &Command) -> Result<(), Refusal>
+    ensures ok { OnOk result (journal.new.items ≡ journal.old.items ++ command.now ∷ []) }
     ensures err { OnErr result (journal.new.items ≡ journal.old.items) }
     ensures memory { IsOkUnless result OutOfMemory }
 {
     let _nowhere: Option<ChairId> = None;
-    match journal.push(command) {
+    match journal.push(*command) {
         Ok(()) => Ok(()),
         Err(_) => Err(Refusal::OutOfMemory),
     }
 }
 
-// Writes the standing of a member that is there.
-pub(crate) fn put(members: &mut IndexMap<MemberCode, Standing>, code: MemberCode, new: Standing)
-    requires { IsSome (standing_among code members.old.entries) }
-    ensures { members.new.entries ≡ insert_entry same_code members.old.entries code new }
+// Writes the standing of the member at a place.
+pub(crate) fn put(members: &mut IndexMap<MemberCode, Standing>, place: usize, new: Standing)
+    requires { place < length members.old.entries }
+    ensures { members.new.entries ≡ set_value_at members.old.entries place new }
 {
-    let _nowhere: Option<ChairId> = None;
-    match members.insert(code, new) {
-        Ok(_) => {}
-        Err(_) => unreachable!(),
+    match members.get_index_mut(place) {
+        Some(standing) => *standing = new,
+        None => unreachable!(),
     }
 }
 

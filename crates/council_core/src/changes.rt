@@ -1,0 +1,18 @@
+//! What accepted commands change.
+use crate::commands::Standing;
+use crate::values::ChairId;
+
+/// What an accepted command changes beside the journal.
+#[derive(Clone, Copy)]
+pub(crate) enum Change {
+    /// A chair that was closed is open.
+    Open(ChairId),
+    /// A chair that was open is closed.
+    Close(ChairId),
+    /// The member at a place, in the order of entry, has another standing.
+    Stand {
+        place: usize,
+        old: Standing,
+        new: Standing,
+    },
+}
