@@ -1,9 +1,9 @@
-/* Refuses growth on demand, for tests. Loaded before the C library (LD_PRELOAD); it changes nothing for a program that asks for
- * none of what stands here.
+/* Refuses growth on demand, for tests. Loaded before the C library (LD_PRELOAD); it changes nothing for a program that asks
+ * for none of what stands here.
  *
- * A growth is a call of malloc, calloc or realloc between the beginning of main and its end, whoever makes it: the program, or the
- * C library on its behalf, as for a new thread. A realloc counts also where it asks for no more than before. What the C library takes
- * from the kernel by itself, as a thread's stack, is none, and nor is what is asked for before main.
+ * A growth is a call of malloc, calloc or realloc between the beginning of main and its end, whoever makes it: the program, or
+ * the C library on its behalf, as for a new thread. A realloc counts also where it asks for no more than before. What the C
+ * library takes from the kernel by itself, as a thread's stack, is none, and nor is what is asked for before main.
  *
  * - While a block of 77,777,777 bytes is held every growth is refused. When it is given back, standard error gets a line with how
  *   many were.
