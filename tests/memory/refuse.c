@@ -1,30 +1,72 @@
-/* Refuses growth on demand, for tests: while a block of REFUSED bytes is held, every other request for memory fails. When it is
- * given back, standard error gets a line with how many were refused. Loaded before the C library (LD_PRELOAD); it changes
- * nothing for a program that asks for no such block. */
+/* Refuses growth on demand, for tests. Loaded before the C library (LD_PRELOAD); it changes nothing for a program that asks
+ * for none of what stands here.
+ *
+ * A growth is a call of malloc, calloc or realloc between the beginning of main and its end, whoever makes it: the program, or
+ * the C library on its behalf, as for a new thread. A realloc counts also where it asks for no more than before. What the C
+ * library takes from the kernel by itself, as a thread's stack, is none, and nor is what is asked for before main.
+ *
+ * - While a block of 77,777,777 bytes is held every growth is refused. When it is given back, standard error gets a line with how
+ *   many were.
+ * - Where a block of 77,000,000 + N bytes is given, N from 1 to 700,000, the Nth growth after it is refused, once; giving the
+ *   block back ends this.
+ * - Where the environment has REFUSE_GROWTH=N, the Nth growth of the whole run is refused, once.
+ *
+ * Each of the last two writes a line to descriptor 99, where that is open, when it refuses. */
+#define _GNU_SOURCE
+#include <dlfcn.h>
+#include <errno.h>
+#include <stdatomic.h>
 #include <stddef.h>
 #include <stdio.h>
+#include <stdlib.h>
+#include <unistd.h>
 
-#define REFUSED 77777777
+#define REFUSING 77777777
+#define COUNTING 77000000
+#define MOST 700000
+#define TOLD 99
 
 void *__libc_malloc(size_t);
 void *__libc_realloc(void *, size_t);
 void *__libc_calloc(size_t, size_t);
 void __libc_free(void *);
 
-static void *held;
-static long refused;
+static atomic_bool in_main;
+/* The block while which all growth is refused, and how many were. */
+static _Atomic(void *) refusing;
+static atomic_long refused;
+/* The block that counts, and the number of the growth that is refused, counted from now: 1 is the next, 0 or less is none. */
+static _Atomic(void *) counting;
+static atomic_long until;
 
+static void tell(void) {
+    static const char line[] = "a growth was refused\n";
+    ssize_t told = write(TOLD, line, sizeof line - 1);
+    (void)told;
+}
+
+/* Whether this growth is refused; if so, the error is that of a malloc that has no memory. */
 static int refuses(void) {
-    if (held) refused++;
-    return held != NULL;
+    if (!atomic_load(&in_main)) return 0;
+    if (atomic_load(&refusing)) {
+        atomic_fetch_add(&refused, 1);
+    } else {
+        if (atomic_load(&until) <= 0 || atomic_fetch_sub(&until, 1) != 1) return 0;
+        tell();
+    }
+    errno = ENOMEM;
+    return 1;
 }
 
 void *malloc(size_t size) {
     if (refuses()) return NULL;
     void *block = __libc_malloc(size);
-    if (size == REFUSED) {
-        held = block;
-        refused = 0;
+    if (block && size == REFUSING) {
+        atomic_store(&refused, 0);
+        atomic_store(&refusing, block);
+    } else if (block && COUNTING < size && size <= COUNTING + MOST) {
+        atomic_store(&counting, block);
+        atomic_store(&until, (long)(size - COUNTING));
     }
     return block;
 }
@@ -34,9 +76,35 @@ void *realloc(void *block, size_t size) { return refuses() ? NULL : __libc_reall
 void *calloc(size_t count, size_t size) { return refuses() ? NULL : __libc_calloc(count, size); }
 
 void free(void *block) {
-    if (held && block == held) {
-        held = NULL;
-        fprintf(stderr, "growths refused: %ld\n", refused);
+    if (block && block == atomic_load(&refusing)) {
+        atomic_store(&refusing, NULL);
+        fprintf(stderr, "growths refused: %ld\n", atomic_load(&refused));
+    }
+    if (block && block == atomic_load(&counting)) {
+        atomic_store(&counting, NULL);
+        atomic_store(&until, 0);
     }
     __libc_free(block);
+}
+
+static int (*program)(int, char **, char **);
+
+/* The program's main, between which and its end growths count. */
+static int counted(int words, char **texts, char **environment) {
+    const char *number = getenv("REFUSE_GROWTH");
+    if (number) atomic_store(&until, atol(number));
+    atomic_store(&in_main, 1);
+    int status = program(words, texts, environment);
+    atomic_store(&in_main, 0);
+    return status;
+}
+
+/* The C library's first call, which is handed main. */
+int __libc_start_main(int (*main)(int, char **, char **), int words, char **texts, void (*begin)(void), void (*end)(void),
+                      void (*unload)(void), void *stack) {
+    int (*start)(int (*)(int, char **, char **), int, char **, void (*)(void), void (*)(void), void (*)(void), void *) =
+        (int (*)(int (*)(int, char **, char **), int, char **, void (*)(void), void (*)(void), void (*)(void), void *))dlsym(
+            RTLD_NEXT, "__libc_start_main");
+    program = main;
+    return start(counted, words, texts, begin, end, unload, stack);
 }

@@ -2,8 +2,18 @@
 #![tactic(auto)]
 
 #[cfg(test)]
+mod board_calls;
+#[cfg(test)]
+mod growth_calls;
+#[cfg(test)]
 mod inputs;
 #[cfg(test)]
 mod plain;
+#[cfg(test)]
+mod refused_growths;
+#[cfg(test)]
+mod run_calls;
+#[cfg(test)]
+mod seen;
 #[cfg(test)]
 mod sheets;
