@@ -10,6 +10,9 @@ use std::time::Instant;
 
 // ---------------------------------------------------------------- counting
 
+/// The subsets of one half's chairs at most.
+const SUBSETS: usize = 65_536;
+
 /// A set of chairs of one half, by its weight and its slots.
 #[derive(Clone, Copy, Default)]
 struct Entry {
@@ -17,78 +20,247 @@ struct Entry {
     mask: u16,
 }
 
+#[inline(always)]
+fn pick(first: bool, a: u64, b: u64) -> u64 {
+    b ^ ((a ^ b) & 0u64.wrapping_sub(u64::from(first)))
+}
+
+#[inline(always)]
+fn pick_mask(first: bool, a: u16, b: u16) -> u16 {
+    b ^ ((a ^ b) & 0u16.wrapping_sub(u16::from(first)))
+}
+
+/// Puts the sets with one more chair among the sets without it, ascending.
+type Merge = fn(&[Entry], u64, u16, &mut [Entry]);
+
+/// One chain, with a branch on the weights: the fastest where weights repeat.
+fn merge_by_branch(list: &[Entry], weight: u64, bit: u16, into: &mut [Entry]) {
+    let joined = |e: &Entry| Entry {
+        sum: e.sum + weight,
+        mask: e.mask | bit,
+    };
+    let (mut next, mut place) = (0, 0);
+    for entry in list {
+        while list[next].sum + weight < entry.sum {
+            into[place] = joined(&list[next]);
+            next += 1;
+            place += 1;
+        }
+        into[place] = *entry;
+        place += 1;
+    }
+    for (rest, put) in list[next..].iter().zip(&mut into[place..]) {
+        *put = joined(rest);
+    }
+}
+
+/// A chain from each end, with no branch on the weights: the fastest where they don't repeat.
+fn merge_from_both_ends(list: &[Entry], weight: u64, bit: u16, into: &mut [Entry]) {
+    let n = list.len();
+    let (mut plain, mut joined, mut last_plain, mut last_joined) = (0, 0, n, n);
+    let (front, back) = into[..2 * n].split_at_mut(n);
+    for k in 0..n {
+        let (a, b) = (list[plain], list[joined]);
+        let sum = b.sum + weight;
+        let other = sum < a.sum;
+        front[k] = Entry {
+            sum: pick(other, sum, a.sum),
+            mask: pick_mask(other, b.mask | bit, a.mask),
+        };
+        joined += usize::from(other);
+        plain += usize::from(!other);
+        let (a, b) = (list[last_plain - 1], list[last_joined - 1]);
+        let sum = b.sum + weight;
+        let other = sum >= a.sum;
+        back[n - 1 - k] = Entry {
+            sum: pick(other, sum, a.sum),
+            mask: pick_mask(other, b.mask | bit, a.mask),
+        };
+        last_joined -= usize::from(other);
+        last_plain -= usize::from(!other);
+    }
+}
+
 /// The subset sums of up to sixteen chairs, ascending (Horowitz and Sahni 1974).
 struct Half {
     entries: Vec<Entry>,
     scratch: Vec<Entry>,
+    count: usize,
 }
 
 impl Half {
     fn new() -> Half {
-        let mut entries = Vec::with_capacity(65_536);
-        entries.push(Entry::default());
         Half {
-            entries,
-            scratch: Vec::with_capacity(65_536),
+            entries: vec![Entry::default(); SUBSETS],
+            scratch: vec![Entry::default(); SUBSETS],
+            count: 1,
         }
     }
 
-    fn rebuild(&mut self, words: &[u64]) {
-        self.entries.clear();
-        self.entries.push(Entry::default());
+    fn entries(&self) -> &[Entry] {
+        &self.entries[..self.count]
+    }
+
+    fn rebuild(&mut self, words: &[u64], merge: Merge) {
+        self.entries[0] = Entry::default();
+        self.count = 1;
         for (slot, &word) in words.iter().enumerate() {
             if word > 0 {
-                self.add(word - 1, 1 << slot);
+                let into = &mut self.scratch[..2 * self.count];
+                merge(&self.entries[..self.count], word - 1, 1 << slot, into);
+                self.count *= 2;
+                std::mem::swap(&mut self.entries, &mut self.scratch);
             }
         }
     }
+}
 
-    fn add(&mut self, weight: u64, bit: u16) {
-        self.scratch.clear();
-        let mut joined = self.entries.iter().map(|e| Entry {
-            sum: e.sum + weight,
-            mask: e.mask | bit,
-        });
-        let mut next = joined.next();
-        for &entry in &self.entries {
-            while let Some(other) = next.filter(|other| other.sum < entry.sum) {
-                self.scratch.push(other);
-                next = joined.next();
-            }
-            self.scratch.push(entry);
+/// Amounts credited to the chairs of sets, kept by the two bytes of a set's slots.
+struct Credits {
+    low: [u64; 256],
+    high: [u64; 256],
+}
+
+impl Credits {
+    fn new() -> Credits {
+        Credits {
+            low: [0; 256],
+            high: [0; 256],
         }
-        self.scratch.extend(next);
-        self.scratch.extend(joined);
-        std::mem::swap(&mut self.entries, &mut self.scratch);
+    }
+
+    #[inline(always)]
+    fn add(&mut self, mask: u16, amount: u64) {
+        self.low[usize::from(mask & 255)] += amount;
+        self.high[usize::from(mask >> 8)] += amount;
+    }
+
+    fn add_to(&self, totals: &mut [u64]) {
+        for byte in 0..256 {
+            for slot in 0..8 {
+                if byte >> slot & 1 == 1 {
+                    totals[slot] += self.low[byte];
+                    totals[8 + slot] += self.high[byte];
+                }
+            }
+        }
     }
 }
 
 /// The winning pairs, and for each place those that have its chair.
-fn count(left: &[Entry], right: &[Entry], quota: u64) -> (u64, [u64; 32]) {
-    let mut winning = 0;
-    let mut with_chair = [0; 32];
-    let mut at = right.len();
-    for (i, entry) in left.iter().enumerate() {
-        while at > 0 && entry.sum + right[at - 1].sum >= quota {
+type Walk = fn(&[Entry], &[Entry], u64) -> (u64, [u64; 32]);
+
+fn by_place(left: &[Credits], right: &[Credits]) -> [u64; 32] {
+    let mut totals = [0; 32];
+    left.iter().for_each(|credits| credits.add_to(&mut totals[..16]));
+    right.iter().for_each(|credits| credits.add_to(&mut totals[16..]));
+    totals
+}
+
+/// One walk, up the left list and down the right one, with a branch on the weights.
+fn walk_by_branch(left: &[Entry], right: &[Entry], quota: u64) -> (u64, [u64; 32]) {
+    let (mut lefts, mut rights) = (Credits::new(), Credits::new());
+    let (mut at, mut winning) = (right.len(), 0);
+    for (next, entry) in left.iter().enumerate() {
+        while at > 0 && quota <= entry.sum + right[at - 1].sum {
             at -= 1;
-            add_marked(
-                &mut with_chair[16..],
-                right[at].mask,
-                (left.len() - i) as u64,
-            );
+            rights.add(right[at].mask, (left.len() - next) as u64);
         }
         let partners = (right.len() - at) as u64;
         winning += partners;
-        add_marked(&mut with_chair[..16], entry.mask, partners);
+        lefts.add(entry.mask, partners);
     }
-    (winning, with_chair)
+    (winning, by_place(&[lefts], &[rights]))
 }
 
-fn add_marked(totals: &mut [u64], mask: u16, amount: u64) {
-    for (slot, total) in totals.iter_mut().enumerate() {
-        *total += if mask >> slot & 1 == 1 { amount } else { 0 };
+/// Two such walks at once, from the first and from the middle left set, with no branch on the weights.
+fn walk_two_at_once(left: &[Entry], right: &[Entry], quota: u64) -> (u64, [u64; 32]) {
+    let (lefts, rights) = (left.len(), right.len());
+    let half = lefts / 2;
+    let middle = right.partition_point(|e| e.sum + left[half].sum < quota);
+    let mut one = [Credits::new(), Credits::new()];
+    let mut two = [Credits::new(), Credits::new()];
+    let mut winning = 0;
+    let (mut i, mut a, mut j, mut b) = (0, rights, half, middle);
+    while i < half && a > middle && j < lefts && b > 0 {
+        let (x, y) = (left[i], right[a - 1]);
+        let reach = x.sum + y.sum >= quota;
+        let amount = pick(reach, (lefts - i) as u64, (rights - a) as u64);
+        one[usize::from(reach)].add(pick_mask(reach, y.mask, x.mask), amount);
+        winning += pick(reach, 0, amount);
+        a -= usize::from(reach);
+        i += usize::from(!reach);
+        let (x, y) = (left[j], right[b - 1]);
+        let reach = x.sum + y.sum >= quota;
+        let amount = pick(reach, (lefts - j) as u64, (rights - b) as u64);
+        two[usize::from(reach)].add(pick_mask(reach, y.mask, x.mask), amount);
+        winning += pick(reach, 0, amount);
+        b -= usize::from(reach);
+        j += usize::from(!reach);
     }
+    while i < half {
+        if a > middle && left[i].sum + right[a - 1].sum >= quota {
+            a -= 1;
+            one[1].add(right[a].mask, (lefts - i) as u64);
+        } else {
+            let partners = (rights - a) as u64;
+            winning += partners;
+            one[0].add(left[i].mask, partners);
+            i += 1;
+        }
+    }
+    while a > middle {
+        a -= 1;
+        one[1].add(right[a].mask, (lefts - half) as u64);
+    }
+    while j < lefts {
+        if b > 0 && left[j].sum + right[b - 1].sum >= quota {
+            b -= 1;
+            two[1].add(right[b].mask, (lefts - j) as u64);
+        } else {
+            let partners = (rights - b) as u64;
+            winning += partners;
+            two[0].add(left[j].mask, partners);
+            j += 1;
+        }
+    }
+    let ([one_left, one_right], [two_left, two_right]) = (one, two);
+    (winning, by_place(&[one_left, two_left], &[one_right, two_right]))
 }
+
+/// A way to merge and a way to walk. Which is the fastest depends on the sheet, so all are timed.
+#[derive(Clone, Copy)]
+struct Method {
+    name: &'static str,
+    merge: Merge,
+    walk: Walk,
+}
+
+const METHODS: [Method; 4] = [
+    Method {
+        name: "branch,branch",
+        merge: merge_by_branch,
+        walk: walk_by_branch,
+    },
+    Method {
+        name: "branch,two",
+        merge: merge_by_branch,
+        walk: walk_two_at_once,
+    },
+    Method {
+        name: "ends,branch",
+        merge: merge_from_both_ends,
+        walk: walk_by_branch,
+    },
+    Method {
+        name: "ends,two",
+        merge: merge_from_both_ends,
+        walk: walk_two_at_once,
+    },
+];
+
+/// The fastest on sheets of unequal chairs, which real boards have.
+const BEST: Method = METHODS[3];
 
 // ---------------------------------------------------------------- indices
 
@@ -134,14 +306,16 @@ fn quota_of(majority: Majority, words: &Words) -> u64 {
 
 /// A sheet, and the sums of its halves.
 struct Evaluator {
+    method: Method,
     words: Words,
     left: Half,
     right: Half,
 }
 
 impl Evaluator {
-    fn new() -> Evaluator {
+    fn new(method: Method) -> Evaluator {
         Evaluator {
+            method,
             words: [0; 34],
             left: Half::new(),
             right: Half::new(),
@@ -150,17 +324,17 @@ impl Evaluator {
 
     fn set(&mut self, words: &Words) {
         if self.words[..16] != words[..16] {
-            self.left.rebuild(&words[..16]);
+            self.left.rebuild(&words[..16], self.method.merge);
         }
         if self.words[16..32] != words[16..32] {
-            self.right.rebuild(&words[16..32]);
+            self.right.rebuild(&words[16..32], self.method.merge);
         }
         self.words = *words;
     }
 
     fn evaluate(&self, majority: Majority) -> Indices {
         let quota = quota_of(majority, &self.words);
-        let (winning, with_chair) = count(&self.left.entries, &self.right.entries, quota);
+        let (winning, with_chair) = (self.method.walk)(self.left.entries(), self.right.entries(), quota);
         let open: Vec<usize> = (0..32).filter(|&place| self.words[place] > 0).collect();
         let swings = |place: usize| match with_chair[place] {
             0 => 0,
@@ -189,6 +363,10 @@ impl Evaluator {
 }
 
 // ---------------------------------------------------------------- timing of the indices
+
+/// Sheets that are recounted in turn, so that no branch is learnt by heart, and rounds through all of them.
+const SHEETS: usize = 16;
+const ROUNDS: usize = 12;
 
 /// Numbers by xorshift (Marsaglia 2003), the same ones in both programs.
 struct Numbers(u64);
@@ -223,14 +401,22 @@ fn digest(indices: &Indices) -> u64 {
     indices.rows.iter().fold(indices.winning, step)
 }
 
-/// The least nanoseconds of one recount, two sheets in turn.
-fn least(evaluator: &mut Evaluator, sheets: [&Words; 2], turns: u32) -> (u128, u64) {
+/// The least nanoseconds of one sheet's recount, over rounds through all sheets, and what was counted. Before each the
+/// evaluator is given another sheet, which isn't timed, where there is one.
+fn least(evaluator: &mut Evaluator, sheets: &[Words], before: impl Fn(usize) -> Option<Words>) -> (u128, u64) {
     let (mut least, mut sum) = (u128::MAX, 0u64);
-    for turn in 0..turns {
-        let start = Instant::now();
-        evaluator.set(sheets[turn as usize % 2]);
-        sum = sum.wrapping_add(digest(&evaluator.evaluate(Majority::Half)));
-        least = least.min(start.elapsed().as_nanos());
+    for _ in 0..ROUNDS {
+        let mut nanos = 0;
+        for (place, sheet) in sheets.iter().enumerate() {
+            if let Some(other) = before(place) {
+                evaluator.set(&other);
+            }
+            let start = Instant::now();
+            evaluator.set(sheet);
+            sum = sum.wrapping_add(digest(&evaluator.evaluate(Majority::Half)));
+            nanos += start.elapsed().as_nanos();
+        }
+        least = least.min(nanos / SHEETS as u128);
     }
     (least, sum)
 }
@@ -268,7 +454,7 @@ fn by_table(words: &Words, quota: u64) -> Vec<u64> {
 }
 
 fn time_table(name: &str, words: &Words) {
-    let mut evaluator = Evaluator::new();
+    let mut evaluator = Evaluator::new(BEST);
     evaluator.set(words);
     let indices = evaluator.evaluate(Majority::Half);
     let start = Instant::now();
@@ -276,32 +462,41 @@ fn time_table(name: &str, words: &Words) {
     let nanos = start.elapsed().as_nanos();
     let same = swings.iter().eq(indices.rows.iter().map(|row| &row.swings));
     assert!(same, "the table and the walk differ");
-    println!("{name} table {nanos}");
+    println!("{name} table totals {nanos} 0");
+}
+
+fn print_counts(name: &str, words: &Words) {
+    let mut evaluator = Evaluator::new(BEST);
+    evaluator.set(words);
+    let indices = evaluator.evaluate(Majority::Half);
+    print!("{name} counts {} {}", indices.quota, indices.winning);
+    let rows = indices.rows.iter();
+    rows.for_each(|row| print!(" {}", row.swings));
+    println!();
+}
+
+fn time_method(name: &str, method: Method, sheets: &[Words], halves: &[Words]) {
+    let mut evaluator = Evaluator::new(method);
+    let print = |part: &str, (nanos, sum): (u128, u64)| println!("{name} {part} {} {nanos} {sum}", method.name);
+    print("full", least(&mut evaluator, sheets, |_| None));
+    print("half", least(&mut evaluator, halves, |_| None));
+    print("none", least(&mut evaluator, sheets, |place| Some(sheets[place])));
 }
 
 fn time_sheets(name: &str, chairs: usize, base: u64, span: u64) {
     let mut numbers = Numbers(0x9E37_79B9_7F4A_7C15);
-    let first = numbers.words(chairs, base, span);
-    let second = numbers.words(chairs, base + 1, span);
-    let mut left_only = first;
-    left_only[..16].copy_from_slice(&second[..16]);
-    let left_only = totalled(left_only);
-    let mut evaluator = Evaluator::new();
-    evaluator.set(&first);
-    let indices = evaluator.evaluate(Majority::Half);
-    print!("{name} counts {} {}", indices.quota, indices.winning);
-    indices
-        .rows
-        .iter()
-        .for_each(|row| print!(" {}", row.swings));
-    println!();
-    for (part, other) in [("full", &second), ("half", &left_only), ("none", &first)] {
-        evaluator.set(&first);
-        let (nanos, sum) = least(&mut evaluator, [other, &first], 200);
-        println!("{name} {part} {nanos} {sum}");
+    let sheets: Vec<Words> = (0..SHEETS).map(|turn| numbers.words(chairs, base + turn as u64, span)).collect();
+    let mut halves = sheets.clone();
+    for half in &mut halves {
+        half[..16].copy_from_slice(&sheets[0][..16]);
+        *half = totalled(*half);
+    }
+    print_counts(name, &sheets[0]);
+    for method in METHODS {
+        time_method(name, method, &sheets, &halves);
     }
     if chairs < 16 {
-        time_table(name, &first);
+        time_table(name, &sheets[0]);
     }
 }
 
@@ -461,40 +656,79 @@ impl Register {
     }
 }
 
-/// The fields of the records, cut as `csv` cuts them: commas, double quotes, LF or CRLF, no empty lines.
-fn cut(input: &[u8]) -> Vec<Vec<Vec<u8>>> {
-    let mut records = Vec::new();
-    let mut record: Vec<Vec<u8>> = Vec::new();
-    let mut field = Vec::new();
-    let (mut quoted, mut begun) = (false, false);
-    let mut bytes = input.iter().copied().peekable();
-    while let Some(byte) = bytes.next() {
-        match byte {
-            b'"' if quoted && bytes.peek() == Some(&b'"') => field.extend(bytes.next()),
-            b'"' if quoted => quoted = false,
-            _ if quoted => field.push(byte),
-            b'"' if field.is_empty() => (quoted, begun) = (true, true),
-            b',' => {
-                record.push(std::mem::take(&mut field));
-                begun = true;
-            }
-            b'\n' | b'\r' if begun => {
-                record.push(std::mem::take(&mut field));
-                records.push(std::mem::take(&mut record));
-                begun = false;
-            }
-            b'\n' | b'\r' => {}
-            _ => {
-                field.push(byte);
-                begun = true;
+/// Fields of a record that are looked at: more are no record of the formats.
+const FIELDS: usize = 4;
+
+/// One record, in room that is used again for the next.
+#[derive(Default)]
+struct Row {
+    bytes: Vec<u8>,
+    ends: Vec<usize>,
+}
+
+impl Row {
+    fn clear(&mut self) {
+        self.bytes.clear();
+        self.ends.clear();
+    }
+
+    fn end_field(&mut self) {
+        self.ends.push(self.bytes.len());
+    }
+
+    /// The fields, up to one more than is looked at.
+    fn fields<'a>(&'a self, room: &'a mut [&'a [u8]; FIELDS + 1]) -> &'a [&'a [u8]] {
+        let mut start = 0;
+        let mut count = 0;
+        for (place, &end) in room.iter_mut().zip(&self.ends) {
+            *place = &self.bytes[start..end];
+            start = end;
+            count += 1;
+        }
+        &room[..count]
+    }
+}
+
+/// The records of an input one by one, cut as `csv` cuts them: commas, double quotes, LF or CRLF, no empty lines.
+struct Cutter<'a> {
+    input: &'a [u8],
+    at: usize,
+    number: usize,
+}
+
+impl Cutter<'_> {
+    /// Cuts the next record into the row, if there is one.
+    fn next(&mut self, row: &mut Row) -> bool {
+        row.clear();
+        let (mut quoted, mut begun, mut start) = (false, false, 0);
+        while let Some(&byte) = self.input.get(self.at) {
+            self.at += 1;
+            match byte {
+                b'"' if quoted && self.input.get(self.at) == Some(&b'"') => {
+                    row.bytes.push(b'"');
+                    self.at += 1;
+                }
+                b'"' if quoted => quoted = false,
+                _ if quoted => row.bytes.push(byte),
+                b'"' if row.bytes.len() == start => (quoted, begun) = (true, true),
+                b',' => {
+                    row.end_field();
+                    (start, begun) = (row.bytes.len(), true);
+                }
+                b'\n' | b'\r' if begun => break,
+                b'\n' | b'\r' => {}
+                _ => {
+                    row.bytes.push(byte);
+                    begun = true;
+                }
             }
         }
+        if begun {
+            row.end_field();
+            self.number += 1;
+        }
+        begun
     }
-    if begun {
-        record.push(field);
-        records.push(record);
-    }
-    records
 }
 
 fn number(field: &[u8]) -> Option<u64> {
@@ -585,27 +819,26 @@ impl std::fmt::Display for Shown {
     }
 }
 
-/// The members, and how many records stand up to the mark, itself with them.
-fn opening(records: &[Vec<Vec<u8>>]) -> Result<(Vec<(Code, u64)>, usize), Fault> {
-    if !records
-        .first()
-        .is_some_and(|header| header[..] == [&b"member"[..], b"votes"])
-    {
+/// The members, up to the mark.
+fn opening(cutter: &mut Cutter, row: &mut Row) -> Result<Vec<(Code, u64)>, Fault> {
+    if !cutter.next(row) || row.fields(&mut [&[]; FIELDS + 1]) != [&b"member"[..], b"votes"] {
         return Err(Fault::Told(0, "BadHeader"));
     }
     let mut members = Vec::new();
-    for (i, fields) in records.iter().enumerate().skip(1) {
-        if fields[..] == [b"script"] {
-            return Ok((members, i + 1));
+    while cutter.next(row) {
+        let mut room = [&[][..]; FIELDS + 1];
+        let fields = row.fields(&mut room);
+        if fields == [b"script"] {
+            return Ok(members);
         }
         if members.len() == 256 {
             return Err(Fault::Told(0, "TooManyMembers"));
         }
-        let read = match &fields[..] {
+        let read = match fields {
             [m, v] => member(m).zip(votes(v)),
             _ => None,
         };
-        members.push(read.ok_or(Fault::Told(i + 1, "BadRecord"))?);
+        members.push(read.ok_or(Fault::Told(cutter.number, "BadRecord"))?);
     }
     Err(Fault::Told(0, "NoScript"))
 }
@@ -678,14 +911,14 @@ fn run<W: Write>(
     if input.len() > 4_194_304 {
         return Err(Fault::Told(0, "TooLong"));
     }
-    let records = cut(input);
-    let (members, begin) = opening(&records)?;
+    let (mut cutter, mut row) = (Cutter { input, at: 0, number: 0 }, Row::default());
+    let members = opening(&mut cutter, &mut row)?;
     let mut register = started(&members, limit)?;
     let mut published = register.words;
-    let mut evaluator = Evaluator::new();
-    for (i, fields) in records.iter().enumerate().skip(begin) {
-        let fields: Vec<&[u8]> = fields.iter().map(Vec::as_slice).collect();
-        match record(&fields).ok_or(Fault::Told(i + 1, "BadRecord"))? {
+    let mut evaluator = Evaluator::new(BEST);
+    while cutter.next(&mut row) {
+        let mut room = [&[][..]; FIELDS + 1];
+        match record(row.fields(&mut room)).ok_or(Fault::Told(cutter.number, "BadRecord"))? {
             Record::Submit(command) => match register.apply(command) {
                 Ok(accepted) => lines.put(format_args!("accepted,{accepted}"))?,
                 Err((code, name)) => lines.put(format_args!("refused,{code},{name}"))?,
@@ -695,7 +928,7 @@ fn run<W: Write>(
                 lines.put(format_args!("published,{}", published[33]))?;
             }
             Record::Read(reader, _) if !(1..=readers).contains(&reader) => {
-                return Err(Fault::Told(i + 1, "BadReader"));
+                return Err(Fault::Told(cutter.number, "BadReader"));
             }
             Record::Read(reader, by) => {
                 evaluator.set(&published);
