@@ -4,6 +4,8 @@
 #[cfg(test)]
 mod board_calls;
 #[cfg(test)]
+mod calls_without_memory;
+#[cfg(test)]
 mod growth_calls;
 #[cfg(test)]
 mod inputs;
