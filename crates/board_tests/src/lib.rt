@@ -19,3 +19,5 @@ mod run_calls;
 mod seen;
 #[cfg(test)]
 mod sheets;
+#[cfg(test)]
+mod streams;
