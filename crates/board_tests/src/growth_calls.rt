@@ -58,6 +58,14 @@ pub(crate) fn command_at(place: u8) -> Option<Command> {
     }
 }
 
+/// Moves AAA to chair 1, and answers whether that was accepted.
+pub(crate) fn seats(register: &mut Register) -> bool {
+    match command_at(2) {
+        Some(command) => register.apply(command).is_ok(),
+        None => false,
+    }
+}
+
 /// An answer that no call gives.
 pub(crate) const NONE: u8 = 255;
 
@@ -117,7 +125,8 @@ impl Call for Applying {
             return NONE;
         };
         match state.apply(command) {
-            Ok(_) => 0,
+            Ok(5) => 0,
+            Ok(_) => NONE,
             Err(why) => why.code(),
         }
     }

@@ -4,6 +4,8 @@
 #[cfg(test)]
 mod board_calls;
 #[cfg(test)]
+mod calls_without_memory;
+#[cfg(test)]
 mod growth_calls;
 #[cfg(test)]
 mod inputs;
@@ -17,3 +19,5 @@ mod run_calls;
 mod seen;
 #[cfg(test)]
 mod sheets;
+#[cfg(test)]
+mod streams;

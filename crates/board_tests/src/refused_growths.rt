@@ -3,6 +3,9 @@
 ghost use Rattle.std.specs.Thread.{IsSync};
 
 use crate::board_calls::{Analysing, Auditing, Opening, Submitting};
+use crate::calls_without_memory::{
+    Asking, Evaluating, Publishing, ReadingWords, Turning, Valuing, Viewing,
+};
 use crate::growth_calls::{Applying, Counting, Halving, Starting, Stepping};
 use crate::run_calls::{Programming, Replaying, Running, Serving, Tracing};
 use std::alloc::{AllocError, Global};
@@ -138,7 +141,7 @@ fn is_right<C: Call, R: Threads + Wait + Sync>(
     is_mended(rt, alloc, call, state, ample)
 }
 
-// Makes a call with a growth refused, on a state of its own: whether all is right, and whether it asked for that growth.
+// Makes a call with a growth refused, on a state of its own: whether all is right, and whether it met that growth.
 fn try_once<C: Call, R: Threads + Wait + Sync>(
     rt: &R,
     alloc: Global,
@@ -181,9 +184,28 @@ fn is_right_throughout<C: Call, R: Threads + Wait + Sync>(
     Some(false)
 }
 
-/// Whether a call keeps what is said of want of memory.
+/// Whether a call keeps what is said of want of memory, and asks for memory.
 pub(crate) fn survives<C: Call, R: Threads + Wait + Sync>(rt: &R, alloc: Global, call: &C) -> bool {
     is_right_throughout(rt, alloc, call).unwrap_or(false)
+}
+
+fn is_right_without<C: Call, R: Threads + Wait + Sync>(
+    rt: &R,
+    alloc: Global,
+    call: &C,
+) -> Option<bool> {
+    let ample = with_memory(rt, alloc, call)?;
+    let (right, met) = try_once(rt, alloc, call, 1, ample.as_slice())?;
+    Some(right && (!met || !can_refuse(alloc)?))
+}
+
+/// Whether a call asks for no memory, and answers as ever where the next growth would be refused.
+pub(crate) fn asks_for_none<C: Call, R: Threads + Wait + Sync>(
+    rt: &R,
+    alloc: Global,
+    call: &C,
+) -> bool {
+    is_right_without(rt, alloc, call).unwrap_or(false)
 }
 
 #[test]
@@ -229,5 +251,17 @@ fn whole_runs(rt: HostRuntime) -> Result<(), Fail> {
     assert!(rt; survives(&rt, rt.alloc(), &Tracing));
     assert!(rt; survives(&rt, rt.alloc(), &Serving));
     assert!(rt; survives(&rt, rt.alloc(), &Programming));
+    Ok(())
+}
+
+#[test]
+fn calls_without_memory(rt: HostRuntime) -> Result<(), Fail> {
+    assert!(rt; asks_for_none(&rt, rt.alloc(), &Valuing));
+    assert!(rt; asks_for_none(&rt, rt.alloc(), &Viewing));
+    assert!(rt; asks_for_none(&rt, rt.alloc(), &Evaluating));
+    assert!(rt; asks_for_none(&rt, rt.alloc(), &Turning));
+    assert!(rt; asks_for_none(&rt, rt.alloc(), &Publishing));
+    assert!(rt; asks_for_none(&rt, rt.alloc(), &ReadingWords));
+    assert!(rt; asks_for_none(&rt, rt.alloc(), &Asking));
     Ok(())
 }

@@ -108,14 +108,16 @@ impl Call for Running {
 }
 
 // The case of three chairs, and what a run of it writes.
-const THREE_CHAIRS: &str =
-    "member,votes\nAAA,50\nBBB,49\nCCC,1\nscript\nopen,1\nopen,2\nopen,3\nmove,AAA,1\nmove,BBB,2\nmove,CCC,3\npublish\nread,1,half\n";
+const THREE_CHAIRS: &str = "member,votes\nAAA,50\nBBB,49\nCCC,1\nscript\nopen,1\nopen,2\nopen,3\n\
+    move,AAA,1\nmove,BBB,2\nmove,CCC,3\npublish\nread,1,half\n";
 
 const A_READER_IN_THE_WAY: &str =
-    "member,votes\nAAA,10\nscript\nreader,1,2\nsubmit,open,1\npublish\nwriter,35\nsubmit,move,AAA,1\npublish\nwriter,1\nreader,1,35\npublish\nwriter,36\nreader,1,37\n";
+    "member,votes\nAAA,10\nscript\nreader,1,2\nsubmit,open,1\npublish\nwriter,35\nsubmit,move,AAA,1\n\
+    publish\nwriter,1\nreader,1,35\npublish\nwriter,36\nreader,1,37\n";
 
 const THREE_PUBLICATIONS: &str =
-    "member,votes\nAAA,10\nBBB,20\nscript\nopen,1\npublish\nmove,AAA,1\npublish\nmove,BBB,1\npublish\nread,1,half\nread,2,half\nread,1,70\n";
+    "member,votes\nAAA,10\nBBB,20\nscript\nopen,1\npublish\nmove,AAA,1\npublish\nmove,BBB,1\npublish\n\
+    read,1,half\nread,2,half\nread,1,70\n";
 
 const LIMITS: Limits = Limits {
     readers: 1,

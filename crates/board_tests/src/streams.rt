@@ -1,0 +1,232 @@
+//! Readers and writers over memory that interrupt, fail, give or take single bytes, or take none.
+use board_report::{Fault, FreeGate, Limits, replay, serve, trace};
+use std::alloc::Global;
+use std::io;
+use std::io::{ErrorKind, Read, Write};
+use std::sync::Wait;
+use std::test::Fail;
+use std::thread::Threads;
+
+const LIMITS: Limits = Limits {
+    readers: 1,
+    journal: 1_000,
+};
+
+// A reader that is interrupted some times, then gives a byte at a time, and after so many bytes fails.
+#[derive(Drop)]
+struct Choppy<'a> {
+    bytes: &'a [u8],
+    interruptions: u32,
+    fails: bool,
+}
+
+impl<'a> Read for Choppy<'a> {
+    fn read(&mut self, buf: &mut [u8]) -> io::Result<usize> {
+        if self.interruptions > 0 {
+            self.interruptions -= 1;
+            return Err(io::Error::from(ErrorKind::Interrupted));
+        }
+        let Some((first, rest)) = self.bytes.split_first() else {
+            if self.fails {
+                return Err(io::Error::from(ErrorKind::Other));
+            }
+            return Ok(0);
+        };
+        if buf.is_empty() {
+            return Ok(0);
+        }
+        buf[0] = *first;
+        self.bytes = rest;
+        Ok(1)
+    }
+}
+
+// A writer that is interrupted some times, then takes a byte at a time; at its limit it takes nothing, or fails.
+#[derive(Drop)]
+struct Narrow {
+    taken: Vec<u8>,
+    interruptions: u32,
+    limit: usize,
+    fails: bool,
+}
+
+impl Write for Narrow {
+    fn write(&mut self, buf: &[u8]) -> io::Result<usize> {
+        if self.interruptions > 0 {
+            self.interruptions -= 1;
+            return Err(io::Error::from(ErrorKind::Interrupted));
+        }
+        let Some(first) = buf.first() else {
+            return Ok(0);
+        };
+        if self.taken.len() >= self.limit {
+            if self.fails {
+                return Err(io::Error::from(ErrorKind::Other));
+            }
+            return Ok(0);
+        }
+        match self.taken.push(*first) {
+            Ok(()) => Ok(1),
+            Err(_) => Err(io::Error::from(ErrorKind::OutOfMemory)),
+        }
+    }
+
+    fn flush(&mut self) -> io::Result<()> {
+        Ok(())
+    }
+}
+
+// The commands of the program, each with an input and what it writes.
+#[derive(Clone, Copy)]
+enum Command {
+    Replay,
+    Trace,
+    Serve,
+}
+
+const COMMANDS: [Command; 3] = [Command::Replay, Command::Trace, Command::Serve];
+
+fn input_of(command: &Command) -> &'static [u8] {
+    match command {
+        Command::Replay =>
+            b"member,votes\nAAA,50\nscript\nopen,1\nmove,AAA,1\npublish\nread,1,half\n",
+        Command::Trace =>
+            b"member,votes\nAAA,10\nscript\nsubmit,open,1\npublish\nwriter,35\nreader,1,37\n",
+        Command::Serve =>
+            b"member,votes\nAAA,10\nscript\nopen,1\npublish\nread,1,half\nread,2,70\n",
+    }
+}
+
+fn output_of(command: &Command) -> &'static [u8] {
+    match command {
+        Command::Replay => {
+            b"accepted,1\naccepted,2\npublished,2\nreading,1,2,half,1,26,50,50,1,2\nchair,1,50,1,1/1,1/1,1/1,1/1\n"
+        }
+        Command::Trace => b"accepted,1\nbegan\npublished,1\nsheet,1,1,0,10\n",
+        Command::Serve => b"accepted,1\npublished,1\nreader,1,1\nreader,2,1\naudit,ok\n",
+    }
+}
+
+// Runs a command, and answers its fault's number, 0 for none.
+fn run<T: Threads + Wait + Sync, R: Read, W: Write>(
+    rt: &T,
+    alloc: Global,
+    command: &Command,
+    input: &mut R,
+    out: &mut W,
+) -> u8 {
+    let end = match command {
+        Command::Replay => replay(alloc, input, out, LIMITS),
+        Command::Trace => trace(alloc, input, out, LIMITS),
+        Command::Serve => match serve(rt, alloc, &FreeGate, input, out, 1_000) {
+            Ok(_) => Ok(()),
+            Err(fault) => Err(fault),
+        },
+    };
+    number_of(end)
+}
+
+fn number_of(end: Result<(), Fault>) -> u8 {
+    match end {
+        Ok(()) => 0,
+        Err(fault) => fault.code,
+    }
+}
+
+// Reads through a choppy reader: the fault's number, and whether these bytes were written.
+fn reads<T: Threads + Wait + Sync>(
+    rt: &T,
+    alloc: Global,
+    command: &Command,
+    choppy: Choppy<'_>,
+    wanted: &[u8],
+) -> (u8, bool) {
+    let mut input = choppy;
+    let mut out: Vec<u8> = Vec::new(alloc);
+    let code = run(rt, alloc, command, &mut input, &mut out);
+    (code, out.as_slice() == wanted)
+}
+
+// Writes through a narrow writer: the fault's number, and whether these bytes were taken.
+fn writes<T: Threads + Wait + Sync>(
+    rt: &T,
+    alloc: Global,
+    command: &Command,
+    interruptions: u32,
+    limit: usize,
+    fails: bool,
+    wanted: &[u8],
+) -> (u8, bool) {
+    let mut input = input_of(command);
+    let mut out = Narrow {
+        taken: Vec::new(alloc),
+        interruptions,
+        limit,
+        fails,
+    };
+    let code = run(rt, alloc, command, &mut input, &mut out);
+    (code, out.taken.as_slice() == wanted)
+}
+
+const READ_FAULT: &[u8] = b"fault,0,ReadFault\n";
+
+#[test]
+fn readers_that_interrupt_or_fail(rt: HostRuntime) -> Result<(), Fail> {
+    for place in 0..3usize {
+        let command = &COMMANDS[place];
+        let bytes = input_of(command);
+        for (interruptions, fails, code) in [
+            (1_000u32, false, 0u8),
+            (1_001, false, 19),
+            (0, true, 19),
+        ] {
+            let given = if fails {
+                bytes.get(..40).unwrap_or_default()
+            } else {
+                bytes
+            };
+            let wanted = if code == 0 {
+                output_of(command)
+            } else {
+                READ_FAULT
+            };
+            let choppy = Choppy {
+                bytes: given,
+                interruptions,
+                fails,
+            };
+            assert!(rt; reads(&rt, rt.alloc(), command, choppy, wanted) == (code, true));
+        }
+    }
+    Ok(())
+}
+
+#[test]
+fn writers_that_interrupt_or_fail(rt: HostRuntime) -> Result<(), Fail> {
+    let rows: [(u32, usize, bool, u8); 5] = [
+        (1_000, 10_000, false, 0),
+        (1_001, 10_000, false, 20),
+        (0, 0, false, 20),
+        (0, 15, true, 20),
+        (0, 15, false, 20),
+    ];
+    for place in 0..3usize {
+        let command = &COMMANDS[place];
+        for (interruptions, limit, fails, code) in rows {
+            let all = output_of(command);
+            let taken = if interruptions > 1_000 { 0 } else { limit };
+            let wanted = all.get(..taken).unwrap_or(all);
+            let seen = writes(
+                &rt,
+                rt.alloc(),
+                command,
+                interruptions,
+                limit,
+                fails,
+                wanted,
+            );
+            assert!(rt; seen == (code, true), "limit {limit}");
+        }
+    }
+    Ok(())
+}
