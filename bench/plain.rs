@@ -236,27 +236,15 @@ struct Method {
     walk: Walk,
 }
 
+const fn method(name: &'static str, merge: Merge, walk: Walk) -> Method {
+    Method { name, merge, walk }
+}
+
 const METHODS: [Method; 4] = [
-    Method {
-        name: "branch,branch",
-        merge: merge_by_branch,
-        walk: walk_by_branch,
-    },
-    Method {
-        name: "branch,two",
-        merge: merge_by_branch,
-        walk: walk_two_at_once,
-    },
-    Method {
-        name: "ends,branch",
-        merge: merge_from_both_ends,
-        walk: walk_by_branch,
-    },
-    Method {
-        name: "ends,two",
-        merge: merge_from_both_ends,
-        walk: walk_two_at_once,
-    },
+    method("branch,branch", merge_by_branch, walk_by_branch),
+    method("branch,two", merge_by_branch, walk_two_at_once),
+    method("ends,branch", merge_from_both_ends, walk_by_branch),
+    method("ends,two", merge_from_both_ends, walk_two_at_once),
 ];
 
 /// The fastest on sheets of unequal chairs, which real boards have.
