@@ -82,6 +82,9 @@ pub(crate) fn command_of_one(word: &[u8], argument: &[u8]) -> Option<Command>
     if is_word(word, "restore") {
         return Some(Command::Restore(code_in(argument)?));
     }
+    if is_word(word, "withdraw") {
+        return Some(Command::Withdraw(code_in(argument)?));
+    }
     None
 }
 
@@ -95,6 +98,10 @@ pub(crate) fn command_of_two(word: &[u8], first: &[u8], second: &[u8]) -> Option
     if is_word(word, "votes") {
         let code = code_in(first)?;
         return Some(Command::SetVotes(code, votes_in(second)?));
+    }
+    if is_word(word, "admit") {
+        let code = code_in(first)?;
+        return Some(Command::Admit(code, votes_in(second)?));
     }
     None
 }

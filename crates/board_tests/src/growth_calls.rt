@@ -34,9 +34,15 @@ pub(crate) fn opens(register: &mut Register, chair: u8) -> bool {
     }
 }
 
-// Four commands, the first room of a journal: chair 1 is open, and BBB is suspended.
+// Four commands, the first room of a journal: chair 1 is open, and BBB is suspended. Three members, the first room of
+// their map.
 fn with_four(alloc: Global) -> Option<Register> {
-    let mut register = begun(alloc)?;
+    let members = [
+        member(b"AAA", 10)?,
+        member(b"BBB", 20)?,
+        member(b"CCC", 30)?,
+    ];
+    let mut register = Register::start(alloc, &members, 100).ok()?;
     let other = MemberCode::new(b"BBB").ok()?;
     for command in [open(1)?, open(3)?, open(4)?, Command::Suspend(other)] {
         register.apply(command).ok()?;
@@ -44,7 +50,7 @@ fn with_four(alloc: Global) -> Option<Register> {
     Some(register)
 }
 
-/// Each command once, by a place from 0 to 5, as a register takes it after these four.
+/// Each command once, by a place from 0 to 7, as a register takes it after these four.
 pub(crate) fn command_at(place: u8) -> Option<Command> {
     let chair = ChairId::new(1).ok()?;
     let code = MemberCode::new(b"AAA").ok()?;
@@ -54,7 +60,9 @@ pub(crate) fn command_at(place: u8) -> Option<Command> {
         2 => Some(Command::Move(code, Some(chair))),
         3 => Some(Command::SetVotes(code, Votes::new(7).ok()?)),
         4 => Some(Command::Suspend(code)),
-        _ => Some(Command::Restore(MemberCode::new(b"BBB").ok()?)),
+        5 => Some(Command::Restore(MemberCode::new(b"BBB").ok()?)),
+        6 => Some(Command::Withdraw(MemberCode::new(b"BBB").ok()?)),
+        _ => Some(Command::Admit(MemberCode::new(b"DDD").ok()?, Votes::new(7).ok()?)),
     }
 }
 
@@ -118,6 +126,11 @@ impl Call for Applying {
 
     fn prepare(&self, alloc: Global) -> Option<Register> {
         with_four(alloc)
+    }
+
+    // Room in the journal, and for a member that is admitted in the map.
+    fn growths(&self) -> usize {
+        if self.place == 7 { 2 } else { 1 }
     }
 
     fn call<R: Threads + Wait + Sync>(&self, _rt: &R, _alloc: Global, state: &mut Register) -> u8 {

@@ -54,6 +54,8 @@ fn command_numbers(command: &Command) -> [u64; 3] {
         Command::SetVotes(_, votes) => [4, 0, votes.number()],
         Command::Suspend(_) => [5, 0, 0],
         Command::Restore(_) => [6, 0, 0],
+        Command::Admit(_, votes) => [7, 0, votes.number()],
+        Command::Withdraw(_) => [8, 0, 0],
     }
 }
 
@@ -65,6 +67,8 @@ fn command_code(command: &Command) -> [u64; 3] {
         Command::SetVotes(code, _) => code_numbers(code),
         Command::Suspend(code) => code_numbers(code),
         Command::Restore(code) => code_numbers(code),
+        Command::Admit(code, _) => code_numbers(code),
+        Command::Withdraw(code) => code_numbers(code),
     }
 }
 

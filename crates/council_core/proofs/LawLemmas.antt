@@ -1,23 +1,25 @@
 -- What the laws of rolls and sheets rest on.
-use Rattle.std.proofs.Common.{◌≡◌, ℕ, ◌+◌, ◌-◌, ◌^◌, ◌<◌, ◌≤◌, Bool, true, false, cond, List, [], ◌∷◌, ◌++◌, length, map, take, sum_by, Option, None, Some, Result, Ok, Err, refl, sym, ap, ◌∙◌, subst, arith, All, if◌then◌else◌, slice_index}
+use Rattle.std.proofs.Common.{◌≡◌, ℕ, ◌+◌, ◌-◌, ◌^◌, ◌<◌, ◌≤◌, Bool, true, false, cond, List, [], ◌∷◌, ◌++◌, length, map, take, sum_by, Option, None, Some, Result, Ok, Err, refl, sym, ap, ◌∙◌, subst, arith, All, if◌then◌else◌, slice_index, is_some, length-append}
+use Rattle.std.specs.Prelude.{nat_le}
 use Rattle.std.specs.List.{AllByRecursion}
 use Rattle.std.specs.Result.{result_unwrap_or}
 use Rattle.std.specs.Option.{option_map_or}
 use Rattle.std.proofs.lemmas.List.{length-take-le, take-append-le, take_at, length-map}
 use Rattle.std.proofs.lemmas.List.FromFn.{get_or-map-range_with_len}
-use Rattle.std.proofs.lemmas.List.Elements.{All-from_recursion, recursion_from_All}
+use Rattle.std.proofs.lemmas.Bool.Decides.{nat_tests}
+use Rattle.std.proofs.lemmas.List.Elements.{All-append, All-from_recursion, recursion_from_All}
 use Rattle.std.proofs.lemmas.List.Sums.{sum_by-cons}
 use Rattle.council_core.specs.declared.commands.Command.{Command}
-use Rattle.council_core.specs.declared.commands.Command.TheVariants.{Open, Close, Move, SetVotes, Suspend, Restore}
+use Rattle.council_core.specs.declared.commands.Command.TheVariants.{Open, Close, Move, SetVotes, Suspend, Restore, Admit, Withdraw}
 use Rattle.council_core.specs.declared.commands.Standing.{Standing}
 use Rattle.council_core.specs.declared.refusals.Refusal.{Refusal}
-use Rattle.council_core.specs.declared.refusals.Refusal.TheVariants.{ChairOpen, ChairNotOpen, ChairHasMembers, UnknownMember, MemberSuspended, AlreadyThere, AlreadySuspended, NotSuspended}
-use Rattle.council_core.specs.Rolls.{Roll, Entry, Opening, IsLegal, after, cast, can_receive, chair_numbers, chair_word, closed, fold_from, has_members, is_open, move_member, opening_roll, roll_after, same_chair, same_code, sheet, standing_among, step, total, update, weight, with_member, words_of}
+use Rattle.council_core.specs.declared.refusals.Refusal.TheVariants.{ChairOpen, ChairNotOpen, ChairHasMembers, UnknownMember, MemberSuspended, AlreadyThere, AlreadySuspended, NotSuspended, TooManyMembers, MemberExists, MemberSeated}
+use Rattle.council_core.specs.Rolls.{Roll, Entry, Opening, IsLegal, after, cast, can_receive, chair_numbers, chair_word, closed, fold_from, has_members, is_open, max_members, move_member, opening_roll, roll_after, same_chair, same_code, sheet, standing_among, step, total, update, weight, with_member, withdrawn, words_of, admit_member, admitted, entered}
 use Rattle.council_core.specs.Sheets.{IsSheet, cast_of, front_of, weight_in}
 use Rattle.council_core.specs.Laws.{IsOpening, SetsInRange}
 use Rattle.council_core.proofs.AssembleLemmas.{IsSheet-made}
 use Rattle.council_core.proofs.RegisterLemmas.{total_within, weight_within}
-use Rattle.council_core.proofs.RollLemmas.{all_with_standing, length-with_standing}
+use Rattle.council_core.proofs.RollLemmas.{all_with_standing, all_without, length-with_standing, length-without}
 use Rattle.council_core.proofs.SheetOfLemmas.{cast_within}
 use Rattle.council_core.proofs.StartLemmas.{start_small}
 
@@ -61,6 +63,9 @@ unless_refused : (b : Bool) (e : Refusal) (next : Result Roll Refusal) → Gives
 unless_refused true e next h = tt
 unless_refused false e next h = h
 
+not_full : (n : ℕ) → nat_le max_members n ≡ false → n < max_members
+not_full n h = grind (arith, nat_tests, h)
+
 module _ (roll : Roll) (small : IsSmall roll) where
   opened_small : (chairs : List ℕ) → IsSmall (record roll { open_chairs = chairs })
   opened_small chairs = record { few = small.few; small = small.small }
@@ -86,6 +91,26 @@ module _ (roll : Roll) (small : IsSmall roll) where
       unless_refused s.suspended MemberSuspended _
       (or_refused (can_receive roll to) ChairNotOpen _ (unless_refused (same_chair s.chair to) AlreadyThere _ (updated_small code (record s { chair = to }) h)))
 
+  left_small : (code : List ℕ) → IsSmall (withdrawn roll code)
+  left_small code =
+      record {
+        few = omega (arith, small.few, length-without code roll.members);
+        small = all_without code (λ (t : Standing). t.votes ≤ 2 ^ 40) roll.members small.small;
+      }
+
+  entered_small : (code : List ℕ) (n : ℕ) → n ≤ 2 ^ 40 → length roll.members < max_members → IsSmall (admitted roll code n)
+  entered_small code n h room =
+      record {
+        few = rw length-append (omega (arith, room));
+        small = All-append (λ (m : Entry). m.1.votes ≤ 2 ^ 40) roll.members (entered (code, n) ∷ []) small.small (All-from_recursion (λ (m : Entry). m.1.votes ≤ 2 ^ 40) (entered (code, n) ∷ []) (h, tt));
+      }
+
+  admitted_small : (code : List ℕ) (n : ℕ) → n ≤ 2 ^ 40 → GivesSmall (admit_member roll code n)
+  admitted_small code n h =
+      unless_refused (is_some (standing_among code roll.members)) MemberExists _
+      (elim (nat_le max_members (length roll.members)) as (λ b. nat_le max_members (length roll.members) ≡ b → GivesSmall (if b then Err TooManyMembers else Ok (admitted roll code n)))
+      [ true ↦ λ e. tt | false ↦ λ e. entered_small code n h (not_full (length roll.members) e) ] refl)
+
   step_small : (command : Command) → SetsInRange command → GivesSmall (step roll command)
   step_small (Open c) h = unless_refused (is_open roll c) ChairOpen _ (opened_small (c ∷ roll.open_chairs))
   step_small (Close c) h = or_refused (is_open roll c) ChairNotOpen _ (unless_refused (has_members roll c) ChairHasMembers _ (opened_small (closed roll c).open_chairs))
@@ -93,6 +118,8 @@ module _ (roll : Roll) (small : IsSmall roll) where
   step_small (SetVotes code n) h = member_small code (λ s. update roll code (record s { votes = n })) (λ s k. updated_small code (record s { votes = n }) h)
   step_small (Suspend code) h = member_small code _ (λ s k. unless_refused s.suspended AlreadySuspended _ (updated_small code (record s { suspended = true }) k))
   step_small (Restore code) h = member_small code _ (λ s k. or_refused s.suspended NotSuspended _ (updated_small code (record s { suspended = false }) k))
+  step_small (Admit code n) h = admitted_small code n h
+  step_small (Withdraw code) h = member_small code _ (λ s k. unless_refused (is_some s.chair) MemberSeated _ (left_small code))
 
   unwrapped_small : (next : Result Roll Refusal) → GivesSmall next → IsSmall (result_unwrap_or next roll)
   unwrapped_small (Ok r) h = h

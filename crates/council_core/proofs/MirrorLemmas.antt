@@ -1,18 +1,19 @@
 -- What a register keeps stays what the roll says.
-use Rattle.std.proofs.Common.{◌≡◌, ℕ, ◌+◌, ◌^◌, ◌<◌, ◌≤◌, ◌==◌, Bool, true, false, cond, not, ◌&&◌, ◌||◌, List, [], ◌∷◌, length, sum_by, filter, Option, None, Some, IfSome, Ok, is_ok, sym, ◌∙◌, ap, subst, refl, arith, true≢false, slice_index, slice_set}
+use Rattle.std.proofs.Common.{◌≡◌, ℕ, ◌+◌, ◌^◌, ◌<◌, ◌≤◌, ◌==◌, Bool, true, false, cond, not, ◌&&◌, ◌||◌, List, [], ◌∷◌, ◌++◌, length, sum_by, filter, Option, None, Some, IfSome, Ok, is_ok, sym, ◌∙◌, ap, subst, refl, arith, true≢false, slice_index, slice_set}
 use borrow.Author.Tests.{eqb-true}
 use Rattle.std.specs.List.{list_any}
 use Rattle.std.proofs.lemmas.Grind.{common_steps}
 use Rattle.std.proofs.lemmas.Bool.Decides.{nat_tests}
-use Rattle.std.proofs.lemmas.List.Sums.{sum_by-cons}
+use Rattle.std.proofs.lemmas.List.Elements.{All-append, All-from_recursion}
+use Rattle.std.proofs.lemmas.List.Sums.{sum_by-append, sum_by-cons}
 use Rattle.council_core.specs.declared.commands.Standing.{Standing}
-use Rattle.council_core.specs.Rolls.{Roll, Entry, same_chair, standing_among, with_standing, sits_in, counted, votes_in, weight, is_open, chair_word, can_receive, has_members, step, opening_roll}
+use Rattle.council_core.specs.Rolls.{Roll, Entry, same_chair, standing_among, with_standing, without, entered, fresh, admitted, withdrawn, max_members, sits_in, counted, votes_in, weight, is_open, chair_word, can_receive, has_members, step, opening_roll}
 use Rattle.std.proofs.Common.{length-append}
 use Rattle.std.specs.Result.{result_unwrap_or}
 use Rattle.council_core.specs.declared.commands.Command.{Command}
 use Rattle.council_core.specs.Ledgers.{Ledger, roll_of, appended}
 use Rattle.council_core.specs.Registers.{Mirrors, IsKept, seated, sits_as}
-use Rattle.council_core.proofs.RollLemmas.{fold_from-push, all_accepted-push, sum_with_standing, part_of_sum, length-with_standing, all_with_standing}
+use Rattle.council_core.proofs.RollLemmas.{fold_from-push, all_accepted-push, sum_with_standing, sum_without, part_of_sum, length-with_standing, length-without, all_with_standing, all_without}
 
 pub no_one : (b : Bool) → ◌≡◌ {A = ℕ} (cond b 1 0) 0 → b ≡ false
 no_one true h = absurd (omega (arith, h))
@@ -159,6 +160,51 @@ Mirrors-update roll es words counts words' counts' sum sum' code old new m found
           omega (arith, a, b, m.closed_empty c shut);
       few = rw length-with_standing m.few;
       small = all_with_standing code new (λ s. s.votes ≤ 2 ^ 40) es m.small small;
+    }
+
+-- a member is entered, in no chair
+pub Mirrors-admit : (roll : Roll) (es : List Entry) (words counts words' counts' : List ℕ) (sum sum' : ℕ) (code : List ℕ) (votes : ℕ) → Mirrors roll es words counts sum
+    → length roll.members < max_members → votes ≤ 2 ^ 40
+    → ((k : ℕ) → k < 32 → slice_index words' k ≡ slice_index words k + votes_in (k + 1) (fresh votes))
+    → ((k : ℕ) → k < 32 → slice_index counts' k ≡ slice_index counts k + sits_as (k + 1) (fresh votes))
+    → sum' ≡ sum + counted (fresh votes)
+    → Mirrors (admitted roll code votes) (es ++ entered (code, votes) ∷ []) words' counts' sum'
+Mirrors-admit roll es words counts words' counts' sum sum' code votes m room small words_say counts_say sum_says =
+    let more : (f : Standing → ℕ) → sum_by (λ e. f e.1) (roll.members ++ entered (code, votes) ∷ []) ≡ sum_by (λ e. f e.1) roll.members + (0 + f (fresh votes))
+    = λ f. sum_by-append (λ (e : Entry). f e.1) roll.members (entered (code, votes) ∷ []) in
+    let few : length es < max_members = subst (λ (l : List Entry). length l < max_members) (sym m.same_members) room in
+    record {
+      same_members = ap (λ (l : List Entry). l ++ entered (code, votes) ∷ []) m.same_members;
+      each_word = λ k h.
+          changed_word (is_open roll (k + 1)) (weight roll (k + 1)) (weight (admitted roll code votes) (k + 1)) 0 0 _ _
+          (m.each_word k h) (omega (arith, more (votes_in (k + 1)))) (omega (arith, words_say k h)) (λ shut. refl) (λ shut. refl);
+      each_count = λ k h. omega (arith, more (sits_as (k + 1)), counts_say k h, m.each_count k h);
+      same_total = omega (arith, more counted, sum_says, m.same_total);
+      closed_empty = λ c shut. omega (arith, more (sits_as c), m.closed_empty c shut);
+      few = rw length-append (omega (arith, few));
+      small = All-append (λ (e : Entry). e.1.votes ≤ 2 ^ 40) es (entered (code, votes) ∷ []) m.small (All-from_recursion (λ (e : Entry). e.1.votes ≤ 2 ^ 40) (entered (code, votes) ∷ []) (small, tt));
+    }
+
+-- a member that sits in no chair leaves
+pub Mirrors-withdraw : (roll : Roll) (es : List Entry) (words counts words' counts' : List ℕ) (sum sum' : ℕ) (code : List ℕ) (old : Standing) → Mirrors roll es words counts sum
+    → standing_among code roll.members ≡ Some old → old.chair ≡ None
+    → ((k : ℕ) → k < 32 → slice_index words' k + votes_in (k + 1) old ≡ slice_index words k)
+    → ((k : ℕ) → k < 32 → slice_index counts' k + sits_as (k + 1) old ≡ slice_index counts k)
+    → sum' + counted old ≡ sum
+    → Mirrors (withdrawn roll code) (without code es) words' counts' sum'
+Mirrors-withdraw roll es words counts words' counts' sum sum' code old m found unseated words_say counts_say sum_says =
+    let no_votes : (c : ℕ) → votes_in c old ≡ 0 = λ c. ap (λ chair. cond (same_chair chair (Some c)) (counted old) 0) unseated in
+    let no_seat : (c : ℕ) → sits_as c old ≡ 0 = λ c. ap (λ chair. cond (same_chair chair (Some c)) 1 0) unseated in
+    record {
+      same_members = ap (without code) m.same_members;
+      each_word = λ k h.
+          changed_word (is_open roll (k + 1)) (weight roll (k + 1)) (weight (withdrawn roll code) (k + 1)) (votes_in (k + 1) old) 0 _ _
+          (m.each_word k h) (omega (arith, sum_without code (votes_in (k + 1)) roll.members old found)) (omega (arith, words_say k h)) (λ shut. no_votes (k + 1)) (λ shut. refl);
+      each_count = λ k h. omega (arith, sum_without code (sits_as (k + 1)) roll.members old found, counts_say k h, m.each_count k h);
+      same_total = omega (arith, sum_without code counted roll.members old found, sum_says, m.same_total);
+      closed_empty = λ c shut. omega (arith, sum_without code (sits_as c) roll.members old found, no_seat c, m.closed_empty c shut);
+      few = omega (arith, m.few, length-without code es);
+      small = all_without code (λ (s : Standing). s.votes ≤ 2 ^ 40) es m.small;
     }
 
 -- one more command is accepted, and the rest follows the roll

@@ -1,21 +1,22 @@
 -- What the calls of a register need of what it keeps, and how they keep it.
 use Rattle.std.proofs.Common.{◌≡◌, ℕ, ◌+◌, ◌^◌, ◌<◌, ◌≤◌, ◌==◌, true, false, cond, List, [], ◌∷◌, ◌++◌, length, Some, Result, Ok, Err, sym, ◌∙◌, ap, subst, refl, arith, All, slice_index, slice_set, if◌then◌else◌}
-use Rattle.std.specs.Prelude.{⊤}
+use Rattle.std.specs.Prelude.{⊤, remove}
 use Rattle.std.specs.List.{AllByRecursion}
 use borrow.Author.Tests.{eqb-false}
 use Rattle.std.proofs.lemmas.List.Elements.{All-from_recursion, recursion_from_All}
 use Rattle.std.proofs.lemmas.List.Sums.{sum_by-le, sum_by-le-sum_by}
 use Rattle.indexmap.specs.IndexMap.{set_value_at}
-use Rattle.indexmap.proofs.MapLemmas.{Found-position, insert_entry-first}
+use Rattle.indexmap.proofs.MapLemmas.{Found-position, insert_entry-first, remove_entry-first}
+use Rattle.council_core.specs.declared.changes.Change.{Change}
 use Rattle.council_core.specs.declared.commands.Command.{Command}
 use Rattle.council_core.specs.declared.commands.Standing.{Standing}
 use Rattle.council_core.specs.declared.refusals.Refusal.{Refusal}
 use Rattle.council_core.specs.declared.refusals.Refusal.TheVariants.{JournalFull}
-use Rattle.council_core.specs.Rolls.{Roll, Entry, same_code, standing_among, place_among, with_standing, sits_in, counted, votes_in, weight, total, is_open, opened, closed, has_members}
+use Rattle.council_core.specs.Rolls.{Roll, Entry, same_code, standing_among, place_among, with_standing, without, entered, fresh, sits_in, counted, votes_in, weight, total, is_open, opened, closed, has_members}
 use Rattle.council_core.specs.Ledgers.{Ledger, roll_of, room_of, appended}
-use Rattle.council_core.specs.Registers.{Mirrors, IsKept, IsOpening, IsClosing, IsChange, seated, sits_as}
-use Rattle.council_core.proofs.RollLemmas.{insert-with_standing, part_of_sum}
-use Rattle.council_core.proofs.MirrorLemmas.{Mirrors-open, Mirrors-close, Mirrors-update, IsKept-appended, seat_is_free}
+use Rattle.council_core.specs.Registers.{Mirrors, IsKept, IsPlanned, IsOpening, IsClosing, IsChange, IsEntry, IsLeaving, seated, sits_as}
+use Rattle.council_core.proofs.RollLemmas.{insert-with_standing, without-removed, part_of_sum}
+use Rattle.council_core.proofs.MirrorLemmas.{Mirrors-open, Mirrors-close, Mirrors-update, Mirrors-admit, Mirrors-withdraw, IsKept-appended, seat_is_free}
 
 below : (a b : ℕ) → (a ≡ b → ⊥) → a ≤ b → a < b
 below a b h k = omega (arith, h, k)
@@ -27,7 +28,7 @@ room_is l h within =
     [ true ↦ λ e (q : ◌≡◌ {A = Result ⊤ Refusal} (Err JournalFull) (Ok tt)). absurd (cc) | false ↦ λ e q. below _ _ (eqb-false _ _ e) within ] refl h
 
 -- what the weights are bounded by
-counted_small : (s : Standing) → s.votes ≤ 2 ^ 40 → counted s ≤ 2 ^ 40
+pub counted_small : (s : Standing) → s.votes ≤ 2 ^ 40 → counted s ≤ 2 ^ 40
 counted_small s h = elim s.suspended as (λ b. cond b 0 s.votes ≤ 2 ^ 40) [ true ↦ omega arith | false ↦ h ]
 
 all_counted : (es : List Entry) → AllByRecursion (λ m. m.1.votes ≤ 2 ^ 40) es → AllByRecursion (λ m. counted m.1 ≤ 2 ^ 40) es
@@ -103,6 +104,11 @@ module _ (roll : Roll) (es : List Entry) (words counts : List ℕ) (sum : ℕ) (
       pub total_fits : (rest : ℕ) → rest + counted old ≡ sum → rest + counted new < 2 ^ 64
       total_fits rest e = omega (arith, e, m.same_total, total_small, counted_small new small)
 
+-- a plan, said of the fields of a register in place of its view, and of the change in place of its match
+pub planned_as : (l v : Ledger) (command : Command) (x y : Change) → l ≡ v → x ≡ y → IsPlanned (roll_of v) command x → IsPlanned (roll_of l) command y
+planned_as l v command x y same is planned =
+    subst (λ (z : Change). IsPlanned (roll_of l) command z) is (subst (λ (u : Ledger). IsPlanned (roll_of u) command x) (sym same) planned)
+
 -- the change of an accepted command is carried out, and the command is written down
 module _ (l : Ledger) (es : List Entry) (words counts : List ℕ) (sum : ℕ) (kept : IsKept l es words counts sum) (command : Command) (room : room_of l ≡ Ok tt) (journal : List Command) (grown : journal ≡ l.journal ++ command ∷ []) where
   written : (es' : List Entry) (words' counts' : List ℕ) (sum' : ℕ) → IsKept (appended l command) es' words' counts' sum' → IsKept (record { opening = l.opening; journal = journal; limit = l.limit }) es' words' counts' sum'
@@ -147,6 +153,37 @@ module _ (l : Ledger) (es : List Entry) (words counts : List ℕ) (sum : ℕ) (k
       let kept2 = IsKept-appended l es words counts sum kept command _ change.effect (room_is l room kept.within) (with_standing code new es) words2 counts2 sum2 changed in
       let same : es' ≡ with_standing code new es = put ∙ sym (insert_entry-first same_code code new es place first) ∙ insert-with_standing code new es old there in
       written es' words2 counts2 sum2 (subst (λ (e : List Entry). IsKept (appended l command) e words2 counts2 sum2) (sym same) kept2)
+
+  -- a member is entered
+  pub IsKept-admit : (code : List ℕ) (votes : ℕ) → IsEntry (roll_of l) command code votes → votes ≤ 2 ^ 40
+      → (words' counts' : List ℕ) (sum' : ℕ)
+      → ((k : ℕ) → k < 32 → slice_index words' k ≡ slice_index words k + votes_in (k + 1) (fresh votes))
+      → ((k : ℕ) → k < 32 → slice_index counts' k ≡ slice_index counts k + sits_as (k + 1) (fresh votes))
+      → sum' ≡ sum + counted (fresh votes)
+      → (es' : List Entry) → es' ≡ es ++ entered (code, votes) ∷ []
+      → IsKept (record { opening = l.opening; journal = journal; limit = l.limit }) es' words' counts' sum'
+  IsKept-admit code votes entry small words' counts' sum' words_say counts_say sum_says es' put =
+      let changed = Mirrors-admit (roll_of l) es words counts words' counts' sum sum' code votes kept.mirrors entry.room small words_say counts_say sum_says in
+      let kept2 = IsKept-appended l es words counts sum kept command _ entry.effect (room_is l room kept.within) (es ++ entered (code, votes) ∷ []) words' counts' sum' changed in
+      written es' words' counts' sum' (subst (λ (e : List Entry). IsKept (appended l command) e words' counts' sum') (sym put) kept2)
+
+  -- a member leaves
+  pub IsKept-withdraw : (place : ℕ) (old : Standing) → (code : List ℕ) × (place_among code (roll_of l).members ≡ Some place) × IsLeaving (roll_of l) command code old
+      → (words' counts' : List ℕ) (sum' : ℕ)
+      → ((k : ℕ) → k < 32 → slice_index words' k + votes_in (k + 1) old ≡ slice_index words k)
+      → ((k : ℕ) → k < 32 → slice_index counts' k + sits_as (k + 1) old ≡ slice_index counts k)
+      → sum' + counted old ≡ sum
+      → (es' : List Entry) → es' ≡ remove es place
+      → IsKept (record { opening = l.opening; journal = journal; limit = l.limit }) es' words' counts' sum'
+  IsKept-withdraw place old planned words' counts' sum' words_say counts_say sum_says es' put =
+      let code = planned.0 in
+      let leaving = planned.2 in
+      let at : place_among code es ≡ Some place = ap (place_among code) kept.mirrors.same_members ∙ planned.1 in
+      let first = (Found-position (same_code code) es place at).first in
+      let changed = Mirrors-withdraw (roll_of l) es words counts words' counts' sum sum' code old kept.mirrors leaving.known leaving.unseated words_say counts_say sum_says in
+      let kept2 = IsKept-appended l es words counts sum kept command _ leaving.effect (room_is l room kept.within) (without code es) words' counts' sum' changed in
+      let same : es' ≡ without code es = put ∙ sym (remove_entry-first (same_code code) es place first) ∙ sym (without-removed code es) in
+      written es' words' counts' sum' (subst (λ (e : List Entry). IsKept (appended l command) e words' counts' sum') (sym same) kept2)
 
   -- the place of a member is one of theirs
   pub place_within : (place : ℕ) (old new : Standing) → (code : List ℕ) × (place_among code (roll_of l).members ≡ Some place) × IsChange (roll_of l) command code old new → place < length es

@@ -2,11 +2,12 @@
 use Rattle.std.proofs.Common.{◌≡◌, ℕ, suc, ◌+◌, ◌≤◌, true, false, cond, ◌&&◌, List, [], ◌∷◌, ◌++◌, length, sum_by, Some, is_ok, ap, refl, arith, All}
 use Rattle.indexmap.specs.IndexMap.{insert_entry}
 use Rattle.std.specs.List.{AllByRecursion}
+use Rattle.std.specs.Map.{remove_entry}
 use Rattle.std.proofs.lemmas.List.Elements.{All-from_recursion, recursion_from_All}
 use Rattle.std.proofs.lemmas.List.Sums.{sum_by-cons}
 use Rattle.council_core.specs.declared.commands.Command.{Command}
 use Rattle.council_core.specs.declared.commands.Standing.{Standing}
-use Rattle.council_core.specs.Rolls.{Roll, Entry, same_code, standing_among, with_standing, step, after, fold_from, all_accepted}
+use Rattle.council_core.specs.Rolls.{Roll, Entry, same_code, standing_among, with_standing, without, step, after, fold_from, all_accepted}
 
 -- one more command, at the end
 pub fold_from-push : (r : Roll) (xs : List Command) (c : Command) → fold_from r (xs ++ c ∷ []) ≡ after (fold_from r xs) c
@@ -48,6 +49,34 @@ module _ (code : List ℕ) (new : Standing) where
             omega (arith, sum_with_standing f es old q, sum_by-cons (λ (m : Entry). f m.1) e (with_standing code new es), sum_by-cons (λ (m : Entry). f m.1) e es)
       ] h
 
+module _ (code : List ℕ) where
+  -- a member leaves
+  pub without-removed : (es : List Entry) → without code es ≡ remove_entry (same_code code) es
+  without-removed [] = refl
+  without-removed (e ∷ es) =
+      elim (same_code code e.0) as (λ b. cond b es (e ∷ without code es) ≡ cond b es (e ∷ remove_entry (same_code code) es))
+      [ true ↦ refl | false ↦ ap (λ (l : List Entry). e ∷ l) (without-removed es) ]
+
+  pub length-without : (es : List Entry) → length (without code es) ≤ length es
+  length-without [] = omega arith
+  length-without (e ∷ es) =
+      elim (same_code code e.0) as (λ b. length (cond b es (e ∷ without code es)) ≤ length (e ∷ es))
+      [ true ↦ omega arith | false ↦ omega (arith, length-without es) ]
+
+  -- a sum over the members gives up what its standing gave
+  pub sum_without : (f : Standing → ℕ) (es : List Entry) (old : Standing) → standing_among code es ≡ Some old
+      → sum_by (λ m. f m.1) (without code es) + f old ≡ sum_by (λ m. f m.1) es
+  sum_without f [] old h = cc
+  sum_without f (e ∷ es) old h =
+      elim (same_code code e.0) as (λ b. cond b (Some e.1) (standing_among code es) ≡ Some old
+      → sum_by (λ m. f m.1) (cond b es (e ∷ without code es)) + f old ≡ sum_by (λ m. f m.1) (e ∷ es)) [
+        | true ↦ λ q.
+            let k : f e.1 ≡ f old = cc in
+            omega (arith, k, sum_by-cons (λ (m : Entry). f m.1) e es)
+        | false ↦ λ q.
+            omega (arith, sum_without f es old q, sum_by-cons (λ (m : Entry). f m.1) e (without code es), sum_by-cons (λ (m : Entry). f m.1) e es)
+      ] h
+
 -- a member's part of a sum is within it
 pub part_of_sum : (code : List ℕ) (f : Standing → ℕ) (es : List Entry) (s : Standing) → standing_among code es ≡ Some s → f s ≤ sum_by (λ m. f m.1) es
 part_of_sum code f [] s h = cc
@@ -66,3 +95,13 @@ all_with_standing code new P es h p = All-from_recursion _ _ (by es (recursion_f
     by (e ∷ es) h =
         elim (same_code code e.0) as (λ b. AllByRecursion (λ m. P m.1) (cond b ((e.0, new) ∷ es) (e ∷ with_standing code new es)))
         [ true ↦ (p, h.1) | false ↦ (h.0, by es h.1) ]
+
+-- and those that stay keep it
+pub all_without : (code : List ℕ) (P : Standing → Type 0) (es : List Entry) → All (λ m. P m.1) es → All (λ m. P m.1) (without code es)
+all_without code P es h = All-from_recursion _ _ (by es (recursion_from_All _ _ h))
+  where
+    by : (es : List Entry) → AllByRecursion (λ m. P m.1) es → AllByRecursion (λ m. P m.1) (without code es)
+    by [] h = tt
+    by (e ∷ es) h =
+        elim (same_code code e.0) as (λ b. AllByRecursion (λ m. P m.1) (cond b es (e ∷ without code es)))
+        [ true ↦ h.1 | false ↦ (h.0, by es h.1) ]

@@ -1,10 +1,10 @@
 -- Worked cases, computed by the definitions.
-use Rattle.std.proofs.Common.{◌≡◌, ℕ, List, [], ◌∷◌, ◌++◌, Some, None, refl, replicate}
-use Rattle.council_core.specs.Rolls.{Opening, sheet, cast, roll_after}
+use Rattle.std.proofs.Common.{◌≡◌, ℕ, List, [], ◌∷◌, ◌++◌, map, Some, None, Err, refl, replicate}
+use Rattle.council_core.specs.Rolls.{Roll, Opening, entered, admit_member, sheet, cast, roll_after}
 use Rattle.council_core.specs.Sequential.{Sequential, submit, publish, read, accepted, refused, published, reading, replies_of}
-use Rattle.council_core.specs.declared.refusals.Refusal.TheVariants.{ChairOpen, JournalFull, MemberSuspended, ChairHasMembers, ChairNotOpen}
+use Rattle.council_core.specs.declared.refusals.Refusal.TheVariants.{ChairOpen, JournalFull, MemberSuspended, ChairHasMembers, ChairNotOpen, UnknownMember, TooManyMembers, MemberExists, MemberSeated}
 use Rattle.council_core.specs.declared.commands.Command.{Command}
-use Rattle.council_core.specs.declared.commands.Command.TheVariants.{Open, Close, Move, SetVotes, Suspend, Restore}
+use Rattle.council_core.specs.declared.commands.Command.TheVariants.{Open, Close, Move, SetVotes, Suspend, Restore, Admit, Withdraw}
 
 abbrev AAA : List ℕ
 AAA = 65 ∷ 65 ∷ 65 ∷ []
@@ -47,3 +47,31 @@ close_with_suspended_members = refl
 pub journal_full : replies_of (start 2) (submit (Open 1) ∷ submit (Open 2) ∷ submit (Open 3) ∷ submit (Open 1) ∷ [])
     ≡ accepted 1 ∷ accepted 2 ∷ refused JournalFull ∷ refused ChairOpen ∷ []
 journal_full = refl
+
+abbrev codes_after : Opening → List Command → List (List ℕ)
+codes_after opening commands = map (λ m. m.0) (roll_after opening commands).members
+
+pub members_move_up : codes_after three_members (Withdraw AAA ∷ []) ≡ BBB ∷ CCC ∷ []
+members_move_up = refl
+
+pub admitted_again_goes_last : codes_after three_members (Withdraw AAA ∷ Admit AAA 5 ∷ []) ≡ BBB ∷ CCC ∷ AAA ∷ []
+admitted_again_goes_last = refl
+
+pub come_and_go : replies_of (start 1000000) (submit (Admit AAA 5) ∷ submit (Admit CCC 5) ∷ submit (Open 1) ∷ submit (Move AAA (Some 1)) ∷ submit (Withdraw AAA) ∷ submit (Withdraw BBB) ∷ submit (Suspend AAA) ∷ submit (Withdraw AAA) ∷ publish ∷ read ∷ [])
+    ≡ refused MemberExists ∷ accepted 1 ∷ accepted 2 ∷ accepted 3 ∷ refused MemberSeated ∷ refused UnknownMember ∷ accepted 4 ∷ refused MemberSeated ∷ published 4 ∷ reading (1 ∷ replicate 31 0 ++ 5 ∷ 4 ∷ []) ∷ []
+come_and_go = refl
+
+pub suspended_members_leave : replies_of (start 1000000) (submit (Suspend AAA) ∷ submit (Withdraw AAA) ∷ submit (Admit AAA 7) ∷ publish ∷ read ∷ [])
+    ≡ accepted 1 ∷ accepted 2 ∷ accepted 3 ∷ published 3 ∷ reading (replicate 32 0 ++ 7 ∷ 3 ∷ []) ∷ []
+suspended_members_leave = refl
+
+pub journal_full_of_members : replies_of (start 1) (submit (Open 1) ∷ submit (Withdraw AAA) ∷ submit (Admit BBB 1) ∷ submit (Admit AAA 1) ∷ [])
+    ≡ accepted 1 ∷ refused JournalFull ∷ refused JournalFull ∷ refused MemberExists ∷ []
+journal_full_of_members = refl
+
+-- as many members as there may be
+abbrev full_roll : Roll
+full_roll = record { members = replicate 256 (entered (AAA, 1)); open_chairs = [] }
+
+pub no_257th_member : (admit_member full_roll AAA 1 ≡ Err MemberExists) × (admit_member full_roll BBB 1 ≡ Err TooManyMembers)
+no_257th_member = (refl, refl)

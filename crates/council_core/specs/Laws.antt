@@ -7,7 +7,7 @@ use Rattle.council_core.specs.Ledgers.{has_duplicate}
 use Rattle.council_core.specs.Rolls.{Opening, Roll, IsLegal, cast, sheet, words_of}
 use Rattle.council_core.specs.Sheets.{Chair, IsSheet, cast_of, front_of, open_chairs, weight_of}
 use Rattle.council_core.specs.declared.commands.Command.{Command}
-use Rattle.council_core.specs.declared.commands.Command.TheVariants.{Open, Close, Move, SetVotes, Suspend, Restore}
+use Rattle.council_core.specs.declared.commands.Command.TheVariants.{Open, Close, Move, SetVotes, Suspend, Restore, Admit, Withdraw}
 
 -- the cast of a roll, by its members, is the cast that its sheet shows
 abbrev pub CastLaw : Type 0
@@ -52,6 +52,8 @@ SetsInRange (Move code to) = Unit {0}
 SetsInRange (SetVotes code n) = n ≤ 2 ^ 40
 SetsInRange (Suspend code) = Unit {0}
 SetsInRange (Restore code) = Unit {0}
+SetsInRange (Admit code n) = n ≤ 2 ^ 40
+SetsInRange (Withdraw code) = Unit {0}
 
 -- the sheet of a legal list of commands has the numbers of a sheet
 abbrev pub SheetLaw : Type 0

@@ -1,6 +1,6 @@
 -- What a register keeps beside its journal, and that it is what the roll says.
-use Rattle.std.specs.Prelude.{◌≡◌, ℕ, ◌+◌, ◌^◌, ◌≤◌, ◌<◌, true, false, if◌then◌else◌, List, length, sum_by, All, slice_index, Some, Ok}
-use Rattle.council_core.specs.Rolls.{Roll, Entry, chair_word, sits_in, total, is_open, can_receive, standing_among, place_among, has_members, opened, closed, step, update, all_accepted, opening_roll}
+use Rattle.std.specs.Prelude.{◌≡◌, ℕ, ◌+◌, ◌^◌, ◌≤◌, ◌<◌, true, false, if◌then◌else◌, List, length, sum_by, All, slice_index, None, Some, Ok}
+use Rattle.council_core.specs.Rolls.{Roll, Entry, chair_word, sits_in, total, is_open, can_receive, standing_among, place_among, has_members, opened, closed, admitted, withdrawn, max_members, step, update, all_accepted, opening_roll}
 use Rattle.council_core.specs.declared.changes.Change.{Change}
 use Rattle.council_core.specs.declared.changes.Change.TheVariants as change
 use Rattle.council_core.specs.declared.commands.Command.{Command}
@@ -21,7 +21,7 @@ pub record Mirrors (roll : Roll) (entries : List Entry) (words counts : List ℕ
   pub each_count : (k : ℕ) → k < 32 → slice_index counts k ≡ seated roll.members (k + 1)
   pub same_total : sum ≡ total roll
   pub closed_empty : (c : ℕ) → is_open roll c ≡ false → seated roll.members c ≡ 0
-  pub few : length entries ≤ 256
+  pub few : length entries ≤ max_members
   pub small : All (λ m. m.1.votes ≤ 2 ^ 40) entries
 
 pub record IsKept (ledger : Ledger) (entries : List Entry) (words counts : List ℕ) (sum : ℕ) : Type 0 where
@@ -46,9 +46,24 @@ pub record IsChange (roll : Roll) (command : Command) (code : List ℕ) (old new
   pub seat : can_receive roll new.chair ≡ true
   pub effect : step roll command ≡ update roll code new
 
+-- the command enters a member whose code is new
+pub record IsEntry (roll : Roll) (command : Command) (code : List ℕ) (votes : ℕ) : Type 0 where
+  pub unknown : standing_among code roll.members ≡ None
+  pub room : length roll.members < max_members
+  pub effect : step roll command ≡ Ok (admitted roll code votes)
+
+-- the command takes out the member of that code, which sits in no chair
+pub record IsLeaving (roll : Roll) (command : Command) (code : List ℕ) (old : Standing) : Type 0 where
+  pub known : standing_among code roll.members ≡ Some old
+  pub unseated : old.chair ≡ None
+  pub effect : step roll command ≡ Ok (withdrawn roll code)
+
 -- what the command does to the roll is this change
 abbrev pub IsPlanned : Roll → Command → Change → Type 0
 IsPlanned roll command (change.Open chair) = IsOpening roll command chair
 IsPlanned roll command (change.Close chair) = IsClosing roll command chair
 IsPlanned roll command (change.Stand place old new) =
     (code : List ℕ) × (place_among code roll.members ≡ Some place) × IsChange roll command code old new
+IsPlanned roll command (change.Enter code votes) = IsEntry roll command code votes
+IsPlanned roll command (change.Leave place old) =
+    (code : List ℕ) × (place_among code roll.members ≡ Some place) × IsLeaving roll command code old

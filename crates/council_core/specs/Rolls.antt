@@ -1,14 +1,14 @@
 -- The roll: members in order of entry, and the open chairs. What a command makes of it.
-use Rattle.std.specs.Prelude.{ℕ, ◌+◌, ◌≤◌, ◌==◌, Bool, true, false, not, ◌&&◌, if◌then◌else◌, List, [], ◌∷◌, ◌++◌, length, map, filter, position, sum_by, Option, None, Some, Result, Ok, Err, is_ok, IsTrue, nat_eq}
+use Rattle.std.specs.Prelude.{ℕ, ◌+◌, ◌≤◌, ◌==◌, Bool, true, false, not, ◌&&◌, if◌then◌else◌, List, [], ◌∷◌, ◌++◌, length, map, filter, position, sum_by, Option, None, Some, is_some, Result, Ok, Err, is_ok, IsTrue, nat_eq, nat_le}
 use Rattle.std.specs.List.{list_any, range_with_len}
 use Rattle.std.specs.Option.{option_map_or}
 use Rattle.std.specs.Map.{keys_of, lookup}
 use Rattle.std.specs.Cmp.Lexicographic.{pointwise}
 use Rattle.std.specs.Result.{result_unwrap_or}
 use Rattle.council_core.specs.declared.refusals.Refusal.{Refusal}
-use Rattle.council_core.specs.declared.refusals.Refusal.TheVariants.{ChairOpen, ChairNotOpen, ChairHasMembers, UnknownMember, MemberSuspended, AlreadyThere, AlreadySuspended, NotSuspended}
+use Rattle.council_core.specs.declared.refusals.Refusal.TheVariants.{ChairOpen, ChairNotOpen, ChairHasMembers, UnknownMember, MemberSuspended, AlreadyThere, AlreadySuspended, NotSuspended, TooManyMembers, MemberExists, MemberSeated}
 use Rattle.council_core.specs.declared.commands.Command.{Command}
-use Rattle.council_core.specs.declared.commands.Command.TheVariants.{Open, Close, Move, SetVotes, Suspend, Restore}
+use Rattle.council_core.specs.declared.commands.Command.TheVariants.{Open, Close, Move, SetVotes, Suspend, Restore, Admit, Withdraw}
 use Rattle.council_core.specs.declared.commands.Standing.{Standing}
 
 -- a member's entry: its code, and its votes, chair and suspension
@@ -33,9 +33,12 @@ pub record Roll : Type 0 where
 abbrev pub Opening : Type 0
 Opening = List (List ℕ × ℕ)
 
--- a member at the beginning: in no chair, not suspended
+-- the standing of a member as it enters: in no chair, not suspended
+abbrev pub fresh : ℕ → Standing
+fresh votes = record { votes = votes; chair = None; suspended = false }
+
 abbrev pub entered : List ℕ × ℕ → Entry
-entered m = (m.0, record { votes = m.1; chair = None; suspended = false })
+entered m = (m.0, fresh m.1)
 
 abbrev pub opening_roll : Opening → Roll
 opening_roll opening = record { members = map entered opening; open_chairs = [] }
@@ -58,6 +61,11 @@ standing_among code ms = lookup (same_code code) ms
 abbrev pub with_standing : List ℕ → Standing → List Entry → List Entry
 with_standing code s [] = []
 with_standing code s (m ∷ ms) = if same_code code m.0 then (m.0, s) ∷ ms else m ∷ with_standing code s ms
+
+-- the members but the one of a code; those after it move up
+abbrev pub without : List ℕ → List Entry → List Entry
+without code [] = []
+without code (m ∷ ms) = if same_code code m.0 then ms else m ∷ without code ms
 
 -- the place of the member of a code, if there is one
 abbrev pub place_among : List ℕ → List Entry → Option ℕ
@@ -102,6 +110,26 @@ restore_member r code s = if s.suspended then update r code (record s { suspende
 abbrev pub with_member : Roll → List ℕ → (Standing → Result Roll Refusal) → Result Roll Refusal
 with_member r code f = option_map_or f (standing_among code r.members) (Err UnknownMember)
 
+-- how many members there may be at any moment
+abbrev pub max_members : ℕ
+max_members = 256
+
+-- with one more member, the last in order of entry
+abbrev pub admitted : Roll → List ℕ → ℕ → Roll
+admitted r code votes = record r { members = r.members ++ entered (code, votes) ∷ [] }
+
+abbrev pub admit_member : Roll → List ℕ → ℕ → Result Roll Refusal
+admit_member r code votes =
+    if is_some (standing_among code r.members) then Err MemberExists
+    else (if nat_le max_members (length r.members) then Err TooManyMembers else Ok (admitted r code votes))
+
+abbrev pub withdrawn : Roll → List ℕ → Roll
+withdrawn r code = record r { members = without code r.members }
+
+-- a member in a chair, suspended or not, can't leave
+abbrev pub withdraw_member : Roll → List ℕ → Standing → Result Roll Refusal
+withdraw_member r code s = if is_some s.chair then Err MemberSeated else Ok (withdrawn r code)
+
 -- the next roll, or the first refusal
 abbrev pub step : Roll → Command → Result Roll Refusal
 step r (Open c) = open_chair r c
@@ -110,6 +138,8 @@ step r (Move code to) = with_member r code (move_member r code to)
 step r (SetVotes code n) = with_member r code (λ s. update r code (record s { votes = n }))
 step r (Suspend code) = with_member r code (suspend_member r code)
 step r (Restore code) = with_member r code (restore_member r code)
+step r (Admit code votes) = admit_member r code votes
+step r (Withdraw code) = with_member r code (withdraw_member r code)
 
 -- the roll after a command; a refused one leaves it
 abbrev pub after : Roll → Command → Roll

@@ -1,6 +1,6 @@
 //! What accepted commands change.
 use crate::commands::Standing;
-use crate::values::ChairId;
+use crate::values::{ChairId, MemberCode, Votes};
 
 /// What an accepted command changes beside the journal.
 #[derive(Clone, Copy)]
@@ -14,5 +14,12 @@ pub(crate) enum Change {
         place: usize,
         old: Standing,
         new: Standing,
+    },
+    /// A member is entered with its votes, last.
+    Enter(MemberCode, Votes),
+    /// The member at a place, which has this standing, leaves.
+    Leave {
+        place: usize,
+        old: Standing,
     },
 }

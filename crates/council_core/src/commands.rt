@@ -1,4 +1,7 @@
 //! What changes the register, and what it knows of a member.
+ghost use Rattle.std.specs.Prelude.{◌≡◌, ◌≤◌, ◌^◌};
+ghost use Rattle.council_core.specs.Rolls.{fresh};
+
 use crate::values::{ChairId, MemberCode, Votes};
 
 /// A change of the register. `Register::apply` says which are refused, and why.
@@ -18,6 +21,12 @@ pub enum Command {
     Suspend(MemberCode),
     /// Ends a suspension: the member's votes count again where it sits.
     Restore(MemberCode),
+    /// Enters a new member with its votes, last in the order of entry, in no chair and not
+    /// suspended (Article II, Section 2).
+    Admit(MemberCode, Votes),
+    /// Takes out a member that sits in no chair, suspended or not (Article XXVI, Section 1). Those
+    /// entered after it move up, and its code may be admitted again.
+    Withdraw(MemberCode),
 }
 
 /// What the register knows of a member beside its code.
@@ -26,6 +35,22 @@ pub struct Standing {
     pub votes: Votes,
     pub chair: Option<ChairId>,
     pub suspended: bool,
+}
+
+impl Standing {
+    // The standing of a member as it enters.
+    pub(crate) fn fresh(votes: Votes) -> Standing
+        ensures same { result ≡ fresh votes }
+        ensures small { votes ≤ 2 ^ 40 }
+    {
+        // The prover asks for this line: the votes are in range.
+        let _votes = votes.number();
+        Standing {
+            votes,
+            chair: None,
+            suspended: false,
+        }
+    }
 }
 
 /// A member as it stands after the commands accepted.

@@ -4,6 +4,7 @@
 mod changes;
 mod commands;
 mod laws;
+mod limits;
 mod refusals;
 mod registers;
 mod sheets;
@@ -15,6 +16,9 @@ mod values;
 
 pub use commands::{Command, MemberRow, Standing};
 pub use laws::{cast_law, coalitions_law, prefix_law, sheet_law};
+pub use limits::{
+    CHAIRS, FRONT, MAX_COMMANDS, MAX_MEMBERS, MAX_TOTAL, MAX_VOTES, SHEET_WORDS, TOTAL,
+};
 pub use refusals::Refusal;
 pub use registers::Register;
 pub use sheets::Sheet;

@@ -10,14 +10,15 @@ ghost use Rattle.council_core.specs.Rolls.{step, is_open, can_receive, standing_
 ghost use Rattle.council_core.specs.Verdicts.{Follows};
 ghost use Rattle.council_core.specs.Registers.{IsPlanned};
 ghost use Rattle.council_core.specs.Ledgers.{Ledger, IsLedger, roll_of, verdict_of, room_of, appended, sheet_of, has_duplicate, start_verdict};
-ghost use Rattle.council_core.specs.declared.commands.Command.TheVariants.{Open, Close, Move, SetVotes, Suspend, Restore};
+ghost use Rattle.council_core.specs.declared.commands.Command.TheVariants.{Open, Close, Move, SetVotes, Suspend, Restore, Admit, Withdraw};
 ghost use Rattle.council_core.specs.declared.refusals.Refusal.TheVariants.{OutOfMemory, UnknownMember};
 
 use crate::changes::Change;
 use crate::commands::{Command, MemberRow, Standing};
+use crate::limits::{MAX_COMMANDS, MAX_MEMBERS};
 use crate::refusals::Refusal;
 use crate::sheets::Sheet;
-use crate::stores::{append, copied, enter_all, put};
+use crate::stores::{append, copied, enter_all, enter_new, make_room, put, take_out};
 use crate::tallies::{Tally, place_of};
 use crate::values::{ChairId, MemberCode, Votes};
 use indexmap::IndexMap;
@@ -75,10 +76,10 @@ impl Register {
         ensures verdict { Follows (start_verdict members.now journal_limit) result OutOfMemory }
         ensures started { IfOk result (λ r. r ≡ record { opening = members.now; journal = []; limit = journal_limit }) }
     {
-        if journal_limit == 0 || 1000000 < journal_limit {
+        if journal_limit == 0 || MAX_COMMANDS < journal_limit {
             return Err(Refusal::BadLimit);
         }
-        if 256 < members.len() {
+        if MAX_MEMBERS < members.len() {
             return Err(Refusal::TooManyMembers);
         }
         if has_duplicate(members) {
@@ -255,6 +256,30 @@ impl Register {
         Ok(Change::Stand { place, old, new })
     }
 
+    fn plan_admit(&self, code: MemberCode, votes: Votes) -> Result<Change, Refusal>
+        ensures refused { IfErr result (λ e. step (roll_of self.now) (Admit code votes) ≡ Err e) }
+        ensures planned { IfOk result (IsPlanned (roll_of self.now) (Admit code votes)) }
+    {
+        if self.members.contains_key(&code) {
+            return Err(Refusal::MemberExists);
+        }
+        if MAX_MEMBERS <= self.members.len() {
+            return Err(Refusal::TooManyMembers);
+        }
+        Ok(Change::Enter(code, votes))
+    }
+
+    fn plan_withdraw(&self, code: MemberCode) -> Result<Change, Refusal>
+        ensures refused { IfErr result (λ e. step (roll_of self.now) (Withdraw code) ≡ Err e) }
+        ensures planned { IfOk result (IsPlanned (roll_of self.now) (Withdraw code)) }
+    {
+        let (place, old) = self.find(code)?;
+        if old.chair.is_some() {
+            return Err(Refusal::MemberSeated);
+        }
+        Ok(Change::Leave { place, old })
+    }
+
     // What a command changes, or the refusal of its step.
     fn plan(&self, command: Command) -> Result<Change, Refusal>
         ensures refused { IfErr result (λ e. step (roll_of self.now) command ≡ Err e) }
@@ -267,6 +292,8 @@ impl Register {
             Command::SetVotes(code, votes) => self.plan_set_votes(code, votes),
             Command::Suspend(code) => self.plan_suspend(code),
             Command::Restore(code) => self.plan_restore(code),
+            Command::Admit(code, votes) => self.plan_admit(code, votes),
+            Command::Withdraw(code) => self.plan_withdraw(code),
         }
     }
 
@@ -280,7 +307,8 @@ impl Register {
         }
     }
 
-    /// What `apply` would refuse, want of memory aside: one of the refusals numbered 1 to 9.
+    /// What `apply` would refuse, want of memory aside: one of the refusals numbered 1 to 9, or
+    /// `TooManyMembers`, `MemberExists`, `MemberSeated`.
     pub fn check(&self, command: Command) -> Result<(), Refusal>
         ensures verdict { result ≡ verdict_of self.now command }
     {
@@ -292,7 +320,7 @@ impl Register {
 
     /// Carries out a command, and answers how many commands were accepted, this one with them.
     /// Otherwise the register is as before, and the answer is the first refusal of the step, of
-    /// those numbered 1 to 8; else `JournalFull`, where as many commands as the limit were
+    /// those numbered 1 to 8 and `TooManyMembers`, `MemberExists`, `MemberSeated`; else `JournalFull`, where as many commands as the limit were
     /// accepted; else `OutOfMemory`.
     pub fn apply(&mut self, command: Command) -> Result<u32, Refusal>
         ensures verdict { Follows (verdict_of self.old command) result OutOfMemory }
@@ -306,7 +334,7 @@ impl Register {
             Err(why) => return Err(why),
         };
         self.check_room()?;
-        append(&mut self.journal, &command)?;
+        make_room(&mut self.journal)?;
         match change {
             Change::Open(chair) => self.tally.words[place_of(chair)] = 1,
             Change::Close(chair) => self.tally.words[place_of(chair)] = 0,
@@ -317,7 +345,16 @@ impl Register {
                 self.tally.enter(&new);
                 put(&mut self.members, place, new);
             }
+            Change::Enter(code, votes) => {
+                enter_new(&mut self.members, code, votes)?;
+                self.tally.enter(&Standing::fresh(votes));
+            }
+            Change::Leave { place, old } => {
+                self.tally.withdraw(&old);
+                take_out(&mut self.members, place);
+            }
         }
+        append(&mut self.journal, &command);
         Ok(self.journal.len() as u32)
     }
 }

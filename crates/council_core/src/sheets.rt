@@ -1,8 +1,10 @@
 //! The 34 numbers that readers see.
-ghost use Rattle.std.specs.Prelude.{◌≡◌, ◌≤◌, ◌^◌, ◌++◌, ◌∷◌, ◌↔◌, [], length, ℕ, IsTrue, IsOk, IfOk, IsOkUnless};
+ghost use Rattle.std.specs.Prelude.{slice_index};
+ghost use Rattle.std.specs.Prelude.{◌≡◌, ◌≤◌, ◌<◌, ◌+◌, ◌^◌, ◌++◌, ◌∷◌, ◌↔◌, [], length, ℕ, IsTrue, IsOk, IfOk, IsOkUnless};
 ghost use Rattle.council_core.specs.declared.refusals.Refusal.TheVariants.{BadSheet};
 ghost use Rattle.council_core.specs.Sheets.{cast_of, total_of, front_of, open_chairs, weight_word, IsSheet};
 
+use crate::limits::{CHAIRS, FRONT, MAX_COMMANDS, MAX_TOTAL, SHEET_WORDS, TOTAL};
 use crate::refusals::Refusal;
 use crate::values::ChairId;
 use std::marker::Model;
@@ -12,7 +14,7 @@ use std::marker::Model;
 /// accepted. Weights and the total are in votes.
 #[derive(Clone, Copy)]
 pub struct Sheet {
-    words: [u64; 34],
+    words: [u64; SHEET_WORDS],
 }
 
 impl Model for Sheet {
@@ -29,23 +31,21 @@ impl Model for Sheet {
 }
 
 impl Sheet {
-    pub(crate) fn assemble(words: &[u64; 32], total: u64, front: u32) -> Sheet
+    pub(crate) fn assemble(words: &[u64; CHAIRS], total: u64, front: u32) -> Sheet
         requires { IsSheet (words.now ++ total ∷ front ∷ []) }
         ensures { result ≡ words.now ++ total ∷ front ∷ [] }
     {
-        let mut all = [0; 34];
-        for i in 0..32 {
-            all[i] = words[i];
-        }
-        all[32] = total;
-        all[33] = front as u64;
+        let mut all = [0; SHEET_WORDS];
+        all[..CHAIRS].copy_from_slice(words);
+        all[TOTAL] = total;
+        all[FRONT] = front as u64;
         Sheet { words: all }
     }
 
     /// The sheet of these words. They are refused as `BadSheet` unless each of the first 32 is at
     /// most 2^48 + 1, the weights add up to at most the total, the total is at most 2^48, and the
     /// front is at most 1,000,000.
-    pub fn from_words(words: &[u64; 34]) -> Result<Sheet, Refusal>
+    pub fn from_words(words: &[u64; SHEET_WORDS]) -> Result<Sheet, Refusal>
         ensures in_range { IsOk result ↔ IsSheet words.now }
         ensures kept { IfOk result (λ s. s ≡ words.now) }
         ensures refused { IsOkUnless result BadSheet }
@@ -58,7 +58,7 @@ impl Sheet {
     }
 
     /// The sheet that these words are.
-    pub fn of_words(words: &[u64; 34]) -> Sheet
+    pub fn of_words(words: &[u64; SHEET_WORDS]) -> Sheet
         requires { IsSheet words.now }
         ensures { result ≡ words.now }
     {
@@ -66,7 +66,7 @@ impl Sheet {
     }
 
     /// The 34 words.
-    pub fn words(&self) -> [u64; 34]
+    pub fn words(&self) -> [u64; SHEET_WORDS]
         ensures same { result ≡ self.now }
         ensures long { length result ≡ 34 }
         ensures lawful { IsSheet result }
@@ -82,7 +82,7 @@ impl Sheet {
         ensures high { result ≤ 2 ^ 48 }
         ensures cast { cast_of self.now ≤ result }
     {
-        self.words[32]
+        self.words[TOTAL]
     }
 
     /// How many chairs are open, from 0 to 32.
@@ -92,7 +92,7 @@ impl Sheet {
         ensures high { result ≤ 32 }
     {
         let mut chairs = 0;
-        for i in 0..32 {
+        for i in 0..CHAIRS {
             if self.words[i] > 0 {
                 chairs += 1;
             }
@@ -113,7 +113,7 @@ impl Sheet {
     pub fn front(&self) -> u32
         ensures same { result ≡ front_of self.now }
     {
-        self.words[33] as u32
+        self.words[FRONT] as u32
     }
 
     /// The votes that the open chairs cast together, from 0 to the total.
@@ -122,26 +122,42 @@ impl Sheet {
         ensures same { result ≡ cast_of self.now }
         ensures high { result ≤ 2 ^ 48 }
     {
-        let mut sum = 0;
-        for i in 0..32 {
-            sum += self.words[i].saturating_sub(1);
-        }
-        sum
+        cast_in(&self.words)
     }
+}
+
+// The weights that words show, added up.
+#[tactic(auto, using(std::proofs::lemmas::Grind::common_steps, crate::proofs::SheetLemmas::cast_step, crate::proofs::SheetLemmas::cast_below))]
+fn cast_in(words: &[u64; SHEET_WORDS]) -> u64
+    requires small { (k : ℕ) → k < 32 → slice_index words.now k ≤ 2 ^ 48 + 1 }
+    ensures same { result ≡ cast_of words.now }
+{
+    let mut cast = 0;
+    for i in 0..CHAIRS {
+        cast += words[i].saturating_sub(1);
+    }
+    cast
+}
+
+// Whether the words of the chairs are no larger than a sheet's.
+fn are_small(words: &[u64; SHEET_WORDS]) -> bool
+    ensures { IsTrue result ↔ ((k : ℕ) → k < 32 → slice_index words.now k ≤ 2 ^ 48 + 1) }
+{
+    for i in 0..CHAIRS {
+        if words[i] > MAX_TOTAL + 1 {
+            return false;
+        }
+    }
+    true
 }
 
 // Whether words are a sheet.
 #[tactic(auto, using(std::proofs::lemmas::Grind::common_steps, crate::proofs::SheetLemmas::cast_step, crate::proofs::SheetLemmas::cast_below))]
-fn is_in_range(words: &[u64; 34]) -> bool
+fn is_in_range(words: &[u64; SHEET_WORDS]) -> bool
     ensures { IsTrue result ↔ IsSheet words.now }
 {
-    let mut cast = 0;
-    for i in 0..32 {
-        let word = words[i];
-        if word > (1 << 48) + 1 {
-            return false;
-        }
-        cast += word.saturating_sub(1);
-    }
-    cast <= words[32] && words[32] <= 1 << 48 && words[33] <= 1_000_000
+    are_small(words)
+        && cast_in(words) <= words[TOTAL]
+        && words[TOTAL] <= MAX_TOTAL
+        && words[FRONT] <= u64::from(MAX_COMMANDS)
 }

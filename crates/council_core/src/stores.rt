@@ -1,5 +1,7 @@
 //! Writes to the journal and to the members, with this crate's refusals.
 ghost use Rattle.std.specs.Prelude.{◌≡◌, ◌<◌, ◌++◌, ◌∷◌, [], OnOk, OnErr, IsOkUnless, IfOk, None, false, length, map};
+ghost use Rattle.std.specs.Prelude.{remove};
+ghost use Rattle.std.specs.Vec.{vec_len, vec_capacity};
 ghost use Rattle.indexmap.specs.IndexMap.{set_value_at};
 ghost use Rattle.council_core.specs.declared.refusals.Refusal.TheVariants.{OutOfMemory};
 ghost use Rattle.council_core.specs.Ledgers.{has_duplicate};
@@ -11,16 +13,25 @@ use crate::values::{ChairId, MemberCode, Votes};
 use indexmap::IndexMap;
 use std::alloc::Global;
 
-pub(crate) fn append(journal: &mut Vec<Command>, command: &Command) -> Result<(), Refusal>
-    ensures ok { OnOk result (journal.new.items ≡ journal.old.items ++ command.now ∷ []) }
-    ensures err { OnErr result (journal.new.items ≡ journal.old.items) }
+// Makes room in the journal for one more command.
+pub(crate) fn make_room(journal: &mut Vec<Command>) -> Result<(), Refusal>
+    ensures same { journal.new.items ≡ journal.old.items }
+    ensures room { OnOk result (vec_len journal.new < vec_capacity journal.new) }
     ensures memory { IsOkUnless result OutOfMemory }
 {
-    let _nowhere: Option<ChairId> = None;
-    match journal.push(*command) {
+    match journal.reserve(1) {
         Ok(()) => Ok(()),
         Err(_) => Err(Refusal::OutOfMemory),
     }
+}
+
+// Writes a command down, in the room made for it.
+pub(crate) fn append(journal: &mut Vec<Command>, command: &Command)
+    requires { vec_len journal.old < vec_capacity journal.old }
+    ensures { journal.new.items ≡ journal.old.items ++ command.now ∷ [] }
+{
+    let _nowhere: Option<ChairId> = None;
+    journal.push_reserved(*command);
 }
 
 // Writes the standing of the member at a place.
@@ -32,6 +43,13 @@ pub(crate) fn put(members: &mut IndexMap<MemberCode, Standing>, place: usize, ne
         Some(standing) => *standing = new,
         None => unreachable!(),
     }
+}
+
+// Takes out the member at a place; those after it move up.
+pub(crate) fn take_out(members: &mut IndexMap<MemberCode, Standing>, place: usize)
+    ensures { members.new.entries ≡ remove members.old.entries place }
+{
+    let _gone = members.shift_remove_index(place);
 }
 
 pub(crate) fn copied(
@@ -58,27 +76,24 @@ pub(crate) fn enter_all(
 {
     let mut entered = IndexMap::new(alloc);
     for member in members {
-        let standing = Standing {
-            votes: member.1,
-            chair: None,
-            suspended: false,
-        };
-        enter_new(&mut entered, member.0, standing)?;
+        enter_new(&mut entered, member.0, member.1)?;
     }
     Ok(entered)
 }
 
-fn enter_new(
+// Enters a member of a new code, last.
+pub(crate) fn enter_new(
     members: &mut IndexMap<MemberCode, Standing>,
     code: MemberCode,
-    standing: Standing,
+    votes: Votes,
 ) -> Result<(), Refusal>
     requires { standing_among code members.old.entries ≡ None }
-    ensures ok { OnOk result (members.new.entries ≡ members.old.entries ++ (code, standing) ∷ []) }
+    ensures ok { OnOk result (members.new.entries ≡ members.old.entries ++ entered (code, votes) ∷ []) }
+    ensures err { OnErr result (members.new.entries ≡ members.old.entries) }
     ensures memory { IsOkUnless result OutOfMemory }
 {
     let _nowhere: Option<ChairId> = None;
-    match members.insert(code, standing) {
+    match members.insert(code, Standing::fresh(votes)) {
         Ok(_) => Ok(()),
         Err(_) => Err(Refusal::OutOfMemory),
     }

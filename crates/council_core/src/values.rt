@@ -3,6 +3,7 @@ ghost use Rattle.std.specs.Prelude.{◌≡◌, ◌≤◌, ◌<◌, ◌↔◌, �
 ghost use Rattle.council_core.specs.declared.refusals.Refusal.TheVariants.{BadChair, BadMember, VotesTooLarge};
 ghost use Rattle.council_core.specs.Codes.{IsCode};
 
+use crate::limits::{CHAIRS, MAX_VOTES};
 use crate::refusals::Refusal;
 use std::marker::Model;
 
@@ -41,7 +42,7 @@ impl ChairId {
         ensures kept { IfOk result (λ c. c ≡ number) }
         ensures refused { IsOkUnless result BadChair }
     {
-        if 1 <= number && number <= 32 {
+        if 1 <= number && usize::from(number) <= CHAIRS {
             Ok(ChairId { number })
         } else {
             Err(Refusal::BadChair)
@@ -84,7 +85,7 @@ impl Votes {
         ensures kept { IfOk result (λ v. v ≡ number) }
         ensures refused { IsOkUnless result VotesTooLarge }
     {
-        if number <= 1 << 40 {
+        if number <= MAX_VOTES {
             Ok(Votes { count: number })
         } else {
             Err(Refusal::VotesTooLarge)

@@ -1,83 +1,96 @@
-use Rattle.std.proofs.Common.{rules, ◌≡◌, ◌≤◌, ◌^◌, Ok, sym, subst}
-use Rattle.council_core.specs.Ledgers.{Ledger, roll_of, room_of}
-use Rattle.council_core.specs.Registers.{IsPlanned}
-use Rattle.council_core.specs.declared.changes.Change.{Change}
-use Rattle.council_core.proofs.RegisterLemmas.{IsKept-open, IsKept-close, IsKept-change, word_holds, count_holds, total_holds, word_fits, count_fits, total_fits}
-use Rattle.council_core.proofs.registers.Register.apply.Goals.{in-Open, in-Close, in-Stand}
+use Rattle.std.proofs.Common.{rules, ◌≡◌, ◌+◌, ◌≤◌, ◌^◌, List, [], ◌∷◌, ◌++◌, Ok, sym, subst, ap, ◌∙◌, arith}
+use Rattle.council_core.specs.Ledgers.{Ledger, room_of}
+use Rattle.council_core.specs.Registers.{sits_as}
+use Rattle.council_core.specs.Rolls.{fresh, counted, votes_in}
+use Rattle.council_core.specs.declared.commands.Command.{Command}
+use Rattle.council_core.proofs.RegisterLemmas.{planned_as, IsKept-open, IsKept-close, IsKept-change, IsKept-admit, IsKept-withdraw, word_holds, count_holds, total_holds, seated_small, total_small, counted_small, word_fits, count_fits, total_fits}
+use Rattle.council_core.proofs.registers.Register.apply.Goals.{in-Open, in-Close, in-Stand, in-Enter+in_ok-enter_new-in-Enter, in-Leave}
 use Rattle.council_core.proofs.registers.Register.apply.Goals as goal
 
 pub withdraw-requires-clause-words_hold : goal.withdraw-requires-clause-words_hold
 withdraw-requires-clause-words_hold c =
-    let i = c.self.inside in
-    let l : Ledger = record { opening = i.opening.items; journal = i.journal.items; limit = i.limit } in
-    let planned = subst (λ (v : Ledger). IsPlanned (roll_of v) c.args.command c.in-Ok.change) (sym c.self.view_is) c.in-Ok.ensures.planned in
-    let stand = subst (λ (x : Change). IsPlanned (roll_of l) c.args.command x) c.in-Stand.is planned in
-    word_holds _ i.members.entries i.tally.words i.tally.counts i.tally.total c.self.invariant.mirrors stand.0 c.in-Stand.old stand.2.known
+    let stand = planned_as _ _ c.args.command _ _ c.self.view_is c.in-Stand.is c.in-Ok.ensures.planned in
+    word_holds _ _ _ _ _ c.self.invariant.mirrors stand.0 c.in-Stand.old stand.2.known
 
 pub withdraw-requires-clause-counts_hold : goal.withdraw-requires-clause-counts_hold
 withdraw-requires-clause-counts_hold c =
-    let i = c.self.inside in
-    let l : Ledger = record { opening = i.opening.items; journal = i.journal.items; limit = i.limit } in
-    let planned = subst (λ (v : Ledger). IsPlanned (roll_of v) c.args.command c.in-Ok.change) (sym c.self.view_is) c.in-Ok.ensures.planned in
-    let stand = subst (λ (x : Change). IsPlanned (roll_of l) c.args.command x) c.in-Stand.is planned in
-    count_holds _ i.members.entries i.tally.words i.tally.counts i.tally.total c.self.invariant.mirrors stand.0 c.in-Stand.old stand.2.known
+    let stand = planned_as _ _ c.args.command _ _ c.self.view_is c.in-Stand.is c.in-Ok.ensures.planned in
+    count_holds _ _ _ _ _ c.self.invariant.mirrors stand.0 c.in-Stand.old stand.2.known
 
 pub withdraw-requires-clause-total_holds : goal.withdraw-requires-clause-total_holds
 withdraw-requires-clause-total_holds c =
-    let i = c.self.inside in
-    let l : Ledger = record { opening = i.opening.items; journal = i.journal.items; limit = i.limit } in
-    let planned = subst (λ (v : Ledger). IsPlanned (roll_of v) c.args.command c.in-Ok.change) (sym c.self.view_is) c.in-Ok.ensures.planned in
-    let stand = subst (λ (x : Change). IsPlanned (roll_of l) c.args.command x) c.in-Stand.is planned in
-    total_holds _ i.members.entries i.tally.words i.tally.counts i.tally.total c.self.invariant.mirrors stand.0 c.in-Stand.old stand.2.known
+    let stand = planned_as _ _ c.args.command _ _ c.self.view_is c.in-Stand.is c.in-Ok.ensures.planned in
+    total_holds _ _ _ _ _ c.self.invariant.mirrors stand.0 c.in-Stand.old stand.2.known
 
 pub enter-requires-clause-words_fit : goal.enter-requires-clause-words_fit
 enter-requires-clause-words_fit c =
-    let i = c.self.inside in
-    let l : Ledger = record { opening = i.opening.items; journal = i.journal.items; limit = i.limit } in
-    let planned = subst (λ (v : Ledger). IsPlanned (roll_of v) c.args.command c.in-Ok.change) (sym c.self.view_is) c.in-Ok.ensures.planned in
-    let stand = subst (λ (x : Change). IsPlanned (roll_of l) c.args.command x) c.in-Stand.is planned in
+    let stand = planned_as _ _ c.args.command _ _ c.self.view_is c.in-Stand.is c.in-Ok.ensures.planned in
     let small = subst (λ n. n ≤ 2 ^ 40) c.number-votes.ensures.same c.number-votes.ensures.high in
-    λ k h. word_fits _ i.members.entries i.tally.words i.tally.counts i.tally.total c.self.invariant.mirrors stand.0 c.in-Stand.old stand.2.known c.in-Stand.new small k _ h (c.withdraw.ensures.words k h)
+    λ k h. word_fits _ _ _ _ _ c.self.invariant.mirrors stand.0 c.in-Stand.old stand.2.known c.in-Stand.new small k _ h (c.withdraw.ensures.words k h)
 
 pub enter-requires-clause-counts_fit : goal.enter-requires-clause-counts_fit
 enter-requires-clause-counts_fit c =
-    let i = c.self.inside in
-    let l : Ledger = record { opening = i.opening.items; journal = i.journal.items; limit = i.limit } in
-    let planned = subst (λ (v : Ledger). IsPlanned (roll_of v) c.args.command c.in-Ok.change) (sym c.self.view_is) c.in-Ok.ensures.planned in
-    let stand = subst (λ (x : Change). IsPlanned (roll_of l) c.args.command x) c.in-Stand.is planned in
+    let stand = planned_as _ _ c.args.command _ _ c.self.view_is c.in-Stand.is c.in-Ok.ensures.planned in
     let small = subst (λ n. n ≤ 2 ^ 40) c.number-votes.ensures.same c.number-votes.ensures.high in
-    λ k h. count_fits _ i.members.entries i.tally.words i.tally.counts i.tally.total c.self.invariant.mirrors stand.0 c.in-Stand.old stand.2.known c.in-Stand.new small k _ h (c.withdraw.ensures.counts k h)
+    λ k h. count_fits _ _ _ _ _ c.self.invariant.mirrors stand.0 c.in-Stand.old stand.2.known c.in-Stand.new small k _ h (c.withdraw.ensures.counts k h)
 
 pub enter-requires-clause-total_fits : goal.enter-requires-clause-total_fits
 enter-requires-clause-total_fits c =
-    let i = c.self.inside in
-    let l : Ledger = record { opening = i.opening.items; journal = i.journal.items; limit = i.limit } in
-    let planned = subst (λ (v : Ledger). IsPlanned (roll_of v) c.args.command c.in-Ok.change) (sym c.self.view_is) c.in-Ok.ensures.planned in
-    let stand = subst (λ (x : Change). IsPlanned (roll_of l) c.args.command x) c.in-Stand.is planned in
+    let stand = planned_as _ _ c.args.command _ _ c.self.view_is c.in-Stand.is c.in-Ok.ensures.planned in
     let small = subst (λ n. n ≤ 2 ^ 40) c.number-votes.ensures.same c.number-votes.ensures.high in
-    total_fits _ i.members.entries i.tally.words i.tally.counts i.tally.total c.self.invariant.mirrors stand.0 c.in-Stand.old stand.2.known c.in-Stand.new small _ c.withdraw.ensures.total
+    total_fits _ _ _ _ _ c.self.invariant.mirrors stand.0 c.in-Stand.old stand.2.known c.in-Stand.new small _ c.withdraw.ensures.total
+
+pub withdraw-requires-in-Leave-clause-total_holds : goal.withdraw-requires-in-Leave-clause-total_holds
+withdraw-requires-in-Leave-clause-total_holds c =
+    let leave = planned_as _ _ c.args.command _ _ c.self.view_is c.in-Leave.is c.in-Ok.ensures.planned in
+    total_holds _ _ _ _ _ c.self.invariant.mirrors leave.0 c.in-Leave.old leave.2.known
+
+pub enter-requires-in-Enter-clause-counts_fit : goal.enter-requires-in-Enter-clause-counts_fit
+enter-requires-in-Enter-clause-counts_fit c =
+    let m = c.self.invariant.mirrors in
+    λ k h. omega (arith, m.each_count k h, seated_small _ _ _ _ _ m (k + 1))
+
+pub enter-requires-in-Enter-clause-total_fits : goal.enter-requires-in-Enter-clause-total_fits
+enter-requires-in-Enter-clause-total_fits c =
+    let m = c.self.invariant.mirrors in
+    omega (arith, m.same_total, total_small _ _ _ _ _ m, counted_small (fresh c.in-Enter.votes) c.fresh.ensures.small, ap counted c.fresh.ensures.same)
 
 pub invariant_of-self-2 : goal.invariant_of-self-2
 invariant_of-self-2 c =
     let i = c.self.inside in
     let l : Ledger = record { opening = i.opening.items; journal = i.journal.items; limit = i.limit } in
-    let planned = subst (λ (v : Ledger). IsPlanned (roll_of v) c.args.command c.in-Ok.change) (sym c.self.view_is) c.in-Ok.ensures.planned in
     let room : room_of l ≡ Ok tt = subst (λ (v : Ledger). room_of v ≡ Ok tt) (sym c.self.view_is) (search rules) in
+    let grown : c.match-change.self-inside.journal.items ≡ c.make_room.new.journal.items → c.append.new.journal.items ≡ l.journal ++ c.args.command ∷ []
+    = λ same. c.append.ensures ∙ ap (λ (j : List Command). j ++ c.args.command ∷ []) (same ∙ c.make_room.ensures.same) in
     elim c.match-change.branch [
       | in-Open w ↦
-          let opening = subst (λ (x : Change). IsPlanned (roll_of l) c.args.command x) w.in-Open.is planned in
-          rw w.self-inside-is (IsKept-open l i.members.entries i.tally.words i.tally.counts i.tally.total c.self.invariant c.args.command room c.append.new.journal.items c.in_ok-append.ensures.ok
+          let opening = planned_as _ _ c.args.command _ _ c.self.view_is w.in-Open.is c.in-Ok.ensures.planned in
+          rw w.self-inside-is (IsKept-open l _ _ _ _ c.self.invariant c.args.command room _ (grown (ap (λ s. s.journal.items) w.self-inside-is))
           w.place_of.result w.in-Open.chair w.place_of.ensures.place w.place_of.ensures.within (search rules) opening)
       | in-Close w ↦
-          let closing = subst (λ (x : Change). IsPlanned (roll_of l) c.args.command x) w.in-Close.is planned in
-          rw w.self-inside-is (IsKept-close l i.members.entries i.tally.words i.tally.counts i.tally.total c.self.invariant c.args.command room c.append.new.journal.items c.in_ok-append.ensures.ok
+          let closing = planned_as _ _ c.args.command _ _ c.self.view_is w.in-Close.is c.in-Ok.ensures.planned in
+          rw w.self-inside-is (IsKept-close l _ _ _ _ c.self.invariant c.args.command room _ (grown (ap (λ s. s.journal.items) w.self-inside-is))
           w.place_of-in-Close.result w.in-Close.chair w.place_of-in-Close.ensures.place w.place_of-in-Close.ensures.within (search rules) closing)
       | in-Stand w ↦
-          let stand = subst (λ (x : Change). IsPlanned (roll_of l) c.args.command x) w.in-Stand.is planned in
+          let stand = planned_as _ _ c.args.command _ _ c.self.view_is w.in-Stand.is c.in-Ok.ensures.planned in
           let small = subst (λ n. n ≤ 2 ^ 40) w.number-votes.ensures.same w.number-votes.ensures.high in
-          rw w.self-inside-is (IsKept-change l i.members.entries i.tally.words i.tally.counts i.tally.total c.self.invariant c.args.command room c.append.new.journal.items c.in_ok-append.ensures.ok
+          rw w.self-inside-is (IsKept-change l _ _ _ _ c.self.invariant c.args.command room _ (grown (ap (λ s. s.journal.items) w.self-inside-is))
           w.in-Stand.place w.in-Stand.old w.in-Stand.new stand small
-          w.withdraw.new.self.words w.enter.new.self.words w.withdraw.new.self.counts w.enter.new.self.counts w.withdraw.new.self.total w.enter.new.self.total
-          w.withdraw.ensures.words w.enter.ensures.words w.withdraw.ensures.counts w.enter.ensures.counts w.withdraw.ensures.total w.enter.ensures.total
+          _ _ _ _ _ _ w.withdraw.ensures.words w.enter.ensures.words w.withdraw.ensures.counts w.enter.ensures.counts w.withdraw.ensures.total w.enter.ensures.total
           w.put.new.members.entries w.put.ensures)
+      | in-Enter+in_ok-enter_new-in-Enter w ↦
+          let entry = planned_as _ _ c.args.command _ _ c.self.view_is w.in-Enter.is c.in-Ok.ensures.planned in
+          let as_fresh = w.fresh.ensures.same in
+          rw w.self-inside-is (IsKept-admit l _ _ _ _ c.self.invariant c.args.command room _ (grown (ap (λ s. s.journal.items) w.self-inside-is))
+          w.in-Enter.code w.in-Enter.votes entry w.fresh.ensures.small _ _ _
+          (λ k h. w.enter-in-Enter.ensures.words k h ∙ ap (λ s. _ + votes_in (k + 1) s) as_fresh)
+          (λ k h. w.enter-in-Enter.ensures.counts k h ∙ ap (λ s. _ + sits_as (k + 1) s) as_fresh)
+          (w.enter-in-Enter.ensures.total ∙ ap (λ s. _ + counted s) as_fresh)
+          w.enter_new.new.members.entries (w.in_ok-enter_new-in-Enter.ensures.ok))
+      | in-Leave w ↦
+          let leave = planned_as _ _ c.args.command _ _ c.self.view_is w.in-Leave.is c.in-Ok.ensures.planned in
+          rw w.self-inside-is (IsKept-withdraw l _ _ _ _ c.self.invariant c.args.command room _ (grown (ap (λ s. s.journal.items) w.self-inside-is))
+          w.in-Leave.place w.in-Leave.old leave _ _ _
+          w.withdraw-in-Leave.ensures.words w.withdraw-in-Leave.ensures.counts w.withdraw-in-Leave.ensures.total
+          w.take_out.new.members.entries w.take_out.ensures)
     ]
