@@ -23,7 +23,7 @@ use crate::serving::serve;
 use crate::tracing::trace;
 use clap::error::ErrorKind;
 use clap::{ArgMatches, Error};
-use council_core::Refusal;
+use council_core::{MAX_COMMANDS, Refusal};
 use std::alloc::Global;
 use std::io::{Read, Write};
 use std::sync::Wait;
@@ -33,7 +33,7 @@ use std::thread::Threads;
 fn journal_of(matches: &ArgMatches<'_>) -> u32
     ensures same { (journal : ℕ) → HasJournal (rows_of (found_of matches.now)) journal → result ≡ journal }
 {
-    matches.get_one::<u32>("journal").unwrap_or(1_000_000)
+    matches.get_one::<u32>("journal").unwrap_or(MAX_COMMANDS)
 }
 
 // The limits of a run, as the command line says them.

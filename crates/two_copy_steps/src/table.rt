@@ -5,13 +5,14 @@ ghost use Rattle.two_copy_steps.specs.Deeds.{pin, place};
 ghost use Rattle.two_copy_steps.specs.Stages.{accessed, left_by};
 
 use crate::stages::Access;
+use council_core::SHEET_WORDS;
 use std::marker::Model;
 
 /// The place of the word that names the copy published.
 pub const SIDE: usize = 0;
 
 /// How many words a copy has: those of a sheet.
-pub const COPY_WORDS: usize = 34;
+pub const COPY_WORDS: usize = SHEET_WORDS;
 
 /// How many readers there are at most.
 pub const READERS: usize = 4;
