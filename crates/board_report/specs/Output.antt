@@ -65,7 +65,8 @@ Starts lim members (Ok ledger) = (start_verdict members lim.journal ≡ Ok tt) �
 Starts lim members (Err stop.OutOfMemory) = Unit {0}
 Starts lim members (Err stop.ReadFault) = ⊥
 Starts lim members (Err stop.WriteFault) = ⊥
-Starts lim members (Err (stop.Told f)) = (e : Refusal) × (start_verdict members lim.journal ≡ Err e) × (f ≡ fault_at e 0)
+Starts lim members (Err (stop.Told f)) = (e : Refusal) × (start_verdict members lim.journal ≡ Err e)
+    × (f ≡ fault_at e 0)
 
 -- the fault whose line is to be written
 abbrev pub fault_of : Stop → Option Fault
@@ -92,7 +93,8 @@ BreaksOff old new f run = IsBroken f × ((text : List ℕ) × IsBrokenOff run f 
 
 -- after a failed write: a front, in bytes, of what would have been written
 abbrev pub CutsOff : Option (List ℕ) → Option (List ℕ) → Fault → Run → Type 0
-CutsOff old new f run = (f ≡ fault_at why.WriteFault 0) × ((text : List ℕ) × IsOutputOf run text × AppendsFront old new text)
+CutsOff old new f run = (f ≡ fault_at why.WriteFault 0)
+    × ((text : List ℕ) × IsOutputOf run text × AppendsFront old new text)
 
 -- a fault that the input has: all of the run's text
 abbrev pub EndsAsTold : Option (List ℕ) → Option (List ℕ) → Fault → Run → Type 0

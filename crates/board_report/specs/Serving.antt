@@ -52,7 +52,8 @@ StopsServe old new (Some f) spec = (front : List Line) × EndsAfter spec front f
 -- all was written, and what is answered is what the input asks
 abbrev pub ServesWhole : Option (List ℕ) → Option (List ℕ) → Served → Result Planned Fault → Type 0
 ServesWhole old new s spec =
-    (p : Planned) × (spec ≡ Ok p) × IsServed p s × HasRecords p s × Appends old new (text_of (work_lines p ++ audit_line ∷ []))
+    (p : Planned) × (spec ≡ Ok p) × IsServed p s × HasRecords p s
+    × Appends old new (text_of (work_lines p ++ audit_line ∷ []))
 
 -- what is written without the line of a fault
 abbrev pub ServesTo : Option (List ℕ) → Option (List ℕ) → Result Served Stop → Result Planned Fault → Type 0

@@ -72,7 +72,8 @@ is_served lim ask.Publish = true
 
 -- a request is a call of the sequential register, and its lines say the reply
 abbrev pub reply : Limits → Sequential → Request → Turn Sequential
-reply lim s q = if is_served lim q then Ok (reply_lines q (respond s (call_of q)).1, (respond s (call_of q)).0) else Err BadReader
+reply lim s q = if is_served lim q then Ok (reply_lines q (respond s (call_of q)).1, (respond s (call_of q)).0)
+    else Err BadReader
 
 abbrev pub reply_to : Limits → Sequential → Option Request → Turn Sequential
 reply_to lim s None = Err BadRecord
@@ -128,7 +129,8 @@ in_range lim = nat_le 1 lim.readers && nat_le lim.readers 4 && nat_le 1 lim.jour
 unfoldable pub begun_of : Limits → List ℕ → Result Begun Fault
 begun_of lim bytes =
     if in_range lim
-    then if nat_le (length bytes) 4194304 then begun_with lim (opened_of (records default_config (strip_bom bytes))) else Err (fault_at TooLong 0)
+    then if nat_le (length bytes) 4194304 then begun_with lim (opened_of (records default_config (strip_bom bytes)))
+    else Err (fault_at TooLong 0)
     else Err (fault_at BadLimit 0)
 
 -- the run of what a script begins with, or of the fault before it

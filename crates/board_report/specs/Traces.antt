@@ -31,7 +31,8 @@ abbrev pub act_of : Row → Option Act
 act_of (word ∷ []) = if bytes_eq word (codes "publish") then Some act.Publish else None
 act_of (word ∷ a ∷ []) = if bytes_eq word (codes "writer") then option_map act.Writer (count_of a) else None
 act_of (word ∷ a ∷ b ∷ []) =
-    if bytes_eq word (codes "reader") then both act.Reader (number_of a) (count_of b) else submission_of word (a ∷ b ∷ [])
+    if bytes_eq word (codes "reader") then both act.Reader (number_of a) (count_of b)
+    else submission_of word (a ∷ b ∷ [])
 act_of (word ∷ a ∷ b ∷ c ∷ []) = submission_of word (a ∷ b ∷ c ∷ [])
 act_of _ = None
 

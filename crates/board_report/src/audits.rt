@@ -37,8 +37,12 @@ pub(crate) fn are_legal(
     requires starts { start_verdict members.now 1000000 ≡ Ok tt }
     requires legal { IsLegal members.now served.now.journal.items }
     requires in_order { AreCuts served.now.journal.items (0 ∷ served.now.cuts.items) }
-    ensures legal { IfOk result (λ legal. legal ≡ true → AreLegalRecords members.now served.now.journal.items (0 ∷ served.now.cuts.items) (sheets_of served.now)) }
-    ensures broken { IfOk result (λ legal. legal ≡ false → AreLegalRecords members.now served.now.journal.items (0 ∷ served.now.cuts.items) (sheets_of served.now) → ⊥) }
+    ensures legal { IfOk result
+        (λ legal. legal ≡ true
+        → AreLegalRecords members.now served.now.journal.items (0 ∷ served.now.cuts.items) (sheets_of served.now)) }
+    ensures broken { IfOk result
+        (λ legal. legal ≡ false
+        → AreLegalRecords members.now served.now.journal.items (0 ∷ served.now.cuts.items) (sheets_of served.now) → ⊥) }
     ensures memory { IsOkUnless result stop.OutOfMemory }
 {
     audit_law();

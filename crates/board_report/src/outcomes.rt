@@ -69,7 +69,8 @@ fn bring(alloc: Global, ended: Ended) -> Result<Outcome, Stop>
     requires reader_1 { IfErr ended.first.end IsClosed }
     requires reader_2 { IfErr ended.second.end IsClosed }
     ensures brought { IfOk result (IsBrought ended.wrote ended.first ended.second) }
-    ensures ends { IfOk result (λ _. (ended.wrote.end ≡ Ok tt) × (ended.first.end ≡ Ok tt) × (ended.second.end ≡ Ok tt)) }
+    ensures ends { IfOk result
+        (λ _. (ended.wrote.end ≡ Ok tt) × (ended.first.end ≡ Ok tt) × (ended.second.end ≡ Ok tt)) }
     ensures causes { IfErr result IsHeldUp }
 {
     let Ended {

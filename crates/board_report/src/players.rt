@@ -45,7 +45,8 @@ pub(crate) trait Player: Sized + Drop {
         place: u32,
         out: &mut Output<'_, W>,
     ) -> Result<(), Stop>
-        ensures wrote { Plays out.old.held out.new.held result (step_run place (step limits self.old (fields_of row.now))) }
+        ensures wrote { Plays out.old.held out.new.held result
+            (step_run place (step limits self.old (fields_of row.now))) }
         ensures state { OnOk result (IfOk (step limits self.old (fields_of row.now)) (λ p. self.new ≡ p.1)) }
         ensures on { GoesOn out.old out.new };
 }
@@ -82,7 +83,9 @@ fn play_text<P: Player, W: Write>(
 ) -> Result<(), Stop>
     requires short { length text.now ≤ INPUT_LIMIT }
     requires in_range { in_range limits ≡ true }
-    ensures wrote { Plays out.old.held out.new.held result (begun_run (played P.opened P.step limits) (begun_with limits (opened_of (records default_config (strip_bom text.now))))) }
+    ensures wrote { Plays out.old.held out.new.held result
+        (begun_run (played P.opened P.step limits)
+        (begun_with limits (opened_of (records default_config (strip_bom text.now))))) }
     ensures on { GoesOn out.old out.new }
 {
     let mut script = Script::new(alloc, text);
@@ -99,7 +102,8 @@ fn play_input<P: Player, R: Read, W: Write>(
     out: &mut Output<'_, W>,
     limits: Limits,
 ) -> Result<(), Stop>
-    ensures wrote { IfSome (R.remaining input.old) (λ bytes. Plays out.old.held out.new.held result (played_run P.opened P.step limits bytes)) }
+    ensures wrote { IfSome (R.remaining input.old)
+        (λ bytes. Plays out.old.held out.new.held result (played_run P.opened P.step limits bytes)) }
     ensures some { (bytes : List ℕ) × Plays out.old.held out.new.held result (played_run P.opened P.step limits bytes) }
     ensures on { GoesOn out.old out.new }
 {
@@ -125,8 +129,10 @@ fn play_all<P: Player, R: Read, W: Write>(
     out: &mut Output<'_, W>,
     limits: Limits,
 ) -> Result<(), Fault>
-    ensures wrote { IfSome (R.remaining input.old) (λ bytes. Replays out.old.held out.new.held result (played_run P.opened P.step limits bytes)) }
-    ensures some { (bytes : List ℕ) × Replays out.old.held out.new.held result (played_run P.opened P.step limits bytes) }
+    ensures wrote { IfSome (R.remaining input.old)
+        (λ bytes. Replays out.old.held out.new.held result (played_run P.opened P.step limits bytes)) }
+    ensures some { (bytes : List ℕ)
+        × Replays out.old.held out.new.held result (played_run P.opened P.step limits bytes) }
     ensures on { GoesOn out.old out.new }
 {
     let Err(stop) = play_input::<P, R, W>(alloc, input, out, limits) else {
@@ -145,8 +151,10 @@ pub(crate) fn play<P: Player, R: Read, W: Write>(
     out: &mut W,
     limits: Limits,
 ) -> Result<(), Fault>
-    ensures wrote { IfSome (R.remaining input.old) (λ bytes. Replays (W.contents out.old) (W.contents out.new) result (played_run P.opened P.step limits bytes)) }
-    ensures some { (bytes : List ℕ) × Replays (W.contents out.old) (W.contents out.new) result (played_run P.opened P.step limits bytes) }
+    ensures wrote { IfSome (R.remaining input.old)
+        (λ bytes. Replays (W.contents out.old) (W.contents out.new) result (played_run P.opened P.step limits bytes)) }
+    ensures some { (bytes : List ℕ)
+        × Replays (W.contents out.old) (W.contents out.new) result (played_run P.opened P.step limits bytes) }
 {
     let mut output = Output::new(out);
     let result = play_all::<P, R, W>(alloc, input, &mut output, limits);

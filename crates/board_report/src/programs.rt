@@ -68,8 +68,12 @@ fn fail_for_memory<E: Write>(err: &mut E) -> u8
 // Says why the words are refused, or shows the help, and answers the status.
 fn refuse<W: Write, E: Write>(alloc: Global, error: &Error, out: &mut W, err: &mut E) -> u8
     ensures status { result ≤ 2 }
-    ensures memory { kind_of error.now ≡ LackOfMemory → LacksMemory result (streams (W.contents out.old) (W.contents out.new) (E.contents err.old) (E.contents err.new)) }
-    ensures answered { (kinds : Kinds) → HasKind kinds error.now → AnswersWords kinds result (streams (W.contents out.old) (W.contents out.new) (E.contents err.old) (E.contents err.new)) }
+    ensures memory { kind_of error.now ≡ LackOfMemory
+        → LacksMemory result (streams (W.contents out.old) (W.contents out.new) (E.contents err.old)
+        (E.contents err.new)) }
+    ensures answered { (kinds : Kinds) → HasKind kinds error.now
+        → AnswersWords kinds result
+        (streams (W.contents out.old) (W.contents out.new) (E.contents err.old) (E.contents err.new)) }
 {
     if error.kind() == ErrorKind::OutOfMemory {
         return fail_for_memory(err);
@@ -95,7 +99,8 @@ fn run_replay<R: Read, W: Write, E: Write>(
     err: &mut E,
 ) -> u8
     ensures status { result ≤ 1 }
-    ensures exits { RunExits (run_of limits) (R.remaining input.old) result (streams (W.contents out.old) (W.contents out.new) (E.contents err.old) (E.contents err.new)) }
+    ensures exits { RunExits (run_of limits) (R.remaining input.old) result
+        (streams (W.contents out.old) (W.contents out.new) (E.contents err.old) (E.contents err.new)) }
 {
     match replay(alloc, input, out, limits) {
         Ok(()) => return 0,
@@ -112,7 +117,8 @@ fn run_trace<R: Read, W: Write, E: Write>(
     err: &mut E,
 ) -> u8
     ensures status { result ≤ 1 }
-    ensures exits { RunExits (trace_of limits) (R.remaining input.old) result (streams (W.contents out.old) (W.contents out.new) (E.contents err.old) (E.contents err.new)) }
+    ensures exits { RunExits (trace_of limits) (R.remaining input.old) result
+        (streams (W.contents out.old) (W.contents out.new) (E.contents err.old) (E.contents err.new)) }
 {
     match trace(alloc, input, out, limits) {
         Ok(()) => return 0,
@@ -130,7 +136,8 @@ fn run_serve<T: Threads + Wait + Sync, R: Read, W: Write, E: Write>(
     err: &mut E,
 ) -> u8
     ensures status { result ≤ 1 }
-    ensures exits { ServeExits (plan_of journal) (R.remaining input.old) result (streams (W.contents out.old) (W.contents out.new) (E.contents err.old) (E.contents err.new)) }
+    ensures exits { ServeExits (plan_of journal) (R.remaining input.old) result
+        (streams (W.contents out.old) (W.contents out.new) (E.contents err.old) (E.contents err.new)) }
 {
     match serve(rt, alloc, &FreeGate, input, out, journal) {
         Ok(_served) => return 0,
@@ -149,9 +156,15 @@ fn run<T: Threads + Wait + Sync, R: Read, W: Write, E: Write>(
     err: &mut E,
 ) -> u8
     ensures status { result ≤ 2 }
-    ensures replays { (lim : Limits) → name.now ≡ codes "replay" → HasLimits (rows_of (found_of found.now)) lim → RunExits (run_of lim) (R.remaining input.old) result (streams (W.contents out.old) (W.contents out.new) (E.contents err.old) (E.contents err.new)) }
-    ensures traces { (lim : Limits) → name.now ≡ codes "trace" → HasLimits (rows_of (found_of found.now)) lim → RunExits (trace_of lim) (R.remaining input.old) result (streams (W.contents out.old) (W.contents out.new) (E.contents err.old) (E.contents err.new)) }
-    ensures serves { (journal : ℕ) → name.now ≡ codes "serve" → HasJournal (rows_of (found_of found.now)) journal → ServeExits (plan_of journal) (R.remaining input.old) result (streams (W.contents out.old) (W.contents out.new) (E.contents err.old) (E.contents err.new)) }
+    ensures replays { (lim : Limits) → name.now ≡ codes "replay" → HasLimits (rows_of (found_of found.now)) lim
+        → RunExits (run_of lim) (R.remaining input.old) result
+        (streams (W.contents out.old) (W.contents out.new) (E.contents err.old) (E.contents err.new)) }
+    ensures traces { (lim : Limits) → name.now ≡ codes "trace" → HasLimits (rows_of (found_of found.now)) lim
+        → RunExits (trace_of lim) (R.remaining input.old) result
+        (streams (W.contents out.old) (W.contents out.new) (E.contents err.old) (E.contents err.new)) }
+    ensures serves { (journal : ℕ) → name.now ≡ codes "serve" → HasJournal (rows_of (found_of found.now)) journal
+        → ServeExits (plan_of journal) (R.remaining input.old) result
+        (streams (W.contents out.old) (W.contents out.new) (E.contents err.old) (E.contents err.new)) }
 {
     if name == "replay" {
         return run_replay(alloc, limits_of(found), input, out, err);
@@ -183,10 +196,19 @@ pub fn program<T: Threads + Wait + Sync, R: Read, W: Write, E: Write>(
     err: &mut E,
 ) -> u8
     ensures status { result ≤ 2 }
-    ensures replays { (rows : List Row) (lim : Limits) → IsTaken (map string_bytes words.now) (codes "replay") rows → HasLimits rows lim → RunExits (run_of lim) (R.remaining input.old) result (streams (W.contents out.old) (W.contents out.new) (E.contents err.old) (E.contents err.new)) }
-    ensures traces { (rows : List Row) (lim : Limits) → IsTaken (map string_bytes words.now) (codes "trace") rows → HasLimits rows lim → RunExits (trace_of lim) (R.remaining input.old) result (streams (W.contents out.old) (W.contents out.new) (E.contents err.old) (E.contents err.new)) }
-    ensures serves { (rows : List Row) (journal : ℕ) → IsTaken (map string_bytes words.now) (codes "serve") rows → HasJournal rows journal → ServeExits (plan_of journal) (R.remaining input.old) result (streams (W.contents out.old) (W.contents out.new) (E.contents err.old) (E.contents err.new)) }
-    ensures refuses { fault_of board_app (map string_bytes words.now) ≢ [] → AnswersWords (fault_of board_app (map string_bytes words.now)) result (streams (W.contents out.old) (W.contents out.new) (E.contents err.old) (E.contents err.new)) }
+    ensures replays { (rows : List Row) (lim : Limits) → IsTaken (map string_bytes words.now) (codes "replay") rows
+        → HasLimits rows lim → RunExits (run_of lim) (R.remaining input.old) result
+        (streams (W.contents out.old) (W.contents out.new) (E.contents err.old) (E.contents err.new)) }
+    ensures traces { (rows : List Row) (lim : Limits) → IsTaken (map string_bytes words.now) (codes "trace") rows
+        → HasLimits rows lim → RunExits (trace_of lim) (R.remaining input.old) result
+        (streams (W.contents out.old) (W.contents out.new) (E.contents err.old) (E.contents err.new)) }
+    ensures serves { (rows : List Row) (journal : ℕ) → IsTaken (map string_bytes words.now) (codes "serve") rows
+        → HasJournal rows journal
+        → ServeExits (plan_of journal) (R.remaining input.old) result
+        (streams (W.contents out.old) (W.contents out.new) (E.contents err.old) (E.contents err.new)) }
+    ensures refuses { fault_of board_app (map string_bytes words.now) ≢ []
+        → AnswersWords (fault_of board_app (map string_bytes words.now)) result
+        (streams (W.contents out.old) (W.contents out.new) (E.contents err.old) (E.contents err.new)) }
 {
     let Ok(command) = board_command(alloc) else {
         return fail_for_memory(err);

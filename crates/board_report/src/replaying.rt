@@ -55,7 +55,8 @@ fn replay_request<W: Write>(
     request: Request,
     out: &mut Output<'_, W>,
 ) -> Result<(), Stop>
-    ensures wrote { Plays out.old.held out.new.held result (prints (reply_lines request (respond desk.old (call_of request)).1)) }
+    ensures wrote { Plays out.old.held out.new.held result
+        (prints (reply_lines request (respond desk.old (call_of request)).1)) }
     ensures state { OnOk result (desk.new ≡ (respond desk.old (call_of request)).0) }
     ensures on { GoesOn out.old out.new }
 {
@@ -115,7 +116,8 @@ pub fn replay<R: Read, W: Write>(
     out: &mut W,
     limits: Limits,
 ) -> Result<(), Fault>
-    ensures wrote { IfSome (R.remaining input.old) (λ bytes. Replays (W.contents out.old) (W.contents out.new) result (run_of limits bytes)) }
+    ensures wrote { IfSome (R.remaining input.old)
+        (λ bytes. Replays (W.contents out.old) (W.contents out.new) result (run_of limits bytes)) }
     ensures some { (bytes : List ℕ) × Replays (W.contents out.old) (W.contents out.new) result (run_of limits bytes) }
 {
     play::<Desk, R, W>(alloc, input, out, limits)

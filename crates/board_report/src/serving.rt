@@ -56,7 +56,8 @@ fn serve_to<G: Gate, T: Threads + Wait + Sync, R: Read, W: Write>(
     out: &mut Output<'_, W>,
     journal_limit: u32,
 ) -> Result<Served, Stop>
-    ensures wrote { (bytes : List ℕ) × AreOf (R.remaining input.old) bytes × ServesTo out.old.held out.new.held result (plan_of journal_limit bytes) }
+    ensures wrote { (bytes : List ℕ) × AreOf (R.remaining input.old) bytes
+        × ServesTo out.old.held out.new.held result (plan_of journal_limit bytes) }
     ensures on { GoesOn out.old out.new }
 {
     let plan = read_plan(alloc, input, journal_limit)?;
@@ -76,7 +77,8 @@ fn serve_all<G: Gate, T: Threads + Wait + Sync, R: Read, W: Write>(
     out: &mut Output<'_, W>,
     journal_limit: u32,
 ) -> Result<Served, Fault>
-    ensures wrote { IfSome (R.remaining input.old) (λ bytes. Serves out.old.held out.new.held result (plan_of journal_limit bytes)) }
+    ensures wrote { IfSome (R.remaining input.old)
+        (λ bytes. Serves out.old.held out.new.held result (plan_of journal_limit bytes)) }
     ensures some { (bytes : List ℕ) × Serves out.old.held out.new.held result (plan_of journal_limit bytes) }
     ensures on { GoesOn out.old out.new }
 {
@@ -106,10 +108,14 @@ pub fn serve<G: Gate, T: Threads + Wait + Sync, R: Read, W: Write>(
     out: &mut W,
     journal_limit: u32,
 ) -> Result<Served, Fault>
-    ensures wrote { IfSome (R.remaining input.old) (λ bytes. Serves (W.contents out.old) (W.contents out.new) result (plan_of journal_limit bytes)) }
-    ensures some { (bytes : List ℕ) × Serves (W.contents out.old) (W.contents out.new) result (plan_of journal_limit bytes) }
-    ensures served { IfOk result (λ s. IfSome (R.remaining input.old) (λ bytes. IfOk (plan_of journal_limit bytes) (λ p. IsServed p s))) }
-    ensures records { IfOk result (λ s. IfSome (R.remaining input.old) (λ bytes. IfOk (plan_of journal_limit bytes) (λ p. HasRecords p s))) }
+    ensures wrote { IfSome (R.remaining input.old)
+        (λ bytes. Serves (W.contents out.old) (W.contents out.new) result (plan_of journal_limit bytes)) }
+    ensures some { (bytes : List ℕ)
+        × Serves (W.contents out.old) (W.contents out.new) result (plan_of journal_limit bytes) }
+    ensures served { IfOk result
+        (λ s. IfSome (R.remaining input.old) (λ bytes. IfOk (plan_of journal_limit bytes) (λ p. IsServed p s))) }
+    ensures records { IfOk result
+        (λ s. IfSome (R.remaining input.old) (λ bytes. IfOk (plan_of journal_limit bytes) (λ p. HasRecords p s))) }
 {
     let mut output = Output::new(out);
     let result = serve_all(rt, alloc, gate, input, &mut output, journal_limit);

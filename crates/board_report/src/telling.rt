@@ -44,7 +44,8 @@ fn write_work<W: Write>(
     first: u64,
     second: u64,
 ) -> Result<(), Stop>
-    ensures wrote { Plays out.old.held out.new.held result (prints (lines_of_work (map reply_of answers.now) first second)) }
+    ensures wrote { Plays out.old.held out.new.held result
+        (prints (lines_of_work (map reply_of answers.now) first second)) }
     ensures on { GoesOn out.old out.new }
     ensures only { IsOkUnless result stop.WriteFault }
 {
@@ -61,7 +62,8 @@ pub(crate) fn tell<W: Write>(
     second: u64,
     legal: bool,
 ) -> Result<(), Stop>
-    ensures wrote { Tells out.old.held out.new.held legal result (lines_of_work (map reply_of answers.now) first second) }
+    ensures wrote { Tells out.old.held out.new.held legal result
+        (lines_of_work (map reply_of answers.now) first second) }
     ensures on { GoesOn out.old out.new }
 {
     write_work(out, answers, first, second)?;

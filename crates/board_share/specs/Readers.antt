@@ -17,7 +17,8 @@ use Rattle.board_share.specs.Seats.{Part, reads}
 use Rattle.board_share.specs.Rule.{fresh}
 use Rattle.board_share.specs.Steps.{bare}
 
--- the members and votes of the opening, which reader it is, counted from 0, how far it is in its reading, and its readings so far
+-- the members and votes of the opening, which reader it is, counted from 0, how far it is in its reading, and its
+-- readings so far
 pub record Pass : Type 0 where
   pub opening : Opening
   pub place : ℕ
@@ -70,7 +71,8 @@ sole (Some x ∷ xs) = x
 
 -- by what the reader keeps beside its seat: which one it is, and its stage
 abbrev pub pass_of : View → ℕ → Stage → Pass
-pass_of v r stage = record { opening = (sole v.readers).0; place = r; stage = stage; readings = (sole v.readers).1.readings }
+pass_of v r stage = record
+    { opening = (sole v.readers).0; place = r; stage = stage; readings = (sole v.readers).1.readings }
 
 -- a seat of the table is that of this reader alone
 pub record IsReader (table seat : TableId) (me : Me Unit View) (p : Pass) : Type 0 where

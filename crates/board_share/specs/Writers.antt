@@ -12,7 +12,8 @@ use Rattle.two_copy_steps.specs.Lawful.{IsPublishable}
 use Rattle.board_share.specs.declared.views.View.{View}
 use Rattle.board_share.specs.Steps.{begun_with, with_writer}
 
--- the register, what the writer's seat knows, and the commands of a publication that has begun and has not taken a step yet
+-- the register, what the writer's seat knows, and the commands of a publication that has begun and has not taken a
+-- step yet
 pub record Desk : Type 0 where
   pub ledger : Ledger
   pub held : WriterView
@@ -30,7 +31,10 @@ due_of false journal = None
 -- the writer of a view, and some writer where it has none
 abbrev pub writer_or : Option (Opening × WriterView) → Opening × WriterView
 writer_or (Some x) = x
-writer_or None = ([], record { state = record { side = 0; published = []; taken = []; phase = Idle; seen_out = [] }; cuts = [] })
+writer_or None = (
+  [],
+  record { state = record { side = 0; published = []; taken = []; phase = Idle; seen_out = [] }; cuts = [] },
+)
 
 abbrev pub held_by : View → WriterView
 held_by v = (writer_or v.writer).1
@@ -48,7 +52,8 @@ abbrev pub Begins : List Command → List Command → Type 0
 Begins list longer = (rest : List Command) × (list ++ rest ≡ longer)
 
 -- a seat of the table is the writer's, whose side, number of published commands and readers seen out are kept beside it
-pub record IsWriter (table seat : TableId) (me : Me Unit View) (d : Desk) (side published : ℕ) (seen_out : List Bool) : Type 0 where
+pub record IsWriter (table seat : TableId) (me : Me Unit View) (d : Desk) (side published : ℕ)
+    (seen_out : List Bool) : Type 0 where
   pub same : seat ≡ table
   pub within : pin 34 (length seen_out) ≤ table.words
   pub few : length seen_out ≤ 4
@@ -85,7 +90,8 @@ pub record MayWrite (table seat : TableId) (me : Me Unit View) (list : Option (L
 abbrev pub next_me : Option (List Command) → Me Unit View → ℕ → Me Unit View
 next_me list me found = (with_writer me.0 (writer_or me.0.writer).0 ((next_deed list me).after found), me.1)
 
--- from one moment to a later one of the same publication: the register, the side, what is published and taken, and the cuts are the same
+-- from one moment to a later one of the same publication: the register, the side, what is published and taken, and
+-- the cuts are the same
 pub record Underway (before after : Desk) : Type 0 where
   pub ledger : after.ledger ≡ before.ledger
   pub side : (known_at after).state.side ≡ (known_at before).state.side
@@ -108,7 +114,8 @@ pub record IsFilling (d : Desk) (k : ℕ) : Type 0 where
   pub taken : (known_at d).state.taken ≡ d.ledger.journal
   pub phase : (known_at d).state.phase ≡ (if k == 34 then Swapping else Filling k)
 
--- what contracts see of the writer: its register, the commands published, the lengths of the lists published so far, and who is seen out
+-- what contracts see of the writer: its register, the commands published, the lengths of the lists published so far,
+-- and who is seen out
 pub record Publisher : Type 0 where
   pub ledger : Ledger
   pub published : List Command
@@ -116,7 +123,12 @@ pub record Publisher : Type 0 where
   pub seen_out : List Bool
 
 abbrev pub publisher_of : Desk → Publisher
-publisher_of d = record { ledger = d.ledger; published = (known_at d).state.published; cuts = (known_at d).cuts; seen_out = (known_at d).state.seen_out }
+publisher_of d = record {
+  ledger = d.ledger;
+  published = (known_at d).state.published;
+  cuts = (known_at d).cuts;
+  seen_out = (known_at d).state.seen_out;
+}
 
 -- more commands are accepted than published
 abbrev pub is_pending : Publisher → Bool

@@ -54,7 +54,8 @@ fn seat_all(
     begun: &Beginning,
 ) -> Result<(Arc<Board>, Seat<(), View>, Vec<Reader>), AllocError>
     requires few { begun.now.readers ≤ READERS }
-    ensures writer { IfOk result (λ b. IsSplitting begun.now (arc_value b.0).shared.table_id b.1.table_id b.1.me begun.now.readers 0) }
+    ensures writer { IfOk result
+        (λ b. IsSplitting begun.now (arc_value b.0).shared.table_id b.1.table_id b.1.me begun.now.readers 0) }
     ensures readers { IfOk result (λ b. b.2.items ≡ new_passes begun.now.register.opening begun.now.readers) }
 {
     let (board, mut seat) = lay(alloc, begun)?;
@@ -65,7 +66,8 @@ fn seat_all(
 // The shared words, and a seat for the writer and all readers.
 fn lay(alloc: Global, begun: &Beginning) -> Result<(Arc<Board>, Seat<(), View>), AllocError>
     requires few { begun.now.readers ≤ READERS }
-    ensures laid { IfOk result (λ b. IsSplitting begun.now (arc_value b.0).shared.table_id b.1.table_id b.1.me 0 begun.now.readers) }
+    ensures laid { IfOk result
+        (λ b. IsSplitting begun.now (arc_value b.0).shared.table_id b.1.table_id b.1.me 0 begun.now.readers) }
 {
     let sheet = begun.register.sheet();
     let words = two_copy_steps::Table::start(&sheet.words(), begun.readers);
@@ -81,8 +83,11 @@ fn seat_readers(
     begun: &Beginning,
 ) -> Result<Vec<Reader>, AllocError>
     requires few { begun.now.readers ≤ READERS }
-    requires whole { IsSplitting begun.now (arc_value board.now).shared.table_id seat.old.table_id seat.old.me 0 begun.now.readers }
-    ensures writer { OnOk result (IsSplitting begun.now (arc_value board.now).shared.table_id seat.new.table_id seat.new.me begun.now.readers 0) }
+    requires whole { IsSplitting begun.now (arc_value board.now).shared.table_id seat.old.table_id seat.old.me 0
+        begun.now.readers }
+    ensures writer { OnOk result
+        (IsSplitting begun.now (arc_value board.now).shared.table_id seat.new.table_id seat.new.me begun.now.readers
+        0) }
     ensures readers { IfOk result (λ all. all.items ≡ new_passes begun.now.register.opening begun.now.readers) }
 {
     let mut all = Vec::with_capacity(alloc, begun.readers as usize)?;

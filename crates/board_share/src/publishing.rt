@@ -21,7 +21,9 @@ fn see_all(words: &mut WordWriter) -> Result<(), Busy>
     ensures count { length (known_at words.new).state.seen_out ≡ length (known_at words.old).state.seen_out }
     ensures ok { OnOk result (IsFilling words.new 0) }
     ensures err { OnErr result (IsIdle words.new) }
-    ensures named { IfErr result (λ b. (b.reader ≡ suc (first_false (known_at words.new).state.seen_out)) × (all_true (known_at words.new).state.seen_out ≡ false)) }
+    ensures named { IfErr result
+        (λ b. (b.reader ≡ suc (first_false (known_at words.new).state.seen_out))
+        × (all_true (known_at words.new).state.seen_out ≡ false)) }
     ensures sure { all_true (known_at words.old).state.seen_out ≡ true → IsOk result }
 {
     for r in 0..words.readers() {
@@ -56,12 +58,18 @@ pub(crate) fn publish_all(words: &mut WordWriter) -> Result<(), Busy>
     ensures ledger { words.new.ledger ≡ words.old.ledger }
     ensures idle { IsIdle words.new }
     ensures published { OnOk result ((known_at words.new).state.published ≡ words.old.ledger.journal) }
-    ensures cut { OnOk result ((known_at words.new).cuts ≡ (known_at words.old).cuts ++ length words.old.ledger.journal ∷ []) }
-    ensures nobody { OnOk result ((known_at words.new).state.seen_out ≡ replicate (length (known_at words.old).state.seen_out) false) }
+    ensures cut { OnOk result
+        ((known_at words.new).cuts ≡ (known_at words.old).cuts ++ length words.old.ledger.journal ∷ []) }
+    ensures nobody { OnOk result
+        ((known_at words.new).state.seen_out ≡ replicate (length (known_at words.old).state.seen_out) false) }
     ensures count { length (known_at words.new).state.seen_out ≡ length (known_at words.old).state.seen_out }
-    ensures unchanged { OnErr result (((known_at words.new).state.published ≡ (known_at words.old).state.published) × ((known_at words.new).cuts ≡ (known_at words.old).cuts)) }
+    ensures unchanged { OnErr result
+        (((known_at words.new).state.published ≡ (known_at words.old).state.published)
+        × ((known_at words.new).cuts ≡ (known_at words.old).cuts)) }
     ensures seen { OnErr result (StaySeen (known_at words.old).state.seen_out (known_at words.new).state.seen_out) }
-    ensures named { IfErr result (λ b. (b.reader ≡ suc (first_false (known_at words.new).state.seen_out)) × (all_true (known_at words.new).state.seen_out ≡ false)) }
+    ensures named { IfErr result
+        (λ b. (b.reader ≡ suc (first_false (known_at words.new).state.seen_out))
+        × (all_true (known_at words.new).state.seen_out ≡ false)) }
     ensures sure { all_true (known_at words.old).state.seen_out ≡ true → IsOk result }
 {
     let sheet = words.begin();

@@ -34,7 +34,8 @@ impl Model for Reader {
 
     ghost view = { λ r. pass_of r.seat.me.0 r.place r.stage };
 
-    ghost invariant = { λ r. IsReader (arc_value r.board).shared.table_id r.seat.table_id r.seat.me (pass_of r.seat.me.0 r.place r.stage) };
+    ghost invariant = { λ r. IsReader (arc_value r.board).shared.table_id r.seat.table_id r.seat.me
+        (pass_of r.seat.me.0 r.place r.stage) };
 }
 
 impl Reader {
@@ -72,7 +73,8 @@ impl Reader {
         ensures opening { self.new.opening ≡ self.old.opening }
         ensures number { number_of self.new ≡ number_of self.old }
         ensures step { TookStep self.old self.new }
-        ensures count { steps_taken self.new.stage ≡ (if steps_taken self.old.stage == 36 then 0 else steps_taken self.old.stage + 1) }
+        ensures count { steps_taken self.new.stage
+            ≡ (if steps_taken self.old.stage == 36 then 0 else steps_taken self.old.stage + 1) }
         ensures answer { IsSome result ↔ (steps_taken self.old.stage ≡ 36) }
         ensures words { option_map (λ x. x.sheet) result ≡ sheet_read self.old.stage }
         ensures last { IfSome result (λ x. last_of self.new ≡ Some x.sheet) }

@@ -21,8 +21,10 @@ pub(crate) fn advance(
     r: u8,
     stage: &mut ReaderStage,
 ) -> Option<Reading>
-    requires reader { IsReader board.now.shared.table_id seat.old.table_id seat.old.me (pass_of seat.old.me.0 r stage.old) }
-    ensures seat { Stepped board.now.shared.table_id (pass_of seat.old.me.0 r stage.old) seat.new.table_id seat.new.me stage.new }
+    requires reader { IsReader board.now.shared.table_id seat.old.table_id seat.old.me
+        (pass_of seat.old.me.0 r stage.old) }
+    ensures seat { Stepped board.now.shared.table_id (pass_of seat.old.me.0 r stage.old) seat.new.table_id seat.new.me
+        stage.new }
     ensures sheet { option_map (λ x. x.sheet) result ≡ sheet_read stage.old }
 {
     let found = touch(board, seat, r, stage);
@@ -32,7 +34,8 @@ pub(crate) fn advance(
 
 // Does to its word what the next step of the reader at r does, and answers the number left there.
 fn touch(board: &Board, seat: &mut Seat<(), View>, r: u8, stage: &ReaderStage) -> u64
-    requires reader { IsReader board.now.shared.table_id seat.old.table_id seat.old.me (pass_of seat.old.me.0 r stage.now) }
+    requires reader { IsReader board.now.shared.table_id seat.old.table_id seat.old.me
+        (pass_of seat.old.me.0 r stage.now) }
     ensures table { seat.new.table_id ≡ seat.old.table_id }
     ensures step { IsStepOn seat.old.me result seat.new.me }
 {
@@ -49,7 +52,8 @@ fn touch(board: &Board, seat: &mut Seat<(), View>, r: u8, stage: &ReaderStage) -
 // each of them.
 pub(crate) fn read_all(board: &Board, seat: &mut Seat<(), View>, r: u8) -> Reading
     requires rest { IsReader board.now.shared.table_id seat.old.table_id seat.old.me (pass_of seat.old.me.0 r AtRest) }
-    ensures read { HasRead board.now.shared.table_id (pass_of seat.old.me.0 r AtRest) seat.new.table_id seat.new.me result.sheet }
+    ensures read { HasRead board.now.shared.table_id (pass_of seat.old.me.0 r AtRest) seat.new.table_id seat.new.me
+        result.sheet }
 {
     let mut words = [0; COPY_WORDS];
     arrive(board, seat, r);
@@ -74,7 +78,8 @@ fn arrive(board: &Board, seat: &mut Seat<(), View>, r: u8)
 // The second step: the side that is published.
 fn load_side(board: &Board, seat: &mut Seat<(), View>, r: u8) -> u64
     requires { IsReader board.now.shared.table_id seat.old.table_id seat.old.me (pass_of seat.old.me.0 r Arrived) }
-    ensures { Stepped board.now.shared.table_id (pass_of seat.old.me.0 r Arrived) seat.new.table_id seat.new.me (Stage.Reading result []) }
+    ensures { Stepped board.now.shared.table_id (pass_of seat.old.me.0 r Arrived) seat.new.table_id seat.new.me
+        (Stage.Reading result []) }
 {
     board.shared.load::<Reads>(seat, SIDE)
 }
@@ -88,17 +93,21 @@ fn load_word(
     k: usize,
     words: &mut [u64; COPY_WORDS],
 )
-    requires reader { IsReader board.now.shared.table_id seat.old.table_id seat.old.me (pass_of seat.old.me.0 r (Stage.Reading side (take k words.old))) }
+    requires reader { IsReader board.now.shared.table_id seat.old.table_id seat.old.me
+        (pass_of seat.old.me.0 r (Stage.Reading side (take k words.old))) }
     requires few { k < COPY_WORDS }
-    ensures { Stepped board.now.shared.table_id (pass_of seat.old.me.0 r (Stage.Reading side (take k words.old))) seat.new.table_id seat.new.me (loaded 34 side (take (k + 1) words.new)) }
+    ensures { Stepped board.now.shared.table_id (pass_of seat.old.me.0 r (Stage.Reading side (take k words.old)))
+        seat.new.table_id seat.new.me (loaded 34 side (take (k + 1) words.new)) }
 {
     words[k] = board.shared.load::<Reads>(seat, place(side, k));
 }
 
 // The last step: its pin goes to 0.
 fn leave(board: &Board, seat: &mut Seat<(), View>, r: u8, side: u64, words: &[u64; COPY_WORDS])
-    requires { IsReader board.now.shared.table_id seat.old.table_id seat.old.me (pass_of seat.old.me.0 r (Leaving side words.now)) }
-    ensures { Stepped board.now.shared.table_id (pass_of seat.old.me.0 r (Leaving side words.now)) seat.new.table_id seat.new.me AtRest }
+    requires { IsReader board.now.shared.table_id seat.old.table_id seat.old.me
+        (pass_of seat.old.me.0 r (Leaving side words.now)) }
+    ensures { Stepped board.now.shared.table_id (pass_of seat.old.me.0 r (Leaving side words.now)) seat.new.table_id
+        seat.new.me AtRest }
 {
     board.shared.store::<Reads>(seat, pin(r as usize), 0);
 }

@@ -42,7 +42,8 @@ impl Model for WordWriter {
 
     ghost view = { λ w. desk_of w.register w.seat.me.0 w.begun };
 
-    ghost invariant = { λ w. IsWriter (arc_value w.board).shared.table_id w.seat.table_id w.seat.me (desk_of w.register w.seat.me.0 w.begun) w.side w.published w.seen_out };
+    ghost invariant = { λ w. IsWriter (arc_value w.board).shared.table_id w.seat.table_id w.seat.me
+        (desk_of w.register w.seat.me.0 w.begun) w.side w.published w.seen_out };
 }
 
 impl WordWriter {
@@ -54,7 +55,8 @@ impl WordWriter {
         readers: u8,
     ) -> WordWriter
         requires few { readers ≤ READERS }
-        requires seat { IsWriter (arc_value board).shared.table_id seat.table_id seat.me (desk_of register seat.me.0 false) 0 (length register.journal) (replicate readers true) }
+        requires seat { IsWriter (arc_value board).shared.table_id seat.table_id seat.me
+            (desk_of register seat.me.0 false) 0 (length register.journal) (replicate readers true) }
         ensures { result ≡ desk_of register seat.me.0 false }
     {
         WordWriter {
@@ -101,7 +103,8 @@ impl WordWriter {
     pub(crate) fn submit(&mut self, command: Command) -> Result<u32, Refusal>
         requires idle { self.old.due ≡ None }
         ensures verdict { Follows (verdict_of self.old.ledger command) result OutOfMemory }
-        ensures accepted { IfOk result (λ n. (self.new.ledger ≡ appended self.old.ledger command) × (n ≡ length self.new.ledger.journal)) }
+        ensures accepted { IfOk result
+            (λ n. (self.new.ledger ≡ appended self.old.ledger command) × (n ≡ length self.new.ledger.journal)) }
         ensures refused { OnErr result (self.new.ledger ≡ self.old.ledger) }
         ensures kept { (self.new.held ≡ self.old.held) × (self.new.due ≡ None) }
     {

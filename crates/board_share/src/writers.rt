@@ -44,7 +44,8 @@ impl Writer {
     /// them. Nothing is published. It is refused as `Register::apply` says, and nothing changes then.
     pub fn submit(&mut self, command: Command) -> Result<u32, Refusal>
         ensures verdict { Follows (verdict_of self.old.ledger command) result OutOfMemory }
-        ensures accepted { IfOk result (λ n. (self.new.ledger ≡ appended self.old.ledger command) × (n ≡ length self.new.ledger.journal)) }
+        ensures accepted { IfOk result
+            (λ n. (self.new.ledger ≡ appended self.old.ledger command) × (n ≡ length self.new.ledger.journal)) }
         ensures refused { OnErr result (self.new ≡ self.old) }
         ensures published { self.new.published ≡ self.old.published }
         ensures cuts { self.new.cuts ≡ self.old.cuts }
@@ -64,7 +65,8 @@ impl Writer {
         ensures readers { length self.new.seen_out ≡ length self.old.seen_out }
         ensures unchanged { OnErr result ((self.new.published ≡ self.old.published) × (self.new.cuts ≡ self.old.cuts)) }
         ensures stay { OnErr result (StaySeen self.old.seen_out self.new.seen_out) }
-        ensures busy { IfErr result (λ b. (b.reader ≡ suc (first_false self.new.seen_out)) × (all_true self.new.seen_out ≡ false)) }
+        ensures busy { IfErr result
+            (λ b. (b.reader ≡ suc (first_false self.new.seen_out)) × (all_true self.new.seen_out ≡ false)) }
         ensures sure { all_true self.old.seen_out ≡ true → IsOk result }
         ensures nothing_pending { is_pending self.old ≡ false → IsOk result }
     {

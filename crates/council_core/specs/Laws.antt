@@ -27,7 +27,8 @@ same_set s t = pointwise (λ a b. nat_eq a.0 b.0) s t
 
 -- whichever chairs are chosen, just one coalition is the set of these
 abbrev pub EachOnceLaw : Type 0
-EachOnceLaw = (chairs : List Chair) → IsDistinct nat_eq (map (λ c. c.0) chairs) → (chosen : Chair → Bool) → count_by (same_set (filter chosen chairs)) (subsets chairs) ≡ 1
+EachOnceLaw = (chairs : List Chair) → IsDistinct nat_eq (map (λ c. c.0) chairs) → (chosen : Chair → Bool)
+    → count_by (same_set (filter chosen chairs)) (subsets chairs) ≡ 1
 
 -- one more command leaves the sheet of every list of first commands
 abbrev pub PrefixLaw : Type 0
@@ -36,7 +37,8 @@ PrefixLaw = (opening : Opening) (commands : List Command) (command : Command) (f
 
 -- the front of the sheet of the first commands is how many they are
 abbrev pub FrontLaw : Type 0
-FrontLaw = (opening : Opening) (commands : List Command) (front : ℕ) → front ≤ length commands → front_of (sheet opening (take front commands)) ≡ front
+FrontLaw = (opening : Opening) (commands : List Command) (front : ℕ) → front ≤ length commands
+    → front_of (sheet opening (take front commands)) ≡ front
 
 -- members that a register can start with: at most 256, no code twice, and votes in range
 pub record IsOpening (opening : Opening) : Type 0 where
@@ -57,4 +59,5 @@ SetsInRange (Withdraw code) = Unit {0}
 
 -- the sheet of a legal list of commands has the numbers of a sheet
 abbrev pub SheetLaw : Type 0
-SheetLaw = (opening : Opening) (commands : List Command) → IsOpening opening → All SetsInRange commands → IsLegal opening commands → IsSheet (sheet opening commands)
+SheetLaw = (opening : Opening) (commands : List Command) → IsOpening opening → All SetsInRange commands
+    → IsLegal opening commands → IsSheet (sheet opening commands)

@@ -77,7 +77,11 @@ name_of TooManyChairs = codes "TooManyChairs"
 
 -- each refusal once, by number
 abbrev pub every_refusal : List Refusal
-every_refusal = ChairOpen ∷ ChairNotOpen ∷ ChairHasMembers ∷ UnknownMember ∷ MemberSuspended ∷ AlreadyThere ∷ AlreadySuspended ∷ NotSuspended ∷ JournalFull ∷ OutOfMemory ∷ DuplicateMember ∷ TooManyMembers ∷ BadLimit ∷ BadChair ∷ BadMember ∷ VotesTooLarge ∷ BadRecord ∷ NoEntry ∷ ReadFault ∷ WriteFault ∷ BadHeader ∷ BadReader ∷ Busy ∷ Mismatch ∷ MemberExists ∷ MemberSeated ∷ GateClosed ∷ NoScript ∷ TooLong ∷ BadJournal ∷ BadCuts ∷ BadSheet ∷ TooManyChairs ∷ []
+every_refusal = ChairOpen ∷ ChairNotOpen ∷ ChairHasMembers ∷ UnknownMember ∷ MemberSuspended ∷ AlreadyThere
+    ∷ AlreadySuspended ∷ NotSuspended ∷ JournalFull ∷ OutOfMemory ∷ DuplicateMember ∷ TooManyMembers ∷ BadLimit
+    ∷ BadChair ∷ BadMember ∷ VotesTooLarge ∷ BadRecord ∷ NoEntry ∷ ReadFault ∷ WriteFault ∷ BadHeader ∷ BadReader
+    ∷ Busy ∷ Mismatch ∷ MemberExists ∷ MemberSeated ∷ GateClosed ∷ NoScript ∷ TooLong ∷ BadJournal ∷ BadCuts
+    ∷ BadSheet ∷ TooManyChairs ∷ []
 
 -- the refusal of a number, where there is one
 abbrev pub refusal_of : ℕ → Option Refusal

@@ -60,7 +60,8 @@ IsCutSheet opening commands cuts words = (cut : ℕ) × Contains cuts cut × (wo
 abbrev pub IsRecordFrom : Opening → List Command → List ℕ → ℕ → List (List ℕ) → Type 0
 IsRecordFrom opening commands cuts low [] = Unit {0}
 IsRecordFrom opening commands cuts low (words ∷ rest) =
-    IsCutSheet opening commands cuts words × (low ≤ front_of words) × IsRecordFrom opening commands cuts (front_of words) rest
+    IsCutSheet opening commands cuts words × (low ≤ front_of words)
+    × IsRecordFrom opening commands cuts (front_of words) rest
 
 -- the readings of each reader are such a record
 abbrev pub AreRecords : Opening → List Command → List ℕ → List (List (List ℕ)) → Type 0
@@ -69,7 +70,8 @@ AreRecords opening commands cuts (sheets ∷ rest) =
     IsRecordFrom opening commands cuts 0 sheets × AreRecords opening commands cuts rest
 
 -- legal records: a legal list of commands, cuts of it in order, and each reader's readings of sheets of cuts
-pub record AreLegalRecords (opening : Opening) (commands : List Command) (cuts : List ℕ) (records : List (List (List ℕ))) : Type 0 where
+pub record AreLegalRecords (opening : Opening) (commands : List Command) (cuts : List ℕ)
+    (records : List (List (List ℕ))) : Type 0 where
   pub legal : IsLegal opening commands
   pub in_order : AreCuts commands cuts
   pub readings : AreRecords opening commands cuts records

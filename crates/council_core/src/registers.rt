@@ -45,7 +45,8 @@ impl Model for Register {
 
     ghost view = { λ r. record { opening = r.opening.items; journal = r.journal.items; limit = r.limit } };
 
-    ghost invariant = { λ r. IsKept (record { opening = r.opening.items; journal = r.journal.items; limit = r.limit }) r.members.entries r.tally.words r.tally.counts r.tally.total };
+    ghost invariant = { λ r. IsKept (record { opening = r.opening.items; journal = r.journal.items; limit = r.limit })
+        r.members.entries r.tally.words r.tally.counts r.tally.total };
 }
 
 fn has_code(members: &[(MemberCode, Votes)], code: MemberCode) -> bool
@@ -168,7 +169,8 @@ impl Register {
         ensures place { IfOk result (λ m. place_among code (roll_of self.now).members ≡ Some m.0) }
         ensures found { IfOk result (λ m. standing_among code (roll_of self.now).members ≡ Some m.1) }
         ensures seat { IfOk result (λ m. can_receive (roll_of self.now) m.1.chair ≡ true) }
-        ensures unknown { IfErr result (λ e. (e ≡ UnknownMember) × (standing_among code (roll_of self.now).members ≡ None)) }
+        ensures unknown { IfErr result
+            (λ e. (e ≡ UnknownMember) × (standing_among code (roll_of self.now).members ≡ None)) }
     {
         match self.members.get_full(&code) {
             Some((place, _code, standing)) => Ok((place, *standing)),
@@ -320,8 +322,8 @@ impl Register {
 
     /// Carries out a command, and answers how many commands were accepted, this one with them.
     /// Otherwise the register is as before, and the answer is the first refusal of the step, of
-    /// those numbered 1 to 8 and `TooManyMembers`, `MemberExists`, `MemberSeated`; else `JournalFull`, where as many commands as the limit were
-    /// accepted; else `OutOfMemory`.
+    /// those numbered 1 to 8 and `TooManyMembers`, `MemberExists`, `MemberSeated`; else `JournalFull`, where as many
+    /// commands as the limit were accepted; else `OutOfMemory`.
     pub fn apply(&mut self, command: Command) -> Result<u32, Refusal>
         ensures verdict { Follows (verdict_of self.old command) result OutOfMemory }
         ensures accepted { IfOk result (λ n. (self.new ≡ appended self.old command) × (n ≡ length self.new.journal)) }

@@ -117,7 +117,6 @@ impl Sheet {
     }
 
     /// The votes that the open chairs cast together, from 0 to the total.
-    #[tactic(auto, using(std::proofs::lemmas::Grind::common_steps, crate::proofs::SheetLemmas::cast_step, crate::proofs::SheetLemmas::cast_below))]
     pub fn cast(&self) -> u64
         ensures same { result ≡ cast_of self.now }
         ensures high { result ≤ 2 ^ 48 }
@@ -152,7 +151,6 @@ fn are_small(words: &[u64; SHEET_WORDS]) -> bool
 }
 
 // Whether words are a sheet.
-#[tactic(auto, using(std::proofs::lemmas::Grind::common_steps, crate::proofs::SheetLemmas::cast_step, crate::proofs::SheetLemmas::cast_below))]
 fn is_in_range(words: &[u64; SHEET_WORDS]) -> bool
     ensures { IsTrue result ↔ IsSheet words.now }
 {

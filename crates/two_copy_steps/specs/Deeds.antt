@@ -1,4 +1,5 @@
--- One atomic step of an actor: one load or one store of one word, and what the actor knows after. This project's own two-copy machine, with one pin word for each reader.
+-- One atomic step of an actor: one load or one store of one word, and what the actor knows after. This project's own
+-- two-copy machine, with one pin word for each reader.
 use Rattle.std.specs.Prelude.{ℕ, zero, suc, ◌+◌, ◌-◌, Bool, true, false, List, [], ◌∷◌, ◌++◌, length, slice_index, slice_set, replicate, cond, ◌&&◌, ◌==◌}
 use Rattle.council_core.specs.declared.commands.Command.{Command}
 use Rattle.two_copy_steps.specs.declared.views.ReaderView.{ReaderView}
@@ -67,14 +68,19 @@ module _ (n : ℕ) where
   abbrev pub stage_deed : ℕ → Stage → Deed Stage
   stage_deed r AtRest = record { word = pin r; becomes = λ _. 1; after = λ _. Arrived }
   stage_deed r Arrived = record { word = 0; becomes = λ found. found; after = λ found. Reading found [] }
-  stage_deed r (Reading side words) = record { word = place side (length words); becomes = λ found. found; after = λ found. loaded side (words ++ found ∷ []) }
+  stage_deed r (Reading side words) = record
+      { word = place side (length words); becomes = λ found. found; after = λ found. loaded side (words ++ found ∷ []) }
   stage_deed r (Leaving side words) = record { word = pin r; becomes = λ _. 0; after = λ _. AtRest }
 
   -- the step of the reader at r, its record with it
   abbrev pub reader_deed : ℕ → ReaderView → Deed ReaderView
   reader_deed r v =
       let d = stage_deed r v.stage in
-      record { word = d.word; becomes = d.becomes; after = λ found. record { stage = d.after found; readings = recorded v.stage (d.after found) v.readings } }
+      record {
+        word = d.word;
+        becomes = d.becomes;
+        after = λ found. record { stage = d.after found; readings = recorded v.stage (d.after found) v.readings };
+      }
 
   -- these readers are seen out; after the last one filling begins
   abbrev pub seeing : Writing → List Bool → Writing
@@ -89,7 +95,13 @@ module _ (n : ℕ) where
 
   -- side was stored: the commands taken are published, and nobody is seen out
   abbrev pub swapped : Writing → Writing
-  swapped w = record { side = other w.side; published = w.taken; taken = w.taken; phase = Idle; seen_out = replicate (length w.seen_out) false }
+  swapped w = record {
+    side = other w.side;
+    published = w.taken;
+    taken = w.taken;
+    phase = Idle;
+    seen_out = replicate (length w.seen_out) false;
+  }
 
   module _ (sheet : List Command → List ℕ) where
     -- load a pin, store a word, store side
@@ -97,7 +109,11 @@ module _ (n : ℕ) where
     phase_deed w Idle = record { word = 0; becomes = λ found. found; after = λ _. w }
     phase_deed w Seeing =
         let r = first_false w.seen_out in
-        record { word = pin r; becomes = λ found. found; after = λ found. cond (found == 0) (seeing w (slice_set w.seen_out r true)) (record w { phase = Idle }) }
+        record {
+          word = pin r;
+          becomes = λ found. found;
+          after = λ found. cond (found == 0) (seeing w (slice_set w.seen_out r true)) (record w { phase = Idle });
+        }
     phase_deed w (Filling k) =
         record { word = place (other w.side) k; becomes = λ _. slice_index (sheet w.taken) k; after = λ _. filled w k }
     phase_deed w Swapping = record { word = 0; becomes = λ _. other w.side; after = λ _. swapped w }
@@ -109,4 +125,8 @@ module _ (n : ℕ) where
     abbrev pub writer_deed : WriterView → Deed WriterView
     writer_deed v =
         let d = writing_deed v.state in
-        record { word = d.word; becomes = d.becomes; after = λ found. record { state = d.after found; cuts = cuts_after v.state.phase v.state.taken v.cuts } }
+        record {
+          word = d.word;
+          becomes = d.becomes;
+          after = λ found. record { state = d.after found; cuts = cuts_after v.state.phase v.state.taken v.cuts };
+        }

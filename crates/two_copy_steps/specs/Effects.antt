@@ -31,7 +31,8 @@ abbrev pub reader_effect : Option Stage → List Call
 reader_effect None = []
 reader_effect (Some stage) = stage_effect stage
 
--- the call of the register of one thread that an event stands for, if it does for one, the machine being that before the event
+-- the call of the register of one thread that an event stands for, if it does for one, the machine being that before
+-- the event
 abbrev pub effect : TwoCopies → Event → List Call
 effect m (Submit command) = cond (is_idle m.writer.phase) (submit command ∷ []) []
 effect m Publish = cond (is_idle m.writer.phase) (cond (is_pending m) [] (publish ∷ [])) []
@@ -44,7 +45,8 @@ abbrev pub effects : TwoCopies → List Event → List Call
 effects m [] = []
 effects m (event ∷ events) = effect m event ++ effects (turn m event).0 events
 
--- the register of one thread, what it replied to each reader's last load of side since that reader arrived, and whether a publication has begun and has neither stored side nor been given up
+-- the register of one thread, what it replied to each reader's last load of side since that reader arrived, and
+-- whether a publication has begun and has neither stored side nor been given up
 pub record Thread : Type 0 where
   pub register : Sequential
   pub replied : ℕ → Option Reply
@@ -52,12 +54,18 @@ pub record Thread : Type 0 where
 
 -- it begins with the register given, all of it published
 abbrev pub thread_of : Ledger → Thread
-thread_of ledger = record { register = record { ledger = ledger; published = length ledger.journal }; replied = λ number. None; begun = false }
+thread_of ledger = record {
+  register = record { ledger = ledger; published = length ledger.journal };
+  replied = λ number. None;
+  begun = false;
+}
 
--- what the reader of that number has been replied after its step at a stage: nothing at its arrival, and at its load of side the reply to a read
+-- what the reader of that number has been replied after its step at a stage: nothing at its arrival, and at its load
+-- of side the reply to a read
 abbrev pub replied_at : Thread → ℕ → Stage → ℕ → Option Reply
 replied_at t number AtRest k = cond (k == number) None (t.replied k)
-replied_at t number Arrived k = cond (k == number) (slice_get (replies_of t.register (stage_effect Arrived)) 0) (t.replied k)
+replied_at t number Arrived k = cond (k == number) (slice_get (replies_of t.register (stage_effect Arrived)) 0)
+    (t.replied k)
 replied_at t number (Reading side words) k = t.replied k
 replied_at t number (Leaving side words) k = t.replied k
 
@@ -86,9 +94,14 @@ begun_after begun Skipped = begun
 -- after an event, the machine being that before it
 abbrev pub beside : Thread → TwoCopies → Event → Thread
 beside t m event =
-    record { register = state_after t.register (effect m event); replied = λ k. replied_after t m event k; begun = begun_after t.begun (turn m event).1 }
+    record {
+      register = state_after t.register (effect m event);
+      replied = λ k. replied_after t m event k;
+      begun = begun_after t.begun (turn m event).1;
+    }
 
--- what an event tells is what the register of one thread replies: to the call that the event stands for, or, of a reading, at that reader's last load of side since it arrived
+-- what an event tells is what the register of one thread replies: to the call that the event stands for, or, of a
+-- reading, at that reader's last load of side since it arrived
 abbrev pub Tells : List Reply → (ℕ → Option Reply) → Note → Type 0
 Tells replies replied (Accepted count) = replies ≡ accepted count ∷ []
 Tells replies replied (Refused refusal) = replies ≡ refused refusal ∷ []
@@ -105,7 +118,8 @@ SwapsOnce begun Writer Swapping = begun ≡ true
 SwapsOnce begun event phase = Unit {0}
 
 abbrev pub Answers : Thread → TwoCopies → Event → Type 0
-Answers t m event = Tells (replies_of t.register (effect m event)) t.replied (turn m event).1 × SwapsOnce t.begun event m.writer.phase
+Answers t m event = Tells (replies_of t.register (effect m event)) t.replied (turn m event).1
+    × SwapsOnce t.begun event m.writer.phase
 
 -- so it is at each event of a list
 abbrev pub AllAnswer : Thread → TwoCopies → List Event → Type 0
@@ -120,4 +134,5 @@ beside_all t m (event ∷ events) = beside_all (beside t m event) (turn m event)
 -- what it replies to the calls that each event stands for, event by event
 abbrev pub replies_beside : Thread → TwoCopies → List Event → List Reply
 replies_beside t m [] = []
-replies_beside t m (event ∷ events) = replies_of t.register (effect m event) ++ replies_beside (beside t m event) (turn m event).0 events
+replies_beside t m (event ∷ events) = replies_of t.register (effect m event)
+    ++ replies_beside (beside t m event) (turn m event).0 events

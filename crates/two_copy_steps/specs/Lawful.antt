@@ -24,7 +24,11 @@ abbrev pub read_by : State → ℕ → ReaderView → State
 read_by s r v =
     let d = reader_deed 34 r v in
     let found = slice_index s.words d.word in
-    record { words = slice_set s.words d.word (d.becomes found); writer = s.writer; readers = slice_set s.readers r (d.after found) }
+    record {
+      words = slice_set s.words d.word (d.becomes found);
+      writer = s.writer;
+      readers = slice_set s.readers r (d.after found);
+    }
 
 -- the writer takes its step; an opening's sheets are stored
 abbrev pub written_by : Opening → State → State
@@ -63,8 +67,8 @@ IsPublishable opening commands = IsLegal opening commands × IsSheet (sheet open
 
 -- an opening, and what is asked of each list of commands that is published
 module _ (opening : Opening) (Legal : List Command → Type 0) where
-  -- the reader at r has loaded this side and not left: that copy has the sheet of one cut, not below any front of its record,
-  -- and where that side isn't the writer's, the reader isn't seen out
+  -- the reader at r has loaded this side and not left: that copy has the sheet of one cut, not below any front of its
+  -- record, and where that side isn't the writer's, the reader isn't seen out
   pub record Beside (words : List ℕ) (v : WriterView) (readings : List (List ℕ)) (r side : ℕ) : Type 0 where
     pub two : side < 2
     pub cut : ℕ
@@ -76,16 +80,19 @@ module _ (opening : Opening) (Legal : List Command → Type 0) where
   abbrev pub Stands : List ℕ → WriterView → List (List ℕ) → ℕ → Stage → Type 0
   Stands words v readings r AtRest = Unit {0}
   Stands words v readings r Arrived = Unit {0}
-  Stands words v readings r (Reading side loaded) = Beside words v readings r side × (length loaded < 34) × IsReadFrom words side loaded
+  Stands words v readings r (Reading side loaded) = Beside words v readings r side × (length loaded < 34)
+      × IsReadFrom words side loaded
   Stands words v readings r (Leaving side loaded) =
-      Beside words v readings r side × (length loaded ≡ 34) × IsReadFrom words side loaded × ((earlier : List (List ℕ)) × (readings ≡ earlier ++ loaded ∷ []))
+      Beside words v readings r side × (length loaded ≡ 34) × IsReadFrom words side loaded
+      × ((earlier : List (List ℕ)) × (readings ≡ earlier ++ loaded ∷ []))
 
   pub record ReaderOk (words : List ℕ) (v : WriterView) (r : ℕ) (reader : ReaderView) : Type 0 where
     pub pinned : slice_index words (pin 34 r) ≡ pin_of reader.stage
     pub stands : Stands words v reader.readings r reader.stage
     pub record_legal : IsRecordFrom opening v.state.published v.cuts 0 reader.readings
 
-  -- all readers are seen out, and the first k words of the copy not published are those of the sheet of the commands taken
+  -- all readers are seen out, and the first k words of the copy not published are those of the sheet of the commands
+  -- taken
   abbrev pub Stored : List ℕ → Writing → ℕ → Type 0
   Stored words w k =
       (all_true w.seen_out ≡ true)

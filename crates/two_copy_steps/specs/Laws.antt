@@ -25,19 +25,23 @@ use Rattle.two_copy_steps.specs.Runs.{machine_after, passes_after, TellsReplies}
 
 -- the start over a legal journal, whose sheet is in range, is lawful
 abbrev pub StartLaw : Type 0
-StartLaw = (ledger : Ledger) (readers : ℕ) → IsPublishable ledger.opening ledger.journal → IsLawful IsPublishable (started ledger readers) (opened ledger readers)
+StartLaw = (ledger : Ledger) (readers : ℕ) → IsPublishable ledger.opening ledger.journal
+    → IsLawful IsPublishable (started ledger readers) (opened ledger readers)
 
 -- a reader's step keeps words and views lawful
 abbrev pub ReaderLaw : Type 0
-ReaderLaw = (opening : Opening) (s : State) → LawfulFor opening s → (r : ℕ) (v : ReaderView) → slice_get s.readers r ≡ Some v → LawfulFor opening (read_by s r v)
+ReaderLaw = (opening : Opening) (s : State) → LawfulFor opening s → (r : ℕ) (v : ReaderView)
+    → slice_get s.readers r ≡ Some v → LawfulFor opening (read_by s r v)
 
 -- so does the writer's
 abbrev pub WriterLaw : Type 0
 WriterLaw = (opening : Opening) (s : State) → LawfulFor opening s → LawfulFor opening (written_by opening s)
 
--- and so does the beginning of a publication of any legal list, whose sheet is in range, that extends the one last taken
+-- and so does the beginning of a publication of any legal list, whose sheet is in range, that extends the one last
+-- taken
 abbrev pub BeginLaw : Type 0
-BeginLaw = (opening : Opening) (s : State) → LawfulFor opening s → (commands rest : List Command) → IsPublishable opening commands → s.writer.state.taken ++ rest ≡ commands
+BeginLaw = (opening : Opening) (s : State) → LawfulFor opening s → (commands rest : List Command)
+    → IsPublishable opening commands → s.writer.state.taken ++ rest ≡ commands
     → LawfulFor opening (begun_by s commands)
 
 -- of every lawful state the records are legal
@@ -50,59 +54,75 @@ StateUnderLaw = (opening : Opening) (s : State) → LawfulFor opening s → IsAp
 
 -- and what each reader knows is a legal record and words of a sheet
 abbrev pub StateKnownLaw : Type 0
-StateKnownLaw = (opening : Opening) (s : State) → LawfulFor opening s → (r : ℕ) (v : ReaderView) → slice_get s.readers r ≡ Some v → IsKnown opening v
+StateKnownLaw = (opening : Opening) (s : State) → LawfulFor opening s → (r : ℕ) (v : ReaderView)
+    → slice_get s.readers r ≡ Some v → IsKnown opening v
 
 -- the writer's turn is its step of words and views
 abbrev pub WriterTurnLaw : Type 0
-WriterTurnLaw = (m : TwoCopies) (p : Passes) → state_of (turn m Writer).0 (passed m p Writer) ≡ written_by m.ledger.opening (state_of m p)
+WriterTurnLaw = (m : TwoCopies) (p : Passes)
+    → state_of (turn m Writer).0 (passed m p Writer) ≡ written_by m.ledger.opening (state_of m p)
 
 -- so is a reader's
 abbrev pub ReaderTurnLaw : Type 0
 ReaderTurnLaw =
-    (m : TwoCopies) (p : Passes) → length p.records ≡ length m.readers → (r : ℕ) (stage : Stage) → slice_get m.readers r ≡ Some stage
-    → state_of (turn m (Reader (suc r))).0 (passed m p (Reader (suc r))) ≡ read_by (state_of m p) r (record { stage = stage; readings = record_at p.records r })
+    (m : TwoCopies) (p : Passes) → length p.records ≡ length m.readers → (r : ℕ) (stage : Stage)
+    → slice_get m.readers r ≡ Some stage
+    → state_of (turn m (Reader (suc r))).0 (passed m p (Reader (suc r)))
+    ≡ read_by (state_of m p) r (record { stage = stage; readings = record_at p.records r })
 
 -- a publication that begins takes the whole journal, and touches no word
 abbrev pub BeginTurnLaw : Type 0
-BeginTurnLaw = (m : TwoCopies) (p : Passes) → (turn m Publish).1 ≡ Began → state_of (turn m Publish).0 (passed m p Publish) ≡ begun_by (state_of m p) m.ledger.journal
+BeginTurnLaw = (m : TwoCopies) (p : Passes) → (turn m Publish).1 ≡ Began
+    → state_of (turn m Publish).0 (passed m p Publish) ≡ begun_by (state_of m p) m.ledger.journal
 
 -- one that doesn't begin leaves words and views as they were, and so does a command
 abbrev pub IdleTurnLaw : Type 0
-IdleTurnLaw = (m : TwoCopies) (p : Passes) → (turn m Publish).1 ≢ Began → state_of (turn m Publish).0 (passed m p Publish) ≡ state_of m p
+IdleTurnLaw = (m : TwoCopies) (p : Passes) → (turn m Publish).1 ≢ Began
+    → state_of (turn m Publish).0 (passed m p Publish) ≡ state_of m p
 
 abbrev pub SubmitTurnLaw : Type 0
-SubmitTurnLaw = (m : TwoCopies) (p : Passes) (command : Command) → state_of (turn m (Submit command)).0 (passed m p (Submit command)) ≡ state_of m p
+SubmitTurnLaw = (m : TwoCopies) (p : Passes) (command : Command)
+    → state_of (turn m (Submit command)).0 (passed m p (Submit command)) ≡ state_of m p
 
--- a reader that is in the way is the least that isn't seen out, and its pin is 1; the publication that is given up changes nobody
+-- a reader that is in the way is the least that isn't seen out, and its pin is 1; the publication that is given up
+-- changes nobody
 abbrev pub BusyLaw : Type 0
 BusyLaw =
-    (m : TwoCopies) (p : Passes) → IsLawful IsPublishable m p → (event : Event) (number : ℕ) → (turn m event).1 ≡ Busy number
-    → (r : ℕ) × (number ≡ suc r) × IsLeastUnseen m.writer.seen_out r × (slice_index m.words (pin 34 r) ≡ 1) × ((turn m event).0.writer.seen_out ≡ m.writer.seen_out)
+    (m : TwoCopies) (p : Passes) → IsLawful IsPublishable m p → (event : Event) (number : ℕ)
+    → (turn m event).1 ≡ Busy number
+    → (r : ℕ) × (number ≡ suc r) × IsLeastUnseen m.writer.seen_out r × (slice_index m.words (pin 34 r) ≡ 1)
+    × ((turn m event).0.writer.seen_out ≡ m.writer.seen_out)
 
 -- who is seen out stays so until side is stored
 abbrev pub StayLaw : Type 0
-StayLaw = (m : TwoCopies) (event : Event) → stores_side event m.writer.phase ≡ false → StaySeen m.writer.seen_out (turn m event).0.writer.seen_out
+StayLaw = (m : TwoCopies) (event : Event) → stores_side event m.writer.phase ≡ false
+    → StaySeen m.writer.seen_out (turn m event).0.writer.seen_out
 
 -- with everybody seen out a publication that begins fills at once
 abbrev pub AtOnceLaw : Type 0
-AtOnceLaw = (m : TwoCopies) → all_true m.writer.seen_out ≡ true → (turn m Publish).1 ≡ Began → (turn m Publish).0.writer.phase ≡ Filling 0
+AtOnceLaw = (m : TwoCopies) → all_true m.writer.seen_out ≡ true → (turn m Publish).1 ≡ Began
+    → (turn m Publish).0.writer.phase ≡ Filling 0
 
 -- a step moves a reader on by one of the 37 steps of a reading
 abbrev pub CountLaw : Type 0
 CountLaw =
     (r found : ℕ) (stage : Stage) → IsReadable stage
-    → (steps_taken stage ≤ 36) × (steps_taken ((stage_deed 34 r stage).after found) ≡ (if steps_taken stage == 36 then 0 else steps_taken stage + 1))
+    → (steps_taken stage ≤ 36)
+    × (steps_taken ((stage_deed 34 r stage).after found)
+    ≡ (if steps_taken stage == 36 then 0 else steps_taken stage + 1))
 
 -- the load of the last word is the one step that adds to a reader's record, and it adds the words loaded
 abbrev pub GrowthLaw : Type 0
 GrowthLaw =
     (r found : ℕ) (v : ReaderView) → IsReadable v.stage → let w = (reader_deed 34 r v).after found in
     (steps_taken v.stage ≢ 35 → w.readings ≡ v.readings)
-    × (steps_taken v.stage ≡ 35 → (words : List ℕ) × (sheet_read w.stage ≡ Some words) × (w.readings ≡ v.readings ++ words ∷ []))
+    × (steps_taken v.stage ≡ 35
+    → (words : List ℕ) × (sheet_read w.stage ≡ Some words) × (w.readings ≡ v.readings ++ words ∷ []))
 
 -- each event keeps the machine lawful, with its cuts and records
 abbrev pub EventLaw : Type 0
-EventLaw = (m : TwoCopies) (p : Passes) → IsLawful IsPublishable m p → IsPublishable m.ledger.opening m.ledger.journal → (event : Event) → IsLawful IsPublishable (turn m event).0 (passed m p event)
+EventLaw = (m : TwoCopies) (p : Passes) → IsLawful IsPublishable m p → IsPublishable m.ledger.opening m.ledger.journal
+    → (event : Event) → IsLawful IsPublishable (turn m event).0 (passed m p event)
 
 -- each event keeps the journal legal and within its limit
 abbrev pub LedgerLaw : Type 0
@@ -110,42 +130,52 @@ LedgerLaw = (m : TwoCopies) → IsLedger m.ledger → (event : Event) → IsLedg
 
 -- over every list of events the records are legal
 abbrev pub RecordsLaw : Type 0
-RecordsLaw = (ledger : Ledger) (readers : ℕ) → IsLedger ledger → (events : List Event) → HasLegalRecords (machine_after ledger readers events) (passes_after ledger readers events)
+RecordsLaw = (ledger : Ledger) (readers : ℕ) → IsLedger ledger → (events : List Event)
+    → HasLegalRecords (machine_after ledger readers events) (passes_after ledger readers events)
 
 -- over every list of events no word is stored under a reader
 abbrev pub UnderLaw : Type 0
-UnderLaw = (ledger : Ledger) (readers : ℕ) → IsLedger ledger → (events : List Event) → NoneUnder (machine_after ledger readers events)
+UnderLaw = (ledger : Ledger) (readers : ℕ) → IsLedger ledger → (events : List Event)
+    → NoneUnder (machine_after ledger readers events)
 
 -- over every list of events what is told is what the register of one thread replies
 abbrev pub RepliesLaw : Type 0
-RepliesLaw = (ledger : Ledger) (readers : ℕ) → IsLedger ledger → (events : List Event) → TellsReplies ledger readers events
+RepliesLaw = (ledger : Ledger) (readers : ℕ) → IsLedger ledger → (events : List Event)
+    → TellsReplies ledger readers events
 
 -- over every list of events each reader's record is what its notes tell, and the words that it is about to leave
 abbrev pub ToldLaw : Type 0
 ToldLaw =
     (ledger : Ledger) (readers : ℕ) → (events : List Event)
-    → RecordsAreTold (machine_after ledger readers events) (passes_after ledger readers events) (notes (started ledger readers) events)
+    → RecordsAreTold (machine_after ledger readers events) (passes_after ledger readers events)
+    (notes (started ledger readers) events)
 
 -- over every list of events no note of a reader tells an older sheet than one before
 abbrev pub NeverOlderLaw : Type 0
-NeverOlderLaw = (ledger : Ledger) (readers : ℕ) → IsLedger ledger → (events : List Event) → FrontsNeverFall (notes (started ledger readers) events)
+NeverOlderLaw = (ledger : Ledger) (readers : ℕ) → IsLedger ledger → (events : List Event)
+    → FrontsNeverFall (notes (started ledger readers) events)
 
 -- a reader that is at rest after some events reads, whatever follows, nothing older than what is published by then
 abbrev pub FreshLaw : Type 0
 FreshLaw =
-    (ledger : Ledger) (readers : ℕ) → IsLedger ledger → (events more : List Event) (r : ℕ) (words : List ℕ) → slice_get (machine_after ledger readers events).readers r ≡ Some AtRest
-    → (turn (machine_after ledger readers (events ++ more)) (Reader (suc r))).1 ≡ Read (suc r) words → length (machine_after ledger readers events).writer.published ≤ front_of words
+    (ledger : Ledger) (readers : ℕ) → IsLedger ledger → (events more : List Event) (r : ℕ) (words : List ℕ)
+    → slice_get (machine_after ledger readers events).readers r ≡ Some AtRest
+    → (turn (machine_after ledger readers (events ++ more)) (Reader (suc r))).1 ≡ Read (suc r) words
+    → length (machine_after ledger readers events).writer.published ≤ front_of words
 
--- the replies that events are compared with, one by one, are those of one run of the sequential register over the list of their
--- effects, which ends where that run ends
+-- the replies that events are compared with, one by one, are those of one run of the sequential register over the
+-- list of their effects, which ends where that run ends
 abbrev pub EffectsLaw : Type 0
 EffectsLaw =
     (t : Thread) (m : TwoCopies) (events : List Event)
-    → (replies_of t.register (effects m events) ≡ replies_beside t m events) × (state_after t.register (effects m events) ≡ (beside_all t m events).register)
+    → (replies_of t.register (effects m events) ≡ replies_beside t m events)
+    × (state_after t.register (effects m events) ≡ (beside_all t m events).register)
 
--- the notes of one list followed by another are those of the first, and then those of the second from where the first ended
+-- the notes of one list followed by another are those of the first, and then those of the second from where the first
+-- ended
 abbrev pub NotesLaw : Type 0
-NotesLaw = (m : TwoCopies) (events more : List Event) → notes m (events ++ more) ≡ notes m events ++ notes (after m events) more
+NotesLaw = (m : TwoCopies) (events more : List Event)
+    → notes m (events ++ more) ≡ notes m events ++ notes (after m events) more
 
 -- and the machine ends where the second list ends from there
 abbrev pub AfterLaw : Type 0

@@ -17,17 +17,25 @@ seen_as ledger words side published taken phase seen_out readers =
     record {
       ledger = ledger;
       words = words;
-      writer = record { side = side; published = take published ledger.journal; taken = take (front_of taken) ledger.journal; phase = phase; seen_out = seen_out };
+      writer = record {
+        side = side;
+        published = take published ledger.journal;
+        taken = take (front_of taken) ledger.journal;
+        phase = phase;
+        seen_out = seen_out;
+      };
       readers = readers;
     }
 
 -- what it keeps is lawful, for some cuts and records
-pub record IsMachine (ledger : Ledger) (words : List ℕ) (side published : ℕ) (taken : List ℕ) (phase : Phase) (seen_out : List Bool) (readers : List Stage) : Type 0 where
+pub record IsMachine (ledger : Ledger) (words : List ℕ) (side published : ℕ) (taken : List ℕ) (phase : Phase)
+    (seen_out : List Bool) (readers : List Stage) : Type 0 where
   pub published_within : published ≤ length ledger.journal
   pub taken_within : front_of taken ≤ length ledger.journal
   pub sheet_is : taken ≡ sheet ledger.opening (take (front_of taken) ledger.journal)
   pub few : length readers ≤ 4
-  pub lawful : (p : Passes) × IsLawful IsPublishable (seen_as ledger words side published taken phase seen_out readers) p
+  pub lawful : (p : Passes)
+      × IsLawful IsPublishable (seen_as ledger words side published taken phase seen_out readers) p
 
 -- one to four
 abbrev pub IsFew : ℕ → Type 0

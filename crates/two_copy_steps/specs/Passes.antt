@@ -31,7 +31,10 @@ abbrev pub reader_passed : TwoCopies → Passes → ℕ → Option Stage → Pas
 reader_passed m p r None = p
 reader_passed m p r (Some stage) =
     let d = stage_deed 34 r stage in
-    record p { records = slice_set p.records r (recorded stage (d.after (slice_index m.words d.word)) (record_at p.records r)) }
+    record p {
+      records = slice_set p.records r
+          (recorded stage (d.after (slice_index m.words d.word)) (record_at p.records r));
+    }
 
 -- the cuts and the records after an event, the machine being that before it
 abbrev pub passed : TwoCopies → Passes → Event → Passes
@@ -54,9 +57,11 @@ viewed (stage ∷ stages) (readings ∷ records) = record { stage = stage; readi
 
 -- the words and all views
 abbrev pub state_of : TwoCopies → Passes → State
-state_of m p = record { words = m.words; writer = record { state = m.writer; cuts = p.cuts }; readers = viewed m.readers p.records }
+state_of m p = record
+    { words = m.words; writer = record { state = m.writer; cuts = p.cuts }; readers = viewed m.readers p.records }
 
--- the words and views are lawful, and the journal extends the list last taken, which is all of it while a publication is under way
+-- the words and views are lawful, and the journal extends the list last taken, which is all of it while a publication
+-- is under way
 pub record IsLawful (Legal : Opening → List Command → Type 0) (m : TwoCopies) (p : Passes) : Type 0 where
   pub state : Lawful m.ledger.opening (Legal m.ledger.opening) (state_of m p)
   pub extends : (rest : List Command) × (m.writer.taken ++ rest ≡ m.ledger.journal)
@@ -82,4 +87,5 @@ side_filled side phase = None
 -- no reader holds the copy of which the writer's next step stores a word
 abbrev pub NoneUnder : TwoCopies → Type 0
 NoneUnder m =
-    (side r : ℕ) (stage : Stage) → side_filled m.writer.side m.writer.phase ≡ Some side → slice_get m.readers r ≡ Some stage → side_held stage ≡ Some side → ⊥
+    (side r : ℕ) (stage : Stage) → side_filled m.writer.side m.writer.phase ≡ Some side
+    → slice_get m.readers r ≡ Some stage → side_held stage ≡ Some side → ⊥

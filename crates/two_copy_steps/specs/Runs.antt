@@ -25,7 +25,8 @@ TellsReplies ledger readers events = AllAnswer (thread_of ledger) (started ledge
 -- the records are legal after every event, and before the first
 abbrev pub KeepsRecordsLegal : Ledger → ℕ → List Event → Type 0
 KeepsRecordsLegal ledger readers events =
-    (k : ℕ) → HasLegalRecords (machine_after ledger readers (take k events)) (passes_after ledger readers (take k events))
+    (k : ℕ) → HasLegalRecords (machine_after ledger readers (take k events))
+    (passes_after ledger readers (take k events))
 
 -- before each event, no reader holds the copy of which the writer's next step stores a word
 abbrev pub StoresUnderNobody : Ledger → ℕ → List Event → Type 0
@@ -49,7 +50,8 @@ HasCause ledger readers events done why =
     ⊎ (IsFew readers × (why ≡ OutOfMemory) × ((done ≡ 0) ⊎ WantsMemoryFrom (started ledger readers) events done))
 
 -- the register is as the first events left it, and there is a cause
-pub record IsFault (ledger : Ledger) (readers : ℕ) (events : List Event) (register : Ledger) (done : ℕ) (why : Refusal) : Type 0 where
+pub record IsFault (ledger : Ledger) (readers : ℕ) (events : List Event) (register : Ledger) (done : ℕ)
+    (why : Refusal) : Type 0 where
   pub within : done ≤ length events
   pub left : register ≡ (machine_after ledger readers (take done events)).ledger
   pub cause : HasCause ledger readers events done why

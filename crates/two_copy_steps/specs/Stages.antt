@@ -46,7 +46,8 @@ stage_of phase.Leaving side words = Leaving side words
 
 -- the phase after word k is loaded
 abbrev pub IsPhasePast : ℕ → ReaderPhase → Type 0
-IsPhasePast k phase = (side : ℕ) (words : List ℕ) → length words ≡ 34 → stage_of phase side words ≡ loaded 34 side (take (k + 1) words)
+IsPhasePast k phase = (side : ℕ) (words : List ℕ) → length words ≡ 34
+    → stage_of phase side words ≡ loaded 34 side (take (k + 1) words)
 
 -- the place of the word that is touched
 abbrev pub accessed : Access → ℕ

@@ -23,7 +23,8 @@ HasRecords opening s = AreLegalRecords opening s.writer.state.published s.writer
 -- no reader holds the copy of which the writer's next step stores a word
 abbrev pub IsApart : State → Type 0
 IsApart s =
-    (side r : ℕ) (v : ReaderView) → side_filled s.writer.state.side s.writer.state.phase ≡ Some side → slice_get s.readers r ≡ Some v → side_held v.stage ≡ Some side → ⊥
+    (side r : ℕ) (v : ReaderView) → side_filled s.writer.state.side s.writer.state.phase ≡ Some side
+    → slice_get s.readers r ≡ Some v → side_held v.stage ≡ Some side → ⊥
 
 -- a reader that has loaded all words has them as the last sheet of its record
 abbrev pub EndsWith : List (List ℕ) → Stage → Type 0
@@ -32,7 +33,8 @@ EndsWith readings Arrived = Unit {0}
 EndsWith readings (Reading side words) = Unit {0}
 EndsWith readings (Leaving side words) = (earlier : List (List ℕ)) × (readings ≡ earlier ++ words ∷ [])
 
--- what each reader knows: its record is legal for some list and cuts, and the words that it has loaded are those of a sheet
+-- what each reader knows: its record is legal for some list and cuts, and the words that it has loaded are those of a
+-- sheet
 pub record IsKnown (opening : Opening) (v : ReaderView) : Type 0 where
   pub list : List Command
   pub cuts : List ℕ

@@ -15,7 +15,8 @@ use Rattle.two_copy_steps.specs.declared.views.Phase.{Phase}
 use Rattle.two_copy_steps.specs.declared.views.Phase.TheVariants.{Idle, Seeing, Filling, Swapping}
 use Rattle.two_copy_steps.specs.Deeds.{first_false, pin, stage_deed, writing_deed, begun}
 
--- the register, the words (word 0 is side, then copy 0, copy 1 and a pin for each reader), how far the writer is, and each reader's stage
+-- the register, the words (word 0 is side, then copy 0, copy 1 and a pin for each reader), how far the writer is, and
+-- each reader's stage
 pub record TwoCopies : Type 0 where
   pub ledger : Ledger
   pub words : List ℕ
@@ -34,7 +35,13 @@ started ledger readers =
     record {
       ledger = ledger;
       words = 0 ∷ sheet_of ledger ++ sheet_of ledger ++ replicate readers 0;
-      writer = record { side = 0; published = ledger.journal; taken = ledger.journal; phase = Idle; seen_out = replicate readers true };
+      writer = record {
+        side = 0;
+        published = ledger.journal;
+        taken = ledger.journal;
+        phase = Idle;
+        seen_out = replicate readers true;
+      };
       readers = replicate readers AtRest;
     }
 
@@ -58,7 +65,8 @@ is_pending m = nat_lt (length m.writer.published) (length m.ledger.journal)
 -- what the writer's step tells, by its phase
 abbrev pub phase_note : TwoCopies → Phase → Note
 phase_note m Idle = Skipped
-phase_note m Seeing = let r = first_false m.writer.seen_out in cond (slice_index m.words (pin 34 r) == 0) Moved (Busy (suc r))
+phase_note m Seeing = let r = first_false m.writer.seen_out
+    in cond (slice_index m.words (pin 34 r) == 0) Moved (Busy (suc r))
 phase_note m (Filling k) = Moved
 phase_note m Swapping = Published (length m.writer.taken)
 

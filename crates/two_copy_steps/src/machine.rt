@@ -44,7 +44,8 @@ impl Model for Machine {
 
 // Hands a command to the register, and tells whether it was accepted.
 fn hand_over(register: &mut Register, command: Command) -> Result<Note, Refusal>
-    ensures handed { IfOk result (λ note. (register.new, note) ≡ handed register.old command (verdict_of register.old command)) }
+    ensures handed { IfOk result
+        (λ note. (register.new, note) ≡ handed register.old command (verdict_of register.old command)) }
     ensures unchanged { OnErr result (register.new ≡ register.old) }
     ensures memory { IsOkUnless result OutOfMemory }
     ensures accepted { OnErr result (verdict_of register.old command ≡ Ok tt) }

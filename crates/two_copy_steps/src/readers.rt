@@ -13,7 +13,8 @@ pub(crate) fn advance(table: &mut Table, r: usize, stage: &mut ReaderStage) -> N
     requires within { pin 34 r < length table.old }
     requires few { r < READERS }
     requires readable { IsReadable stage.old }
-    ensures words { let d = stage_deed 34 r stage.old in table.new ≡ slice_set table.old d.word (d.becomes (slice_index table.old d.word)) }
+    ensures words { let d = stage_deed 34 r stage.old
+        in table.new ≡ slice_set table.old d.word (d.becomes (slice_index table.old d.word)) }
     ensures stage { let d = stage_deed 34 r stage.old in stage.new ≡ d.after (slice_index table.old d.word) }
     ensures note { result ≡ stage_note (suc r) stage.old }
 {

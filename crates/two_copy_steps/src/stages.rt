@@ -71,7 +71,8 @@ impl ReaderStage {
         ensures word { accessed result ≡ (stage_deed 34 r self.now).word }
         ensures low { accessed result ≤ pin 34 r }
         ensures becomes { (n : ℕ) → left_by result n ≡ (stage_deed 34 r self.now).becomes n }
-        ensures after { (n : ℕ) → (stage_deed 34 r self.now).after (left_by result n) ≡ (stage_deed 34 r self.now).after n }
+        ensures after { (n : ℕ)
+            → (stage_deed 34 r self.now).after (left_by result n) ≡ (stage_deed 34 r self.now).after n }
     {
         match self.phase {
             ReaderPhase::AtRest => Access::Store(pin(r), 1),

@@ -69,7 +69,8 @@ impl Table {
     pub(crate) fn touch(&mut self, access: Access) -> u64
         requires within { accessed access < length self.old }
         requires low { accessed access < WORDS }
-        ensures words { self.new ≡ slice_set self.old (accessed access) (left_by access (slice_index self.old (accessed access))) }
+        ensures words { self.new
+            ≡ slice_set self.old (accessed access) (left_by access (slice_index self.old (accessed access))) }
         ensures found { result ≡ left_by access (slice_index self.old (accessed access)) }
     {
         match access {

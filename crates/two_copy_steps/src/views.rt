@@ -1,5 +1,5 @@
-//! What each actor knows. The machine keeps the writer's phase; of the other types no value is made: contracts and rules
-//! speak of them.
+//! What each actor knows. The machine keeps the writer's phase; of the other types no value is made: contracts and
+//! rules speak of them.
 use council_core::Command;
 use std::collections::LinkedList;
 
