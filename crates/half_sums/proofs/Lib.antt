@@ -1,4 +1,5 @@
 pub mod Merging
+pub mod BothEnds
 pub mod SubsetFacts
 pub mod SetSums
 pub mod MaskLemmas

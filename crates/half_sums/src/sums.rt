@@ -1,8 +1,7 @@
 //! The list of a half, and its rebuild in the room that it has.
-ghost use Rattle.std.specs.Prelude.{◌≡◌, ◌==◌, ℕ, ◌+◌, ◌*◌, ◌^◌, ◌<◌, ◌≤◌, List, [], ◌∷◌, ◌++◌, length, map, IfOk, IsOkUnless};
+ghost use Rattle.std.specs.Prelude.{◌≡◌, ◌==◌, ℕ, ◌+◌, ◌*◌, ◌^◌, ◌<◌, ◌≤◌, List, [], ◌∷◌, ◌++◌, length, map, take, IfOk, IsOkUnless};
 ghost use Rattle.std.specs.List.{All, IsDistinct};
 ghost use Rattle.std.specs.List.Sorted.{IsPermutation, IsNonDecreasingBy};
-ghost use Rattle.std.specs.Vec.{vec_capacity};
 ghost use Rattle.council_core.specs.declared.refusals.Refusal.TheVariants.{OutOfMemory};
 ghost use Rattle.council_core.specs.Sheets.{weight_of};
 ghost use Rattle.half_sums.specs.declared.entry.Entry.{Entry};
@@ -18,19 +17,24 @@ use std::mem;
 /// The entries of a half of sixteen chairs: 2 to the power 16.
 const ROOM: usize = 65_536;
 
+/// The set of no chair.
+const NO_CHAIR: Entry = Entry { sum: 0, mask: 0 };
+
 /// The subset sums of a half of up to sixteen chairs, ascending (Horowitz and Sahni 1974).
 #[derive(Drop)]
 pub struct HalfSums {
+    /// The half's entries are the first `count` of these. Behind them are entries of earlier lists.
     entries: Vec<Entry>,
     scratch: Vec<Entry>,
+    count: usize,
 }
 
 impl Model for HalfSums {
     ghost Value = { List Entry };
 
-    ghost view = { λ h. h.entries.items };
+    ghost view = { λ h. take h.count h.entries.items };
 
-    ghost invariant = { λ h. (65536 ≤ vec_capacity h.entries) × (65536 ≤ vec_capacity h.scratch) × IsHalf h.entries.items };
+    ghost invariant = { λ h. (length h.entries.items ≡ 65536) × (length h.scratch.items ≡ 65536) × (h.count ≤ 65536) × IsHalf (take h.count h.entries.items) };
 }
 
 impl HalfSums {
@@ -40,10 +44,13 @@ impl HalfSums {
         ensures empty { IfOk result (λ h. h ≡ record { sum = 0; mask = 0 } ∷ []) }
         ensures memory { IsOkUnless result OutOfMemory }
     {
-        let mut entries = reserved(alloc)?;
-        let scratch = reserved(alloc)?;
-        entries.push_reserved(Entry { sum: 0, mask: 0 });
-        Ok(HalfSums { entries, scratch })
+        let entries = filled(alloc)?;
+        let scratch = filled(alloc)?;
+        Ok(HalfSums {
+            entries,
+            scratch,
+            count: 1,
+        })
     }
 
     /// The sets of the half's chairs, ascending by sum; sets of equal sums stand in any order.
@@ -51,7 +58,7 @@ impl HalfSums {
         ensures same { result.now ≡ self.now }
         ensures half { IsHalf result.now }
     {
-        self.entries.as_slice()
+        &self.entries[..self.count]
     }
 
     /// Makes the list of these chairs in place of the one before. A chair is its slot, 0 to 15, and its weight in
@@ -73,8 +80,8 @@ impl HalfSums {
     fn clear(&mut self)
         ensures empty { self.new ≡ record { sum = 0; mask = 0 } ∷ [] }
     {
-        self.entries.clear();
-        self.entries.push_reserved(Entry { sum: 0, mask: 0 });
+        self.entries[0] = NO_CHAIR;
+        self.count = 1;
     }
 
     /// Adds a chair: each set as it was, and each set with the chair.
@@ -84,19 +91,33 @@ impl HalfSums {
         ensures each_once { IsPermutation (self.old ++ map (joined weight bit) self.old) self.new }
         ensures ascending { IsNonDecreasingBy (λ e. e.sum) self.new }
     {
-        self.scratch.clear();
-        merge(&self.entries, &self.entries, weight, bit, &mut self.scratch);
+        double(&self.entries, self.count, weight, bit, &mut self.scratch);
         mem::swap(&mut self.entries, &mut self.scratch);
+        self.count = 2 * self.count;
     }
 }
 
-/// A list with room for the entries of every half.
-fn reserved(alloc: Global) -> Result<Vec<Entry>, Refusal>
-    ensures empty { IfOk result (λ list. list.items ≡ []) }
-    ensures room { IfOk result (λ list. 65536 ≤ vec_capacity list) }
+/// Writes the first `count` entries of a list, each as it is and each with a chair of this weight and bit.
+fn double(list: &[Entry], count: usize, weight: u64, bit: u16, into: &mut [Entry])
+    requires within { count ≤ length list.now }
+    requires room { 2 * count ≤ length into.old }
+    requires small { All (λ e. e.sum + weight < 2 ^ 64) (take count list.now) }
+    requires ascends { IsNonDecreasingBy (λ e. e.sum) (take count list.now) }
+    ensures each_once { IsPermutation (take count list.now ++ map (joined weight bit) (take count list.now)) (take (2 * count) into.new) }
+    ensures ascending { IsNonDecreasingBy (λ e. e.sum) (take (2 * count) into.new) }
+    ensures long { length into.new ≡ length into.old }
+{
+    let plain = &list[..count];
+    merge(plain, plain, weight, bit, &mut into[..2 * count]);
+}
+
+/// A list as long as the longest half's, each entry the empty set.
+fn filled(alloc: Global) -> Result<Vec<Entry>, Refusal>
+    ensures empty { IfOk result (λ list. take 1 list.items ≡ record { sum = 0; mask = 0 } ∷ []) }
+    ensures room { IfOk result (λ list. length list.items ≡ 65536) }
     ensures memory { IsOkUnless result OutOfMemory }
 {
-    match Vec::with_capacity(alloc, ROOM) {
+    match Vec::from_elem(alloc, NO_CHAIR, ROOM) {
         Ok(list) => Ok(list),
         Err(_) => Err(Refusal::OutOfMemory),
     }
