@@ -1,4 +1,5 @@
 pub mod Merging
 pub mod SubsetFacts
+pub mod GroupFacts
 pub mod SetSums
 pub mod MaskLemmas

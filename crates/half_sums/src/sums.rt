@@ -1,5 +1,5 @@
-//! The list of a half, and its rebuild in the room that it has.
-ghost use Rattle.std.specs.Prelude.{◌≡◌, ◌==◌, ℕ, ◌+◌, ◌*◌, ◌^◌, ◌<◌, ◌≤◌, List, [], ◌∷◌, ◌++◌, length, map, IfOk, IsOkUnless};
+//! The lists of a half, and their rebuild in the room that they have.
+ghost use Rattle.std.specs.Prelude.{◌≡◌, ◌==◌, ℕ, ◌+◌, ◌-◌, ◌*◌, ◌^◌, ◌<◌, ◌≤◌, List, [], ◌∷◌, ◌++◌, length, map, take, drop, IfOk, IsOkUnless};
 ghost use Rattle.std.specs.List.{All, IsDistinct};
 ghost use Rattle.std.specs.List.Sorted.{IsPermutation, IsNonDecreasingBy};
 ghost use Rattle.std.specs.Vec.{vec_capacity};
@@ -7,8 +7,10 @@ ghost use Rattle.council_core.specs.declared.refusals.Refusal.TheVariants.{OutOf
 ghost use Rattle.council_core.specs.Sheets.{weight_of};
 ghost use Rattle.half_sums.specs.declared.entry.Entry.{Entry};
 ghost use Rattle.half_sums.specs.Entries.{joined, AreSubsets, IsHalf};
+ghost use Rattle.half_sums.specs.Groups.{group_of, grouped, AreGroups};
 
 use crate::Entry;
+use crate::groups::{SIZES, regroup};
 use crate::merge::merge;
 use council_core::Refusal;
 use std::alloc::Global;
@@ -18,19 +20,23 @@ use std::mem;
 /// The entries of a half of sixteen chairs: 2 to the power 16.
 const ROOM: usize = 65_536;
 
-/// The subset sums of a half of up to sixteen chairs, ascending (Horowitz and Sahni 1974).
+/// The set of no chair.
+const NO_CHAIR: Entry = Entry { sum: 0, mask: 0 };
+
+/// The subset sums of a half of up to sixteen chairs, ascending, and the same by size (Horowitz and Sahni 1974).
 #[derive(Drop)]
 pub struct HalfSums {
-    entries: Vec<Entry>,
-    scratch: Vec<Entry>,
+    ascending: Vec<Entry>,
+    groups: Vec<Entry>,
+    starts: [usize; 18],
 }
 
 impl Model for HalfSums {
     ghost Value = { List Entry };
 
-    ghost view = { λ h. h.entries.items };
+    ghost view = { λ h. h.ascending.items };
 
-    ghost invariant = { λ h. (65536 ≤ vec_capacity h.entries) × (65536 ≤ vec_capacity h.scratch) × IsHalf h.entries.items };
+    ghost invariant = { λ h. (65536 ≤ vec_capacity h.ascending) × (65536 ≤ vec_capacity h.groups) × IsHalf h.ascending.items × AreGroups h.ascending.items h.groups.items h.starts };
 }
 
 impl HalfSums {
@@ -40,21 +46,47 @@ impl HalfSums {
         ensures empty { IfOk result (λ h. h ≡ record { sum = 0; mask = 0 } ∷ []) }
         ensures memory { IsOkUnless result OutOfMemory }
     {
-        let mut entries = reserved(alloc)?;
-        let scratch = reserved(alloc)?;
-        entries.push_reserved(Entry { sum: 0, mask: 0 });
-        Ok(HalfSums { entries, scratch })
+        let mut ascending = reserved(alloc)?;
+        let mut groups = reserved(alloc)?;
+        ascending.push_reserved(NO_CHAIR);
+        let starts = regroup(&ascending, &mut groups);
+        Ok(HalfSums {
+            ascending,
+            groups,
+            starts,
+        })
     }
 
     /// The sets of the half's chairs, ascending by sum; sets of equal sums stand in any order.
-    pub fn entries(&self) -> &[Entry]
+    pub fn ascending(&self) -> &[Entry]
         ensures same { result.now ≡ self.now }
         ensures half { IsHalf result.now }
     {
-        self.entries.as_slice()
+        self.ascending.as_slice()
     }
 
-    /// Makes the list of these chairs in place of the one before. A chair is its slot, 0 to 15, and its weight in
+    /// The sets of the half's chairs by size, from 0 to 16 chairs; those of one size ascend by sum.
+    pub fn entries(&self) -> &[Entry]
+        ensures grouped { result.now ≡ grouped self.now }
+        ensures each_once { IsPermutation self.now result.now }
+    {
+        self.groups.as_slice()
+    }
+
+    /// The sets of just this many chairs, ascending by sum; none where the half has too few chairs.
+    pub fn group(&self, size: u8) -> &[Entry]
+        ensures same { result.now ≡ group_of size self.now }
+        ensures half { IsHalf result.now }
+    {
+        let size = usize::from(size);
+        let groups = self.groups.as_slice();
+        if size >= SIZES {
+            return &[];
+        }
+        part(groups, self.starts[size], self.starts[size + 1])
+    }
+
+    /// Makes the lists of these chairs in place of those before. A chair is its slot, 0 to 15, and its weight in
     /// votes; 0 is a weight like any other. It takes no memory and always succeeds.
     pub fn rebuild(&mut self, chairs: &[(u8, u64)])
         requires slots { All (λ chair. chair.0 < 16) chairs.now }
@@ -62,32 +94,55 @@ impl HalfSums {
         requires small { weight_of chairs.now ≤ 2 ^ 48 }
         ensures subsets { AreSubsets chairs.now self.new }
     {
-        self.clear();
-        for at in (0..chairs.len()).rev() {
-            let (slot, weight) = chairs[at];
-            self.add(weight, 1u16 << slot);
-        }
+        list(chairs, &mut self.ascending, &mut self.groups);
+        self.starts = regroup(&self.ascending, &mut self.groups);
     }
+}
 
-    /// Goes back to the half with no chair.
-    fn clear(&mut self)
-        ensures empty { self.new ≡ record { sum = 0; mask = 0 } ∷ [] }
-    {
-        self.entries.clear();
-        self.entries.push_reserved(Entry { sum: 0, mask: 0 });
-    }
+/// The entries from a place on, up to another.
+fn part(entries: &[Entry], from: usize, to: usize) -> &[Entry]
+    requires ordered { from ≤ to }
+    requires within { to ≤ length entries.now }
+    ensures part { result.now ≡ take (to - from) (drop from entries.now) }
+{
+    &entries[from..to]
+}
 
-    /// Adds a chair: each set as it was, and each set with the chair.
-    fn add(&mut self, weight: u64, bit: u16)
-        requires room { 2 * length self.old ≤ 65536 }
-        requires small { All (λ e. e.sum + weight ≤ 2 ^ 48) self.old }
-        ensures each_once { IsPermutation (self.old ++ map (joined weight bit) self.old) self.new }
-        ensures ascending { IsNonDecreasingBy (λ e. e.sum) self.new }
-    {
-        self.scratch.clear();
-        merge(&self.entries, &self.entries, weight, bit, &mut self.scratch);
-        mem::swap(&mut self.entries, &mut self.scratch);
+/// Lists the sets of these chairs, ascending by sum. What stands in either list is lost.
+fn list(chairs: &[(u8, u64)], ascending: &mut Vec<Entry>, scratch: &mut Vec<Entry>)
+    requires slots { All (λ chair. chair.0 < 16) chairs.now }
+    requires distinct { IsDistinct (λ a b. a == b) (map (λ chair. chair.0) chairs.now) }
+    requires small { weight_of chairs.now ≤ 2 ^ 48 }
+    requires room { 65536 ≤ vec_capacity ascending.old }
+    requires scratch_room { 65536 ≤ vec_capacity scratch.old }
+    ensures subsets { AreSubsets chairs.now ascending.new.items }
+    ensures half { IsHalf ascending.new.items }
+    ensures room { 65536 ≤ vec_capacity ascending.new }
+    ensures scratch_room { 65536 ≤ vec_capacity scratch.new }
+{
+    ascending.clear();
+    ascending.push_reserved(NO_CHAIR);
+    for at in (0..chairs.len()).rev() {
+        let (slot, weight) = chairs[at];
+        add(ascending, scratch, weight, 1u16 << slot);
     }
+}
+
+/// Adds a chair: each set as it was, and each set with the chair.
+fn add(ascending: &mut Vec<Entry>, scratch: &mut Vec<Entry>, weight: u64, bit: u16)
+    requires half { IsHalf ascending.old.items }
+    requires few { 2 * length ascending.old.items ≤ 65536 }
+    requires small { All (λ e. e.sum + weight ≤ 2 ^ 48) ascending.old.items }
+    requires room { 65536 ≤ vec_capacity ascending.old }
+    requires scratch_room { 65536 ≤ vec_capacity scratch.old }
+    ensures each_once { IsPermutation (ascending.old.items ++ map (joined weight bit) ascending.old.items) ascending.new.items }
+    ensures half { IsHalf ascending.new.items }
+    ensures room { 65536 ≤ vec_capacity ascending.new }
+    ensures scratch_room { 65536 ≤ vec_capacity scratch.new }
+{
+    scratch.clear();
+    merge(ascending, ascending, weight, bit, scratch);
+    mem::swap(ascending, scratch);
 }
 
 /// A list with room for the entries of every half.
