@@ -1,5 +1,6 @@
 pub mod Merging
 pub mod BothEnds
 pub mod SubsetFacts
+pub mod GroupFacts
 pub mod SetSums
 pub mod MaskLemmas

@@ -12,7 +12,7 @@ use Rattle.std.proofs.lemmas.List.Sorted.{IsPermutation-trans, IsPermutation-app
 use Rattle.std.proofs.lemmas.Map.Steps.{length-le_from_distinct_below}
 use Rattle.std.proofs.lemmas.List.Sorted.{IsPermutation-refl, IsNonDecreasingBy-short}
 use Rattle.std.proofs.Math.Nat.{pow-suc, pow-le-pow_right}
-use Rattle.std.proofs.lemmas.Nat.{shl_whole}
+use Rattle.std.proofs.lemmas.Nat.{shl_whole, or_lt}
 use Rattle.half_sums.specs.declared.entry.Entry.{Entry}
 use Rattle.council_core.specs.Sheets.{weight_of}
 use Rattle.council_core.specs.Coalitions.{subsets}
@@ -108,13 +108,16 @@ IsHalf-one =
       few = omega arith;
       ascending = IsNonDecreasingBy-short (λ (e : Entry). e.sum) one (omega arith);
       small = All-cons (λ (e : Entry). e.sum ≤ 2 ^ 48) (record { sum = 0; mask = 0 }) [] (omega arith) (All-nil (λ (e : Entry). e.sum ≤ 2 ^ 48));
+      slots = All-cons (λ (e : Entry). e.mask < 2 ^ 16) (record { sum = 0; mask = 0 }) [] (omega arith) (All-nil (λ (e : Entry). e.mask < 2 ^ 16));
     }
 
-pub IsHalf-more : (es out : List Entry) (weight bit : ℕ) → IsHalf es → 2 * length es ≤ 65536 → All (λ e. e.sum + weight ≤ 2 ^ 48) es → IsPermutation (es ++ map (joined weight bit) es) out → IsNonDecreasingBy (λ e. e.sum) out → IsHalf out
-IsHalf-more es out weight bit half room small moves up =
+pub IsHalf-more : (es out : List Entry) (weight bit : ℕ) → IsHalf es → bit < 2 ^ 16 → 2 * length es ≤ 65536 → All (λ e. e.sum + weight ≤ 2 ^ 48) es → IsPermutation (es ++ map (joined weight bit) es) out → IsNonDecreasingBy (λ e. e.sum) out → IsHalf out
+IsHalf-more es out weight bit half slot room small moves up =
     let P : Entry → Type 0 = λ e. e.sum ≤ 2 ^ 48 in
+    let Q : Entry → Type 0 = λ e. e.mask < 2 ^ 16 in
     record {
       few = omega (arith, length_permutation _ _ moves, length-append es (map (joined weight bit) es), length-map es (joined weight bit));
       ascending = up;
       small = All-permutation P _ _ moves (All-append P es _ half.small (All-map P (joined weight bit) es small));
+      slots = All-permutation Q _ _ moves (All-append Q es _ half.slots (All-map Q (joined weight bit) es (All-weaker Q (λ e. Q (joined weight bit e)) (λ e h. or_lt 16 e.mask bit h slot) es half.slots)));
     }

@@ -1,5 +1,5 @@
 -- Entries: the sets of a half's chairs by weight and slots, as lists of subset sums (Horowitz and Sahni 1974).
-use Rattle.std.specs.Prelude.{ℕ, ◌≡◌, ◌+◌, ◌^◌, ◌≤◌, List, [], ◌∷◌, map, bit_or, length, refl}
+use Rattle.std.specs.Prelude.{ℕ, ◌≡◌, ◌+◌, ◌^◌, ◌<◌, ◌≤◌, List, [], ◌∷◌, map, bit_or, length, refl}
 use Rattle.std.specs.List.{All}
 use Rattle.std.specs.List.Sorted.{IsPermutation, IsNonDecreasingBy}
 use Rattle.half_sums.specs.declared.entry.Entry.{Entry}
@@ -24,11 +24,12 @@ pub record AreSubsets (chairs : List (ℕ × ℕ)) (entries : List Entry) : Type
   pub each_once : IsPermutation (entries_of chairs) entries
   pub ascending : IsNonDecreasingBy (λ e. e.sum) entries
 
--- what every list of a half has: at most 65,536 entries, ascending, no sum above 2^48
+-- what every list of a half has: at most 65,536 entries, ascending, no sum above 2^48, and no slot from 16 on
 pub record IsHalf (entries : List Entry) : Type 0 where
   pub few : length entries ≤ 65536
   pub ascending : IsNonDecreasingBy (λ e. e.sum) entries
   pub small : All (λ e. e.sum ≤ 2 ^ 48) entries
+  pub slots : All (λ e. e.mask < 2 ^ 16) entries
 
 -- worked example: chairs of 50, 49 and 1 votes
 abbrev pub three : List (ℕ × ℕ)

@@ -1,3 +1,4 @@
 pub mod Masks
 pub mod Entries
+pub mod Groups
 pub mod Laws

@@ -2,7 +2,9 @@
 #![tactic(auto)]
 
 mod entry;
+mod groups;
 mod laws;
+mod lists;
 mod merge;
 mod sums;
 
@@ -24,12 +26,19 @@ mod tests {
         assert_eq!(rt; entries[0], Entry { sum: 0, mask: 0 });
         assert_eq!(rt; entries[1], Entry { sum: 1, mask: 4 });
         assert_eq!(rt; entries[2], Entry { sum: 49, mask: 2 });
-        let (first, second) = (entries[3], entries[4]);
-        let (alone, pair) = (Entry { sum: 50, mask: 1 }, Entry { sum: 50, mask: 6 });
-        assert!(rt; (first == alone && second == pair) || (first == pair && second == alone));
+        assert_eq!(rt; entries[3], Entry { sum: 50, mask: 1 });
+        assert_eq!(rt; entries[4], Entry { sum: 50, mask: 6 });
         assert_eq!(rt; entries[5], Entry { sum: 51, mask: 5 });
         assert_eq!(rt; entries[6], Entry { sum: 99, mask: 3 });
         assert_eq!(rt; entries[7], Entry { sum: 100, mask: 7 });
+        let pairs = half.group(2);
+        assert_eq!(rt; pairs.len(), 3);
+        assert_eq!(rt; pairs[0], Entry { sum: 50, mask: 6 });
+        assert_eq!(rt; half.group(4).len(), 0);
+        assert_eq!(rt; half.group(17).len(), 0);
+        let sums = half.ascending();
+        assert_eq!(rt; sums.len(), 8);
+        assert_eq!(rt; sums[2], Entry { sum: 49, mask: 2 });
         Ok(())
     }
 

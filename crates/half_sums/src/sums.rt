@@ -1,40 +1,35 @@
-//! The list of a half, and its rebuild in the room that it has.
-ghost use Rattle.std.specs.Prelude.{◌≡◌, ◌==◌, ℕ, ◌+◌, ◌*◌, ◌^◌, ◌<◌, ◌≤◌, List, [], ◌∷◌, ◌++◌, length, map, take, IfOk, IsOkUnless};
+//! The lists of a half, and their rebuild in the room that they have.
+ghost use Rattle.std.specs.Prelude.{◌≡◌, ◌==◌, ℕ, ◌+◌, ◌-◌, ◌*◌, ◌^◌, ◌<◌, ◌≤◌, List, [], ◌∷◌, ◌++◌, length, map, take, drop, IfOk, IsOkUnless};
 ghost use Rattle.std.specs.List.{All, IsDistinct};
 ghost use Rattle.std.specs.List.Sorted.{IsPermutation, IsNonDecreasingBy};
 ghost use Rattle.council_core.specs.declared.refusals.Refusal.TheVariants.{OutOfMemory};
 ghost use Rattle.council_core.specs.Sheets.{weight_of};
 ghost use Rattle.half_sums.specs.declared.entry.Entry.{Entry};
 ghost use Rattle.half_sums.specs.Entries.{joined, AreSubsets, IsHalf};
+ghost use Rattle.half_sums.specs.Groups.{group_of, grouped, AreGroups};
 
 use crate::Entry;
-use crate::merge::merge;
+use crate::groups::SIZES;
+use crate::lists::SumList;
 use council_core::Refusal;
 use std::alloc::Global;
 use std::marker::Model;
 use std::mem;
 
-/// The entries of a half of sixteen chairs: 2 to the power 16.
-const ROOM: usize = 65_536;
-
-/// The set of no chair.
-const NO_CHAIR: Entry = Entry { sum: 0, mask: 0 };
-
-/// The subset sums of a half of up to sixteen chairs, ascending (Horowitz and Sahni 1974).
+/// The subset sums of a half of up to sixteen chairs, ascending, and the same by size (Horowitz and Sahni 1974).
 #[derive(Drop)]
 pub struct HalfSums {
-    /// The half's entries are the first `count` of these. Behind them are entries of earlier lists.
-    entries: Vec<Entry>,
-    scratch: Vec<Entry>,
-    count: usize,
+    ascending: SumList,
+    groups: SumList,
+    starts: [usize; 18],
 }
 
 impl Model for HalfSums {
     ghost Value = { List Entry };
 
-    ghost view = { λ h. take h.count h.entries.items };
+    ghost view = { λ h. h.ascending };
 
-    ghost invariant = { λ h. (length h.entries.items ≡ 65536) × (length h.scratch.items ≡ 65536) × (h.count ≤ 65536) × IsHalf (take h.count h.entries.items) };
+    ghost invariant = { λ h. IsHalf h.ascending × AreGroups h.ascending h.groups h.starts };
 }
 
 impl HalfSums {
@@ -44,24 +39,46 @@ impl HalfSums {
         ensures empty { IfOk result (λ h. h ≡ record { sum = 0; mask = 0 } ∷ []) }
         ensures memory { IsOkUnless result OutOfMemory }
     {
-        let entries = filled(alloc)?;
-        let scratch = filled(alloc)?;
+        let ascending = SumList::new(alloc)?;
+        let mut groups = SumList::new(alloc)?;
+        let starts = groups.regroup(ascending.as_slice());
         Ok(HalfSums {
-            entries,
-            scratch,
-            count: 1,
+            ascending,
+            groups,
+            starts,
         })
     }
 
     /// The sets of the half's chairs, ascending by sum; sets of equal sums stand in any order.
-    pub fn entries(&self) -> &[Entry]
+    pub fn ascending(&self) -> &[Entry]
         ensures same { result.now ≡ self.now }
         ensures half { IsHalf result.now }
     {
-        &self.entries[..self.count]
+        self.ascending.as_slice()
     }
 
-    /// Makes the list of these chairs in place of the one before. A chair is its slot, 0 to 15, and its weight in
+    /// The sets of the half's chairs by size, from 0 to 16 chairs; those of one size ascend by sum.
+    pub fn entries(&self) -> &[Entry]
+        ensures grouped { result.now ≡ grouped self.now }
+        ensures each_once { IsPermutation self.now result.now }
+    {
+        self.groups.as_slice()
+    }
+
+    /// The sets of just this many chairs, ascending by sum; none where the half has too few chairs.
+    pub fn group(&self, size: u8) -> &[Entry]
+        ensures same { result.now ≡ group_of size self.now }
+        ensures half { IsHalf result.now }
+    {
+        let size = usize::from(size);
+        let groups = self.groups.as_slice();
+        if size >= SIZES {
+            return &[];
+        }
+        part(groups, self.starts[size], self.starts[size + 1])
+    }
+
+    /// Makes the lists of these chairs in place of those before. A chair is its slot, 0 to 15, and its weight in
     /// votes; 0 is a weight like any other. It takes no memory and always succeeds.
     pub fn rebuild(&mut self, chairs: &[(u8, u64)])
         requires slots { All (λ chair. chair.0 < 16) chairs.now }
@@ -69,56 +86,43 @@ impl HalfSums {
         requires small { weight_of chairs.now ≤ 2 ^ 48 }
         ensures subsets { AreSubsets chairs.now self.new }
     {
-        self.clear();
-        for at in (0..chairs.len()).rev() {
-            let (slot, weight) = chairs[at];
-            self.add(weight, 1u16 << slot);
-        }
-    }
-
-    /// Goes back to the half with no chair.
-    fn clear(&mut self)
-        ensures empty { self.new ≡ record { sum = 0; mask = 0 } ∷ [] }
-    {
-        self.entries[0] = NO_CHAIR;
-        self.count = 1;
-    }
-
-    /// Adds a chair: each set as it was, and each set with the chair.
-    fn add(&mut self, weight: u64, bit: u16)
-        requires room { 2 * length self.old ≤ 65536 }
-        requires small { All (λ e. e.sum + weight ≤ 2 ^ 48) self.old }
-        ensures each_once { IsPermutation (self.old ++ map (joined weight bit) self.old) self.new }
-        ensures ascending { IsNonDecreasingBy (λ e. e.sum) self.new }
-    {
-        double(&self.entries, self.count, weight, bit, &mut self.scratch);
-        mem::swap(&mut self.entries, &mut self.scratch);
-        self.count = 2 * self.count;
+        list(chairs, &mut self.ascending, &mut self.groups);
+        self.starts = self.groups.regroup(self.ascending.as_slice());
     }
 }
 
-/// Writes the first `count` entries of a list, each as it is and each with a chair of this weight and bit.
-fn double(list: &[Entry], count: usize, weight: u64, bit: u16, into: &mut [Entry])
-    requires within { count ≤ length list.now }
-    requires room { 2 * count ≤ length into.old }
-    requires small { All (λ e. e.sum + weight < 2 ^ 64) (take count list.now) }
-    requires ascends { IsNonDecreasingBy (λ e. e.sum) (take count list.now) }
-    ensures each_once { IsPermutation (take count list.now ++ map (joined weight bit) (take count list.now)) (take (2 * count) into.new) }
-    ensures ascending { IsNonDecreasingBy (λ e. e.sum) (take (2 * count) into.new) }
-    ensures long { length into.new ≡ length into.old }
+/// The entries from a place on, up to another.
+fn part(entries: &[Entry], from: usize, to: usize) -> &[Entry]
+    requires ordered { from ≤ to }
+    requires within { to ≤ length entries.now }
+    ensures part { result.now ≡ take (to - from) (drop from entries.now) }
 {
-    let plain = &list[..count];
-    merge(plain, plain, weight, bit, &mut into[..2 * count]);
+    &entries[from..to]
 }
 
-/// A list as long as the longest half's, each entry the empty set.
-fn filled(alloc: Global) -> Result<Vec<Entry>, Refusal>
-    ensures empty { IfOk result (λ list. take 1 list.items ≡ record { sum = 0; mask = 0 } ∷ []) }
-    ensures room { IfOk result (λ list. length list.items ≡ 65536) }
-    ensures memory { IsOkUnless result OutOfMemory }
+/// Lists the sets of these chairs, ascending by sum. What stands in either list is lost.
+fn list(chairs: &[(u8, u64)], ascending: &mut SumList, scratch: &mut SumList)
+    requires slots { All (λ chair. chair.0 < 16) chairs.now }
+    requires distinct { IsDistinct (λ a b. a == b) (map (λ chair. chair.0) chairs.now) }
+    requires small { weight_of chairs.now ≤ 2 ^ 48 }
+    ensures subsets { AreSubsets chairs.now ascending.new }
+    ensures half { IsHalf ascending.new }
 {
-    match Vec::from_elem(alloc, NO_CHAIR, ROOM) {
-        Ok(list) => Ok(list),
-        Err(_) => Err(Refusal::OutOfMemory),
+    ascending.clear();
+    for at in (0..chairs.len()).rev() {
+        let (slot, weight) = chairs[at];
+        add(ascending, scratch, weight, 1u16 << slot);
     }
+}
+
+/// Adds a chair: each set as it was, and each set with the chair.
+fn add(ascending: &mut SumList, scratch: &mut SumList, weight: u64, bit: u16)
+    requires half { IsHalf ascending.old }
+    requires few { 2 * length ascending.old ≤ 65536 }
+    requires small { All (λ e. e.sum + weight ≤ 2 ^ 48) ascending.old }
+    ensures each_once { IsPermutation (ascending.old ++ map (joined weight bit) ascending.old) ascending.new }
+    ensures half { IsHalf ascending.new }
+{
+    scratch.double(ascending.as_slice(), weight, bit);
+    mem::swap(ascending, scratch);
 }

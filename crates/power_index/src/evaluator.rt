@@ -116,7 +116,7 @@ impl Evaluator {
     fn counts(&self, quota: u64) -> Counts
         ensures counts { AreCounts quota self.now result.winning (λ place. slice_index result.with_chair place) }
     {
-        count(self.left.entries(), self.right.entries(), quota)
+        count(self.left.ascending(), self.right.ascending(), quota)
     }
 
     /// The sheet held: the last one that was set, or the sheet of zeros.

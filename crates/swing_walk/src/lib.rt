@@ -28,7 +28,7 @@ mod tests {
         let mut right = HalfSums::new(rt.alloc())?;
         left.rebuild(&[(0, 50), (1, 49), (2, 1)]);
         right.rebuild(&[]);
-        let counts = count(left.entries(), right.entries(), 51);
+        let counts = count(left.ascending(), right.ascending(), 51);
         let swings = swings(&counts);
         let mut with_chair = [0; 32];
         with_chair[0] = 3;
@@ -74,7 +74,7 @@ mod tests {
     fn board_of_ones(alloc: Global, quota: u64) -> Result<(Counts, [u64; 32]), Refusal> {
         let left = half_of_ones(alloc)?;
         let right = half_of_ones(alloc)?;
-        let counts = count(left.entries(), right.entries(), quota);
+        let counts = count(left.ascending(), right.ascending(), quota);
         Ok((counts, swings(&counts)))
     }
 
