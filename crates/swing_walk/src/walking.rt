@@ -1,5 +1,5 @@
 //! The walk up the left list and down the right one.
-ghost use Rattle.std.specs.Prelude.{◌≡◌, ℕ, ◌+◌, ◌-◌, ◌*◌, ◌^◌, ◌<◌, ◌≤◌, length, slice_index_or, drop, ◌&&◌};
+ghost use Rattle.std.specs.Prelude.{◌≡◌, ℕ, ◌+◌, ◌-◌, ◌*◌, ◌^◌, ◌<◌, ◌≤◌, length, slice_index_or, drop, cond, nat_le, ◌&&◌};
 ghost use Rattle.std.specs.List.{All};
 ghost use Rattle.half_sums.specs.Entries.{IsHalf};
 ghost use Rattle.swing_walk.specs.Pairs.{pairs_where, winning_pairs, reaches, has};
@@ -8,6 +8,9 @@ ghost use Rattle.swing_walk.specs.Tallies.{marked, total, IsEven};
 
 use crate::tally::Tally;
 use half_sums::Entry;
+
+/// From so many entries on it gains to walk from both ends.
+const MANY: usize = 256;
 
 /// The first right entry that reaches the quota with the next left entry, sought downwards. Each right entry that
 /// begins to reach is credited with all left entries from there on.
@@ -65,6 +68,42 @@ pub(crate) fn walk(
     ensures right_total { total rights.new ≡ total rights.old + winning_pairs quota left.now right.now }
     ensures right_marked { (slot : ℕ) → marked slot rights.new ≡ marked slot rights.old + pairs_where (λ a b. reaches quota a b && has slot b) left.now right.now }
 {
+    // A branch on the sums is learnt where they repeat, and is missed every other time where they don't.
+    if left.len() != right.len() || left.len() < MANY || repeats(left) {
+        walk_in_turn(left, right, quota, lefts, rights)
+    } else {
+        walk_from_both_ends(left, right, quota, lefts, rights)
+    }
+}
+
+/// Whether the two entries in the middle have the same sum. It chooses the faster way alone.
+fn repeats(list: &[Entry]) -> bool {
+    let middle = list.len() / 2;
+    middle > 0 && list[middle - 1].sum == list[middle].sum
+}
+
+/// The walk from the first left entry on, by a branch on the sums.
+fn walk_in_turn(
+    left: &[Entry],
+    right: &[Entry],
+    quota: u64,
+    lefts: &mut Tally,
+    rights: &mut Tally,
+) -> u64
+    requires left { IsHalf left.now }
+    requires right { IsHalf right.now }
+    requires left_even { IsEven lefts.old }
+    requires left_room { total lefts.old ≤ 2 ^ 62 }
+    requires right_even { IsEven rights.old }
+    requires right_room { total rights.old ≤ 2 ^ 62 }
+    ensures winning { result ≡ winning_pairs quota left.now right.now }
+    ensures left_even { IsEven lefts.new }
+    ensures left_total { total lefts.new ≡ total lefts.old + winning_pairs quota left.now right.now }
+    ensures left_marked { (slot : ℕ) → marked slot lefts.new ≡ marked slot lefts.old + pairs_where (λ a b. reaches quota a b && has slot a) left.now right.now }
+    ensures right_even { IsEven rights.new }
+    ensures right_total { total rights.new ≡ total rights.old + winning_pairs quota left.now right.now }
+    ensures right_marked { (slot : ℕ) → marked slot rights.new ≡ marked slot rights.old + pairs_where (λ a b. reaches quota a b && has slot b) left.now right.now }
+{
     let mut at = right.len();
     let mut winning = 0;
     for next in 0..left.len() {
@@ -74,4 +113,73 @@ pub(crate) fn walk(
         lefts.add(left[next].mask, partners);
     }
     winning
+}
+
+/// The walk of two lists of one length, up from the first left entry and down from the last one at once, until they
+/// meet: the two don't wait for one another, and neither has a branch on the sums. Each step passes a left entry or a
+/// right one, and credits the other with nothing.
+fn walk_from_both_ends(
+    left: &[Entry],
+    right: &[Entry],
+    quota: u64,
+    lefts: &mut Tally,
+    rights: &mut Tally,
+) -> u64
+    requires left { IsHalf left.now }
+    requires right { IsHalf right.now }
+    requires same { length left.now ≡ length right.now }
+    requires left_even { IsEven lefts.old }
+    requires left_room { total lefts.old ≤ 2 ^ 62 }
+    requires right_even { IsEven rights.old }
+    requires right_room { total rights.old ≤ 2 ^ 62 }
+    ensures winning { result ≡ winning_pairs quota left.now right.now }
+    ensures left_even { IsEven lefts.new }
+    ensures left_total { total lefts.new ≡ total lefts.old + winning_pairs quota left.now right.now }
+    ensures left_marked { (slot : ℕ) → marked slot lefts.new ≡ marked slot lefts.old + pairs_where (λ a b. reaches quota a b && has slot a) left.now right.now }
+    ensures right_even { IsEven rights.new }
+    ensures right_total { total rights.new ≡ total rights.old + winning_pairs quota left.now right.now }
+    ensures right_marked { (slot : ℕ) → marked slot rights.new ≡ marked slot rights.old + pairs_where (λ a b. reaches quota a b && has slot b) left.now right.now }
+{
+    let mut next = 0;
+    let mut at = right.len();
+    let mut next_end = left.len();
+    let mut at_end = 0;
+    let mut winning = 0;
+    for walked in 0..left.len() {
+        let reached = is_winning(&left[next], &right[at - 1], quota);
+        let partners = amount_if(!reached, right.len() - at);
+        lefts.add(left[next].mask, partners);
+        rights.add(right[at - 1].mask, amount_if(reached, left.len() - next));
+        winning += partners;
+        at -= usize::from(reached);
+        next = walked + 1 + at - right.len();
+
+        let reached = is_winning(&left[next_end - 1], &right[at_end], quota);
+        let partners = amount_if(reached, right.len() - at_end);
+        lefts.add(left[next_end - 1].mask, partners);
+        rights.add(
+            right[at_end].mask,
+            amount_if(!reached, left.len() - next_end),
+        );
+        winning += partners;
+        next_end -= usize::from(reached);
+        at_end = walked + 1 + next_end - left.len();
+    }
+    winning
+}
+
+/// Whether the sums of a pair reach the quota.
+fn is_winning(left: &Entry, right: &Entry, quota: u64) -> bool
+    requires small { left.now.sum + right.now.sum < 2 ^ 64 }
+    ensures reaches { result ≡ nat_le quota (left.now.sum + right.now.sum) }
+{
+    quota <= left.sum + right.sum
+}
+
+/// The amount where it counts, else 0: a value is chosen, and not a way to go on.
+fn amount_if(counts: bool, amount: usize) -> u64
+    ensures amount { result ≡ cond counts amount 0 }
+    ensures within { result ≤ amount }
+{
+    if counts { amount as u64 } else { 0 }
 }

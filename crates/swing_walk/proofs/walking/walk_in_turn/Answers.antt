@@ -7,7 +7,7 @@ use Rattle.swing_walk.specs.Pairs.{reaches, has}
 use Rattle.swing_walk.specs.Walks.{zero_entry}
 use Rattle.swing_walk.proofs.Counting.{Splits, count_partners, count_marked, pairs_more, pairs_room}
 use Rattle.swing_walk.proofs.Steps.{short_from, back_room, right_total, right_marked}
-use Rattle.swing_walk.proofs.walking.walk.Goals as goal
+use Rattle.swing_walk.proofs.walking.walk_in_turn.Goals as goal
 
 pub lower-at-requires-clause-room : goal.lower-at-requires-clause-room
 lower-at-requires-clause-room c =

@@ -5,7 +5,7 @@ use Rattle.swing_walk.specs.Pairs.{pairs_where, winning_pairs, reaches, has}
 use Rattle.swing_walk.specs.Walks.{NoneReach}
 use Rattle.swing_walk.specs.Walks.{zero_entry}
 use Rattle.swing_walk.specs.Tallies.{marked, total, IsEven}
-use Rattle.swing_walk.proofs.walking.walk.Given as goal
+use Rattle.swing_walk.proofs.walking.walk_in_turn.Given as goal
 
 abbrev pub invariant-loop-next : goal.invariant-loop-next
 invariant-loop-next l = record {
