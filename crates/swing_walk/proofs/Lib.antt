@@ -4,4 +4,5 @@ pub mod PairLaws
 pub mod BoardSets
 pub mod Weights
 pub mod Steps
+pub mod GroupPairs
 pub mod WorkedHalves
