@@ -95,12 +95,13 @@ fn sheet_line(reader: u8, sheet: &Sheet) -> Line
 
 fn word_of_majority(majority: Majority) -> &'static str
     ensures word { result.now ≡ word_of_majority majority }
-    ensures short { length result.now ≤ 4 }
+    ensures short { length result.now ≤ 6 }
 {
     match majority {
         Majority::Half => "half",
         Majority::Seventy => "70",
         Majority::EightyFive => "85",
+        Majority::Quorum => "quorum",
     }
 }
 

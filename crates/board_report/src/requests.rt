@@ -62,6 +62,8 @@ fn majority_in(field: &[u8]) -> Option<Majority>
         Some(Majority::Seventy)
     } else if is_word(field, "85") {
         Some(Majority::EightyFive)
+    } else if is_word(field, "quorum") {
+        Some(Majority::Quorum)
     } else {
         None
     }

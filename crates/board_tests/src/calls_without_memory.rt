@@ -4,7 +4,7 @@ use crate::refused_growths::Call;
 use crate::seen::{add_machine, add_sheet};
 use board_share::{Analyst, Reader, Writer, start};
 use council_core::{ChairId, MemberCode, Refusal, Register, Sheet, Votes};
-use majority_rule::{Majority, quota, wins};
+use majority_rule::{Majority, least_size, quota, wins};
 use power_index::Evaluator;
 use std::alloc::Global;
 use std::sync::Wait;
@@ -29,7 +29,7 @@ fn seated(alloc: Global) -> Option<Register> {
 pub(crate) struct Valuing;
 
 // What the readers of a sheet answer.
-fn looked_up(sheet: &Sheet, chair: ChairId) -> [u64; 8] {
+fn looked_up(sheet: &Sheet, chair: ChairId) -> [u64; 9] {
     let weight = sheet.weight(chair).unwrap_or_default();
     let low = if weight <= 1_000_000 { weight } else { 0 };
     [
@@ -40,7 +40,8 @@ fn looked_up(sheet: &Sheet, chair: ChairId) -> [u64; 8] {
         u64::from(sheet.chairs()),
         quota(Majority::Half, sheet),
         quota(Majority::EightyFive, sheet),
-        u64::from(wins(Majority::Seventy, sheet, low)),
+        u64::from(least_size(Majority::Quorum, sheet)),
+        u64::from(wins(Majority::Seventy, sheet, low, 1)),
     ]
 }
 
@@ -61,28 +62,28 @@ fn are_checked() -> bool {
     letters == *b"AAA" && votes == 7 && name == "OutOfMemory" && Votes::new(u64::MAX).is_err()
 }
 
-fn looked_up_in(words: &[u64; 34]) -> Option<[u64; 8]> {
+fn looked_up_in(words: &[u64; 34]) -> Option<[u64; 9]> {
     let sheet = Sheet::from_words(words).ok()?;
     let chair = ChairId::new(1).ok()?;
     Some(looked_up(&sheet, chair))
 }
 
 impl Call for Valuing {
-    type State = ([u64; 34], [u64; 8]);
+    type State = ([u64; 34], [u64; 9]);
 
-    fn prepare(&self, _alloc: Global) -> Option<([u64; 34], [u64; 8])> {
+    fn prepare(&self, _alloc: Global) -> Option<([u64; 34], [u64; 9])> {
         let mut words = [0; 34];
         words[0] = 11;
         words[32] = 30;
         words[33] = 2;
-        Some((words, [0; 8]))
+        Some((words, [0; 9]))
     }
 
     fn call<R: Threads + Wait + Sync>(
         &self,
         _rt: &R,
         _alloc: Global,
-        state: &mut ([u64; 34], [u64; 8]),
+        state: &mut ([u64; 34], [u64; 9]),
     ) -> u8 {
         let Some(seen) = looked_up_in(&state.0) else {
             return NONE;
@@ -95,7 +96,7 @@ impl Call for Valuing {
         }
     }
 
-    fn shown(&self, alloc: Global, state: &([u64; 34], [u64; 8])) -> Option<Vec<u64>> {
+    fn shown(&self, alloc: Global, state: &([u64; 34], [u64; 9])) -> Option<Vec<u64>> {
         numbers(alloc, &state.1)
     }
 }

@@ -1,31 +1,54 @@
 //! Counting by a plain recursion over all coalitions: slow, and easy to read.
 
-// The winning coalitions among the chairs of some words, joined by others of a weight. A word is 0
-// for a closed chair, else the chair's weight plus 1.
-pub(crate) fn winning(words: &[u64], weight: u64, quota: u64) -> u64 {
+// A coalition's weight and its chairs, or what a coalition needs of them to win.
+#[derive(Clone, Copy)]
+pub(crate) struct Part {
+    pub(crate) weight: u64,
+    pub(crate) size: u64,
+}
+
+impl Part {
+    // No chair, and no weight.
+    pub(crate) const NONE: Part = Part { weight: 0, size: 0 };
+
+    fn joined_by(self, weight: u64) -> Part {
+        Part {
+            weight: self.weight.saturating_add(weight),
+            size: self.size.saturating_add(1),
+        }
+    }
+
+    fn reaches(self, needed: Part) -> bool {
+        self.weight >= needed.weight && self.size >= needed.size
+    }
+}
+
+// The winning coalitions among the chairs of some words, joined by others. A word is 0 for a closed
+// chair, else the chair's weight plus 1.
+pub(crate) fn winning(words: &[u64], others: Part, needed: Part) -> u64 {
     match words {
-        [] => u64::from(weight >= quota),
+        [] => u64::from(others.reaches(needed)),
         [word, rest @ ..] => {
-            let without = winning(rest, weight, quota);
+            let without = winning(rest, others, needed);
             if *word == 0 {
                 return without;
             }
-            without.wrapping_add(winning(rest, weight.saturating_add(*word - 1), quota))
+            without.wrapping_add(winning(rest, others.joined_by(*word - 1), needed))
         }
     }
 }
 
-// The sets of these chairs, joined by others of a weight, that lose and that win once a chair of
-// its own weight is added.
-pub(crate) fn swings(others: &[u64], weight: u64, own: u64, quota: u64) -> u64 {
-    match others {
-        [] => u64::from(weight < quota && weight.saturating_add(own) >= quota),
+// The sets of these chairs, joined by others, that lose and that win once a chair of its own weight
+// is added.
+pub(crate) fn swings(words: &[u64], others: Part, own: u64, needed: Part) -> u64 {
+    match words {
+        [] => u64::from(!others.reaches(needed) && others.joined_by(own).reaches(needed)),
         [word, rest @ ..] => {
-            let without = swings(rest, weight, own, quota);
+            let without = swings(rest, others, own, needed);
             if *word == 0 {
                 return without;
             }
-            without.wrapping_add(swings(rest, weight.saturating_add(*word - 1), own, quota))
+            without.wrapping_add(swings(rest, others.joined_by(*word - 1), own, needed))
         }
     }
 }

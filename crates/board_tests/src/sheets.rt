@@ -1,5 +1,5 @@
 //! The evaluator's indices against a plain recursion.
-use crate::plain;
+use crate::plain::{self, Part};
 use council_core::{Refusal, Sheet};
 use majority_rule::Majority;
 use power_index::{Evaluator, Fraction, Indices};
@@ -53,21 +53,29 @@ fn chair_words(sheet: &Sheet) -> [u64; 32] {
 }
 
 // The swings of the chair at a place.
-fn swings_at(chairs: &[u64; 32], place: usize, quota: u64) -> u64 {
+fn swings_at(chairs: &[u64; 32], place: usize, needed: Part) -> u64 {
     let mut others = *chairs;
     let Some(word) = others.get_mut(place) else {
         return 0;
     };
     let own = word.saturating_sub(1);
     *word = 0;
-    plain::swings(&others, 0, own, quota)
+    plain::swings(&others, Part::NONE, own, needed)
+}
+
+// What a coalition needs to win.
+fn needed_of(indices: &Indices) -> Part {
+    Part {
+        weight: indices.quota,
+        size: u64::from(indices.least_size),
+    }
 }
 
 // Whether each row has the chair's swings, and the fractions over them.
 fn rows_agree(indices: &Indices, chairs: &[u64; 32], all: u64) -> bool {
     indices.rows.as_slice().iter().all(|row| {
         let place = row.chair.number() as usize - 1;
-        let swings = swings_at(chairs, place, indices.quota);
+        let swings = swings_at(chairs, place, needed_of(indices));
         let over = |den: u64| Fraction { num: swings, den };
         let if_any = |den: u64| if den == 0 { None } else { Some(over(den)) };
         row.swings == swings
@@ -79,11 +87,11 @@ fn rows_agree(indices: &Indices, chairs: &[u64; 32], all: u64) -> bool {
 }
 
 // The swings of all open chairs.
-fn all_swings(chairs: &[u64; 32], quota: u64) -> u64 {
+fn all_swings(chairs: &[u64; 32], needed: Part) -> u64 {
     let mut all = 0u64;
     for place in 0..32 {
         if chairs[place] > 0 {
-            all = all.wrapping_add(swings_at(chairs, place, quota));
+            all = all.wrapping_add(swings_at(chairs, place, needed));
         }
     }
     all
@@ -91,8 +99,9 @@ fn all_swings(chairs: &[u64; 32], quota: u64) -> u64 {
 
 fn agrees<R: Abort>(rt: &R, indices: &Indices, sheet: &Sheet) {
     let chairs = chair_words(sheet);
-    let all = all_swings(&chairs, indices.quota);
-    assert!(rt; indices.winning == plain::winning(&chairs, 0, indices.quota));
+    let needed = needed_of(indices);
+    let all = all_swings(&chairs, needed);
+    assert!(rt; indices.winning == plain::winning(&chairs, Part::NONE, needed));
     assert!(rt; indices.rows.len() == sheet.chairs() as usize);
     assert!(rt; rows_agree(indices, &chairs, all));
 }
@@ -103,7 +112,12 @@ fn evaluator_agrees_with_a_plain_recursion(rt: HostRuntime) -> Result<(), Fail> 
     for (weights, outside) in SHEETS {
         let sheet = sheet_of(weights, outside)?;
         evaluator.set(&sheet);
-        for majority in [Majority::Half, Majority::Seventy, Majority::EightyFive] {
+        for majority in [
+            Majority::Half,
+            Majority::Seventy,
+            Majority::EightyFive,
+            Majority::Quorum,
+        ] {
             agrees(&rt, &evaluator.evaluate(majority), &sheet);
         }
     }

@@ -1,11 +1,11 @@
 -- Which sets of chairs have a mask: each mask over the slots is that of exactly one.
-use Rattle.std.proofs.Common.{◌≡◌, ◌≢◌, ℕ, ◌^◌, ◌<◌, ◌≤◌, Bool, true, false, cond, List, [], ◌∷◌, map, arith, refl, sym, ap, ◌∙◌, eqb, inl, inr, max, zero, suc}
+use Rattle.std.proofs.Common.{◌≡◌, ◌≢◌, ℕ, ◌+◌, ◌^◌, ◌<◌, ◌≤◌, Bool, true, false, cond, List, [], ◌∷◌, length, map, arith, refl, sym, ap, ◌∙◌, eqb, inl, inr, max, zero, suc}
 use Rattle.std.specs.Prelude.{◌||◌, bit_or, bit_xor}
 use Rattle.std.specs.List.{All, AllByRecursion, IsDistinct}
 use Rattle.std.specs.Int.{bit_at}
 use Rattle.std.proofs.lemmas.Bool.{eq-eqb, ne_eqb, cases_eq}
 use Rattle.std.proofs.lemmas.Nat.Bits.{bit_at_or, bit_at_xor, bit_at-pow_same, bit_at-pow_other, bit_at-zero, bit_at-lt, same_from_bits}
-use Rattle.std.proofs.lemmas.List.Elements.{All-map, All-weaker}
+use Rattle.std.proofs.lemmas.List.Elements.{All-map, All-weaker, All-cons, All-nil, All-append}
 use Rattle.std.proofs.lemmas.List.Sorted.{sum_by-IsPermutation, All-permutation}
 use Rattle.std.proofs.lemmas.Map.Keys.{IsDistinct-head, IsDistinct-tail}
 use Rattle.council_core.specs.Sheets.{Chair}
@@ -13,7 +13,9 @@ use Rattle.council_core.specs.Coalitions.{subsets, has_chair}
 use Rattle.half_sums.specs.declared.entry.Entry.{Entry}
 use Rattle.half_sums.specs.Masks.{mask_of, IsOver}
 use Rattle.half_sums.specs.Entries.{entry_of, AreSubsets}
+use Rattle.half_sums.specs.Groups.{size_of}
 use Rattle.half_sums.specs.Laws.{times, MaskLaw}
+use Rattle.half_sums.proofs.GroupFacts.{no_ones, size_more}
 use Rattle.half_sums.proofs.SetSums.{sum_by-map, sum_agree, sum_agree_on, sum_zero, over, over-cons, subsets_avoid}
 
 top_bit : (m p : ℕ) → m < 2 → p ≡ 1 → eqb (max m p) 1 ≡ true
@@ -171,6 +173,16 @@ over_part slot chairs =
 
 pub sets_over : (chairs : List Chair) → All (λ s. IsOver chairs (mask_of s)) (subsets chairs)
 sets_over chairs k d h slot one = over_part slot chairs k d h (sym (mask_has slot _) ∙ eq-eqb _ 1 one)
+
+-- a set has as many chairs as its mask has bits
+pub sets_sized : (chairs : List Chair) → IsDistinct eqb (map (λ c. c.0) chairs) → All (λ s. size_of (entry_of s) ≡ length s) (subsets chairs)
+sets_sized [] distinct = All-cons (λ (s : List Chair). size_of (entry_of s) ≡ length s) [] [] no_ones (All-nil (λ (s : List Chair). size_of (entry_of s) ≡ length s))
+sets_sized (chair ∷ chairs) distinct =
+    let P : List Chair → Type 0 = λ s. size_of (entry_of s) ≡ length s in
+    let rest : All P (subsets chairs) = sets_sized chairs (IsDistinct-tail eqb chair.0 (map (λ c. c.0) chairs) distinct) in
+    let free : All (λ s. has_chair chair.0 s ≡ false) (subsets chairs) = subsets_avoid (λ (c : Chair). eqb c.0 chair.0) chairs (first_apart chair chairs distinct) in
+    All-append P (subsets chairs) _ rest
+    (All-map P (λ s. chair ∷ s) (subsets chairs) (λ k d h. size_more chair.0 _ (lacks_slot chair.0 _ (free k d h)) ∙ ap (λ n. n + 1) (rest k d h) ∙ omega arith))
 
 pub mask_law : MaskLaw
 mask_law chairs entries distinct are =

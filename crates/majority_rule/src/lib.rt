@@ -1,8 +1,8 @@
-//! Which weights win, by the majorities of the Articles of Agreement.
+//! Which coalitions win, by the majorities of the Articles of Agreement.
 #![tactic(auto)]
 
 mod majorities;
 mod quotas;
 
 pub use majorities::Majority;
-pub use quotas::{monotone_law, quota, wins};
+pub use quotas::{least_size, monotone_law, quota, quota_law, wins};

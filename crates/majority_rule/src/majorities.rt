@@ -1,6 +1,6 @@
 //! The kinds of majority.
 
-/// A kind of majority, and the weights that it lets win. A weight is in votes.
+/// A kind of majority: which coalitions win by their weight, in votes, and their size, in chairs.
 #[derive(Clone, Copy, Debug, PartialEq, Eq)]
 pub enum Majority {
     /// More than half of the votes cast, all open chairs voting (Articles of Agreement, Article
@@ -10,4 +10,7 @@ pub enum Majority {
     Seventy,
     /// At least 85 per cent of the total voting power (Article III, Section 2(c)).
     EightyFive,
+    /// The quorum: more than half of the open chairs, having at least half of the total voting power (Article XII,
+    /// Section 3(h)).
+    Quorum,
 }

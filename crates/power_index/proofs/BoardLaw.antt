@@ -2,13 +2,13 @@
 use Rattle.std.proofs.Common.{◌≡◌, ℕ, ◌+◌, ◌-◌, ◌<◌, Bool, false, cond, List, [], ◌∷◌, ◌++◌, map, length, take, drop, get_or, arith, refl, sym, ap, ◌∙◌, eqb, leb, inl, inr, subst, ◌≢◌}
 use Rattle.std.specs.Prelude.{◌&&◌, ◌||◌, not}
 use Rattle.std.proofs.lemmas.Bool.{eq-eqb, ne_eqb, cases_eq}
-use Rattle.std.proofs.lemmas.List.{take-append-drop, take-take, drop-take, length-take, drop_more, get_or-take}
+use Rattle.std.proofs.lemmas.List.{length-map, take-append-drop, take-take, drop-take, length-take, drop_more, get_or-take}
 use Rattle.std.proofs.lemmas.List.Folds.{list_any-append}
 use Rattle.council_core.specs.Sheets.{Chair, open_from, open_chairs, weight_of}
 use Rattle.council_core.specs.Coalitions.{has_chair, omega_of, eta_of, reaching, subsets}
 use Rattle.council_core.proofs.OpenChairs.{chair_of, open_from-append, open_from-cons, open_from-up, up, absent_above, absent_below, chair_of-open, chair_of-shut}
 use Rattle.half_sums.specs.declared.entry.Entry.{Entry}
-use Rattle.swing_walk.specs.Pairs.{winning_pairs, winning_with, swings_of}
+use Rattle.swing_walk.specs.Pairs.{large_pairs, large_with, swings_of}
 use Rattle.swing_walk.specs.Laws as laws
 use Rattle.swing_walk.specs.Laws.{board_of, AreHalf}
 use Rattle.swing_walk.proofs.BoardSets as sets
@@ -57,19 +57,26 @@ has_up : (k n : ℕ) (s : List Chair) → has_chair (n + k) (map (up k) s) ≡ h
 has_up k n [] = refl
 has_up k n (c ∷ s) = let here : eqb (c.0 + k) (n + k) ≡ eqb c.0 n = same_number k c.0 n in cc (here, has_up k n s)
 
-omega_up : (quota k : ℕ) (chairs : List Chair) → omega_of (reaching quota) (map (up k) chairs) ≡ omega_of (reaching quota) chairs
-omega_up quota k chairs =
-    over-map (λ s. cond (reaching quota s) 1 0) (up k) chairs
-    ∙ sum_agree _ _ (subsets chairs) (λ s. ap (λ n. cond (leb quota n) 1 0) (weight_up k s))
+length_up : (k : ℕ) (s : List Chair) → length (map (up k) s) ≡ length s
+length_up k s = length-map s (up k)
 
-eta_up : (quota k n w : ℕ) (chairs : List Chair) → eta_of (reaching quota) (n + k, w) (map (up k) chairs) ≡ eta_of (reaching quota) (n, w) chairs
-eta_up quota k n w chairs =
-    over-map (λ s. cond (not (has_chair (n + k) s) && (not (reaching quota s) && reaching quota ((n + k, w) ∷ s))) 1 0) (up k) chairs
+-- a set and the same with other numbers win alike
+reaching_up : (quota least_size k : ℕ) (s : List Chair) → reaching quota least_size (map (up k) s) ≡ reaching quota least_size s
+reaching_up quota least_size k s = ap (λ n. leb quota n && leb least_size (length (map (up k) s))) (weight_up k s) ∙ ap (λ n. leb quota (weight_of s) && leb least_size n) (length_up k s)
+
+omega_up : (quota least_size k : ℕ) (chairs : List Chair) → omega_of (reaching quota least_size) (map (up k) chairs) ≡ omega_of (reaching quota least_size) chairs
+omega_up quota least_size k chairs =
+    over-map (λ s. cond (reaching quota least_size s) 1 0) (up k) chairs
+    ∙ sum_agree _ _ (subsets chairs) (λ s. ap (λ b. cond b 1 0) (reaching_up quota least_size k s))
+
+eta_up : (quota least_size k n w : ℕ) (chairs : List Chair) → eta_of (reaching quota least_size) (n + k, w) (map (up k) chairs) ≡ eta_of (reaching quota least_size) (n, w) chairs
+eta_up quota least_size k n w chairs =
+    over-map (λ s. cond (not (has_chair (n + k) s) && (not (reaching quota least_size s) && reaching quota least_size ((n + k, w) ∷ s))) 1 0) (up k) chairs
     ∙ sum_agree _ _ (subsets chairs) (λ s.
-    (let g : Bool → ℕ → ℕ → ℕ = λ b m o. cond (not b && (not (leb quota m) && leb quota o)) 1 0 in
-    ap (λ b. g b (weight_of (map (up k) s)) (weight_of (map (up k) ((n, w) ∷ s)))) (has_up k n s)
-    ∙ ap (λ m. g (has_chair n s) m (weight_of (map (up k) ((n, w) ∷ s)))) (weight_up k s)
-    ∙ ap (g (has_chair n s) (weight_of s)) (weight_up k ((n, w) ∷ s))))
+    (let g : Bool → Bool → Bool → ℕ = λ b m o. cond (not b && (not m && o)) 1 0 in
+    ap (λ b. g b (reaching quota least_size (map (up k) s)) (reaching quota least_size (map (up k) ((n, w) ∷ s)))) (has_up k n s)
+    ∙ ap (λ m. g (has_chair n s) m (reaching quota least_size (map (up k) ((n, w) ∷ s)))) (reaching_up quota least_size k s)
+    ∙ ap (g (has_chair n s) (reaching quota least_size s)) (reaching_up quota least_size k ((n, w) ∷ s))))
 
 -- the chair of a word in the middle, if it is open
 split_at : (c : ℕ) (words : List ℕ) (i : ℕ) → i < length words →
@@ -106,13 +113,13 @@ are_half from words = record {
 }
 
 -- what the law of two halves says, of the halves of a sheet
-abbrev Meet : ℕ → List ℕ → List Entry → List Entry → Type 0
-Meet quota words from to = laws.CountsMeet quota (half_chairs 0 words) (half_chairs 16 words) from to
+abbrev Meet : ℕ → ℕ → List ℕ → List Entry → List Entry → Type 0
+Meet quota least_size words from to = laws.CountsMeet quota least_size (half_chairs 0 words) (half_chairs 16 words) from to
 
 -- the swings that the counts give at a place are those of its chair
-open_place : (quota : ℕ) (words : List ℕ) (from to : List Entry) (place : ℕ) → length words ≡ 34 → place < 32 → get_or words place 0 ≢ 0 → Meet quota words from to →
-    swings_of (winning_pairs quota from to) (winning_with quota place from to) ≡ eta_of (reaching quota) (place + 1, get_or words place 0 - 1) (open_chairs words)
-open_place quota words from to place long within some law =
+open_place : (quota least_size : ℕ) (words : List ℕ) (from to : List Entry) (place : ℕ) → length words ≡ 34 → place < 32 → get_or words place 0 ≢ 0 → Meet quota least_size words from to →
+    swings_of (large_pairs quota least_size from to) (large_with quota least_size place from to) ≡ eta_of (reaching quota least_size) (place + 1, get_or words place 0 - 1) (open_chairs words)
+open_place quota least_size words from to place long within some law =
     let all : List ℕ = take 32 words in
     let w : ℕ = get_or words place 0 in
     let size : length all ≡ 32 = omega (arith, length-take 32 words) in
@@ -120,18 +127,18 @@ open_place quota words from to place long within some law =
     let split = split_open 0 all place (omega arith) (λ e. some (sym same ∙ e)) in
     let number : 0 + place ≡ place = omega arith in
     let given = law.swings (open_from 0 (take place all)) (open_from (0 + place + 1) (drop (place + 1) all)) (0 + place, get_or all place 0 - 1) (board_is words long ∙ split) in
-    ap (λ n. swings_of (winning_pairs quota from to) (winning_with quota n from to)) (sym number)
+    ap (λ n. swings_of (large_pairs quota least_size from to) (large_with quota least_size n from to)) (sym number)
     ∙ given
-    ∙ ap (eta_of (reaching quota) (0 + place, get_or all place 0 - 1)) (board_is words long)
-    ∙ ap (λ n. eta_of (reaching quota) (n, get_or all place 0 - 1) (from_zero words)) number
-    ∙ ap (λ v. eta_of (reaching quota) (place, v - 1) (from_zero words)) same
-    ∙ sym (eta_up quota 1 place (w - 1) (from_zero words))
-    ∙ sym (ap (eta_of (reaching quota) (place + 1, w - 1)) (open_is words))
+    ∙ ap (eta_of (reaching quota least_size) (0 + place, get_or all place 0 - 1)) (board_is words long)
+    ∙ ap (λ n. eta_of (reaching quota least_size) (n, get_or all place 0 - 1) (from_zero words)) number
+    ∙ ap (λ v. eta_of (reaching quota least_size) (place, v - 1) (from_zero words)) same
+    ∙ sym (eta_up quota least_size 1 place (w - 1) (from_zero words))
+    ∙ sym (ap (eta_of (reaching quota least_size) (place + 1, w - 1)) (open_is words))
 
 -- a closed place has none
-shut_place : (quota : ℕ) (words : List ℕ) (from to : List Entry) (place : ℕ) → length words ≡ 34 → place < 32 → get_or words place 0 ≡ 0 → Meet quota words from to →
-    swings_of (winning_pairs quota from to) (winning_with quota place from to) ≡ 0
-shut_place quota words from to place long within shut law =
+shut_place : (quota least_size : ℕ) (words : List ℕ) (from to : List Entry) (place : ℕ) → length words ≡ 34 → place < 32 → get_or words place 0 ≡ 0 → Meet quota least_size words from to →
+    swings_of (large_pairs quota least_size from to) (large_with quota least_size place from to) ≡ 0
+shut_place quota least_size words from to place long within shut law =
     let all : List ℕ = take 32 words in
     let size : length all ≡ 32 = omega (arith, length-take 32 words) in
     let same : get_or all place 0 ≡ get_or words place 0 = get_or-take 32 words place 0 within in
@@ -139,29 +146,29 @@ shut_place quota words from to place long within shut law =
     let absent : has_chair (0 + place) (from_zero words) ≡ false = ap (has_chair (0 + place)) (split_shut 0 all place (omega arith) (same ∙ shut)) ∙ absent_around 0 all place in
     law.vacant place (ap (has_chair place) (board_is words long) ∙ subst (λ n. has_chair n (from_zero words) ≡ false) number absent)
 
-swings_place : (quota : ℕ) (words : List ℕ) (from to : List Entry) (place : ℕ) → length words ≡ 34 → place < 32 → Meet quota words from to →
-    swings_of (winning_pairs quota from to) (winning_with quota place from to) ≡ eta_at (reaching quota) words place
-swings_place quota words from to place long within law =
-    let eta : ℕ = eta_of (reaching quota) (place + 1, get_or words place 0 - 1) (open_chairs words) in
-    elim (cases_eq (get_or words place 0) 0) as (λ _. swings_of (winning_pairs quota from to) (winning_with quota place from to) ≡ eta_at (reaching quota) words place) [
-      | inl shut ↦ shut_place quota words from to place long within shut law ∙ sym (ap (λ b. cond b 0 eta) (eq-eqb (get_or words place 0) 0 shut))
-      | inr some ↦ open_place quota words from to place long within some law ∙ sym (ap (λ b. cond b 0 eta) (ne_eqb (get_or words place 0) 0 some))
+swings_place : (quota least_size : ℕ) (words : List ℕ) (from to : List Entry) (place : ℕ) → length words ≡ 34 → place < 32 → Meet quota least_size words from to →
+    swings_of (large_pairs quota least_size from to) (large_with quota least_size place from to) ≡ eta_at (reaching quota least_size) words place
+swings_place quota least_size words from to place long within law =
+    let eta : ℕ = eta_of (reaching quota least_size) (place + 1, get_or words place 0 - 1) (open_chairs words) in
+    elim (cases_eq (get_or words place 0) 0) as (λ _. swings_of (large_pairs quota least_size from to) (large_with quota least_size place from to) ≡ eta_at (reaching quota least_size) words place) [
+      | inl shut ↦ shut_place quota least_size words from to place long within shut law ∙ sym (ap (λ b. cond b 0 eta) (eq-eqb (get_or words place 0) 0 shut))
+      | inr some ↦ open_place quota least_size words from to place long within some law ∙ sym (ap (λ b. cond b 0 eta) (ne_eqb (get_or words place 0) 0 some))
     ]
 
-omega_law : (quota : ℕ) (words : List ℕ) (from to : List Entry) → AreHalves words from to → winning_pairs quota from to ≡ omega_of (reaching quota) (open_chairs words)
-omega_law quota words from to halves =
-    (pair_law quota (half_chairs 0 words) (half_chairs 16 words) from to (half_slots 0 words) halves.left_half halves.right_half).winning
-    ∙ ap (omega_of (reaching quota)) (board_is words halves.long)
-    ∙ sym (omega_up quota 1 (from_zero words))
-    ∙ sym (ap (omega_of (reaching quota)) (open_is words))
+omega_law : (quota least_size : ℕ) (words : List ℕ) (from to : List Entry) → AreHalves words from to → large_pairs quota least_size from to ≡ omega_of (reaching quota least_size) (open_chairs words)
+omega_law quota least_size words from to halves =
+    (pair_law quota least_size (half_chairs 0 words) (half_chairs 16 words) from to (are_half 0 words) (are_half 16 words) halves.left_half halves.right_half).winning
+    ∙ ap (omega_of (reaching quota least_size)) (board_is words halves.long)
+    ∙ sym (omega_up quota least_size 1 (from_zero words))
+    ∙ sym (ap (omega_of (reaching quota least_size)) (open_is words))
 
 pub halves_law : HalvesLaw
-halves_law quota words from to halves =
-    let law : Meet quota words from to = sets.halves_law quota (half_chairs 0 words) (half_chairs 16 words) from to (are_half 0 words) (are_half 16 words) halves.left_half halves.right_half in
+halves_law quota least_size words from to halves =
+    let law : Meet quota least_size words from to = sets.halves_law quota least_size (half_chairs 0 words) (half_chairs 16 words) from to (are_half 0 words) (are_half 16 words) halves.left_half halves.right_half in
     record {
-      omega = omega_law quota words from to halves;
+      omega = omega_law quota least_size words from to halves;
       few = law.few;
       within = λ place h. law.within place;
       half = λ place h. law.half place;
-      swings = λ place h. swings_place quota words from to place halves.long h law;
+      swings = λ place h. swings_place quota least_size words from to place halves.long h law;
     }

@@ -1,7 +1,7 @@
 -- How large the counts of a board can be, and that a quota and its majority win alike.
-use Rattle.std.proofs.Common.{◌≡◌, ℕ, ◌+◌, ◌-◌, ◌^◌, ◌≤◌, Bool, true, false, cond, List, ◌∷◌, length, take, get_or, arith, refl, sym, ap, ◌∙◌, eqb, leb, inl, inr}
+use Rattle.std.proofs.Common.{◌≡◌, ℕ, ◌+◌, ◌-◌, ◌^◌, ◌≤◌, Bool, true, false, cond, List, ◌∷◌, length, take, get_or, arith, refl, sym, ap, ◌∙◌, eqb, leb}
 use Rattle.std.specs.Prelude.{◌&&◌, not, IsTrue, ◌↔◌}
-use Rattle.std.proofs.lemmas.Bool.{cases_Bool, leb-true, leb-false}
+use Rattle.std.proofs.lemmas.Bool.{leb-true, le-leb}
 use Rattle.std.proofs.lemmas.List.{length-take}
 use Rattle.std.proofs.lemmas.List.Sums.{count_by-le-length}
 use Rattle.council_core.specs.Sheets.{Chair, open_chairs, weight_of}
@@ -10,7 +10,7 @@ use Rattle.council_core.proofs.OpenChairs.{length-open}
 use Rattle.council_core.proofs.CoalitionLemmas.{length-subsets}
 use Rattle.majority_rule.specs.declared.majorities.Majority.{Majority}
 use Rattle.majority_rule.specs.Winning.{wins, rule_of}
-use Rattle.swing_walk.proofs.Coalitions.{sum_agree}
+use Rattle.swing_walk.proofs.Coalitions.{sum_agree, both_true}
 use Rattle.power_index.specs.Counts.{eta_at}
 
 pub omega_bound : (wins : Rule) (chairs : List Chair) → omega_of wins chairs ≤ 2 ^ length chairs
@@ -22,19 +22,28 @@ eta_bound wins chair chairs = omega (arith, count_by-le-length (λ s. not (has_c
 pub few_chairs : (words : List ℕ) → length (open_chairs words) ≤ 32
 few_chairs words = omega (arith, length-open 1 (take 32 words), length-take 32 words)
 
--- a quota that the winning weights reach
-abbrev pub IsQuota : ℕ → Majority → List ℕ → Type 0
-IsQuota quota majority words = (w : ℕ) → (quota ≤ w) ↔ IsTrue (wins majority words w)
+-- a quota and a least size that the winning weights and sizes reach
+abbrev pub IsQuota : ℕ → ℕ → Majority → List ℕ → Type 0
+IsQuota quota least_size majority words = (w k : ℕ) → ((quota ≤ w) × (least_size ≤ k)) ↔ IsTrue (wins majority words w k)
 
-pub same_win : (quota w : ℕ) (majority : Majority) (words : List ℕ) → IsQuota quota majority words → leb quota w ≡ wins majority words w
-same_win quota w majority words is = elim (cases_Bool (leb quota w)) as (λ _. leb quota w ≡ wins majority words w) [
-  | inl reached ↦ reached ∙ sym ((is w).0 (leb-true quota w reached))
-  | inr short ↦ short ∙ sym (not_won (wins majority words w) (λ won. absurd (omega (arith, (is w).1 won, leb-false quota w short))))
-]
+pub same_win : (quota least_size w k : ℕ) (majority : Majority) (words : List ℕ) → IsQuota quota least_size majority words → (leb quota w && leb least_size k) ≡ wins majority words w k
+same_win quota least_size w k majority words is =
+    alike (leb quota w && leb least_size k) (wins majority words w k)
+    (λ reached. (is w k).0 (leb-true quota w (both_true (leb quota w) (leb least_size k) reached).0, leb-true least_size k (both_true (leb quota w) (leb least_size k) reached).1))
+    (λ won. ap (λ b. b && leb least_size k) (le-leb quota w ((is w k).1 won).0) ∙ le-leb least_size k ((is w k).1 won).1)
   where
-    not_won : (b : Bool) → (b ≡ true → ⊥) → b ≡ false
-    not_won false h = refl
-    not_won true h = absurd (h refl)
+    alike : (a b : Bool) → (a ≡ true → b ≡ true) → (b ≡ true → a ≡ true) → a ≡ b
+    alike true b to from = sym (to refl)
+    alike false true to from = from refl
+    alike false false to from = refl
+
+both_hold : (a b : Bool) → a ≡ true → b ≡ true → (a && b) ≡ true
+both_hold true b p q = q
+both_hold false b p q = p
+
+-- weight enough and chairs enough
+pub both_win : {A B : Type 0} (a b : Bool) → A ↔ IsTrue a → B ↔ IsTrue b → (A × B) ↔ IsTrue (a && b)
+both_win a b f g = (λ h. both_hold a b (f.0 h.0) (g.0 h.1), λ h. (f.1 (both_true a b h).0, g.1 (both_true a b h).1))
 
 -- rules that agree on each set count alike
 pub omega_agree : (p q : Rule) (chairs : List Chair) → ((s : List Chair) → p s ≡ q s) → omega_of p chairs ≡ omega_of q chairs
@@ -46,10 +55,10 @@ eta_agree p q chair chairs same =
     (λ s. (let f : Bool → Bool → ℕ = λ a b. cond (not (has_chair chair.0 s) && (not a && b)) 1 0 in
     ap (λ a. f a (p (chair ∷ s))) (same s) ∙ ap (f (q s)) (same (chair ∷ s))))
 
-pub omega_by_majority : (quota : ℕ) (majority : Majority) (words : List ℕ) → IsQuota quota majority words → omega_of (reaching quota) (open_chairs words) ≡ omega_of (rule_of majority words) (open_chairs words)
-omega_by_majority quota majority words is = omega_agree (reaching quota) (rule_of majority words) (open_chairs words) (λ s. same_win quota (weight_of s) majority words is)
+pub omega_by_majority : (quota least_size : ℕ) (majority : Majority) (words : List ℕ) → IsQuota quota least_size majority words → omega_of (reaching quota least_size) (open_chairs words) ≡ omega_of (rule_of majority words) (open_chairs words)
+omega_by_majority quota least_size majority words is = omega_agree (reaching quota least_size) (rule_of majority words) (open_chairs words) (λ s. same_win quota least_size (weight_of s) (length s) majority words is)
 
-pub eta_by_majority : (quota : ℕ) (majority : Majority) (words : List ℕ) (place : ℕ) → IsQuota quota majority words → eta_at (reaching quota) words place ≡ eta_at (rule_of majority words) words place
-eta_by_majority quota majority words place is =
+pub eta_by_majority : (quota least_size : ℕ) (majority : Majority) (words : List ℕ) (place : ℕ) → IsQuota quota least_size majority words → eta_at (reaching quota least_size) words place ≡ eta_at (rule_of majority words) words place
+eta_by_majority quota least_size majority words place is =
     ap (λ n. cond (eqb (get_or words place 0) 0) 0 n)
-    (eta_agree (reaching quota) (rule_of majority words) (place + 1, get_or words place 0 - 1) (open_chairs words) (λ s. same_win quota (weight_of s) majority words is))
+    (eta_agree (reaching quota least_size) (rule_of majority words) (place + 1, get_or words place 0 - 1) (open_chairs words) (λ s. same_win quota least_size (weight_of s) (length s) majority words is))

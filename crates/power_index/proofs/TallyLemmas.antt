@@ -4,7 +4,7 @@ use Rattle.council_core.specs.Sheets.{open_chairs}
 use Rattle.council_core.specs.Coalitions.{eta_of}
 use Rattle.half_sums.specs.declared.entry.Entry.{Entry}
 use Rattle.majority_rule.specs.Winning.{rule_of}
-use Rattle.swing_walk.specs.Pairs.{winning_pairs, winning_with, swings_of}
+use Rattle.swing_walk.specs.Pairs.{large_pairs, large_with, swings_of}
 use Rattle.power_index.specs.Halves.{AreHalves}
 use Rattle.power_index.specs.Counts.{AreCounts}
 use Rattle.power_index.specs.Indices.{power_of}
@@ -29,14 +29,14 @@ pub power_agree : (n n' o o' s s' e e' k k' w : ℕ) → n ≡ n' → o ≡ o' �
 power_agree n n' o o' s s' e e' k k' w hn ho hs he hk =
     ap (λ x. power_of x o s e (k, w)) hn ∙ ap (λ x. power_of n' x s e (k, w)) ho ∙ ap (λ x. power_of n' o' x e (k, w)) hs ∙ ap (λ x. power_of n' o' s' x (k, w)) he ∙ ap (λ x. power_of n' o' s' e' (x, w)) hk
 
-pub are_counts : (quota : ℕ) (words : List ℕ) (from to : List Entry) (winning : ℕ) (with_chair : ℕ → ℕ) → AreHalves words from to →
-    winning ≡ winning_pairs quota from to → ((place : ℕ) → place < 32 → with_chair place ≡ winning_with quota place from to) → AreCounts quota words winning with_chair
-are_counts quota words from to winning with_chair halves w each =
-    let law : AreCounts quota words (winning_pairs quota from to) (λ place. winning_with quota place from to) = halves_law quota words from to halves in
+pub are_counts : (quota least_size : ℕ) (words : List ℕ) (from to : List Entry) (winning : ℕ) (with_chair : ℕ → ℕ) → AreHalves words from to →
+    winning ≡ large_pairs quota least_size from to → ((place : ℕ) → place < 32 → with_chair place ≡ large_with quota least_size place from to) → AreCounts quota least_size words winning with_chair
+are_counts quota least_size words from to winning with_chair halves w each =
+    let law : AreCounts quota least_size words (large_pairs quota least_size from to) (λ place. large_with quota least_size place from to) = halves_law quota least_size words from to halves in
     record {
       omega = w ∙ law.omega;
       few = omega (arith, law.few);
       within = λ place h. omega (arith, each place h, law.within place h);
       half = λ place h some. omega (arith, each place h, law.half place h (omega (arith, each place h)));
-      swings = λ place h. ap (λ n. swings_of n (with_chair place)) w ∙ ap (swings_of (winning_pairs quota from to)) (each place h) ∙ law.swings place h;
+      swings = λ place h. ap (λ n. swings_of n (with_chair place)) w ∙ ap (swings_of (large_pairs quota least_size from to)) (each place h) ∙ law.swings place h;
     }

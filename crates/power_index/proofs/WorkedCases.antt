@@ -1,6 +1,6 @@
 -- Whole indices of worked cases, computed by their definition from the 34 words of a sheet.
 use Rattle.std.proofs.Common.{◌≡◌, ℕ, List, [], ◌∷◌, ◌++◌, Some, None, refl, replicate}
-use Rattle.majority_rule.specs.declared.majorities.Majority.TheVariants.{Half, Seventy, EightyFive}
+use Rattle.majority_rule.specs.declared.majorities.Majority.TheVariants.{Half, Seventy, EightyFive, Quorum}
 use Rattle.power_index.specs.declared.indices.ChairPower.{ChairPower}
 use Rattle.power_index.specs.Indices.{ratio, indices_of}
 
@@ -28,6 +28,7 @@ pub three_chairs_half : indices_of Half three_chairs
       front = 6;
       chairs = 3;
       quota = 51;
+      least_size = 0;
       cast = 100;
       total = 100;
       winning = 3;
@@ -57,6 +58,7 @@ pub three_chairs_seventy : indices_of Seventy three_chairs
       front = 6;
       chairs = 3;
       quota = 70;
+      least_size = 0;
       cast = 100;
       total = 100;
       winning = 2;
@@ -77,6 +79,7 @@ pub members_without_a_chair_half : indices_of Half members_without_a_chair
       front = 2;
       chairs = 1;
       quota = 31;
+      least_size = 0;
       cast = 60;
       total = 100;
       winning = 1;
@@ -117,6 +120,7 @@ pub members_without_a_chair_seventy : indices_of Seventy members_without_a_chair
       front = 2;
       chairs = 1;
       quota = 70;
+      least_size = 0;
       cast = 60;
       total = 100;
       winning = 0;
@@ -136,6 +140,7 @@ pub all_suspended_half : indices_of Half all_suspended
       front = 3;
       chairs = 1;
       quota = 1;
+      least_size = 0;
       cast = 0;
       total = 0;
       winning = 0;
@@ -151,6 +156,7 @@ pub all_suspended_seventy : indices_of Seventy all_suspended
       front = 3;
       chairs = 1;
       quota = 1;
+      least_size = 0;
       cast = 0;
       total = 0;
       winning = 0;
@@ -166,6 +172,7 @@ pub all_suspended_eighty_five : indices_of EightyFive all_suspended
       front = 3;
       chairs = 1;
       quota = 1;
+      least_size = 0;
       cast = 0;
       total = 0;
       winning = 0;
@@ -185,6 +192,7 @@ pub no_chair_open_eighty_five : indices_of EightyFive no_chair_open
       front = 0;
       chairs = 0;
       quota = 9;
+      least_size = 0;
       cast = 0;
       total = 10;
       winning = 0;
@@ -193,3 +201,97 @@ pub no_chair_open_eighty_five : indices_of EightyFive no_chair_open
       rows = record { items = [] };
     }
 no_chair_open_eighty_five = refl
+
+-- 6 swings in all: any two of three chairs have half of the total
+abbrev two_of_three_row : ℕ → ℕ → ChairPower
+two_of_three_row chair weight =
+    record {
+      chair = chair;
+      weight = weight;
+      swings = 2;
+      banzhaf = ratio 2 4;
+      share = Some (ratio 2 6);
+      prevent = Some (ratio 2 4);
+      initiate = ratio 2 4;
+    }
+
+pub three_chairs_quorum : indices_of Quorum three_chairs
+    ≡ record {
+      majority = Quorum;
+      front = 6;
+      chairs = 3;
+      quota = 50;
+      least_size = 2;
+      cast = 100;
+      total = 100;
+      winning = 4;
+      coalitions = 8;
+      act = ratio 4 8;
+      rows = record { items = two_of_three_row 1 50 ∷ two_of_three_row 2 49 ∷ two_of_three_row 3 1 ∷ [] };
+    }
+three_chairs_quorum = refl
+
+-- chairs 1, 2 and 3 with 90, 5 and 5 votes: chair 1 has weight enough alone, and still needs another chair
+abbrev one_large_chair : List ℕ
+one_large_chair = 91 ∷ 6 ∷ 6 ∷ replicate 29 0 ++ 100 ∷ 6 ∷ []
+
+-- 5 swings in all, 3 coalitions that win and 5 that lose
+pub one_large_chair_quorum : indices_of Quorum one_large_chair
+    ≡ record {
+      majority = Quorum;
+      front = 6;
+      chairs = 3;
+      quota = 50;
+      least_size = 2;
+      cast = 100;
+      total = 100;
+      winning = 3;
+      coalitions = 8;
+      act = ratio 3 8;
+      rows = record { items = three_chairs_row 1 90 3 ∷ three_chairs_row 2 5 1 ∷ three_chairs_row 3 5 1 ∷ [] };
+    }
+one_large_chair_quorum = refl
+
+-- one chair of no weight is a majority of the chairs, and has half of nothing
+pub all_suspended_quorum : indices_of Quorum all_suspended
+    ≡ record {
+      majority = Quorum;
+      front = 3;
+      chairs = 1;
+      quota = 0;
+      least_size = 1;
+      cast = 0;
+      total = 0;
+      winning = 1;
+      coalitions = 2;
+      act = ratio 1 2;
+      rows = record {
+        items = record {
+          chair = 1;
+          weight = 0;
+          swings = 1;
+          banzhaf = ratio 1 1;
+          share = Some (ratio 1 1);
+          prevent = Some (ratio 1 1);
+          initiate = ratio 1 1;
+        }
+            ∷ [];
+      };
+    }
+all_suspended_quorum = refl
+
+pub no_chair_open_quorum : indices_of Quorum no_chair_open
+    ≡ record {
+      majority = Quorum;
+      front = 0;
+      chairs = 0;
+      quota = 5;
+      least_size = 1;
+      cast = 0;
+      total = 10;
+      winning = 0;
+      coalitions = 1;
+      act = ratio 0 1;
+      rows = record { items = [] };
+    }
+no_chair_open_quorum = refl

@@ -5,7 +5,7 @@ use Rattle.std.specs.Prelude.{◌≡◌, ℕ, ◌-◌, ◌^◌, ◌≤◌, ◌==
 use Rattle.council_core.specs.Sheets.{Chair, open_chairs, cast_of, total_of, front_of}
 use Rattle.council_core.specs.Coalitions.{Rule, omega_of, eta_of}
 use Rattle.majority_rule.specs.declared.majorities.Majority.{Majority}
-use Rattle.majority_rule.specs.Winning.{wins, rule_of, quota_of}
+use Rattle.majority_rule.specs.Winning.{wins, rule_of, quota_of, least_size_of}
 use Rattle.power_index.specs.declared.indices.Fraction.{Fraction}
 use Rattle.power_index.specs.declared.indices.ChairPower.{ChairPower}
 use Rattle.power_index.specs.declared.indices.Indices.{Indices}
@@ -42,13 +42,13 @@ abbrev pub rows_among : Rule → List Chair → List Chair → List ChairPower
 rows_among wins board chairs =
     map (λ c. power_of (length board) (omega_of wins board) (swings_among wins board board) (eta_of wins c board) c) chairs
 
--- every field of the indices of a sheet by a majority: the quota is the least weight that wins, the power of the board to
--- act is omega over all coalitions, and the rows are those of all open chairs
+-- every field of the indices of a sheet by a majority: so much weight as the quota and so many chairs as the least size
+-- are what wins, the power of the board to act is omega over all coalitions, and the rows are those of all open chairs
 pub record AreIndices (majority : Majority) (words : List ℕ) (indices : Indices) : Type 0 where
   pub same_majority : indices.majority ≡ majority
   pub same_front : indices.front ≡ front_of words
   pub open_count : indices.chairs ≡ length (open_chairs words)
-  pub least_winning : (w : ℕ) → (indices.quota ≤ w) ↔ IsTrue (wins majority words w)
+  pub least_winning : (w k : ℕ) → ((indices.quota ≤ w) × (indices.least_size ≤ k)) ↔ IsTrue (wins majority words w k)
   pub same_cast : indices.cast ≡ cast_of words
   pub same_total : indices.total ≡ total_of words
   pub omega : indices.winning ≡ omega_of (rule_of majority words) (open_chairs words)
@@ -66,6 +66,7 @@ indices_of m words =
       front = front_of words;
       chairs = length board;
       quota = quota_of m words;
+      least_size = least_size_of m words;
       cast = cast_of words;
       total = total_of words;
       winning = omega_of rule board;

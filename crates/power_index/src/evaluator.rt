@@ -12,7 +12,7 @@ use crate::indices::{Fraction, Indices};
 use crate::rows::{Tally, coalition_count, rows};
 use council_core::{Refusal, Sheet};
 use half_sums::HalfSums;
-use majority_rule::{Majority, quota};
+use majority_rule::{Majority, least_size, quota};
 use std::alloc::Global;
 use std::marker::Model;
 use swing_walk::{Counts, count, swings};
@@ -70,14 +70,15 @@ impl Evaluator {
 
     /// The indices of the sheet held, under a majority.
     ///
-    /// The first clause says every field by its definition, the quota as the least weight that wins. The second
+    /// The first clause says every field by its definition, the quota and the least size by what wins. The second
     /// gives the same as a value that computes.
     pub fn evaluate(&self, majority: Majority) -> Indices
         ensures exact { AreIndices majority self.now result }
         ensures same { result ≡ indices_of majority self.now }
     {
         let quota = quota(majority, &self.sheet);
-        let tally = self.tally(majority, quota);
+        let least_size = least_size(majority, &self.sheet);
+        let tally = self.tally(majority, quota, least_size);
         let chairs = self.sheet.chairs();
         let words = self.sheet.words();
         let coalitions = coalition_count(chairs);
@@ -86,6 +87,7 @@ impl Evaluator {
             front: self.sheet.front(),
             chairs,
             quota,
+            least_size,
             cast: self.sheet.cast(),
             total: self.sheet.total(),
             winning: tally.winning,
@@ -98,13 +100,14 @@ impl Evaluator {
         }
     }
 
-    /// The winning coalitions of the sheet held, and the swings of each place, by the quota of a majority.
-    fn tally(&self, majority: Majority, quota: u64) -> Tally
-        requires quota { (w : ℕ) → (quota ≤ w) ↔ IsTrue (wins majority self.now w) }
+    /// The winning coalitions of the sheet held, and the swings of each place, by the quota and the least size of a
+    /// majority.
+    fn tally(&self, majority: Majority, quota: u64, least_size: u8) -> Tally
+        requires quota { (w k : ℕ) → ((quota ≤ w) × (least_size ≤ k)) ↔ IsTrue (wins majority self.now w k) }
         ensures counts { IsTally self.now result }
         ensures majority { result.majority ≡ majority }
     {
-        let counts = self.counts(quota);
+        let counts = self.counts(quota, least_size);
         Tally {
             majority,
             winning: counts.winning,
@@ -112,11 +115,11 @@ impl Evaluator {
         }
     }
 
-    /// The pairs of the two halves that reach a quota.
-    fn counts(&self, quota: u64) -> Counts
-        ensures counts { AreCounts quota self.now result.winning (λ place. slice_index result.with_chair place) }
+    /// The pairs of the two halves that reach a quota and a least size.
+    fn counts(&self, quota: u64, least_size: u8) -> Counts
+        ensures counts { AreCounts quota least_size self.now result.winning (λ place. slice_index result.with_chair place) }
     {
-        count(self.left.ascending(), self.right.ascending(), quota)
+        count(&self.left, &self.right, quota, least_size)
     }
 
     /// The sheet held: the last one that was set, or the sheet of zeros.

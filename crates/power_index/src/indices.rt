@@ -44,8 +44,10 @@ pub struct Indices {
     pub front: u32,
     /// How many chairs are open.
     pub chairs: u8,
-    /// The least weight that wins, in votes.
+    /// The least weight with which a coalition can win, in votes.
     pub quota: u64,
+    /// The least number of chairs with which a coalition can win, 0 where the majority asks for none.
+    pub least_size: u8,
     /// The votes of all open chairs.
     pub cast: u64,
     /// The total voting power, in votes.

@@ -120,5 +120,11 @@ fn thirty_two_equal_chairs(rt: HostRuntime) -> Result<(), Fail> {
     let most = evaluator.evaluate(Majority::EightyFive);
     assert_eq!(rt; (most.quota, most.winning), (28, 41449));
     assert!(rt; all_swing(&most, 31465));
+    let quorum = evaluator.evaluate(Majority::Quorum);
+    assert_eq!(rt;
+        (quorum.quota, quorum.least_size, quorum.winning),
+        (16, 17, 1846943453)
+    );
+    assert!(rt; all_swing(&quorum, 300540195));
     Ok(())
 }

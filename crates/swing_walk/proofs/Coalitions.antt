@@ -1,12 +1,12 @@
 -- Sums over all sets of chairs.
-use Rattle.std.proofs.Common.{◌≡◌, ℕ, ◌+◌, ◌-◌, ◌*◌, ◌≤◌, Bool, true, false, cond, List, [], ◌∷◌, ◌++◌, arith, refl, sym, ap, ◌∙◌, eqb, leb, zero, suc}
+use Rattle.std.proofs.Common.{◌≡◌, ℕ, ◌+◌, ◌-◌, ◌*◌, ◌≤◌, Bool, true, false, cond, List, [], ◌∷◌, ◌++◌, length, arith, refl, sym, ap, ◌∙◌, eqb, leb, zero, suc}
 use Rattle.std.specs.Prelude.{◌&&◌, ◌||◌, not}
 use Rattle.std.specs.List.{sum_by, All}
 use Rattle.std.specs.List.Sorted.{IsPermutation}
 use Rattle.std.proofs.lemmas.List.Elements.{All-weaker}
 use Rattle.std.proofs.lemmas.Bool.{eq-eqb, ne_eqb, le-leb, leb-true}
 use Rattle.std.proofs.lemmas.List.Sums.{sum_by-cons, sum_by-le-sum_by}
-use Rattle.std.proofs.lemmas.List.Sorted.{IsPermutation-cons, IsPermutation-append_left, IsPermutation-append_comm, sum_by-IsPermutation, list_any-IsPermutation}
+use Rattle.std.proofs.lemmas.List.Sorted.{IsPermutation-cons, IsPermutation-append_left, IsPermutation-append_comm, sum_by-IsPermutation, length_permutation, list_any-IsPermutation}
 use Rattle.council_core.specs.Sheets.{weight_of}
 use Rattle.council_core.specs.Coalitions.{subsets}
 use Rattle.council_core.specs.Coalitions.{has_chair, IsRule, reaching}
@@ -85,10 +85,20 @@ swing_law wins before after chair rule absent =
       all_w,
     )
 
-pub reaching_rule : (quota : ℕ) → IsRule (reaching quota)
-reaching_rule quota = record {
-  same = λ s t moves. ap (λ n. leb quota n) (sym (sum_by-IsPermutation (λ c. c.1) s t moves));
-  grows = λ chair s won. le-leb quota _ (omega (arith, leb-true quota (weight_of s) won, sum_by-cons (λ (c : ℕ × ℕ). c.1) chair s));
+pub both_true : (a b : Bool) → (a && b) ≡ true → (a ≡ true) × (b ≡ true)
+both_true true b h = (refl, h)
+both_true false b h = absurd (cc)
+
+pub reaching_rule : (quota least_size : ℕ) → IsRule (reaching quota least_size)
+reaching_rule quota least_size = record {
+  same = λ s t moves.
+      ap (λ n. leb quota n && leb least_size (length s)) (sym (sum_by-IsPermutation (λ c. c.1) s t moves))
+      ∙ ap (λ n. leb quota (weight_of t) && leb least_size n) (sym (length_permutation s t moves));
+  grows = λ chair s won.
+      (let both = both_true (leb quota (weight_of s)) (leb least_size (length s)) won in
+      let heavy : leb quota (weight_of (chair ∷ s)) ≡ true = le-leb quota _ (omega (arith, leb-true quota (weight_of s) both.0, sum_by-cons (λ (c : ℕ × ℕ). c.1) chair s)) in
+      let large : leb least_size (length (chair ∷ s)) ≡ true = le-leb least_size _ (omega (arith, leb-true least_size (length s) both.1)) in
+      ap (λ b. b && leb least_size (length (chair ∷ s))) heavy ∙ large);
 }
 
 swings_from : (winning with_chair eta : ℕ) → eta + winning ≡ 2 * with_chair → swings_of winning with_chair ≡ eta
@@ -96,7 +106,7 @@ swings_from winning zero eta h = omega arith
 swings_from winning (suc n) eta h = ap (λ b. cond b 0 (2 * suc n - winning)) (ne_eqb (suc n) 0 (λ e. absurd (omega arith))) ∙ omega arith
 
 pub count_law : CountLaw
-count_law quota before after chair absent = swings_from _ _ _ (swing_law (reaching quota) before after chair (reaching_rule quota) absent)
+count_law quota least_size before after chair absent = swings_from _ _ _ (swing_law (reaching quota least_size) before after chair (reaching_rule quota least_size) absent)
 
 part_of : (a b : Bool) → cond (a && b) 1 0 ≤ cond b 1 0
 part_of true b = omega arith
@@ -104,4 +114,4 @@ part_of false true = omega arith
 part_of false false = omega arith
 
 pub bound_law : BoundLaw
-bound_law quota place chairs = sum_by-le-sum_by (λ s. cond (has_chair place s && reaching quota s) 1 0) (λ s. cond (reaching quota s) 1 0) (subsets chairs) (λ s. part_of (has_chair place s) (reaching quota s))
+bound_law quota least_size place chairs = sum_by-le-sum_by (λ s. cond (has_chair place s && reaching quota least_size s) 1 0) (λ s. cond (reaching quota least_size s) 1 0) (subsets chairs) (λ s. part_of (has_chair place s) (reaching quota least_size s))

@@ -5,4 +5,5 @@ pub mod BoardSets
 pub mod Weights
 pub mod Steps
 pub mod Meeting
+pub mod GroupPairs
 pub mod WorkedHalves

@@ -1,8 +1,9 @@
 -- The pairs of two halves are the sets of their chairs.
-use Rattle.std.proofs.Common.{◌≡◌, ℕ, ◌+◌, ◌-◌, ◌<◌, ◌≤◌, Bool, true, false, cond, List, [], ◌∷◌, ◌++◌, map, arith, refl, sym, ap, ◌∙◌, eqb, leb, inl, inr}
+use Rattle.std.proofs.Common.{◌≡◌, ℕ, ◌+◌, ◌-◌, ◌<◌, ◌≤◌, Bool, true, false, cond, List, [], ◌∷◌, ◌++◌, map, length, arith, refl, sym, ap, ◌∙◌, eqb, leb, inl, inr}
 use Rattle.std.specs.Prelude.{◌&&◌, ◌||◌}
 use Rattle.std.specs.List.{sum_by, count_by, All}
 use Rattle.std.proofs.lemmas.Bool.{eq-eqb, ne_eqb, cases_eq, cases_lt, lt-ltb, le-ltb}
+use Rattle.std.proofs.lemmas.List.{length-append, length-map}
 use Rattle.std.proofs.lemmas.List.Sums.{sum_by-append}
 use Rattle.std.proofs.lemmas.List.Sorted.{sum_by-IsPermutation}
 use Rattle.std.proofs.lemmas.List.Folds.{list_any-append, list_any_none}
@@ -11,11 +12,12 @@ use Rattle.half_sums.specs.declared.entry.Entry.{Entry}
 use Rattle.council_core.specs.Sheets.{weight_of}
 use Rattle.council_core.specs.Coalitions.{subsets}
 use Rattle.half_sums.specs.Entries.{entry_of, AreSubsets}
-use Rattle.swing_walk.specs.Pairs.{pairs_where, reaches, has, has_place}
+use Rattle.half_sums.specs.Groups.{size_of}
+use Rattle.swing_walk.specs.Pairs.{pairs_where, reaches, has, has_place, is_large}
 use Rattle.council_core.specs.Coalitions.{has_chair, reaching}
 use Rattle.swing_walk.specs.Laws.{board_of, PairLaw}
 use Rattle.half_sums.proofs.SetSums.{sum_by-map, sum_agree, sum_agree_on, over, over-cons, subsets_avoid}
-use Rattle.half_sums.proofs.MaskLemmas.{mask_has}
+use Rattle.half_sums.proofs.MaskLemmas.{mask_has, sets_sized}
 use Rattle.swing_walk.proofs.Coalitions.{over-append}
 
 abbrev pub shifted : ℕ × ℕ → ℕ × ℕ
@@ -87,20 +89,42 @@ absent_left : (place : ℕ) (left : List (ℕ × ℕ)) → All (λ c. c.0 < 16) 
 absent_left place left slots h =
     list_any_none (λ c. eqb c.0 place) left (All-weaker (λ (c : ℕ × ℕ). c.0 < 16) (λ c. eqb c.0 place ≡ false) (λ c u. ne_eqb c.0 place (λ e. absurd (omega arith))) left slots)
 
+-- a pair of sets has as many chairs as their masks have bits
+sizes_both : (a b : List (ℕ × ℕ)) → size_of (entry_of a) ≡ length a → size_of (entry_of b) ≡ length b → length (a ++ map shifted b) ≡ size_of (entry_of a) + size_of (entry_of b)
+sizes_both a b in_a in_b = omega (arith, in_a, in_b, length-append a (map shifted b), length-map b shifted)
+
+-- a pair of sets wins where its entries do
+wins_both : (quota least_size : ℕ) (a b : List (ℕ × ℕ)) → size_of (entry_of a) ≡ length a → size_of (entry_of b) ≡ length b →
+    (reaches quota (entry_of a) (entry_of b) && is_large least_size (entry_of a) (entry_of b)) ≡ reaching quota least_size (a ++ map shifted b)
+wins_both quota least_size a b in_a in_b =
+    ap (λ n. leb quota n && is_large least_size (entry_of a) (entry_of b)) (sym (weight_both a b))
+    ∙ ap (λ n. leb quota (weight_of (a ++ map shifted b)) && leb least_size n) (sym (sizes_both a b in_a in_b))
+
+-- sums over pairs of sets that agree wherever sets are of a half
+pairs_agree : (f g : List (ℕ × ℕ) → List (ℕ × ℕ) → ℕ) (P Q : List (ℕ × ℕ) → Type 0) (left right : List (ℕ × ℕ)) → ((a b : List (ℕ × ℕ)) → P a → Q b → f a b ≡ g a b) → All P (subsets left) → All Q (subsets right) →
+    sum_by (λ a. over (f a) right) (subsets left) ≡ sum_by (λ a. over (g a) right) (subsets left)
+pairs_agree f g P Q left right same all_left all_right =
+    sum_agree_on (λ a. over (f a) right) (λ a. over (g a) right) (subsets left)
+    (All-weaker P (λ a. over (f a) right ≡ over (g a) right)
+    (λ a p. sum_agree_on (f a) (g a) (subsets right) (All-weaker Q (λ b. f a b ≡ g a b) (λ b q. same a b p q) (subsets right) all_right)) (subsets left) all_left)
+
 pub pair_law : PairLaw
-pair_law quota left right from to slots are_left are_right = record {
-  winning = pairs_over (reaches quota) left right from to are_left are_right
-      ∙ sum_agree _ _ (subsets left) (λ a. sum_agree _ _ (subsets right) (λ b. ap (λ n. cond (leb quota n) 1 0) (sym (weight_both a b))))
-      ∙ sym (board_over (λ s. cond (reaching quota s) 1 0) left right);
-  with_chair = λ place.
-      (let C : Type 0 = List (ℕ × ℕ) in
-      let f : C → C → ℕ = λ a b. cond (reaches quota (entry_of a) (entry_of b) && has_place place (entry_of a) (entry_of b)) 1 0 in
-      let g : C → ℕ = λ s. cond (has_chair place s && reaching quota s) 1 0 in
-      let low : All (λ (s : C). 16 ≤ place → has_chair place s ≡ false) (subsets left) = λ k d h t. subsets_avoid (λ (c : ℕ × ℕ). eqb c.0 place) left (absent_left place left slots t) k d h in
-      let each : All (λ (a : C). over (f a) right ≡ over (λ b. g (a ++ map shifted b)) right) (subsets left) =
-      All-weaker (λ (s : C). 16 ≤ place → has_chair place s ≡ false) (λ a. over (f a) right ≡ over (λ b. g (a ++ map shifted b)) right)
-      (λ a t. sum_agree (f a) (λ b. g (a ++ map shifted b)) (subsets right) (λ b. ap (λ u. cond u 1 0) (and_turned _ _ _ _ (ap (λ n. leb quota n) (sym (weight_both a b))) (has_both place a b t)))) (subsets left) low in
-      pairs_over (λ l r. reaches quota l r && has_place place l r) left right from to are_left are_right
-      ∙ sum_agree_on _ _ (subsets left) each
-      ∙ sym (board_over g left right));
-}
+pair_law quota least_size left right from to half_left half_right are_left are_right =
+    let C : Type 0 = List (ℕ × ℕ) in
+    let sized : C → Type 0 = λ s. size_of (entry_of s) ≡ length s in
+    let sized_right : All sized (subsets right) = sets_sized right half_right.distinct in
+    let sized_left : All sized (subsets left) = sets_sized left half_left.distinct in
+    record {
+      winning = pairs_over (λ l r. reaches quota l r && is_large least_size l r) left right from to are_left are_right
+          ∙ pairs_agree (λ a b. cond (reaches quota (entry_of a) (entry_of b) && is_large least_size (entry_of a) (entry_of b)) 1 0) (λ a b. cond (reaching quota least_size (a ++ map shifted b)) 1 0) sized sized left right
+          (λ a b in_a in_b. ap (λ t. cond t 1 0) (wins_both quota least_size a b in_a in_b)) sized_left sized_right
+          ∙ sym (board_over (λ s. cond (reaching quota least_size s) 1 0) left right);
+      with_chair = λ place.
+          (let g : C → ℕ = λ s. cond (has_chair place s && reaching quota least_size s) 1 0 in
+          let low : C → Type 0 = λ s. sized s × (16 ≤ place → has_chair place s ≡ false) in
+          let low_left : All low (subsets left) = λ k d h. (sized_left k d h, λ t. subsets_avoid (λ (c : ℕ × ℕ). eqb c.0 place) left (absent_left place left half_left.slots t) k d h) in
+          pairs_over (λ l r. (reaches quota l r && is_large least_size l r) && has_place place l r) left right from to are_left are_right
+          ∙ pairs_agree (λ a b. cond ((reaches quota (entry_of a) (entry_of b) && is_large least_size (entry_of a) (entry_of b)) && has_place place (entry_of a) (entry_of b)) 1 0) (λ a b. g (a ++ map shifted b)) low sized left right
+          (λ a b in_a in_b. ap (λ u. cond u 1 0) (and_turned _ _ _ _ (wins_both quota least_size a b in_a.0 in_b) (has_both place a b in_a.1))) low_left sized_right
+          ∙ sym (board_over g left right));
+    }

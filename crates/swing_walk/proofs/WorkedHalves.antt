@@ -1,5 +1,5 @@
 -- The halves of the worked examples.
-use Rattle.std.proofs.Common.{rules, ◌≡◌, ℕ, ◌<◌, List, [], map, sym, subst, eqb}
+use Rattle.std.proofs.Common.{rules, ℕ, ◌<◌, List, [], map, eqb}
 use Rattle.std.specs.List.{All, IsDistinct}
 use Rattle.std.proofs.lemmas.List.Elements.{All-nil}
 use Rattle.council_core.specs.Sheets.{Chair}
@@ -30,13 +30,12 @@ unfolding IsDistinct
 none_distinct = search rules
 
 -- the counts of two halves of chairs of one vote
-pub ones_meet : (quota : ℕ) (from to left right : List Entry) → from ≡ left → to ≡ right → AreSubsets ones left → AreSubsets ones right → CountsMeet quota ones ones from to
-ones_meet quota from to left right from_is to_is are_left are_right =
+pub ones_meet : (quota least_size : ℕ) (left right : List Entry) → AreSubsets ones left → AreSubsets ones right → CountsMeet quota least_size ones ones left right
+ones_meet quota least_size left right are_left are_right =
     let half : AreHalf ones = record { slots = ones_slots; distinct = ones_distinct } in
-    halves_law quota ones ones from to half half (subst (AreSubsets ones) (sym from_is) are_left) (subst (AreSubsets ones) (sym to_is) are_right)
+    halves_law quota least_size ones ones left right half half are_left are_right
 
 -- the counts of three chairs and an empty half
-pub three_meet : (quota : ℕ) (from to left right : List Entry) → from ≡ left → to ≡ right → AreSubsets three left → AreSubsets [] right → CountsMeet quota three [] from to
-three_meet quota from to left right from_is to_is are_left are_right =
-    halves_law quota three [] from to (record { slots = three_slots; distinct = three_distinct }) (record { slots = none_slots; distinct = none_distinct })
-    (subst (AreSubsets three) (sym from_is) are_left) (subst (AreSubsets []) (sym to_is) are_right)
+pub three_meet : (quota least_size : ℕ) (left right : List Entry) → AreSubsets three left → AreSubsets [] right → CountsMeet quota least_size three [] left right
+three_meet quota least_size left right are_left are_right =
+    halves_law quota least_size three [] left right (record { slots = three_slots; distinct = three_distinct }) (record { slots = none_slots; distinct = none_distinct }) are_left are_right

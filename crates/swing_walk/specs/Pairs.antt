@@ -3,6 +3,7 @@ use Rattle.std.specs.Prelude.{ℕ, ◌+◌, ◌-◌, ◌*◌, ◌==◌, Bool, Li
 use Rattle.std.specs.List.{sum_by, count_by}
 use Rattle.std.specs.Int.{bit_at}
 use Rattle.half_sums.specs.declared.entry.Entry.{Entry}
+use Rattle.half_sums.specs.Groups.{size_of}
 
 -- how many pairs pass a test
 abbrev pub pairs_where : (Entry → Entry → Bool) → List Entry → List Entry → ℕ
@@ -27,6 +28,18 @@ winning_pairs quota left right = pairs_where (reaches quota) left right
 -- how many pairs reach the quota and have the chair of a place
 abbrev pub winning_with : ℕ → ℕ → List Entry → List Entry → ℕ
 winning_with quota place left right = pairs_where (λ l r. reaches quota l r && has_place place l r) left right
+
+-- a pair has chairs enough
+abbrev pub is_large : ℕ → Entry → Entry → Bool
+is_large least_size l r = nat_le least_size (size_of l + size_of r)
+
+-- how many pairs reach the quota and the least size
+abbrev pub large_pairs : ℕ → ℕ → List Entry → List Entry → ℕ
+large_pairs quota least_size left right = pairs_where (λ l r. reaches quota l r && is_large least_size l r) left right
+
+-- how many pairs reach both and have the chair of a place
+abbrev pub large_with : ℕ → ℕ → ℕ → List Entry → List Entry → ℕ
+large_with quota least_size place left right = pairs_where (λ l r. (reaches quota l r && is_large least_size l r) && has_place place l r) left right
 
 -- the swings of a chair from the winning sets and those that have it: 2 * with_chair - winning (Banzhaf 1965)
 abbrev pub swings_of : ℕ → ℕ → ℕ

@@ -1,4 +1,5 @@
-//! How many pairs of a left and a right entry reach a quota, and how many of these have each chair.
+//! How many pairs of sets of a left and a right half reach a quota and a least size, and how many of these have each
+//! chair.
 #![tactic(auto)]
 
 ghost use Rattle.std.specs.Prelude.{IfOk};
@@ -8,6 +9,7 @@ ghost use Rattle.swing_walk.specs.Laws.{ones};
 mod laws;
 mod pairs;
 mod running;
+mod sizes;
 mod tally;
 mod walking;
 
@@ -28,7 +30,7 @@ mod tests {
         let mut right = HalfSums::new(rt.alloc())?;
         left.rebuild(&[(0, 50), (1, 49), (2, 1)]);
         right.rebuild(&[]);
-        let counts = count(left.ascending(), right.ascending(), 51);
+        let counts = count(&left, &right, 51, 0);
         let swings = swings(&counts);
         let mut with_chair = [0; 32];
         with_chair[0] = 3;
@@ -71,23 +73,36 @@ mod tests {
     }
 
     /// The counts and the swings of thirty-two chairs of one vote each.
-    fn board_of_ones(alloc: Global, quota: u64) -> Result<(Counts, [u64; 32]), Refusal> {
+    fn board_of_ones(
+        alloc: Global,
+        quota: u64,
+        least_size: u8,
+    ) -> Result<(Counts, [u64; 32]), Refusal> {
         let left = half_of_ones(alloc)?;
         let right = half_of_ones(alloc)?;
-        let counts = count(left.ascending(), right.ascending(), quota);
+        let counts = count(&left, &right, quota, least_size);
         Ok((counts, swings(&counts)))
     }
 
     #[test]
     fn two_halves_of_ones(rt: HostRuntime) -> Result<(), Fail> {
-        let (counts, swings) = board_of_ones(rt.alloc(), 17)?;
+        let (counts, swings) = board_of_ones(rt.alloc(), 17, 0)?;
         assert_eq!(rt; counts.winning, 1846943453);
         assert_eq!(rt; counts.with_chair, [1073741824; 32]);
         assert_eq!(rt; swings, [300540195; 32]);
-        let (counts, swings) = board_of_ones(rt.alloc(), 28)?;
+        let (counts, swings) = board_of_ones(rt.alloc(), 28, 0)?;
         assert_eq!(rt; counts.winning, 41449);
         assert_eq!(rt; counts.with_chair, [36457; 32]);
         assert_eq!(rt; swings, [31465; 32]);
+        Ok(())
+    }
+
+    #[test]
+    fn a_majority_of_thirty_two(rt: HostRuntime) -> Result<(), Fail> {
+        let (counts, swings) = board_of_ones(rt.alloc(), 16, 17)?;
+        assert_eq!(rt; counts.winning, 1846943453);
+        assert_eq!(rt; counts.with_chair, [1073741824; 32]);
+        assert_eq!(rt; swings, [300540195; 32]);
         Ok(())
     }
 }

@@ -1,32 +1,36 @@
 //! The counts of the winning pairs of two lists, and the swings that they come to.
 ghost use Rattle.std.specs.Prelude.{◌≡◌, ℕ, ◌*◌, ◌^◌, ◌<◌, ◌≤◌, slice_index};
-ghost use Rattle.half_sums.specs.Entries.{IsHalf};
-ghost use Rattle.swing_walk.specs.Pairs.{winning_pairs, winning_with, swings_of};
+ghost use Rattle.swing_walk.specs.Pairs.{large_pairs, large_with, swings_of};
 
 use crate::running::Running;
-use half_sums::Entry;
+use half_sums::HalfSums;
 
-/// The winning pairs of a left and a right list. Where the lists are the two halves of a board, the pairs are its
+/// The winning pairs of the sets of a left and a right half. Where these are the halves of a board, the pairs are its
 /// coalitions.
 #[derive(Clone, Copy)]
 pub struct Counts {
-    /// How many pairs have sums that reach the quota together: omega (Coleman 1971).
+    /// How many pairs have weight and chairs enough together: omega (Coleman 1971).
     pub winning: u64,
     /// At each place how many of them have its chair: place 0 to 15 is the left slot of that number, place 16 to 31
     /// the right slot of 16 less.
     pub with_chair: [u64; 32],
 }
 
-/// Counts the winning pairs in one walk, up the left list and down the right one (Horowitz and Sahni 1974). The quota
-/// is in votes. The lists may be any two of a half's form, whatever their masks. It takes no memory.
-pub fn count(left: &[Entry], right: &[Entry], quota: u64) -> Counts
-    requires left { IsHalf left.now }
-    requires right { IsHalf right.now }
-    ensures winning { result.winning ≡ winning_pairs quota left.now right.now }
-    ensures with_chair { (place : ℕ) → place < 32 → slice_index result.with_chair place ≡ winning_with quota place left.now right.now }
+/// Counts the pairs whose sums reach the quota, in votes, and which have at least so many chairs together.
+///
+/// Where no size is asked it takes one walk, up the left list and down the right one (Horowitz and Sahni 1974). Else
+/// it takes one walk for each pair of sizes that is large enough. It takes no memory.
+pub fn count(left: &HalfSums, right: &HalfSums, quota: u64, least_size: u8) -> Counts
+    ensures winning { result.winning ≡ large_pairs quota least_size left.now right.now }
+    ensures with_chair { (place : ℕ) → place < 32 → slice_index result.with_chair place ≡ large_with quota least_size place left.now right.now }
 {
+    let (lefts, rights) = (left.ascending(), right.ascending());
     let mut running = Running::new();
-    running.walk(left, right, quota);
+    if least_size == 0 {
+        running.walk(lefts, rights, quota);
+    } else {
+        running.walk_groups(left, right, quota, least_size);
+    }
     running.counts()
 }
 

@@ -13,15 +13,15 @@ rebuild-requires-2-clause-distinct g c = search rules
 
 pub swings-swings-requires-clause-few : goal.swings-swings-requires-clause-few
 swings-swings-requires-clause-few g c =
-    let meet = three_meet 51 _ _ _ _ c.ascending.ensures.same c.ascending-2.ensures.same c.rebuild.ensures.subsets c.rebuild-2.ensures.subsets in
+    let meet = three_meet 51 0 _ _ c.rebuild.ensures.subsets c.rebuild-2.ensures.subsets in
     omega (arith, c.count-counts.ensures.winning, meet.few)
 
 pub swings-swings-requires-clause-within : goal.swings-swings-requires-clause-within
 swings-swings-requires-clause-within g c = λ place h.
-    let meet = three_meet 51 _ _ _ _ c.ascending.ensures.same c.ascending-2.ensures.same c.rebuild.ensures.subsets c.rebuild-2.ensures.subsets in
+    let meet = three_meet 51 0 _ _ c.rebuild.ensures.subsets c.rebuild-2.ensures.subsets in
     omega (arith, c.count-counts.ensures.winning, c.count-counts.ensures.with_chair place h, meet.within place)
 
 pub swings-swings-requires-clause-half : goal.swings-swings-requires-clause-half
 swings-swings-requires-clause-half g c = λ place h some.
-    let meet = three_meet 51 _ _ _ _ c.ascending.ensures.same c.ascending-2.ensures.same c.rebuild.ensures.subsets c.rebuild-2.ensures.subsets in
+    let meet = three_meet 51 0 _ _ c.rebuild.ensures.subsets c.rebuild-2.ensures.subsets in
     omega (arith, c.count-counts.ensures.winning, c.count-counts.ensures.with_chair place h, meet.half place (omega (arith, some, c.count-counts.ensures.with_chair place h)))

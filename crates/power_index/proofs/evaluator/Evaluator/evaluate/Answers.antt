@@ -2,13 +2,14 @@ use Rattle.std.proofs.Common.{◌≡◌, ℕ, ◌^◌, ◌∙◌, ap, refl, List
 use Rattle.council_core.specs.Sheets.{open_chairs, cast_of, total_of, front_of}
 use Rattle.council_core.specs.Coalitions.{omega_of}
 use Rattle.majority_rule.specs.declared.majorities.Majority.{Majority}
-use Rattle.majority_rule.specs.Winning.{rule_of, quota_of}
+use Rattle.majority_rule.specs.Winning.{rule_of, quota_of, least_size_of}
 use Rattle.power_index.specs.Indices.{ratio, rows_among}
+use Rattle.power_index.proofs.Bounds.{both_win}
 use Rattle.power_index.proofs.IndicesLemmas.{fields_settle}
 use Rattle.power_index.proofs.evaluator.Evaluator.evaluate.Goals as goal
 
 pub tally-tally-requires : goal.tally-tally-requires
-tally-tally-requires c = record { quota = rw (← c.self.view_is) c.quota-quota.ensures.least }
+tally-tally-requires c = record { quota = rw (← c.self.view_is) (λ w k. both_win _ _ (c.quota-quota.ensures.least w) (c.least_size-least_size.ensures.least k)) }
 
 pub returns-clause-exact : goal.returns-clause-exact
 returns-clause-exact c =
@@ -21,7 +22,7 @@ returns-clause-exact c =
       same_majority = refl;
       same_front = c.front.ensures.same ∙ ap front_of v;
       open_count = n;
-      least_winning = rw (← c.self.view_is) c.quota-quota.ensures.least;
+      least_winning = rw (← c.self.view_is) (λ w k. both_win _ _ (c.quota-quota.ensures.least w) (c.least_size-least_size.ensures.least k));
       same_cast = c.cast.ensures.same ∙ ap cast_of v;
       same_total = c.total.ensures.same ∙ ap total_of v;
       omega = o;
@@ -34,4 +35,4 @@ returns-clause-exact c =
 
 pub returns-clause-same : goal.returns-clause-same
 returns-clause-same c =
-    fields_settle c.args.majority c.args.self.now _ (returns-clause-exact c) (c.quota-quota.ensures.same ∙ ap (quota_of c.args.majority) c.self.view_is)
+    fields_settle c.args.majority c.args.self.now _ (returns-clause-exact c) (c.quota-quota.ensures.same ∙ ap (quota_of c.args.majority) c.self.view_is) (c.least_size-least_size.ensures.same ∙ ap (least_size_of c.args.majority) c.self.view_is)
