@@ -1,5 +1,5 @@
 -- Pairs of a left and a right entry, counted one by one.
-use Rattle.std.specs.Prelude.{ℕ, ◌+◌, ◌-◌, ◌*◌, ◌==◌, Bool, List, nat_le, nat_lt, cond, ◌&&◌}
+use Rattle.std.specs.Prelude.{ℕ, ◌+◌, ◌-◌, ◌*◌, ◌==◌, Bool, List, nat_le, nat_lt, if◌then◌else◌, ◌&&◌}
 use Rattle.std.specs.List.{sum_by, count_by}
 use Rattle.std.specs.Int.{bit_at}
 use Rattle.half_sums.specs.declared.entry.Entry.{Entry}
@@ -19,7 +19,7 @@ has slot e = bit_at e.mask slot == 1
 
 -- a pair has the chair of a place: 0 to 15 on the left, 16 to 31 on the right
 abbrev pub has_place : ℕ → Entry → Entry → Bool
-has_place place l r = cond (nat_lt place 16) (has place l) (has (place - 16) r)
+has_place place l r = if nat_lt place 16 then has place l else has (place - 16) r
 
 -- how many pairs reach the quota
 abbrev pub winning_pairs : ℕ → List Entry → List Entry → ℕ
@@ -43,4 +43,4 @@ large_with quota least_size place left right = pairs_where (λ l r. (reaches quo
 
 -- the swings of a chair from the winning sets and those that have it: 2 * with_chair - winning (Banzhaf 1965)
 abbrev pub swings_of : ℕ → ℕ → ℕ
-swings_of winning with_chair = cond (with_chair == 0) 0 (2 * with_chair - winning)
+swings_of winning with_chair = if with_chair == 0 then 0 else 2 * with_chair - winning

@@ -1,5 +1,5 @@
 -- Amounts kept per byte of a mask, and the counts that walks add to.
-use Rattle.std.specs.Prelude.{ℕ, ◌≡◌, ◌+◌, ◌-◌, ◌*◌, List, [], ◌∷◌, suc, cond, nat_lt}
+use Rattle.std.specs.Prelude.{ℕ, ◌≡◌, ◌+◌, ◌-◌, ◌*◌, List, [], ◌∷◌, suc, if◌then◌else◌, nat_lt}
 use Rattle.std.specs.List.{sum_by}
 use Rattle.std.specs.Int.{bit_at}
 use Rattle.swing_walk.specs.declared.tally.Tally.{Tally}
@@ -38,4 +38,4 @@ pub record IsRunning (r : Running) : Type 0 where
 
 -- how many of the pairs counted have the chair of a place
 abbrev pub marked_at : ℕ → Running → ℕ
-marked_at place r = cond (nat_lt place 16) (marked place r.lefts) (marked (place - 16) r.rights)
+marked_at place r = if nat_lt place 16 then marked place r.lefts else marked (place - 16) r.rights

@@ -1,6 +1,6 @@
 -- One atomic step of an actor: one load or one store of one word, and what the actor knows after. This project's own
 -- two-copy machine, with one pin word for each reader.
-use Rattle.std.specs.Prelude.{ℕ, zero, suc, ◌+◌, ◌-◌, Bool, true, false, List, [], ◌∷◌, ◌++◌, length, slice_index, slice_set, replicate, cond, ◌&&◌, ◌==◌}
+use Rattle.std.specs.Prelude.{ℕ, zero, suc, ◌+◌, ◌-◌, Bool, true, false, List, [], ◌∷◌, ◌++◌, length, slice_index, slice_set, replicate, if◌then◌else◌, ◌&&◌, ◌==◌}
 use Rattle.council_core.specs.declared.commands.Command.{Command}
 use Rattle.two_copy_steps.specs.declared.views.ReaderView.{ReaderView}
 use Rattle.two_copy_steps.specs.declared.views.WriterView.{WriterView}
@@ -23,7 +23,7 @@ all_true (b ∷ bs) = b && all_true bs
 -- the place of the first false
 abbrev pub first_false : List Bool → ℕ
 first_false [] = 0
-first_false (b ∷ bs) = cond b (suc (first_false bs)) 0
+first_false (b ∷ bs) = if b then suc (first_false bs) else 0
 
 -- the side that is not this one
 abbrev pub other : ℕ → ℕ
@@ -62,7 +62,7 @@ module _ (n : ℕ) where
   pin r = 1 + n + n + r
 
   abbrev pub loaded : ℕ → List ℕ → Stage
-  loaded side words = cond (length words == n) (Leaving side words) (Reading side words)
+  loaded side words = if length words == n then Leaving side words else Reading side words
 
   -- arrive, load side, load a word, leave
   abbrev pub stage_deed : ℕ → Stage → Deed Stage
@@ -84,14 +84,14 @@ module _ (n : ℕ) where
 
   -- these readers are seen out; after the last one filling begins
   abbrev pub seeing : Writing → List Bool → Writing
-  seeing w out = record w { phase = cond (all_true out) (Filling 0) Seeing; seen_out = out }
+  seeing w out = record w { phase = if all_true out then Filling 0 else Seeing; seen_out = out }
 
   -- a publication of these commands begins
   abbrev pub begun : List Command → Writing → Writing
   begun commands w = seeing (record w { taken = commands }) w.seen_out
 
   abbrev pub filled : Writing → ℕ → Writing
-  filled w k = record w { phase = cond (k + 1 == n) Swapping (Filling (k + 1)) }
+  filled w k = record w { phase = if k + 1 == n then Swapping else Filling (k + 1) }
 
   -- side was stored: the commands taken are published, and nobody is seen out
   abbrev pub swapped : Writing → Writing
@@ -112,7 +112,7 @@ module _ (n : ℕ) where
         record {
           word = pin r;
           becomes = λ found. found;
-          after = λ found. cond (found == 0) (seeing w (slice_set w.seen_out r true)) (record w { phase = Idle });
+          after = λ found. if found == 0 then seeing w (slice_set w.seen_out r true) else record w { phase = Idle };
         }
     phase_deed w (Filling k) =
         record { word = place (other w.side) k; becomes = λ _. slice_index (sheet w.taken) k; after = λ _. filled w k }

@@ -1,5 +1,5 @@
 -- The register of one thread beside the machine: its calls, and what it replies to them.
-use Rattle.std.specs.Prelude.{◌≡◌, ℕ, zero, suc, Bool, true, false, List, [], ◌∷◌, ◌++◌, length, slice_get, cond, ◌==◌, Option, None, Some}
+use Rattle.std.specs.Prelude.{◌≡◌, ℕ, zero, suc, Bool, true, false, List, [], ◌∷◌, ◌++◌, length, slice_get, if◌then◌else◌, ◌==◌, Option, None, Some}
 use Rattle.council_core.specs.Ledgers.{Ledger}
 use Rattle.council_core.specs.Sequential.{Sequential, Call, submit, publish, Reply, accepted, refused, published, reading, respond, replies_of, state_after}
 use Rattle.council_core.specs.Sequential as sequential
@@ -34,8 +34,8 @@ reader_effect (Some stage) = stage_effect stage
 -- the call of the register of one thread that an event stands for, if it does for one, the machine being that before
 -- the event
 abbrev pub effect : TwoCopies → Event → List Call
-effect m (Submit command) = cond (is_idle m.writer.phase) (submit command ∷ []) []
-effect m Publish = cond (is_idle m.writer.phase) (cond (is_pending m) [] (publish ∷ [])) []
+effect m (Submit command) = if is_idle m.writer.phase then submit command ∷ [] else []
+effect m Publish = if is_idle m.writer.phase then (if is_pending m then [] else publish ∷ []) else []
 effect m Writer = phase_effect m.writer.phase
 effect m (Reader zero) = []
 effect m (Reader (suc r)) = reader_effect (slice_get m.readers r)
@@ -63,9 +63,9 @@ thread_of ledger = record {
 -- what the reader of that number has been replied after its step at a stage: nothing at its arrival, and at its load
 -- of side the reply to a read
 abbrev pub replied_at : Thread → ℕ → Stage → ℕ → Option Reply
-replied_at t number AtRest k = cond (k == number) None (t.replied k)
-replied_at t number Arrived k = cond (k == number) (slice_get (replies_of t.register (stage_effect Arrived)) 0)
-    (t.replied k)
+replied_at t number AtRest k = if k == number then None else t.replied k
+replied_at t number Arrived k =
+    if k == number then slice_get (replies_of t.register (stage_effect Arrived)) 0 else t.replied k
 replied_at t number (Reading side words) k = t.replied k
 replied_at t number (Leaving side words) k = t.replied k
 

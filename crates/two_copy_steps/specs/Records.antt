@@ -1,5 +1,5 @@
 -- What the notes of a list of events tell of each reader's record.
-use Rattle.std.specs.Prelude.{◌≡◌, ℕ, suc, ◌==◌, List, [], ◌∷◌, ◌++◌, slice_get, cond, Some}
+use Rattle.std.specs.Prelude.{◌≡◌, ℕ, suc, ◌==◌, List, [], ◌∷◌, ◌++◌, slice_get, if◌then◌else◌, Some}
 use Rattle.std.specs.List.Sorted.{IsNonDecreasingBy}
 use Rattle.council_core.specs.Sheets.{front_of}
 use Rattle.two_copy_steps.specs.declared.events.Note.{Note}
@@ -11,7 +11,7 @@ use Rattle.two_copy_steps.specs.Stages.{about_to_leave}
 
 -- the sheet that a note tells of the reader of a number, if it does
 abbrev pub told_of : ℕ → Note → List (List ℕ)
-told_of number (Read reader words) = cond (reader == number) (words ∷ []) []
+told_of number (Read reader words) = if reader == number then words ∷ [] else []
 told_of number (Accepted count) = []
 told_of number (Refused refusal) = []
 told_of number Began = []

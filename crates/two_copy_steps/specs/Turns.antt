@@ -1,5 +1,5 @@
 -- The machine as contracts see it, and what each event does to it and tells.
-use Rattle.std.specs.Prelude.{ℕ, zero, suc, ◌+◌, Bool, true, false, List, [], ◌∷◌, ◌++◌, length, replicate, slice_index, slice_get, slice_set, cond, ◌==◌, nat_lt, Option, None, Some, Result, Ok, Err, ⊤}
+use Rattle.std.specs.Prelude.{ℕ, zero, suc, ◌+◌, Bool, true, false, List, [], ◌∷◌, ◌++◌, length, replicate, slice_index, slice_get, slice_set, if◌then◌else◌, ◌==◌, nat_lt, Option, None, Some, Result, Ok, Err, ⊤}
 use Rattle.council_core.specs.declared.commands.Command.{Command}
 use Rattle.council_core.specs.declared.refusals.Refusal.{Refusal}
 use Rattle.council_core.specs.Rolls.{sheet}
@@ -66,7 +66,7 @@ is_pending m = nat_lt (length m.writer.published) (length m.ledger.journal)
 abbrev pub phase_note : TwoCopies → Phase → Note
 phase_note m Idle = Skipped
 phase_note m Seeing = let r = first_false m.writer.seen_out
-    in cond (slice_index m.words (pin 34 r) == 0) Moved (Busy (suc r))
+    in if slice_index m.words (pin 34 r) == 0 then Moved else Busy (suc r)
 phase_note m (Filling k) = Moved
 phase_note m Swapping = Published (length m.writer.taken)
 
@@ -98,8 +98,8 @@ reader_turn m r (Some stage) = (read m r stage, stage_note (suc r) stage)
 
 -- the machine after an event, and the note
 abbrev pub turn : TwoCopies → Event → TwoCopies × Note
-turn m (Submit command) = cond (is_idle m.writer.phase) (submitted m command (verdict_of m.ledger command)) (m, Skipped)
-turn m Publish = cond (is_idle m.writer.phase) (published_by m (is_pending m)) (m, Skipped)
+turn m (Submit command) = if is_idle m.writer.phase then submitted m command (verdict_of m.ledger command) else (m, Skipped)
+turn m Publish = if is_idle m.writer.phase then published_by m (is_pending m) else (m, Skipped)
 turn m Writer = (written m, phase_note m m.writer.phase)
 turn m (Reader zero) = (m, Skipped)
 turn m (Reader (suc r)) = reader_turn m r (slice_get m.readers r)
