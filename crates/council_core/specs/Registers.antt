@@ -15,6 +15,7 @@ sits_as c s = if sits_in c s then 1 else 0
 abbrev pub seated : List Entry → ℕ → ℕ
 seated members c = sum_by (λ m. sits_as c m.1) members
 
+-- the members kept are the roll's, and so are a word and a number of members for each chair, and the total
 pub record Mirrors (roll : Roll) (entries : List Entry) (words counts : List ℕ) (sum : ℕ) : Type 0 where
   pub same_members : entries ≡ roll.members
   pub each_word : (k : ℕ) → k < 32 → slice_index words k ≡ chair_word roll (k + 1)
@@ -24,6 +25,7 @@ pub record Mirrors (roll : Roll) (entries : List Entry) (words counts : List ℕ
   pub few : length entries ≤ max_members
   pub small : All (λ m. m.1.votes ≤ 2 ^ 40) entries
 
+-- what holds of every register: a legal journal within its limit, beside which stands what the roll after it says
 pub record IsKept (ledger : Ledger) (entries : List Entry) (words counts : List ℕ) (sum : ℕ) : Type 0 where
   pub legal : all_accepted (opening_roll ledger.opening) ledger.journal ≡ true
   pub within : length ledger.journal ≤ ledger.limit

@@ -32,8 +32,11 @@ pub enum Command {
 /// What the register knows of a member beside its code.
 #[derive(Clone, Copy)]
 pub struct Standing {
+    /// The member's votes, whether they count or not.
     pub votes: Votes,
+    /// The open chair that casts its votes, where it sits in one.
     pub chair: Option<ChairId>,
+    /// Whether its voting rights are suspended, so that its votes count nowhere.
     pub suspended: bool,
 }
 
@@ -56,8 +59,12 @@ impl Standing {
 /// A member as it stands after the commands accepted.
 #[derive(Clone, Copy)]
 pub struct MemberRow {
+    /// The member.
     pub code: MemberCode,
+    /// Its votes, whether they count or not.
     pub votes: Votes,
+    /// The open chair that casts its votes, where it sits in one.
     pub chair: Option<ChairId>,
+    /// Whether its voting rights are suspended, so that its votes count nowhere.
     pub suspended: bool,
 }

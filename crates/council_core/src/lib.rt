@@ -9,9 +9,9 @@ mod refusals;
 mod registers;
 mod sheets;
 mod stores;
-mod tallies;
 #[cfg(test)]
 mod tests;
+mod totals;
 mod values;
 
 pub use commands::{Command, MemberRow, Standing};

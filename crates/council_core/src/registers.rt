@@ -19,7 +19,7 @@ use crate::limits::{MAX_COMMANDS, MAX_MEMBERS};
 use crate::refusals::Refusal;
 use crate::sheets::Sheet;
 use crate::stores::{append, copied, enter_all, enter_new, make_room, put, take_out};
-use crate::tallies::{Tally, place_of};
+use crate::totals::{ChairTotals, place_of};
 use crate::values::{ChairId, MemberCode, Votes};
 use indexmap::IndexMap;
 use std::alloc::Global;
@@ -31,7 +31,7 @@ use std::marker::Model;
 pub struct Register {
     opening: Vec<(MemberCode, Votes)>,
     members: IndexMap<MemberCode, Standing>,
-    tally: Tally,
+    totals: ChairTotals,
     journal: Vec<Command>,
     limit: u32,
 }
@@ -46,7 +46,7 @@ impl Model for Register {
     ghost view = { λ r. record { opening = r.opening.items; journal = r.journal.items; limit = r.limit } };
 
     ghost invariant = { λ r. IsKept (record { opening = r.opening.items; journal = r.journal.items; limit = r.limit })
-        r.members.entries r.tally.words r.tally.counts r.tally.total };
+        r.members.entries r.totals.words r.totals.counts r.totals.total };
 }
 
 fn has_code(members: &[(MemberCode, Votes)], code: MemberCode) -> bool
@@ -91,7 +91,7 @@ impl Register {
         Ok(Register {
             opening,
             members: entered,
-            tally: Tally::start(members),
+            totals: ChairTotals::start(members),
             journal: Vec::new(alloc),
             limit: journal_limit,
         })
@@ -139,20 +139,20 @@ impl Register {
         ensures ledger { IsLedger self.now }
     {
         let accepted = self.journal.len() as u32;
-        let words = self.tally.words();
-        Sheet::assemble(&words, self.tally.total, accepted)
+        let words = self.totals.words();
+        Sheet::assemble(&words, self.totals.total, accepted)
     }
 
     fn is_open(&self, chair: ChairId) -> bool
         ensures { result ≡ is_open (roll_of self.now) chair }
     {
-        self.tally.words[place_of(chair)] != 0
+        self.totals.words[place_of(chair)] != 0
     }
 
     fn has_members(&self, chair: ChairId) -> bool
         ensures { result ≡ has_members (roll_of self.now) chair }
     {
-        self.tally.counts[place_of(chair)] != 0
+        self.totals.counts[place_of(chair)] != 0
     }
 
     fn can_receive(&self, to: Option<ChairId>) -> bool
@@ -338,21 +338,21 @@ impl Register {
         self.check_room()?;
         make_room(&mut self.journal)?;
         match change {
-            Change::Open(chair) => self.tally.words[place_of(chair)] = 1,
-            Change::Close(chair) => self.tally.words[place_of(chair)] = 0,
+            Change::Open(chair) => self.totals.words[place_of(chair)] = 1,
+            Change::Close(chair) => self.totals.words[place_of(chair)] = 0,
             Change::Stand { place, old, new } => {
                 // The prover asks for this line: the votes are in range.
                 let _votes = new.votes.number();
-                self.tally.withdraw(&old);
-                self.tally.enter(&new);
+                self.totals.withdraw(&old);
+                self.totals.enter(&new);
                 put(&mut self.members, place, new);
             }
             Change::Enter(code, votes) => {
                 enter_new(&mut self.members, code, votes)?;
-                self.tally.enter(&Standing::fresh(votes));
+                self.totals.enter(&Standing::fresh(votes));
             }
             Change::Leave { place, old } => {
-                self.tally.withdraw(&old);
+                self.totals.withdraw(&old);
                 take_out(&mut self.members, place);
             }
         }

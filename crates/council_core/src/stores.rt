@@ -30,6 +30,7 @@ pub(crate) fn append(journal: &mut Vec<Command>, command: &Command)
     requires { vec_len journal.old < vec_capacity journal.old }
     ensures { journal.new.items ≡ journal.old.items ++ command.now ∷ [] }
 {
+    // The prover asks for this line: a command has chairs.
     let _nowhere: Option<ChairId> = None;
     journal.push_reserved(*command);
 }
@@ -92,6 +93,7 @@ pub(crate) fn enter_new(
     ensures err { OnErr result (members.new.entries ≡ members.old.entries) }
     ensures memory { IsOkUnless result OutOfMemory }
 {
+    // The prover asks for this line: a standing has a chair.
     let _nowhere: Option<ChairId> = None;
     match members.insert(code, Standing::fresh(votes)) {
         Ok(_) => Ok(()),

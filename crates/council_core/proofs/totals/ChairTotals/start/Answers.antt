@@ -2,7 +2,7 @@ use Rattle.std.proofs.Common.{◌≤◌, ◌^◌, ℕ, List, arith, subst, ap}
 use Rattle.std.proofs.lemmas.List.Elements.{All-more}
 use Rattle.std.proofs.lemmas.List.Sums.{sum_by_more}
 use Rattle.council_core.proofs.StartLemmas.{zeros}
-use Rattle.council_core.proofs.tallies.Tally.start.Goals as goal
+use Rattle.council_core.proofs.totals.ChairTotals.start.Goals as goal
 
 pub loop-member-preserved : goal.loop-member-preserved
 loop-member-preserved c = record {
