@@ -8,6 +8,7 @@ ghost use Rattle.swing_walk.specs.Laws.{ones};
 mod laws;
 mod pairs;
 mod running;
+mod sides;
 mod tally;
 mod walking;
 
