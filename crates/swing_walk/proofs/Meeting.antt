@@ -139,9 +139,13 @@ pub at_most_one : (t : Bool) → cond t 1 0 ≤ 1
 at_most_one true = omega arith
 at_most_one false = omega arith
 
+pub cond_most : (t : Bool) (m n most : ℕ) → m ≤ most → n ≤ most → cond t m n ≤ most
+cond_most true m n most first second = first
+cond_most false m n most first second = second
+
 pub step_up : (quota i a p q walked n x y : ℕ) (left right : List Entry) (reached : Bool) → IsNonDecreasingBy (λ e. e.sum) left → IsNonDecreasingBy (λ e. e.sum) right → Stands quota i a left right → i < length left → 0 < a →
     reached ≡ nat_le quota ((get_or left i zero_entry).sum + (get_or right (a - 1) zero_entry).sum) → n ≡ cond reached 1 0 → q ≡ a - n → i + length right ≡ walked + a → p ≡ walked + 1 + q - length right →
-    x ≡ cond (not reached) (length right - a) 0 → y ≡ cond reached (length left - i) 0 → Up quota i a p q left right (get_or left i zero_entry) (get_or right (a - 1) zero_entry) x y
+    x ≡ cond reached 0 (length right - a) → y ≡ cond reached (length left - i) 0 → Up quota i a p q left right (get_or left i zero_entry) (get_or right (a - 1) zero_entry) x y
 step_up quota i a p q walked n x y left right true left_up right_up s inside some test one to_q place to_p x_is y_is =
     let high : quota ≤ (get_or left i zero_entry).sum + (get_or right (a - 1) zero_entry).sum = leb-true _ _ (sym test) in
     let q_is : q ≡ a - 1 = omega (arith, one) in
@@ -181,7 +185,7 @@ pub record Down (quota j b p q : ℕ) (left right : List Entry) (l r : Entry) (x
 
 pub step_down : (quota j b p q walked n x y : ℕ) (left right : List Entry) (reached : Bool) → IsNonDecreasingBy (λ e. e.sum) left → IsNonDecreasingBy (λ e. e.sum) right → Stands quota j b left right → 0 < j → b < length right →
     reached ≡ nat_le quota ((get_or left (j - 1) zero_entry).sum + (get_or right b zero_entry).sum) → n ≡ cond reached 1 0 → p ≡ j - n → length left + b ≡ walked + j → q ≡ walked + 1 + p - length left →
-    x ≡ cond reached (length right - b) 0 → y ≡ cond (not reached) (length left - j) 0 → Down quota j b p q left right (get_or left (j - 1) zero_entry) (get_or right b zero_entry) x y
+    x ≡ cond (not reached) 0 (length right - b) → y ≡ cond (not reached) (length left - j) 0 → Down quota j b p q left right (get_or left (j - 1) zero_entry) (get_or right b zero_entry) x y
 step_down quota j b p q walked n x y left right true left_up right_up s some inside test one to_p place to_q x_is y_is =
     let high : quota ≤ (get_or left (j - 1) zero_entry).sum + (get_or right b zero_entry).sum = leb-true _ _ (sym test) in
     let p_is : p ≡ j - 1 = omega (arith, one) in

@@ -2,3 +2,4 @@ pub mod Pairs
 pub mod Laws
 pub mod Walks
 pub mod Tallies
+pub mod Sides

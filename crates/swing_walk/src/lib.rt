@@ -9,6 +9,7 @@ ghost use Rattle.swing_walk.specs.Laws.{ones};
 mod laws;
 mod pairs;
 mod running;
+mod sides;
 mod sizes;
 mod tally;
 mod walking;

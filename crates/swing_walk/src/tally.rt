@@ -4,7 +4,7 @@ ghost use Rattle.std.specs.Int.{bit_at};
 ghost use Rattle.swing_walk.specs.Tallies.{marked, total, IsEven, low_weight, high_weight};
 
 /// Amounts by mask: per value of the low byte of the masks and per value of the high one.
-#[derive(Drop)]
+#[derive(Clone, Copy)]
 pub(crate) struct Tally {
     pub(crate) low: [u64; 256],
     pub(crate) high: [u64; 256],

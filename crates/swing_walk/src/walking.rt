@@ -1,11 +1,12 @@
 //! The walk up the left list and down the right one.
-ghost use Rattle.std.specs.Prelude.{◌≡◌, ℕ, ◌+◌, ◌-◌, ◌*◌, ◌^◌, ◌<◌, ◌≤◌, length, slice_index_or, drop, cond, nat_le, ◌&&◌};
+ghost use Rattle.std.specs.Prelude.{◌≡◌, ℕ, ◌+◌, ◌-◌, ◌*◌, ◌^◌, ◌<◌, ◌≤◌, length, slice_index_or, drop, nat_le, ◌&&◌};
 ghost use Rattle.std.specs.List.{All};
 ghost use Rattle.half_sums.specs.Entries.{IsHalf};
 ghost use Rattle.swing_walk.specs.Pairs.{pairs_where, winning_pairs, reaches, has};
 ghost use Rattle.swing_walk.specs.Walks.{NoneReach, zero_entry};
 ghost use Rattle.swing_walk.specs.Tallies.{marked, total, IsEven};
 
+use crate::sides::credit;
 use crate::tally::Tally;
 use half_sums::Entry;
 
@@ -117,7 +118,7 @@ fn walk_in_turn(
 
 /// The walk of two lists of one length, up from the first left entry and down from the last one at once, until they
 /// meet: the two don't wait for one another, and neither has a branch on the sums. Each step passes a left entry or a
-/// right one, and credits the other with nothing.
+/// right one.
 fn walk_from_both_ends(
     left: &[Entry],
     right: &[Entry],
@@ -140,31 +141,41 @@ fn walk_from_both_ends(
     ensures right_total { total rights.new ≡ total rights.old + winning_pairs quota left.now right.now }
     ensures right_marked { (slot : ℕ) → marked slot rights.new ≡ marked slot rights.old + pairs_where (λ a b. reaches quota a b && has slot b) left.now right.now }
 {
+    let mut sides = [*lefts, *rights];
     let mut next = 0;
     let mut at = right.len();
     let mut next_end = left.len();
     let mut at_end = 0;
     let mut winning = 0;
     for walked in 0..left.len() {
+        let (others, rest) = (right.len() - at, left.len() - next);
         let reached = is_winning(&left[next], &right[at - 1], quota);
-        let partners = amount_if(!reached, right.len() - at);
-        lefts.add(left[next].mask, partners);
-        rights.add(right[at - 1].mask, amount_if(reached, left.len() - next));
-        winning += partners;
+        winning += credit(
+            &mut sides,
+            reached,
+            &left[next],
+            &right[at - 1],
+            others,
+            rest,
+        );
         at -= usize::from(reached);
         next = walked + 1 + at - right.len();
 
+        let (others, rest) = (right.len() - at_end, left.len() - next_end);
         let reached = is_winning(&left[next_end - 1], &right[at_end], quota);
-        let partners = amount_if(reached, right.len() - at_end);
-        lefts.add(left[next_end - 1].mask, partners);
-        rights.add(
-            right[at_end].mask,
-            amount_if(!reached, left.len() - next_end),
+        winning += credit(
+            &mut sides,
+            !reached,
+            &left[next_end - 1],
+            &right[at_end],
+            others,
+            rest,
         );
-        winning += partners;
         next_end -= usize::from(reached);
         at_end = walked + 1 + next_end - left.len();
     }
+    *lefts = sides[0];
+    *rights = sides[1];
     winning
 }
 
@@ -174,12 +185,4 @@ fn is_winning(left: &Entry, right: &Entry, quota: u64) -> bool
     ensures reaches { result ≡ nat_le quota (left.now.sum + right.now.sum) }
 {
     quota <= left.sum + right.sum
-}
-
-/// The amount where it counts, else 0: a value is chosen, and not a way to go on.
-fn amount_if(counts: bool, amount: usize) -> u64
-    ensures amount { result ≡ cond counts amount 0 }
-    ensures within { result ≤ amount }
-{
-    if counts { amount as u64 } else { 0 }
 }
