@@ -1,16 +1,16 @@
 //! The lists of a half, and their rebuild in the room that they have.
-ghost use Rattle.std.specs.Prelude.{◌≡◌, ◌==◌, ℕ, ◌+◌, ◌-◌, ◌*◌, ◌^◌, ◌<◌, ◌≤◌, List, [], ◌∷◌, ◌++◌, length, map, take, drop, IfOk, IsOkUnless};
+ghost use Rattle.std.specs.Prelude.{◌≡◌, ◌==◌, ℕ, ◌+◌, ◌-◌, ◌*◌, ◌^◌, ◌<◌, ◌≤◌, List, [], ◌∷◌, ◌++◌, length, map, take, drop, slice_index, IfOk, IsOkUnless};
 ghost use Rattle.std.specs.List.{All, IsDistinct};
 ghost use Rattle.std.specs.List.Sorted.{IsPermutation, IsNonDecreasingBy};
-ghost use Rattle.std.specs.Vec.{vec_capacity};
+ghost use Rattle.std.specs.Vec.{vec_len, vec_capacity};
 ghost use Rattle.council_core.specs.declared.refusals.Refusal.TheVariants.{OutOfMemory};
 ghost use Rattle.council_core.specs.Sheets.{weight_of};
 ghost use Rattle.half_sums.specs.declared.entry.Entry.{Entry};
 ghost use Rattle.half_sums.specs.Entries.{joined, AreSubsets, IsHalf};
-ghost use Rattle.half_sums.specs.Groups.{group_of, grouped, AreGroups};
+ghost use Rattle.half_sums.specs.Groups.{group_of, grouped, fewer_than, AreGroups};
 
 use crate::Entry;
-use crate::groups::{SIZES, regroup};
+use crate::groups::{NO_CHAIR, ONE_SET, SIZES, regroup, with_one_more};
 use crate::merge::merge;
 use council_core::Refusal;
 use std::alloc::Global;
@@ -19,9 +19,6 @@ use std::mem;
 
 /// The entries of a half of sixteen chairs: 2 to the power 16.
 const ROOM: usize = 65_536;
-
-/// The set of no chair.
-const NO_CHAIR: Entry = Entry { sum: 0, mask: 0 };
 
 /// The subset sums of a half of up to sixteen chairs, ascending, and the same by size (Horowitz and Sahni 1974).
 #[derive(Drop)]
@@ -49,11 +46,11 @@ impl HalfSums {
         let mut ascending = reserved(alloc)?;
         let mut groups = reserved(alloc)?;
         ascending.push_reserved(NO_CHAIR);
-        let starts = regroup(&ascending, &mut groups);
+        regroup(&ascending, &ONE_SET, &mut groups);
         Ok(HalfSums {
             ascending,
             groups,
-            starts,
+            starts: ONE_SET,
         })
     }
 
@@ -94,8 +91,8 @@ impl HalfSums {
         requires small { weight_of chairs.now ≤ 2 ^ 48 }
         ensures subsets { AreSubsets chairs.now self.new }
     {
-        list(chairs, &mut self.ascending, &mut self.groups);
-        self.starts = regroup(&self.ascending, &mut self.groups);
+        self.starts = list(chairs, &mut self.ascending, &mut self.groups);
+        regroup(&self.ascending, &self.starts, &mut self.groups);
     }
 }
 
@@ -108,8 +105,9 @@ fn part(entries: &[Entry], from: usize, to: usize) -> &[Entry]
     &entries[from..to]
 }
 
-/// Lists the sets of these chairs, ascending by sum. What stands in either list is lost.
-fn list(chairs: &[(u8, u64)], ascending: &mut Vec<Entry>, scratch: &mut Vec<Entry>)
+/// Lists the sets of these chairs, ascending by sum, and answers where the groups of each size start. What stands in
+/// either list before is lost.
+fn list(chairs: &[(u8, u64)], ascending: &mut Vec<Entry>, scratch: &mut Vec<Entry>) -> [usize; 18]
     requires slots { All (λ chair. chair.0 < 16) chairs.now }
     requires distinct { IsDistinct (λ a b. a == b) (map (λ chair. chair.0) chairs.now) }
     requires small { weight_of chairs.now ≤ 2 ^ 48 }
@@ -117,15 +115,21 @@ fn list(chairs: &[(u8, u64)], ascending: &mut Vec<Entry>, scratch: &mut Vec<Entr
     requires scratch_room { 65536 ≤ vec_capacity scratch.old }
     ensures subsets { AreSubsets chairs.now ascending.new.items }
     ensures half { IsHalf ascending.new.items }
+    ensures starts { (size : ℕ) → size ≤ 17 → slice_index result size ≡ fewer_than size ascending.new.items }
+    ensures shorter { vec_len scratch.new ≤ vec_len ascending.new }
     ensures room { 65536 ≤ vec_capacity ascending.new }
     ensures scratch_room { 65536 ≤ vec_capacity scratch.new }
 {
+    scratch.clear();
     ascending.clear();
     ascending.push_reserved(NO_CHAIR);
+    let mut starts = ONE_SET;
     for at in (0..chairs.len()).rev() {
         let (slot, weight) = chairs[at];
         add(ascending, scratch, weight, 1u16 << slot);
+        with_one_more(&mut starts);
     }
+    starts
 }
 
 /// Adds a chair: each set as it was, and each set with the chair.
@@ -137,6 +141,7 @@ fn add(ascending: &mut Vec<Entry>, scratch: &mut Vec<Entry>, weight: u64, bit: u
     requires scratch_room { 65536 ≤ vec_capacity scratch.old }
     ensures each_once { IsPermutation (ascending.old.items ++ map (joined weight bit) ascending.old.items) ascending.new.items }
     ensures half { IsHalf ascending.new.items }
+    ensures shorter { vec_len scratch.new ≤ vec_len ascending.new }
     ensures room { 65536 ≤ vec_capacity ascending.new }
     ensures scratch_room { 65536 ≤ vec_capacity scratch.new }
 {
