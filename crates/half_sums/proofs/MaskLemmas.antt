@@ -174,6 +174,14 @@ over_part slot chairs =
 pub sets_over : (chairs : List Chair) → All (λ s. IsOver chairs (mask_of s)) (subsets chairs)
 sets_over chairs k d h slot one = over_part slot chairs k d h (sym (mask_has slot _) ∙ eq-eqb _ 1 one)
 
+-- no set of the others has the slot of the first chair
+pub slot_free : (chair : Chair) (chairs : List Chair) (entries : List Entry) → IsDistinct eqb (map (λ c. c.0) (chair ∷ chairs)) → AreSubsets chairs entries → All (λ e. bit_at e.mask chair.0 ≡ 0) entries
+slot_free chair chairs entries distinct are =
+    let P : Entry → Type 0 = λ e. bit_at e.mask chair.0 ≡ 0 in
+    let A : List Chair → Type 0 = λ s. has_chair chair.0 s ≡ false in
+    let free : All A (subsets chairs) = subsets_avoid (λ (c : Chair). eqb c.0 chair.0) chairs (first_apart chair chairs distinct) in
+    All-permutation P _ _ are.each_once (All-map P entry_of (subsets chairs) (All-weaker A (λ s. P (entry_of s)) (λ s h. lacks_slot chair.0 s h) (subsets chairs) free))
+
 -- a set has as many chairs as its mask has bits
 pub sets_sized : (chairs : List Chair) → IsDistinct eqb (map (λ c. c.0) chairs) → All (λ s. size_of (entry_of s) ≡ length s) (subsets chairs)
 sets_sized [] distinct = All-cons (λ (s : List Chair). size_of (entry_of s) ≡ length s) [] [] no_ones (All-nil (λ (s : List Chair). size_of (entry_of s) ≡ length s))

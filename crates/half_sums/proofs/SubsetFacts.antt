@@ -1,14 +1,15 @@
 -- What one more chair does to the entries of a half, and how many and how large they are.
-use Rattle.std.proofs.Common.{◌≡◌, ℕ, ◌+◌, ◌-◌, ◌*◌, ◌^◌, ◌%◌, ◌<◌, ◌≤◌, List, [], ◌∷◌, ◌++◌, length, map, take, drop, get_or, arith, refl, ap, ◌∙◌, eqb, true}
+use Rattle.std.proofs.Common.{◌≡◌, ℕ, ◌+◌, ◌-◌, ◌*◌, ◌^◌, ◌%◌, ◌<◌, ◌≤◌, List, [], ◌∷◌, ◌++◌, length, map, take, drop, get_or, arith, refl, ap, ◌∙◌, eqb, true, zero, suc}
 use Rattle.std.specs.List.{All, sum_by, IsDistinct, list_any}
 use Rattle.std.specs.List.Sorted.{IsPermutation, IsNonDecreasingBy}
 use Rattle.std.specs.Prelude.{bit_or}
-use Rattle.std.proofs.lemmas.List.{length-append, length-map, map-append, drop_more, length-drop}
+use Rattle.std.proofs.lemmas.List.{length-append, length-map, map-append, drop_more, drop-map, length-drop}
 use Rattle.std.proofs.lemmas.List.Elements.{All-append, All-map, All-weaker, All-cons, All-nil, All-contains}
 use Rattle.std.proofs.lemmas.Map.Views.{Contains-from_any}
 use Rattle.std.proofs.lemmas.Bool.{eqb-true}
 use Rattle.std.proofs.lemmas.List.Sums.{sum_by-cons, sum_by-take-drop}
 use Rattle.std.proofs.lemmas.List.Sorted.{IsPermutation-trans, IsPermutation-append, IsPermutation-map, length_permutation, All-permutation}
+use Rattle.std.proofs.lemmas.Map.Keys.{IsDistinct-tail}
 use Rattle.std.proofs.lemmas.Map.Steps.{length-le_from_distinct_below}
 use Rattle.std.proofs.lemmas.List.Sorted.{IsPermutation-refl, IsNonDecreasingBy-short}
 use Rattle.std.proofs.Math.Nat.{pow-suc, pow-le-pow_right}
@@ -88,6 +89,17 @@ drop_back chairs at some within =
     let one : at - 1 + 1 ≡ at = omega arith in
     let below : at - 1 < length chairs = omega arith in
     rw one at (drop_more chairs (at - 1) (0, 0) below)
+
+-- the next chair and those after it have distinct slots too
+distinct_drop : (n : ℕ) (keys : List ℕ) → IsDistinct eqb keys → IsDistinct eqb (drop n keys)
+distinct_drop zero keys distinct = distinct
+distinct_drop (suc n) [] distinct = distinct
+distinct_drop (suc n) (k ∷ keys) distinct = distinct_drop n keys (IsDistinct-tail eqb k keys distinct)
+
+pub distinct_left : (chairs : List (ℕ × ℕ)) (at : ℕ) → IsDistinct eqb (map (λ c. c.0) chairs) → 0 < at → at ≤ length chairs → IsDistinct eqb (map (λ c. c.0) (get_or chairs (at - 1) (0, 0) ∷ drop at chairs))
+distinct_left chairs at distinct some within =
+    let left : IsDistinct eqb (map (λ c. c.0) (drop (at - 1) chairs)) = rw (drop-map (λ (c : ℕ × ℕ). c.0) (at - 1) chairs) at (distinct_drop (at - 1) (map (λ c. c.0) chairs) distinct) in
+    rw (drop_back chairs at some within) at left
 
 pub small_left : (chairs : List (ℕ × ℕ)) (at : ℕ) (es : List Entry) → AreSubsets (drop at chairs) es → weight_of chairs ≤ 2 ^ 48 → 0 < at → at ≤ length chairs → All (λ e. e.sum + (get_or chairs (at - 1) (0, 0)).1 ≤ 2 ^ 48) es
 small_left chairs at es are small some within =

@@ -8,7 +8,7 @@ ghost use Rattle.half_sums.specs.Entries.{joined};
 ghost use Rattle.half_sums.specs.Groups.{AreGroups, fewer_than};
 
 use crate::Entry;
-use crate::groups::{spread, starts_of};
+use crate::groups::spread;
 use crate::merge::merge;
 use council_core::Refusal;
 use std::alloc::Global;
@@ -74,17 +74,15 @@ impl SumList {
         self.count = 2 * list.len();
     }
 
-    /// Becomes another list's entries by size, those of one size in their order there, and answers where each group
-    /// starts. Behind the starts of the 17 groups stands where the last one ends.
-    pub(crate) fn regroup(&mut self, list: &[Entry]) -> [usize; 18]
-        requires masks { All (λ e. e.mask < 2 ^ 16) list.now }
+    /// Becomes another list's entries by size, those of one size in their order there. Behind the starts of the 17
+    /// groups stands where the last one ends.
+    pub(crate) fn regroup(&mut self, list: &[Entry], starts: &[usize; 18])
+        requires starts { (size : ℕ) → size ≤ 17 → slice_index starts.now size ≡ fewer_than size list.now }
         requires few { length list.now ≤ 65536 }
-        ensures groups { AreGroups list.now self.new result }
+        ensures groups { AreGroups list.now self.new starts.now }
     {
-        let starts = starts_of(list);
-        regroup(list, &starts, &mut self.room);
+        regroup(list, starts, &mut self.room);
         self.count = list.len();
-        starts
     }
 }
 

@@ -1,15 +1,15 @@
 //! The lists of a half, and their rebuild in the room that they have.
-ghost use Rattle.std.specs.Prelude.{◌≡◌, ◌==◌, ℕ, ◌+◌, ◌-◌, ◌*◌, ◌^◌, ◌<◌, ◌≤◌, List, [], ◌∷◌, ◌++◌, length, map, take, drop, IfOk, IsOkUnless};
+ghost use Rattle.std.specs.Prelude.{◌≡◌, ◌==◌, ℕ, ◌+◌, ◌-◌, ◌*◌, ◌^◌, ◌<◌, ◌≤◌, List, [], ◌∷◌, ◌++◌, length, map, take, drop, slice_index, IfOk, IsOkUnless};
 ghost use Rattle.std.specs.List.{All, IsDistinct};
 ghost use Rattle.std.specs.List.Sorted.{IsPermutation, IsNonDecreasingBy};
 ghost use Rattle.council_core.specs.declared.refusals.Refusal.TheVariants.{OutOfMemory};
 ghost use Rattle.council_core.specs.Sheets.{weight_of};
 ghost use Rattle.half_sums.specs.declared.entry.Entry.{Entry};
 ghost use Rattle.half_sums.specs.Entries.{joined, AreSubsets, IsHalf};
-ghost use Rattle.half_sums.specs.Groups.{group_of, grouped, AreGroups};
+ghost use Rattle.half_sums.specs.Groups.{group_of, grouped, fewer_than, AreGroups};
 
 use crate::Entry;
-use crate::groups::SIZES;
+use crate::groups::{ONE_SET, SIZES, with_one_more};
 use crate::lists::SumList;
 use council_core::Refusal;
 use std::alloc::Global;
@@ -41,11 +41,11 @@ impl HalfSums {
     {
         let ascending = SumList::new(alloc)?;
         let mut groups = SumList::new(alloc)?;
-        let starts = groups.regroup(ascending.as_slice());
+        groups.regroup(ascending.as_slice(), &ONE_SET);
         Ok(HalfSums {
             ascending,
             groups,
-            starts,
+            starts: ONE_SET,
         })
     }
 
@@ -86,8 +86,8 @@ impl HalfSums {
         requires small { weight_of chairs.now ≤ 2 ^ 48 }
         ensures subsets { AreSubsets chairs.now self.new }
     {
-        list(chairs, &mut self.ascending, &mut self.groups);
-        self.starts = self.groups.regroup(self.ascending.as_slice());
+        self.starts = list(chairs, &mut self.ascending, &mut self.groups);
+        self.groups.regroup(self.ascending.as_slice(), &self.starts);
     }
 }
 
@@ -100,19 +100,24 @@ fn part(entries: &[Entry], from: usize, to: usize) -> &[Entry]
     &entries[from..to]
 }
 
-/// Lists the sets of these chairs, ascending by sum. What stands in either list is lost.
-fn list(chairs: &[(u8, u64)], ascending: &mut SumList, scratch: &mut SumList)
+/// Lists the sets of these chairs, ascending by sum, and answers where the groups of each size start. What stands in
+/// either list before is lost.
+fn list(chairs: &[(u8, u64)], ascending: &mut SumList, scratch: &mut SumList) -> [usize; 18]
     requires slots { All (λ chair. chair.0 < 16) chairs.now }
     requires distinct { IsDistinct (λ a b. a == b) (map (λ chair. chair.0) chairs.now) }
     requires small { weight_of chairs.now ≤ 2 ^ 48 }
     ensures subsets { AreSubsets chairs.now ascending.new }
     ensures half { IsHalf ascending.new }
+    ensures starts { (size : ℕ) → size ≤ 17 → slice_index result size ≡ fewer_than size ascending.new }
 {
     ascending.clear();
+    let mut starts = ONE_SET;
     for at in (0..chairs.len()).rev() {
         let (slot, weight) = chairs[at];
         add(ascending, scratch, weight, 1u16 << slot);
+        with_one_more(&mut starts);
     }
+    starts
 }
 
 /// Adds a chair: each set as it was, and each set with the chair.

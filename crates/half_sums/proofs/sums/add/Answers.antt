@@ -1,4 +1,4 @@
-use Rattle.std.proofs.Common.{rules, ◌++◌, map, ◌≡◌, ◌^◌, ◌<◌}
+use Rattle.std.proofs.Common.{rules, ◌++◌, map, ◌^◌, ◌<◌}
 use Rattle.std.specs.List.Sorted.{IsPermutation}
 use Rattle.half_sums.specs.Entries.{joined}
 use Rattle.half_sums.proofs.SubsetFacts.{IsHalf-more}
