@@ -35,5 +35,8 @@ pub record IsHalf (entries : List Entry) : Type 0 where
 abbrev pub three : List (ℕ × ℕ)
 three = (0, 50) ∷ (1, 49) ∷ (2, 1) ∷ []
 
-pub three_entries : entries_of three ≡ record { sum = 0; mask = 0 } ∷ record { sum = 1; mask = 4 } ∷ record { sum = 49; mask = 2 } ∷ record { sum = 50; mask = 6 } ∷ record { sum = 50; mask = 1 } ∷ record { sum = 51; mask = 5 } ∷ record { sum = 99; mask = 3 } ∷ record { sum = 100; mask = 7 } ∷ []
+pub three_entries : entries_of three
+    ≡ record { sum = 0; mask = 0 } ∷ record { sum = 1; mask = 4 } ∷ record { sum = 49; mask = 2 }
+    ∷ record { sum = 50; mask = 6 } ∷ record { sum = 50; mask = 1 } ∷ record { sum = 51; mask = 5 }
+    ∷ record { sum = 99; mask = 3 } ∷ record { sum = 100; mask = 7 } ∷ []
 three_entries = refl

@@ -18,4 +18,5 @@ pub record EachMaskOnce (chairs : List Chair) (entries : List Entry) : Type 0 wh
 
 -- so are the masks in the list of a half whose chairs have distinct slots
 abbrev pub MaskLaw : Type 0
-MaskLaw = (chairs : List Chair) (entries : List Entry) → IsDistinct (λ a b. a == b) (map (λ chair. chair.0) chairs) → AreSubsets chairs entries → EachMaskOnce chairs entries
+MaskLaw = (chairs : List Chair) (entries : List Entry) → IsDistinct (λ a b. a == b) (map (λ chair. chair.0) chairs)
+    → AreSubsets chairs entries → EachMaskOnce chairs entries

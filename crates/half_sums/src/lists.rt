@@ -91,7 +91,8 @@ fn double(list: &[Entry], weight: u64, bit: u16, room: &mut [Entry])
     requires few { 2 * length list.now ≤ length room.old }
     requires small { All (λ e. e.sum + weight < 2 ^ 64) list.now }
     requires ascends { IsNonDecreasingBy (λ e. e.sum) list.now }
-    ensures each_once { IsPermutation (list.now ++ map (joined weight bit) list.now) (take (2 * length list.now) room.new) }
+    ensures each_once { IsPermutation (list.now ++ map (joined weight bit) list.now)
+        (take (2 * length list.now) room.new) }
     ensures ascending { IsNonDecreasingBy (λ e. e.sum) (take (2 * length list.now) room.new) }
     ensures long { length room.new ≡ length room.old }
 {

@@ -15,7 +15,7 @@ use Rattle.swing_walk.proofs.BoardSets as sets
 use Rattle.swing_walk.proofs.Coalitions.{sum_by-map, sum_agree}
 use Rattle.swing_walk.proofs.PairLaws.{over-map, pair_law}
 use Rattle.power_index.specs.Halves.{half_words, half_chairs, AreHalves}
-use Rattle.power_index.specs.Counts.{eta_at, HalvesLaw}
+use Rattle.power_index.specs.Counts.{eta_at, EvaluationLaw}
 use Rattle.power_index.proofs.HalfLemmas.{half_slots, half_distinct}
 
 -- the words of the chairs are those of the two halves
@@ -162,9 +162,9 @@ omega_law quota least_size words from to halves =
     ∙ sym (omega_up quota least_size 1 (from_zero words))
     ∙ sym (ap (omega_of (reaching quota least_size)) (open_is words))
 
-pub halves_law : HalvesLaw
-halves_law quota least_size words from to halves =
-    let law : Meet quota least_size words from to = sets.halves_law quota least_size (half_chairs 0 words) (half_chairs 16 words) from to (are_half 0 words) (are_half 16 words) halves.left_half halves.right_half in
+pub evaluation_law : EvaluationLaw
+evaluation_law quota least_size words from to halves =
+    let law : Meet quota least_size words from to = sets.two_halves_law quota least_size (half_chairs 0 words) (half_chairs 16 words) from to (are_half 0 words) (are_half 16 words) halves.left_half halves.right_half in
     record {
       omega = omega_law quota least_size words from to halves;
       few = law.few;

@@ -9,19 +9,19 @@ use Rattle.power_index.specs.Halves.{AreHalves}
 use Rattle.power_index.specs.Counts.{AreCounts}
 use Rattle.power_index.specs.Indices.{power_of}
 use Rattle.power_index.specs.Tallies.{IsTally}
-use Rattle.power_index.specs.declared.rows.Tally.{Tally}
-use Rattle.power_index.proofs.BoardLaw.{halves_law}
+use Rattle.power_index.specs.declared.rows.SwingTally.{SwingTally}
+use Rattle.power_index.proofs.BoardLaw.{evaluation_law}
 use Rattle.power_index.proofs.Bounds.{eta_bound, few_chairs, omega_bound}
 use Rattle.power_index.proofs.RowLemmas.{chair_at, eta_open, set_count_few}
 
-pub swings_open : (words : List ℕ) (tally : Tally) (i : ℕ) → IsTally words tally → i < 32 → 0 < get_or words i 0 → get_or tally.swings i 0 ≡ eta_of (rule_of tally.majority words) (chair_at i words) (open_chairs words)
+pub swings_open : (words : List ℕ) (tally : SwingTally) (i : ℕ) → IsTally words tally → i < 32 → 0 < get_or words i 0 → get_or tally.swings i 0 ≡ eta_of (rule_of tally.majority words) (chair_at i words) (open_chairs words)
 swings_open words tally i is h some = is.each i h ∙ eta_open (rule_of tally.majority words) words i some
 
-pub swings_small : (words : List ℕ) (tally : Tally) (i : ℕ) → IsTally words tally → i < 32 → 0 < get_or words i 0 → get_or tally.swings i 0 ≤ 2 ^ 32
+pub swings_small : (words : List ℕ) (tally : SwingTally) (i : ℕ) → IsTally words tally → i < 32 → 0 < get_or words i 0 → get_or tally.swings i 0 ≤ 2 ^ 32
 swings_small words tally i is h some =
     omega (arith, swings_open words tally i is h some, eta_bound (rule_of tally.majority words) (chair_at i words) (open_chairs words), set_count_few (length (open_chairs words)) (few_chairs words))
 
-pub winning_part : (words : List ℕ) (tally : Tally) (n : ℕ) → IsTally words tally → n ≡ length (open_chairs words) → tally.winning ≤ 2 ^ n
+pub winning_part : (words : List ℕ) (tally : SwingTally) (n : ℕ) → IsTally words tally → n ≡ length (open_chairs words) → tally.winning ≤ 2 ^ n
 winning_part words tally n is count =
     subst (λ (m : ℕ). tally.winning ≤ 2 ^ m) (sym count) (omega (arith, is.omega, omega_bound (rule_of tally.majority words) (open_chairs words)))
 
@@ -32,7 +32,7 @@ power_agree n n' o o' s s' e e' k k' w hn ho hs he hk =
 pub are_counts : (quota least_size : ℕ) (words : List ℕ) (from to : List Entry) (winning : ℕ) (with_chair : ℕ → ℕ) → AreHalves words from to →
     winning ≡ large_pairs quota least_size from to → ((place : ℕ) → place < 32 → with_chair place ≡ large_with quota least_size place from to) → AreCounts quota least_size words winning with_chair
 are_counts quota least_size words from to winning with_chair halves w each =
-    let law : AreCounts quota least_size words (large_pairs quota least_size from to) (λ place. large_with quota least_size place from to) = halves_law quota least_size words from to halves in
+    let law : AreCounts quota least_size words (large_pairs quota least_size from to) (λ place. large_with quota least_size place from to) = evaluation_law quota least_size words from to halves in
     record {
       omega = w ∙ law.omega;
       few = omega (arith, law.few);

@@ -12,15 +12,18 @@ eta_at wins words place =
     let word = slice_index words place in
     if word == 0 then 0 else eta_of wins (place + 1, word - 1) (open_chairs words)
 
--- counts of a sheet by a quota and a least size: omega, and with each chair what `swings` asks for and turns into its swings
+-- counts of a sheet by a quota and a least size: omega, and with each chair what `swings` asks for and turns into its
+-- swings
 pub record AreCounts (quota least_size : ℕ) (words : List ℕ) (winning : ℕ) (with_chair : ℕ → ℕ) : Type 0 where
   pub omega : winning ≡ omega_of (reaching quota least_size) (open_chairs words)
   pub few : winning ≤ 2 ^ 32
   pub within : (place : ℕ) → place < 32 → with_chair place ≤ winning
   pub half : (place : ℕ) → place < 32 → 0 < with_chair place → winning ≤ 2 * with_chair place
-  pub swings : (place : ℕ) → place < 32 → swings_of winning (with_chair place) ≡ eta_at (reaching quota least_size) words place
+  pub swings : (place : ℕ) → place < 32
+      → swings_of winning (with_chair place) ≡ eta_at (reaching quota least_size) words place
 
 -- the pairs of the entries of the two halves count the coalitions of the sheet
-abbrev pub HalvesLaw : Type 0
-HalvesLaw = (quota least_size : ℕ) (words : List ℕ) (left right : List Entry) → AreHalves words left right →
-    AreCounts quota least_size words (large_pairs quota least_size left right) (λ place. large_with quota least_size place left right)
+abbrev pub EvaluationLaw : Type 0
+EvaluationLaw = (quota least_size : ℕ) (words : List ℕ) (left right : List Entry) → AreHalves words left right →
+    AreCounts quota least_size words (large_pairs quota least_size left right)
+    (λ place. large_with quota least_size place left right)

@@ -40,7 +40,8 @@ power_of n omega etas eta c =
 -- the rows of some chairs of a board
 abbrev pub rows_among : Rule → List Chair → List Chair → List ChairPower
 rows_among wins board chairs =
-    map (λ c. power_of (length board) (omega_of wins board) (swings_among wins board board) (eta_of wins c board) c) chairs
+    map (λ c. power_of (length board) (omega_of wins board) (swings_among wins board board) (eta_of wins c board) c)
+    chairs
 
 -- every field of the indices of a sheet by a majority: so much weight as the quota and so many chairs as the least size
 -- are what wins, the power of the board to act is omega over all coalitions, and the rows are those of all open chairs
@@ -53,7 +54,8 @@ pub record AreIndices (majority : Majority) (words : List ℕ) (indices : Indice
   pub same_total : indices.total ≡ total_of words
   pub omega : indices.winning ≡ omega_of (rule_of majority words) (open_chairs words)
   pub all : indices.coalitions ≡ 2 ^ length (open_chairs words)
-  pub to_act : indices.act ≡ ratio (omega_of (rule_of majority words) (open_chairs words)) (2 ^ length (open_chairs words))
+  pub to_act : indices.act
+      ≡ ratio (omega_of (rule_of majority words) (open_chairs words)) (2 ^ length (open_chairs words))
   pub row_each : indices.rows.items ≡ rows_among (rule_of majority words) (open_chairs words) (open_chairs words)
 
 -- the same as a value, which computes

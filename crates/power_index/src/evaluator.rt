@@ -9,7 +9,7 @@ ghost use Rattle.power_index.specs.Indices.{AreIndices, indices_of};
 
 use crate::halves::refresh;
 use crate::indices::{Fraction, Indices};
-use crate::rows::{Tally, coalition_count, rows};
+use crate::rows::{SwingTally, coalition_count, rows};
 use council_core::{Refusal, Sheet};
 use half_sums::HalfSums;
 use majority_rule::{Majority, least_size, quota};
@@ -102,13 +102,13 @@ impl Evaluator {
 
     /// The winning coalitions of the sheet held, and the swings of each place, by the quota and the least size of a
     /// majority.
-    fn tally(&self, majority: Majority, quota: u64, least_size: u8) -> Tally
+    fn tally(&self, majority: Majority, quota: u64, least_size: u8) -> SwingTally
         requires quota { (w k : ℕ) → ((quota ≤ w) × (least_size ≤ k)) ↔ IsTrue (wins majority self.now w k) }
         ensures counts { IsTally self.now result }
         ensures majority { result.majority ≡ majority }
     {
         let counts = self.counts(quota, least_size);
-        Tally {
+        SwingTally {
             majority,
             winning: counts.winning,
             swings: swings(&counts),
@@ -117,7 +117,8 @@ impl Evaluator {
 
     /// The pairs of the two halves that reach a quota and a least size.
     fn counts(&self, quota: u64, least_size: u8) -> Counts
-        ensures counts { AreCounts quota least_size self.now result.winning (λ place. slice_index result.with_chair place) }
+        ensures counts { AreCounts quota least_size self.now result.winning
+            (λ place. slice_index result.with_chair place) }
     {
         count(&self.left, &self.right, quota, least_size)
     }

@@ -5,7 +5,7 @@
 //! 32 chairs cost two lists of 65,536 sums in place of 2^32 coalitions.
 #![tactic(auto)]
 
-ghost use Rattle.power_index.specs.Counts.{HalvesLaw};
+ghost use Rattle.power_index.specs.Counts.{EvaluationLaw};
 
 mod evaluator;
 mod halves;
@@ -17,8 +17,8 @@ pub use indices::{ChairPower, Fraction, Indices};
 
 /// The law on which an evaluation stands: pairs of sets of the two halves of a sheet are the coalitions of its open
 /// chairs, each once. So their counts give omega and the swings of every place, and meet what `swings` asks for.
-pub fn halves_law()
-    ensures counts { HalvesLaw }
+pub fn evaluation_law()
+    ensures counts { EvaluationLaw }
 {}
 
 #[cfg(test)]

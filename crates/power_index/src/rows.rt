@@ -12,7 +12,7 @@ use majority_rule::Majority;
 
 /// The winning coalitions of a sheet under a majority, and the swings of each place.
 #[derive(Clone, Copy)]
-pub(crate) struct Tally {
+pub(crate) struct SwingTally {
     pub(crate) majority: Majority,
     pub(crate) winning: u64,
     pub(crate) swings: [u64; 32],
@@ -81,9 +81,10 @@ fn row(totals: &Totals, chair: ChairId, weight: u64, swings: u64) -> ChairPower
 }
 
 /// The swings of all open chairs.
-fn swing_sum(words: &[u64; 34], tally: &Tally) -> u64
+fn swing_sum(words: &[u64; 34], tally: &SwingTally) -> u64
     requires tally { IsTally words.now tally.now }
-    ensures sum { result ≡ swings_among (rule_of tally.now.majority words.now) (open_chairs words.now) (open_chairs words.now) }
+    ensures sum { result ≡ swings_among (rule_of tally.now.majority words.now) (open_chairs words.now)
+        (open_chairs words.now) }
 {
     let mut sum = 0;
     for place in 0..32 {
@@ -95,10 +96,11 @@ fn swing_sum(words: &[u64; 34], tally: &Tally) -> u64
 }
 
 /// A row for each open chair, by number.
-pub(crate) fn rows(words: &[u64; 34], tally: &Tally, chairs: u8) -> ArrayVec<ChairPower, 32>
+pub(crate) fn rows(words: &[u64; 34], tally: &SwingTally, chairs: u8) -> ArrayVec<ChairPower, 32>
     requires tally { IsTally words.now tally.now }
     requires chairs { chairs ≡ length (open_chairs words.now) }
-    ensures rows { result.items ≡ rows_among (rule_of tally.now.majority words.now) (open_chairs words.now) (open_chairs words.now) }
+    ensures rows { result.items
+        ≡ rows_among (rule_of tally.now.majority words.now) (open_chairs words.now) (open_chairs words.now) }
 {
     let totals = Totals {
         chairs,

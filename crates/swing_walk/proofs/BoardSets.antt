@@ -18,7 +18,7 @@ use Rattle.half_sums.proofs.SetSums.{subsets_avoid, or_left, or_right}
 use Rattle.half_sums.proofs.SubsetFacts.{length_of_half, few}
 use Rattle.half_sums.proofs.MaskLemmas.{first_apart, of_others}
 use Rattle.swing_walk.specs.Pairs.{large_pairs, large_with, reaches, is_large, swings_of}
-use Rattle.swing_walk.specs.Laws.{board_of, CoalitionLaw, AreHalf, HalvesLaw, PairsAreCoalitions}
+use Rattle.swing_walk.specs.Laws.{board_of, CoalitionLaw, AreHalf, TwoHalvesLaw, PairsAreCoalitions}
 use Rattle.swing_walk.proofs.Counting.{count_none, pairs_bound}
 use Rattle.swing_walk.proofs.Coalitions.{swing_law, count_law, bound_law, reaching_rule}
 use Rattle.swing_walk.proofs.PairLaws.{shifted, none_below, as_slot, pair_law}
@@ -147,8 +147,8 @@ entries_few chairs es half are =
     let bound : 2 ^ length chairs ≤ 2 ^ 16 = pow-le-pow_right (omega arith) (few chairs half.slots half.distinct) in
     omega (arith, length_of_half chairs es are, bound)
 
-pub halves_law : HalvesLaw
-halves_law quota least_size left right from to half_left half_right are_left are_right =
+pub two_halves_law : TwoHalvesLaw
+two_halves_law quota least_size left right from to half_left half_right are_left are_right =
     let board : List Chair = board_of left right in
     let p : PairsAreCoalitions quota least_size left right from to = pair_law quota least_size left right from to half_left half_right are_left are_right in
     let distinct : IsDistinct eqb (map (λ (c : Chair). c.0) board) = board_distinct left right half_left.slots half_left.distinct half_right.distinct in

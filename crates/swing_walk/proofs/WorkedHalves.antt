@@ -6,7 +6,7 @@ use Rattle.council_core.specs.Sheets.{Chair}
 use Rattle.half_sums.specs.declared.entry.Entry.{Entry}
 use Rattle.half_sums.specs.Entries.{AreSubsets, three}
 use Rattle.swing_walk.specs.Laws.{AreHalf, CountsMeet, ones}
-use Rattle.swing_walk.proofs.BoardSets.{halves_law}
+use Rattle.swing_walk.proofs.BoardSets.{two_halves_law}
 
 ones_slots : All (λ c. c.0 < 16) ones
 ones_slots = search rules
@@ -33,9 +33,9 @@ none_distinct = search rules
 pub ones_meet : (quota least_size : ℕ) (left right : List Entry) → AreSubsets ones left → AreSubsets ones right → CountsMeet quota least_size ones ones left right
 ones_meet quota least_size left right are_left are_right =
     let half : AreHalf ones = record { slots = ones_slots; distinct = ones_distinct } in
-    halves_law quota least_size ones ones left right half half are_left are_right
+    two_halves_law quota least_size ones ones left right half half are_left are_right
 
 -- the counts of three chairs and an empty half
 pub three_meet : (quota least_size : ℕ) (left right : List Entry) → AreSubsets three left → AreSubsets [] right → CountsMeet quota least_size three [] left right
 three_meet quota least_size left right are_left are_right =
-    halves_law quota least_size three [] left right (record { slots = three_slots; distinct = three_distinct }) (record { slots = none_slots; distinct = none_distinct }) are_left are_right
+    two_halves_law quota least_size three [] left right (record { slots = three_slots; distinct = three_distinct }) (record { slots = none_slots; distinct = none_distinct }) are_left are_right

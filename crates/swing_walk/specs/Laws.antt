@@ -9,31 +9,40 @@ use Rattle.swing_walk.specs.Pairs.{large_pairs, large_with, swings_of}
 
 -- the swings of a chair from the counts of winning coalitions, for any rule (Felsenthal and Machover 1998)
 abbrev pub SwingLaw : Type 0
-SwingLaw = (wins : Rule) (before after : List Chair) (chair : Chair) → IsRule wins → has_chair chair.0 (before ++ after) ≡ false →
-    eta_of wins chair (before ++ chair ∷ after) + omega_of wins (before ++ chair ∷ after) ≡ 2 * omega_with wins chair.0 (before ++ chair ∷ after)
+SwingLaw = (wins : Rule) (before after : List Chair) (chair : Chair) → IsRule wins
+    → has_chair chair.0 (before ++ after) ≡ false →
+    eta_of wins chair (before ++ chair ∷ after) + omega_of wins (before ++ chair ∷ after)
+    ≡ 2 * omega_with wins chair.0 (before ++ chair ∷ after)
 
 -- worked example: chairs of 50, 49 and 1 votes, quota 51
 pub three_omega : omega_of (reaching 51 0) three ≡ 3
 three_omega = refl
 
-pub three_with : (omega_with (reaching 51 0) 0 three ≡ 3) × (omega_with (reaching 51 0) 1 three ≡ 2) × (omega_with (reaching 51 0) 2 three ≡ 2)
+pub three_with : (omega_with (reaching 51 0) 0 three ≡ 3) × (omega_with (reaching 51 0) 1 three ≡ 2)
+    × (omega_with (reaching 51 0) 2 three ≡ 2)
 three_with = (refl, refl, refl)
 
-pub three_eta : (eta_of (reaching 51 0) (0, 50) three ≡ 3) × (eta_of (reaching 51 0) (1, 49) three ≡ 1) × (eta_of (reaching 51 0) (2, 1) three ≡ 1)
+pub three_eta : (eta_of (reaching 51 0) (0, 50) three ≡ 3) × (eta_of (reaching 51 0) (1, 49) three ≡ 1)
+    × (eta_of (reaching 51 0) (2, 1) three ≡ 1)
 three_eta = (refl, refl, refl)
 
-pub three_pairs : (large_pairs 51 0 (entries_of three) (entries_of []) ≡ 3) × (large_with 51 0 0 (entries_of three) (entries_of []) ≡ 3) × (large_with 51 0 1 (entries_of three) (entries_of []) ≡ 2) × (large_with 51 0 16 (entries_of three) (entries_of []) ≡ 0)
+pub three_pairs : (large_pairs 51 0 (entries_of three) (entries_of []) ≡ 3)
+    × (large_with 51 0 0 (entries_of three) (entries_of []) ≡ 3)
+    × (large_with 51 0 1 (entries_of three) (entries_of []) ≡ 2)
+    × (large_with 51 0 16 (entries_of three) (entries_of []) ≡ 0)
 unfolding lib.Count.ones
 three_pairs = (refl, refl, refl, refl)
 
 -- the same chairs, where two of them are needed and 50 votes
-pub three_large : (omega_of (reaching 50 2) three ≡ 4) × (eta_of (reaching 50 2) (0, 50) three ≡ 2) × (eta_of (reaching 50 2) (2, 1) three ≡ 2) × (large_pairs 50 2 (entries_of three) (entries_of []) ≡ 4)
+pub three_large : (omega_of (reaching 50 2) three ≡ 4) × (eta_of (reaching 50 2) (0, 50) three ≡ 2)
+    × (eta_of (reaching 50 2) (2, 1) three ≡ 2) × (large_pairs 50 2 (entries_of three) (entries_of []) ≡ 4)
 unfolding lib.Count.ones
 three_large = (refl, refl, refl, refl)
 
 -- worked example: sixteen chairs of one vote each
 abbrev pub ones : List Chair
-ones = (0, 1) ∷ (1, 1) ∷ (2, 1) ∷ (3, 1) ∷ (4, 1) ∷ (5, 1) ∷ (6, 1) ∷ (7, 1) ∷ (8, 1) ∷ (9, 1) ∷ (10, 1) ∷ (11, 1) ∷ (12, 1) ∷ (13, 1) ∷ (14, 1) ∷ (15, 1) ∷ []
+ones = (0, 1) ∷ (1, 1) ∷ (2, 1) ∷ (3, 1) ∷ (4, 1) ∷ (5, 1) ∷ (6, 1) ∷ (7, 1) ∷ (8, 1) ∷ (9, 1) ∷ (10, 1) ∷ (11, 1)
+    ∷ (12, 1) ∷ (13, 1) ∷ (14, 1) ∷ (15, 1) ∷ []
 
 -- the chairs of two halves, by place: 0 to 15 on the left, 16 to 31 on the right
 abbrev pub board_of : List Chair → List Chair → List Chair
@@ -55,27 +64,39 @@ pub record AreHalf (chairs : List Chair) : Type 0 where
 -- the counts of the pairs are those of the coalitions of the board
 pub record PairsAreCoalitions (quota least_size : ℕ) (left right : List Chair) (from to : List Entry) : Type 0 where
   pub winning : large_pairs quota least_size from to ≡ omega_of (reaching quota least_size) (board_of left right)
-  pub with_chair : (place : ℕ) → large_with quota least_size place from to ≡ omega_with (reaching quota least_size) place (board_of left right)
+  pub with_chair : (place : ℕ)
+      → large_with quota least_size place from to ≡ omega_with (reaching quota least_size) place (board_of left right)
 
 abbrev pub PairLaw : Type 0
-PairLaw = (quota least_size : ℕ) (left right : List Chair) (from to : List Entry) → AreHalf left → AreHalf right → AreSubsets left from → AreSubsets right to → PairsAreCoalitions quota least_size left right from to
+PairLaw = (quota least_size : ℕ) (left right : List Chair) (from to : List Entry) → AreHalf left → AreHalf right
+    → AreSubsets left from → AreSubsets right to → PairsAreCoalitions quota least_size left right from to
 
 -- what the counts of two halves come to, chair by chair
 abbrev pub CountLaw : Type 0
-CountLaw = (quota least_size : ℕ) (before after : List Chair) (chair : Chair) → has_chair chair.0 (before ++ after) ≡ false →
-    swings_of (omega_of (reaching quota least_size) (before ++ chair ∷ after)) (omega_with (reaching quota least_size) chair.0 (before ++ chair ∷ after)) ≡ eta_of (reaching quota least_size) chair (before ++ chair ∷ after)
+CountLaw = (quota least_size : ℕ) (before after : List Chair) (chair : Chair)
+    → has_chair chair.0 (before ++ after) ≡ false →
+    swings_of (omega_of (reaching quota least_size) (before ++ chair ∷ after))
+    (omega_with (reaching quota least_size) chair.0 (before ++ chair ∷ after))
+    ≡ eta_of (reaching quota least_size) chair (before ++ chair ∷ after)
 
 -- no more winning coalitions have a chair than there are
 abbrev pub BoundLaw : Type 0
-BoundLaw = (quota least_size place : ℕ) (chairs : List Chair) → omega_with (reaching quota least_size) place chairs ≤ omega_of (reaching quota least_size) chairs
+BoundLaw = (quota least_size place : ℕ) (chairs : List Chair)
+    → omega_with (reaching quota least_size) place chairs ≤ omega_of (reaching quota least_size) chairs
 
--- the counts of two halves are what `swings` asks for, and its answer is the swings of each chair, 0 where there is none
+-- the counts of two halves are what `swings` asks for, and its answer is the swings of each chair, 0 where there is
+-- none
 pub record CountsMeet (quota least_size : ℕ) (left right : List Chair) (from to : List Entry) : Type 0 where
   pub few : large_pairs quota least_size from to ≤ 2 ^ 32
   pub within : (place : ℕ) → large_with quota least_size place from to ≤ large_pairs quota least_size from to
-  pub half : (place : ℕ) → 0 < large_with quota least_size place from to → large_pairs quota least_size from to ≤ 2 * large_with quota least_size place from to
-  pub swings : (before after : List Chair) (chair : Chair) → board_of left right ≡ before ++ chair ∷ after → swings_of (large_pairs quota least_size from to) (large_with quota least_size chair.0 from to) ≡ eta_of (reaching quota least_size) chair (board_of left right)
-  pub vacant : (place : ℕ) → has_chair place (board_of left right) ≡ false → swings_of (large_pairs quota least_size from to) (large_with quota least_size place from to) ≡ 0
+  pub half : (place : ℕ) → 0 < large_with quota least_size place from to
+      → large_pairs quota least_size from to ≤ 2 * large_with quota least_size place from to
+  pub swings : (before after : List Chair) (chair : Chair) → board_of left right ≡ before ++ chair ∷ after
+      → swings_of (large_pairs quota least_size from to) (large_with quota least_size chair.0 from to)
+      ≡ eta_of (reaching quota least_size) chair (board_of left right)
+  pub vacant : (place : ℕ) → has_chair place (board_of left right) ≡ false
+      → swings_of (large_pairs quota least_size from to) (large_with quota least_size place from to) ≡ 0
 
-abbrev pub HalvesLaw : Type 0
-HalvesLaw = (quota least_size : ℕ) (left right : List Chair) (from to : List Entry) → AreHalf left → AreHalf right → AreSubsets left from → AreSubsets right to → CountsMeet quota least_size left right from to
+abbrev pub TwoHalvesLaw : Type 0
+TwoHalvesLaw = (quota least_size : ℕ) (left right : List Chair) (from to : List Entry) → AreHalf left → AreHalf right
+    → AreSubsets left from → AreSubsets right to → CountsMeet quota least_size left right from to

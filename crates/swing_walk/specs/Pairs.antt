@@ -39,7 +39,8 @@ large_pairs quota least_size left right = pairs_where (λ l r. reaches quota l r
 
 -- how many pairs reach both and have the chair of a place
 abbrev pub large_with : ℕ → ℕ → ℕ → List Entry → List Entry → ℕ
-large_with quota least_size place left right = pairs_where (λ l r. (reaches quota l r && is_large least_size l r) && has_place place l r) left right
+large_with quota least_size place left right = pairs_where
+    (λ l r. (reaches quota l r && is_large least_size l r) && has_place place l r) left right
 
 -- the swings of a chair from the winning sets and those that have it: 2 * with_chair - winning (Banzhaf 1965)
 abbrev pub swings_of : ℕ → ℕ → ℕ

@@ -2,7 +2,7 @@
 use Rattle.std.specs.Prelude.{ℕ, ◌≡◌, ◌+◌, ◌-◌, ◌*◌, List, [], ◌∷◌, suc, if◌then◌else◌, nat_lt}
 use Rattle.std.specs.List.{sum_by}
 use Rattle.std.specs.Int.{bit_at}
-use Rattle.swing_walk.specs.declared.tally.Tally.{Tally}
+use Rattle.swing_walk.specs.declared.tally.MaskTally.{MaskTally}
 use Rattle.swing_walk.specs.declared.running.Running.{Running}
 
 -- the sum of a table, each place taken as often as its weight says, from this place on
@@ -18,15 +18,15 @@ abbrev pub high_weight : ℕ → ℕ → ℕ
 high_weight slot byte = bit_at (byte * 256) slot
 
 -- the amounts whose masks have this slot
-abbrev pub marked : ℕ → Tally → ℕ
+abbrev pub marked : ℕ → MaskTally → ℕ
 marked slot t = weighted (low_weight slot) 0 t.low + weighted (high_weight slot) 0 t.high
 
 -- all amounts
-abbrev pub total : Tally → ℕ
+abbrev pub total : MaskTally → ℕ
 total t = sum_by (λ n. n) t.low
 
 -- both tables have taken in the same amounts
-abbrev pub IsEven : Tally → Type 0
+abbrev pub IsEven : MaskTally → Type 0
 IsEven t = sum_by (λ n. n) t.high ≡ sum_by (λ n. n) t.low
 
 -- the tally of either side has an amount of 1 for each pair counted

@@ -8,4 +8,5 @@ zero_entry = record { sum = 0; mask = 0 }
 
 -- no pair of the first `i` left entries and the first `j` right ones reaches the quota
 abbrev pub NoneReach : ℕ → ℕ → ℕ → List Entry → List Entry → Type 0
-NoneReach quota i j left right = (k m : ℕ) → k < i → m < j → (slice_index_or left k zero_entry).sum + (slice_index_or right m zero_entry).sum < quota
+NoneReach quota i j left right = (k m : ℕ) → k < i → m < j
+    → (slice_index_or left k zero_entry).sum + (slice_index_or right m zero_entry).sum < quota

@@ -1,5 +1,5 @@
 //! The laws of counting over the coalitions of a board.
-ghost use Rattle.swing_walk.specs.Laws.{SwingLaw, CoalitionLaw, PairLaw, CountLaw, BoundLaw, HalvesLaw};
+ghost use Rattle.swing_walk.specs.Laws.{SwingLaw, CoalitionLaw, PairLaw, CountLaw, BoundLaw, TwoHalvesLaw};
 
 /// `eta + omega = 2 * omega_with` at each chair, for any rule in which a superset of a winning set wins (Felsenthal and
 /// Machover 1998).
@@ -21,6 +21,6 @@ pub fn count_law()
 {}
 
 /// The counts of two halves meet what `swings` asks, and its answer is the swings of each chair by the definition.
-pub fn halves_law()
-    ensures halves { HalvesLaw }
+pub fn two_halves_law()
+    ensures halves { TwoHalvesLaw }
 {}

@@ -22,7 +22,8 @@ pub struct Counts {
 /// it takes one walk for each pair of sizes that is large enough. It takes no memory.
 pub fn count(left: &HalfSums, right: &HalfSums, quota: u64, least_size: u8) -> Counts
     ensures winning { result.winning ≡ large_pairs quota least_size left.now right.now }
-    ensures with_chair { (place : ℕ) → place < 32 → slice_index result.with_chair place ≡ large_with quota least_size place left.now right.now }
+    ensures with_chair { (place : ℕ) → place < 32
+        → slice_index result.with_chair place ≡ large_with quota least_size place left.now right.now }
 {
     let (lefts, rights) = (left.ascending(), right.ascending());
     let mut running = Running::new();
@@ -39,8 +40,10 @@ pub fn count(left: &HalfSums, right: &HalfSums, quota: u64, least_size: u8) -> C
 pub fn swings(counts: &Counts) -> [u64; 32]
     requires few { counts.now.winning ≤ 2 ^ 32 }
     requires within { (place : ℕ) → place < 32 → slice_index counts.now.with_chair place ≤ counts.now.winning }
-    requires half { (place : ℕ) → place < 32 → 0 < slice_index counts.now.with_chair place → counts.now.winning ≤ 2 * slice_index counts.now.with_chair place }
-    ensures each { (place : ℕ) → place < 32 → slice_index result place ≡ swings_of counts.now.winning (slice_index counts.now.with_chair place) }
+    requires half { (place : ℕ) → place < 32 → 0 < slice_index counts.now.with_chair place
+        → counts.now.winning ≤ 2 * slice_index counts.now.with_chair place }
+    ensures each { (place : ℕ) → place < 32
+        → slice_index result place ≡ swings_of counts.now.winning (slice_index counts.now.with_chair place) }
 {
     let mut swings = [0; 32];
     for place in 0..32 {

@@ -5,7 +5,7 @@ ghost use Rattle.swing_walk.specs.Pairs.{winning_pairs, winning_with};
 ghost use Rattle.swing_walk.specs.Tallies.{IsRunning, marked_at};
 
 use crate::pairs::Counts;
-use crate::tally::Tally;
+use crate::tally::MaskTally;
 use crate::walking::walk;
 use half_sums::Entry;
 
@@ -13,8 +13,8 @@ use half_sums::Entry;
 #[derive(Drop)]
 pub(crate) struct Running {
     pub(crate) winning: u64,
-    pub(crate) lefts: Tally,
-    pub(crate) rights: Tally,
+    pub(crate) lefts: MaskTally,
+    pub(crate) rights: MaskTally,
 }
 
 impl Running {
@@ -26,8 +26,8 @@ impl Running {
     {
         Running {
             winning: 0,
-            lefts: Tally::new(),
-            rights: Tally::new(),
+            lefts: MaskTally::new(),
+            rights: MaskTally::new(),
         }
     }
 
@@ -39,7 +39,8 @@ impl Running {
         requires room { self.old.winning ≤ 2 ^ 62 }
         ensures running { IsRunning self.new }
         ensures winning { self.new.winning ≡ self.old.winning + winning_pairs quota left.now right.now }
-        ensures with_chair { (place : ℕ) → place < 32 → marked_at place self.new ≡ marked_at place self.old + winning_with quota place left.now right.now }
+        ensures with_chair { (place : ℕ) → place < 32
+            → marked_at place self.new ≡ marked_at place self.old + winning_with quota place left.now right.now }
     {
         let winning = walk(left, right, quota, &mut self.lefts, &mut self.rights);
         self.winning += winning;

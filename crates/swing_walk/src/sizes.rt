@@ -27,7 +27,9 @@ impl Running {
         requires room { self.old.winning ≤ 2 ^ 60 }
         ensures running { IsRunning self.new }
         ensures winning { self.new.winning ≡ self.old.winning + large_pairs quota least_size left.now right.now }
-        ensures with_chair { (place : ℕ) → place < 32 → marked_at place self.new ≡ marked_at place self.old + large_with quota least_size place left.now right.now }
+        ensures with_chair { (place : ℕ) → place < 32
+            → marked_at place self.new
+            ≡ marked_at place self.old + large_with quota least_size place left.now right.now }
     {
         for size in 0..SIZES {
             self.walk_group(left.group(size), size, right, quota, least_size);
@@ -43,7 +45,9 @@ impl Running {
         requires room { self.old.winning ≤ 2 ^ 61 }
         ensures running { IsRunning self.new }
         ensures winning { self.new.winning ≡ self.old.winning + large_pairs quota least_size left.now right.now }
-        ensures with_chair { (place : ℕ) → place < 32 → marked_at place self.new ≡ marked_at place self.old + large_with quota least_size place left.now right.now }
+        ensures with_chair { (place : ℕ) → place < 32
+            → marked_at place self.new
+            ≡ marked_at place self.old + large_with quota least_size place left.now right.now }
     {
         for other in least_size.saturating_sub(size)..SIZES {
             self.walk(left, right.group(other), quota);

@@ -5,19 +5,19 @@ ghost use Rattle.swing_walk.specs.Tallies.{marked, total, IsEven, low_weight, hi
 
 /// Amounts by mask: per value of the low byte of the masks and per value of the high one.
 #[derive(Clone, Copy)]
-pub(crate) struct Tally {
+pub(crate) struct MaskTally {
     pub(crate) low: [u64; 256],
     pub(crate) high: [u64; 256],
 }
 
-impl Tally {
+impl MaskTally {
     /// No amounts.
-    pub(crate) fn new() -> Tally
+    pub(crate) fn new() -> MaskTally
         ensures none { (slot : ℕ) → marked slot result ≡ 0 }
         ensures total { total result ≡ 0 }
         ensures even { IsEven result }
     {
-        Tally {
+        MaskTally {
             low: [0; 256],
             high: [0; 256],
         }
@@ -54,7 +54,9 @@ impl Tally {
 fn add_byte(totals: &mut [u64; 16], byte: u16, low: u64, high: u64)
     requires byte { byte < 256 }
     requires room { (slot : ℕ) → slot < 16 → slice_index totals.old slot + low + high < 2 ^ 64 }
-    ensures more { (slot : ℕ) → slot < 16 → slice_index totals.new slot ≡ slice_index totals.old slot + (low_weight slot byte * low + high_weight slot byte * high) }
+    ensures more { (slot : ℕ) → slot < 16
+        → slice_index totals.new slot
+        ≡ slice_index totals.old slot + (low_weight slot byte * low + high_weight slot byte * high) }
 {
     for slot in 0..8 {
         totals[slot] += at_bit(byte, slot, low);

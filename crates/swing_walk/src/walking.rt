@@ -7,7 +7,7 @@ ghost use Rattle.swing_walk.specs.Walks.{NoneReach, zero_entry};
 ghost use Rattle.swing_walk.specs.Tallies.{marked, total, IsEven};
 
 use crate::sides::credit;
-use crate::tally::Tally;
+use crate::tally::MaskTally;
 use half_sums::Entry;
 
 /// From so many entries on it gains to walk from both ends.
@@ -21,7 +21,7 @@ fn lower(
     right: &[Entry],
     from: usize,
     quota: u64,
-    tally: &mut Tally,
+    tally: &mut MaskTally,
 ) -> usize
     requires left { IsHalf left.now }
     requires right { IsHalf right.now }
@@ -35,8 +35,12 @@ fn lower(
     ensures apart { NoneReach quota (next + 1) result left.now right.now }
     ensures reached { All (λ e. quota ≤ (slice_index_or left.now next zero_entry).sum + e.sum) (drop result right.now) }
     ensures even { IsEven tally.new }
-    ensures total { total tally.new + pairs_where (λ b a. reaches quota b a) (drop from right.now) left.now ≡ total tally.old + pairs_where (λ b a. reaches quota b a) (drop result right.now) left.now }
-    ensures marked { (slot : ℕ) → marked slot tally.new + pairs_where (λ b a. reaches quota b a && has slot b) (drop from right.now) left.now ≡ marked slot tally.old + pairs_where (λ b a. reaches quota b a && has slot b) (drop result right.now) left.now }
+    ensures total { total tally.new + pairs_where (λ b a. reaches quota b a) (drop from right.now) left.now
+        ≡ total tally.old + pairs_where (λ b a. reaches quota b a) (drop result right.now) left.now }
+    ensures marked { (slot : ℕ)
+        → marked slot tally.new + pairs_where (λ b a. reaches quota b a && has slot b) (drop from right.now) left.now
+        ≡ marked slot tally.old + pairs_where (λ b a. reaches quota b a && has slot b) (drop result right.now)
+        left.now }
 {
     let mut at = from;
     while at > 0 && quota <= left[next].sum + right[at - 1].sum {
@@ -52,8 +56,8 @@ pub(crate) fn walk(
     left: &[Entry],
     right: &[Entry],
     quota: u64,
-    lefts: &mut Tally,
-    rights: &mut Tally,
+    lefts: &mut MaskTally,
+    rights: &mut MaskTally,
 ) -> u64
     requires left { IsHalf left.now }
     requires right { IsHalf right.now }
@@ -64,10 +68,14 @@ pub(crate) fn walk(
     ensures winning { result ≡ winning_pairs quota left.now right.now }
     ensures left_even { IsEven lefts.new }
     ensures left_total { total lefts.new ≡ total lefts.old + winning_pairs quota left.now right.now }
-    ensures left_marked { (slot : ℕ) → marked slot lefts.new ≡ marked slot lefts.old + pairs_where (λ a b. reaches quota a b && has slot a) left.now right.now }
+    ensures left_marked { (slot : ℕ)
+        → marked slot lefts.new
+        ≡ marked slot lefts.old + pairs_where (λ a b. reaches quota a b && has slot a) left.now right.now }
     ensures right_even { IsEven rights.new }
     ensures right_total { total rights.new ≡ total rights.old + winning_pairs quota left.now right.now }
-    ensures right_marked { (slot : ℕ) → marked slot rights.new ≡ marked slot rights.old + pairs_where (λ a b. reaches quota a b && has slot b) left.now right.now }
+    ensures right_marked { (slot : ℕ)
+        → marked slot rights.new
+        ≡ marked slot rights.old + pairs_where (λ a b. reaches quota a b && has slot b) left.now right.now }
 {
     // A branch on the sums is learnt where they repeat, and is missed every other time where they don't.
     if left.len() != right.len() || left.len() < MANY || repeats(left) {
@@ -88,8 +96,8 @@ fn walk_in_turn(
     left: &[Entry],
     right: &[Entry],
     quota: u64,
-    lefts: &mut Tally,
-    rights: &mut Tally,
+    lefts: &mut MaskTally,
+    rights: &mut MaskTally,
 ) -> u64
     requires left { IsHalf left.now }
     requires right { IsHalf right.now }
@@ -100,10 +108,14 @@ fn walk_in_turn(
     ensures winning { result ≡ winning_pairs quota left.now right.now }
     ensures left_even { IsEven lefts.new }
     ensures left_total { total lefts.new ≡ total lefts.old + winning_pairs quota left.now right.now }
-    ensures left_marked { (slot : ℕ) → marked slot lefts.new ≡ marked slot lefts.old + pairs_where (λ a b. reaches quota a b && has slot a) left.now right.now }
+    ensures left_marked { (slot : ℕ)
+        → marked slot lefts.new
+        ≡ marked slot lefts.old + pairs_where (λ a b. reaches quota a b && has slot a) left.now right.now }
     ensures right_even { IsEven rights.new }
     ensures right_total { total rights.new ≡ total rights.old + winning_pairs quota left.now right.now }
-    ensures right_marked { (slot : ℕ) → marked slot rights.new ≡ marked slot rights.old + pairs_where (λ a b. reaches quota a b && has slot b) left.now right.now }
+    ensures right_marked { (slot : ℕ)
+        → marked slot rights.new
+        ≡ marked slot rights.old + pairs_where (λ a b. reaches quota a b && has slot b) left.now right.now }
 {
     let mut at = right.len();
     let mut winning = 0;
@@ -123,8 +135,8 @@ fn walk_from_both_ends(
     left: &[Entry],
     right: &[Entry],
     quota: u64,
-    lefts: &mut Tally,
-    rights: &mut Tally,
+    lefts: &mut MaskTally,
+    rights: &mut MaskTally,
 ) -> u64
     requires left { IsHalf left.now }
     requires right { IsHalf right.now }
@@ -136,10 +148,14 @@ fn walk_from_both_ends(
     ensures winning { result ≡ winning_pairs quota left.now right.now }
     ensures left_even { IsEven lefts.new }
     ensures left_total { total lefts.new ≡ total lefts.old + winning_pairs quota left.now right.now }
-    ensures left_marked { (slot : ℕ) → marked slot lefts.new ≡ marked slot lefts.old + pairs_where (λ a b. reaches quota a b && has slot a) left.now right.now }
+    ensures left_marked { (slot : ℕ)
+        → marked slot lefts.new
+        ≡ marked slot lefts.old + pairs_where (λ a b. reaches quota a b && has slot a) left.now right.now }
     ensures right_even { IsEven rights.new }
     ensures right_total { total rights.new ≡ total rights.old + winning_pairs quota left.now right.now }
-    ensures right_marked { (slot : ℕ) → marked slot rights.new ≡ marked slot rights.old + pairs_where (λ a b. reaches quota a b && has slot b) left.now right.now }
+    ensures right_marked { (slot : ℕ)
+        → marked slot rights.new
+        ≡ marked slot rights.old + pairs_where (λ a b. reaches quota a b && has slot b) left.now right.now }
 {
     let mut sides = [*lefts, *rights];
     let mut next = 0;

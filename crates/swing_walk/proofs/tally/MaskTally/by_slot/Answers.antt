@@ -1,7 +1,7 @@
 use Rattle.std.proofs.Common.{arith, rules}
 use Rattle.swing_walk.specs.Tallies.{low_weight, high_weight}
 use Rattle.swing_walk.proofs.Weights.{weighted_next, part_room, low_small, high_small}
-use Rattle.swing_walk.proofs.tally.Tally.by_slot.Goals as goal
+use Rattle.swing_walk.proofs.tally.MaskTally.by_slot.Goals as goal
 
 pub add_byte-requires-clause-room : goal.add_byte-requires-clause-room
 add_byte-requires-clause-room c = λ slot h.
