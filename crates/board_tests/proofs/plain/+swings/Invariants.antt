@@ -2,4 +2,4 @@ use Rattle.std.proofs.Common.{length}
 use Rattle.board_tests.proofs.plain.+swings.Given as goal
 
 abbrev pub decreases-swings : goal.decreases-swings
-decreases-swings l = length l.others.now
+decreases-swings l = length l.words.now
