@@ -120,7 +120,6 @@ fn walk_in_turn(
 /// The walk of two lists of one length, up from the first left entry and down from the last one at once, until they
 /// meet: the two don't wait for one another, and neither has a branch on the sums. Each step passes a left entry or a
 /// right one.
-#[inline(never)]
 fn walk_from_both_ends(
     left: &[Entry],
     right: &[Entry],
