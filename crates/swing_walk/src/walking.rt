@@ -92,6 +92,7 @@ fn repeats(list: &[Entry]) -> bool {
 }
 
 /// The walk from the first left entry on, by a branch on the sums.
+#[inline(never)]
 fn walk_in_turn(
     left: &[Entry],
     right: &[Entry],
