@@ -5,9 +5,10 @@ use Rattle.council_core.specs.Coalitions.{Rule}
 use Rattle.majority_rule.specs.declared.majorities.Majority.{Majority}
 use Rattle.majority_rule.specs.declared.majorities.Majority.TheVariants.{Half, Seventy, EightyFive, Quorum}
 
--- whether a weight w is enough where the open chairs cast c votes of a total of t: more than half of the votes cast (Articles
--- of Agreement, Article XII, Section 5(c)); at least 70 per cent (Article XXVI, Section 2(b)) or 85 per cent (Article III,
--- Section 2(c)) of the total voting power, and never no weight at all; at least half of the total (Article XII, Section 3(h))
+-- whether a weight w is enough where the open chairs cast c votes of a total of t: more than half of the votes cast
+-- (Articles of Agreement, Article XII, Section 5(c)); at least 70 per cent (Article XXVI, Section 2(b)) or 85 per cent
+-- (Article III, Section 2(c)) of the total voting power, and never no weight at all; at least half of the total (Article
+-- XII, Section 3(h))
 abbrev pub is_weight_enough : Majority → ℕ → ℕ → ℕ → Bool
 is_weight_enough Half c t w = nat_lt c (2 * w)
 is_weight_enough Seventy c t w = nat_le 1 w && nat_le (7 * t) (10 * w)
@@ -57,8 +58,10 @@ least_size_of m sheet = least_size_at m (length (open_chairs sheet))
 
 -- the quota and the least size together say what wins
 abbrev pub QuotaLaw : Type 0
-QuotaLaw = (m : Majority) (sheet : List ℕ) (w k : ℕ) → ((quota_of m sheet ≤ w) × (least_size_of m sheet ≤ k)) ↔ IsTrue (wins m sheet w k)
+QuotaLaw = (m : Majority) (sheet : List ℕ) (w k : ℕ) →
+    ((quota_of m sheet ≤ w) × (least_size_of m sheet ≤ k)) ↔ IsTrue (wins m sheet w k)
 
 -- more weight and more chairs than win win too
 abbrev pub MonotoneLaw : Type 0
-MonotoneLaw = (m : Majority) (sheet : List ℕ) (w more k larger : ℕ) → w ≤ more → k ≤ larger → IsTrue (wins m sheet w k) → IsTrue (wins m sheet more larger)
+MonotoneLaw = (m : Majority) (sheet : List ℕ) (w more k larger : ℕ) →
+    w ≤ more → k ≤ larger → IsTrue (wins m sheet w k) → IsTrue (wins m sheet more larger)
