@@ -89,7 +89,7 @@ impl Call for Valuing {
             return NONE;
         };
         state.1 = seen;
-        if are_checked() && seen == [10, 30, 10, 2, 1, 6, 26, 0] {
+        if are_checked() && seen == [10, 30, 10, 2, 1, 6, 26, 1, 0] {
             0
         } else {
             NONE
