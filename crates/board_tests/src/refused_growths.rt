@@ -169,7 +169,8 @@ fn try_once<C: Call, R: Threads + Wait + Sync>(
     Some((right && (met || answer != OUT_OF_MEMORY), met))
 }
 
-// Whether all is right with each growth refused in turn, until the call asks for no more, and it asks for as many as it says.
+// Whether all is right with each growth refused in turn, until the call asks for no more, and it asks for as many as
+// it says.
 fn is_right_throughout<C: Call, R: Threads + Wait + Sync>(
     rt: &R,
     alloc: Global,

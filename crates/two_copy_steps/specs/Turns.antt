@@ -98,7 +98,8 @@ reader_turn m r (Some stage) = (read m r stage, stage_note (suc r) stage)
 
 -- the machine after an event, and the note
 abbrev pub turn : TwoCopies → Event → TwoCopies × Note
-turn m (Submit command) = if is_idle m.writer.phase then submitted m command (verdict_of m.ledger command) else (m, Skipped)
+turn m (Submit command) =
+    if is_idle m.writer.phase then submitted m command (verdict_of m.ledger command) else (m, Skipped)
 turn m Publish = if is_idle m.writer.phase then published_by m (is_pending m) else (m, Skipped)
 turn m Writer = (written m, phase_note m m.writer.phase)
 turn m (Reader zero) = (m, Skipped)
