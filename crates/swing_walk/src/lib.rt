@@ -2,10 +2,6 @@
 //! chair.
 #![tactic(auto)]
 
-ghost use Rattle.std.specs.Prelude.{IfOk};
-ghost use Rattle.half_sums.specs.Entries.{AreSubsets};
-ghost use Rattle.swing_walk.specs.Laws.{ones};
-
 mod laws;
 mod pairs;
 mod running;

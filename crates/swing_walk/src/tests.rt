@@ -1,3 +1,7 @@
+ghost use Rattle.std.specs.Prelude.{IfOk};
+ghost use Rattle.half_sums.specs.Entries.{AreSubsets};
+ghost use Rattle.swing_walk.specs.Laws.{ones};
+
 use super::*;
 use council_core::Refusal;
 use half_sums::HalfSums;
