@@ -34,8 +34,7 @@ pub(crate) fn opens(register: &mut Register, chair: u8) -> bool {
     }
 }
 
-// Four commands, the first room of a journal: chair 1 is open, and BBB is suspended. Three members, the first room of
-// their map.
+// Four commands, the first room of a journal: chair 1 is open, and BBB is suspended. Three members.
 fn with_four(alloc: Global) -> Option<Register> {
     let members = [
         member(b"AAA", 10)?,
@@ -126,11 +125,6 @@ impl Call for Applying {
 
     fn prepare(&self, alloc: Global) -> Option<Register> {
         with_four(alloc)
-    }
-
-    // Room in the journal, and for a member that is admitted in the map.
-    fn growths(&self) -> usize {
-        if self.place == 7 { 2 } else { 1 }
     }
 
     fn call<R: Threads + Wait + Sync>(&self, _rt: &R, _alloc: Global, state: &mut Register) -> u8 {

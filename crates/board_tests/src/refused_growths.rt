@@ -37,11 +37,6 @@ pub(crate) trait Call {
     /// What there is to see of the state.
     fn shown(&self, alloc: Global, state: &Self::State) -> Option<Vec<u64>>;
 
-    /// How many growths it asks for, at the least.
-    fn growths(&self) -> usize {
-        1
-    }
-
     /// The number that it answers with ample memory.
     fn wanted(&self) -> u8 {
         0
@@ -169,8 +164,7 @@ fn try_once<C: Call, R: Threads + Wait + Sync>(
     Some((right && (met || answer != OUT_OF_MEMORY), met))
 }
 
-// Whether all is right with each growth refused in turn, until the call asks for no more, and it asks for as many as
-// it says.
+// Whether all is right with each growth refused in turn, until the call asks for no more, and it asks for one.
 fn is_right_throughout<C: Call, R: Threads + Wait + Sync>(
     rt: &R,
     alloc: Global,
@@ -184,7 +178,7 @@ fn is_right_throughout<C: Call, R: Threads + Wait + Sync>(
     for number in 1..MOST {
         let (right, met) = try_once(rt, alloc, call, number, ample.as_slice())?;
         if !right || !met {
-            return Some(right && number > call.growths());
+            return Some(right && number > 1);
         }
     }
     Some(false)
