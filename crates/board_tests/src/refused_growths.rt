@@ -211,7 +211,7 @@ pub(crate) fn asks_for_none<C: Call, R: Threads + Wait + Sync>(
 #[test]
 fn register_calls(rt: HostRuntime) -> Result<(), Fail> {
     assert!(rt; survives(&rt, rt.alloc(), &Starting));
-    for place in 0..8 {
+    for place in 0..7 {
         assert!(rt;
             survives(&rt, rt.alloc(), &Applying { place }),
             "command {place}"
