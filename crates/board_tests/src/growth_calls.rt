@@ -34,14 +34,24 @@ pub(crate) fn opens(register: &mut Register, chair: u8) -> bool {
     }
 }
 
-// Four commands, the first room of a journal: chair 1 is open, and BBB is suspended. Three members.
-fn with_four(alloc: Global) -> Option<Register> {
-    let members = [
+// AAA and BBB as above, and seven more: as many as the first room for members takes.
+fn nine_members() -> Option<[(MemberCode, Votes); 9]> {
+    Some([
         member(b"AAA", 10)?,
         member(b"BBB", 20)?,
-        member(b"CCC", 30)?,
-    ];
-    let mut register = Register::start(alloc, &members, 100).ok()?;
+        member(b"CCA", 1)?,
+        member(b"CCB", 1)?,
+        member(b"CCC", 1)?,
+        member(b"CCD", 1)?,
+        member(b"CCE", 1)?,
+        member(b"CCF", 1)?,
+        member(b"CCG", 1)?,
+    ])
+}
+
+// Nine members and four commands, the first room of either: chair 1 is open, and BBB is suspended.
+fn with_four(alloc: Global) -> Option<Register> {
+    let mut register = Register::start(alloc, &nine_members()?, 100).ok()?;
     let other = MemberCode::new(b"BBB").ok()?;
     for command in [open(1)?, open(3)?, open(4)?, Command::Suspend(other)] {
         register.apply(command).ok()?;
@@ -114,6 +124,9 @@ impl Call for Starting {
     }
 }
 
+/// The place of `Admit`, which asks for room in the journal and for room for a member.
+const ADMIT: u8 = 7;
+
 /// `Register::apply`, of the command at a place.
 #[derive(Clone, Copy)]
 pub(crate) struct Applying {
@@ -122,6 +135,10 @@ pub(crate) struct Applying {
 
 impl Call for Applying {
     type State = Register;
+
+    fn growths(&self) -> usize {
+        if self.place == ADMIT { 2 } else { 1 }
+    }
 
     fn prepare(&self, alloc: Global) -> Option<Register> {
         with_four(alloc)

@@ -37,6 +37,11 @@ pub(crate) trait Call {
     /// What there is to see of the state.
     fn shown(&self, alloc: Global, state: &Self::State) -> Option<Vec<u64>>;
 
+    /// How many growths it asks for at least.
+    fn growths(&self) -> usize {
+        1
+    }
+
     /// The number that it answers with ample memory.
     fn wanted(&self) -> u8 {
         0
@@ -164,7 +169,8 @@ fn try_once<C: Call, R: Threads + Wait + Sync>(
     Some((right && (met || answer != OUT_OF_MEMORY), met))
 }
 
-// Whether all is right with each growth refused in turn, until the call asks for no more, and it asks for one.
+// Whether all is right with each growth refused in turn, until the call asks for no more, and it asks for as many as it
+// is to ask for.
 fn is_right_throughout<C: Call, R: Threads + Wait + Sync>(
     rt: &R,
     alloc: Global,
@@ -178,7 +184,7 @@ fn is_right_throughout<C: Call, R: Threads + Wait + Sync>(
     for number in 1..MOST {
         let (right, met) = try_once(rt, alloc, call, number, ample.as_slice())?;
         if !right || !met {
-            return Some(right && number > 1);
+            return Some(right && number > call.growths());
         }
     }
     Some(false)
@@ -211,7 +217,7 @@ pub(crate) fn asks_for_none<C: Call, R: Threads + Wait + Sync>(
 #[test]
 fn register_calls(rt: HostRuntime) -> Result<(), Fail> {
     assert!(rt; survives(&rt, rt.alloc(), &Starting));
-    for place in 0..7 {
+    for place in 0..8 {
         assert!(rt;
             survives(&rt, rt.alloc(), &Applying { place }),
             "command {place}"
