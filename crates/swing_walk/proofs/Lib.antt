@@ -5,5 +5,6 @@ pub mod BoardSets
 pub mod Weights
 pub mod Steps
 pub mod Meeting
-pub mod GroupPairs
+pub mod SizeLemmas
+pub mod LargePairs
 pub mod WorkedHalves

@@ -6,9 +6,7 @@ use Rattle.std.specs.List.Sorted.{IsNonDecreasingBy}
 use Rattle.std.proofs.lemmas.List.{take_all, drop_more, length-take, length-drop, get_or-take, get_or-drop}
 use Rattle.std.proofs.lemmas.List.Sums.{sum_by-cons, sum_by-take-drop, sum_by-drop_more, sum_by-le}
 use Rattle.std.proofs.lemmas.List.Elements.{All-cons}
-use Rattle.std.proofs.lemmas.Bool.{lt-leb, lt-ltb, le-ltb}
-use Rattle.swing_walk.specs.declared.running.Running.{Running}
-use Rattle.swing_walk.specs.Tallies.{marked, marked_at}
+use Rattle.std.proofs.lemmas.Bool.{lt-leb}
 use Rattle.half_sums.specs.declared.entry.Entry.{Entry}
 use Rattle.swing_walk.specs.Pairs.{pairs_where, reaches, has, winning_pairs}
 use Rattle.swing_walk.specs.Walks.{NoneReach, zero_entry}
@@ -63,11 +61,11 @@ pub pairs_swap : (test : Entry → Entry → Bool) (xs ys : List Entry) → pair
 pairs_swap test xs [] = pairs_none test xs
 pairs_swap test xs (y ∷ ys) = omega (arith, pairs_column test xs ys y, pairs_swap test xs ys, sum_by-cons (λ b. count_by (λ a. test a b) xs) y ys)
 
-pairs_agree : (p q : Entry → Entry → Bool) (xs ys : List Entry) → ((a b : Entry) → p a b ≡ q a b) → pairs_where p xs ys ≡ pairs_where q xs ys
+pub pairs_agree : (p q : Entry → Entry → Bool) (xs ys : List Entry) → ((a b : Entry) → p a b ≡ q a b) → pairs_where p xs ys ≡ pairs_where q xs ys
 pairs_agree p q xs ys same = sum_agree _ _ xs (λ a. count_agree (p a) (q a) ys (λ k d h. same a (get_or ys k d)))
 
 -- where no right entry below `at` passes with any left one
-pairs_above : (test : Entry → Entry → Bool) (left right : List Entry) (at : ℕ) → at ≤ length right →
+pub pairs_above : (test : Entry → Entry → Bool) (left right : List Entry) (at : ℕ) → at ≤ length right →
     ((k m : ℕ) (d e : Entry) → k < length left → m < at → test (get_or right m e) (get_or left k d) ≡ false) → pairs_where test (drop at right) left ≡ pairs_where test right left
 pairs_above test left right at within none =
     let f : Entry → ℕ = λ b. count_by (test b) left in
@@ -76,11 +74,11 @@ pairs_above test left right at within none =
     rw (get_or-take at right m e below) (omega (arith, count_none (test (get_or right m e)) left (λ k d inside. none k m d e inside below))) in
     omega (arith, sum_by-take-drop f right at, sum_by-le f 0 (take at right) zero_each)
 
-falls_short : (quota at : ℕ) (left right : List Entry) → at ≤ length right → NoneReach quota (length left) at left right → (k m : ℕ) (d e : Entry) → k < length left → m < at → reaches quota (get_or right m e) (get_or left k d) ≡ false
+pub falls_short : (quota at : ℕ) (left right : List Entry) → at ≤ length right → NoneReach quota (length left) at left right → (k m : ℕ) (d e : Entry) → k < length left → m < at → reaches quota (get_or right m e) (get_or left k d) ≡ false
 falls_short quota at left right within apart k m d e inside below =
     lt-leb _ _ (omega (arith, apart k m inside below, sum_default left k d zero_entry inside, sum_default right m e zero_entry (omega arith)))
 
-turned : (quota : ℕ) (a b : Entry) → reaches quota b a ≡ reaches quota a b
+pub turned : (quota : ℕ) (a b : Entry) → reaches quota b a ≡ reaches quota a b
 turned quota a b = let swap : b.sum + a.sum ≡ a.sum + b.sum = omega arith in ap (λ n. nat_le quota n) swap
 
 pub right_total : (quota at : ℕ) (left right : List Entry) → at ≤ length right → NoneReach quota (length left) at left right → pairs_where (λ b a. reaches quota b a) (drop at right) left ≡ winning_pairs quota left right
@@ -115,10 +113,3 @@ reached_back P right at some within here there =
     let inside : at - 1 < length right = omega arith in
     let back : drop (at - 1) right ≡ get_or right (at - 1) zero_entry ∷ drop at right = rw one at (drop_more right (at - 1) zero_entry inside) in
     rw back (All-cons P (get_or right (at - 1) zero_entry) (drop at right) here there)
-
--- a place is a slot of the left list or one of the right list
-pub marked_left : (place : ℕ) (r : Running) → place < 16 → marked_at place r ≡ marked place r.lefts
-marked_left place r h = ap (λ t. cond t (marked place r.lefts) (marked (place - 16) r.rights)) (lt-ltb place 16 h)
-
-pub marked_right : (place : ℕ) (r : Running) → 16 ≤ place → marked_at place r ≡ marked (place - 16) r.rights
-marked_right place r h = ap (λ t. cond t (marked place r.lefts) (marked (place - 16) r.rights)) (le-ltb place 16 h)

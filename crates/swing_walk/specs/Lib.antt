@@ -2,4 +2,5 @@ pub mod Pairs
 pub mod Laws
 pub mod Walks
 pub mod Tallies
+pub mod Sizes
 pub mod Sides

@@ -25,22 +25,22 @@ has_place place l r = if nat_lt place 16 then has place l else has (place - 16) 
 abbrev pub winning_pairs : ℕ → List Entry → List Entry → ℕ
 winning_pairs quota left right = pairs_where (reaches quota) left right
 
--- how many pairs reach the quota and have the chair of a place
-abbrev pub winning_with : ℕ → ℕ → List Entry → List Entry → ℕ
-winning_with quota place left right = pairs_where (λ l r. reaches quota l r && has_place place l r) left right
-
 -- a pair has chairs enough
 abbrev pub is_large : ℕ → Entry → Entry → Bool
 is_large least_size l r = nat_le least_size (size_of l + size_of r)
 
+-- a pair has votes enough and chairs enough
+abbrev pub is_enough : ℕ → ℕ → Entry → Entry → Bool
+is_enough quota least_size l r = reaches quota l r && is_large least_size l r
+
 -- how many pairs reach the quota and the least size
 abbrev pub large_pairs : ℕ → ℕ → List Entry → List Entry → ℕ
-large_pairs quota least_size left right = pairs_where (λ l r. reaches quota l r && is_large least_size l r) left right
+large_pairs quota least_size left right = pairs_where (is_enough quota least_size) left right
 
 -- how many pairs reach both and have the chair of a place
 abbrev pub large_with : ℕ → ℕ → ℕ → List Entry → List Entry → ℕ
 large_with quota least_size place left right = pairs_where
-    (λ l r. (reaches quota l r && is_large least_size l r) && has_place place l r) left right
+    (λ l r. is_enough quota least_size l r && has_place place l r) left right
 
 -- the swings of a chair from the winning sets and those that have it: 2 * with_chair - winning (Banzhaf 1965)
 abbrev pub swings_of : ℕ → ℕ → ℕ

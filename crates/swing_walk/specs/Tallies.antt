@@ -1,9 +1,10 @@
--- Amounts kept per byte of a mask, and the counts that walks add to.
-use Rattle.std.specs.Prelude.{ℕ, ◌≡◌, ◌+◌, ◌-◌, ◌*◌, List, [], ◌∷◌, suc, if◌then◌else◌, nat_lt}
+-- Amounts kept per byte of a mask, and what walks add to them.
+use Rattle.std.specs.Prelude.{ℕ, ◌≡◌, ◌+◌, ◌*◌, Bool, List, [], ◌∷◌, suc, ◌&&◌}
 use Rattle.std.specs.List.{sum_by}
 use Rattle.std.specs.Int.{bit_at}
+use Rattle.half_sums.specs.declared.entry.Entry.{Entry}
+use Rattle.swing_walk.specs.Pairs.{pairs_where, has}
 use Rattle.swing_walk.specs.declared.tally.MaskTally.{MaskTally}
-use Rattle.swing_walk.specs.declared.running.Running.{Running}
 
 -- the sum of a table, each place taken as often as its weight says, from this place on
 abbrev pub weighted : (ℕ → ℕ) → ℕ → List ℕ → ℕ
@@ -29,13 +30,16 @@ total t = sum_by (λ n. n) t.low
 abbrev pub IsEven : MaskTally → Type 0
 IsEven t = sum_by (λ n. n) t.high ≡ sum_by (λ n. n) t.low
 
--- the tally of either side has an amount of 1 for each pair counted
-pub record IsRunning (r : Running) : Type 0 where
-  pub left_even : IsEven r.lefts
-  pub left_total : total r.lefts ≡ r.winning
-  pub right_even : IsEven r.rights
-  pub right_total : total r.rights ≡ r.winning
+-- a tally has taken in 1 for each pair that passes a test, at the mask of its left entry
+pub record CreditsLefts (test : Entry → Entry → Bool) (left right : List Entry) (before after : MaskTally) : Type 0 where
+  pub even : IsEven after
+  pub total : total after ≡ total before + pairs_where test left right
+  pub marked : (slot : ℕ)
+      → marked slot after ≡ marked slot before + pairs_where (λ l r. test l r && has slot l) left right
 
--- how many of the pairs counted have the chair of a place
-abbrev pub marked_at : ℕ → Running → ℕ
-marked_at place r = if nat_lt place 16 then marked place r.lefts else marked (place - 16) r.rights
+-- the same, at the mask of its right entry
+pub record CreditsRights (test : Entry → Entry → Bool) (left right : List Entry) (before after : MaskTally) : Type 0 where
+  pub even : IsEven after
+  pub total : total after ≡ total before + pairs_where test left right
+  pub marked : (slot : ℕ)
+      → marked slot after ≡ marked slot before + pairs_where (λ l r. test l r && has slot r) left right

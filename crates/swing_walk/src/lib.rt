@@ -2,9 +2,9 @@
 //! chair.
 #![tactic(auto)]
 
+mod by_size;
 mod laws;
 mod pairs;
-mod running;
 mod sides;
 mod sizes;
 mod tally;

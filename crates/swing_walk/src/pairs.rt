@@ -1,9 +1,13 @@
 //! The counts of the winning pairs of two lists, and the swings that they come to.
-ghost use Rattle.std.specs.Prelude.{◌≡◌, ℕ, ◌*◌, ◌^◌, ◌<◌, ◌≤◌, slice_index};
-ghost use Rattle.swing_walk.specs.Pairs.{large_pairs, large_with, swings_of};
+ghost use Rattle.std.specs.Prelude.{◌≡◌, ℕ, ◌+◌, ◌*◌, ◌^◌, ◌<◌, ◌≤◌, slice_index};
+ghost use Rattle.half_sums.specs.Entries.{IsHalf};
+ghost use Rattle.swing_walk.specs.Pairs.{is_enough, large_pairs, large_with, swings_of};
+ghost use Rattle.swing_walk.specs.Tallies.{total, IsEven, CreditsLefts, CreditsRights};
 
-use crate::running::Running;
-use half_sums::HalfSums;
+use crate::by_size::walk_by_size;
+use crate::tally::MaskTally;
+use crate::walking::walk;
+use half_sums::{Entry, HalfSums};
 
 /// The winning pairs of the sets of a left and a right half. Where these are the halves of a board, the pairs are its
 /// coalitions.
@@ -18,21 +22,64 @@ pub struct Counts {
 
 /// Counts the pairs whose sums reach the quota, in votes, and which have at least so many chairs together.
 ///
-/// Where no size is asked it takes one walk, up the left list and down the right one (Horowitz and Sahni 1974). Else
-/// it takes one walk for each pair of sizes that is large enough. It takes no memory.
+/// It takes one walk, up the left list and down the right one (Horowitz and Sahni 1974). Where a size is asked, the walk
+/// keeps count of the sets on either side by size. It takes no memory.
 pub fn count(left: &HalfSums, right: &HalfSums, quota: u64, least_size: u8) -> Counts
     ensures winning { result.winning ≡ large_pairs quota least_size left.now right.now }
     ensures with_chair { (place : ℕ) → place < 32
         → slice_index result.with_chair place ≡ large_with quota least_size place left.now right.now }
 {
-    let (lefts, rights) = (left.ascending(), right.ascending());
-    let mut running = Running::new();
-    if least_size == 0 {
-        running.walk(lefts, rights, quota);
-    } else {
-        running.walk_groups(left, right, quota, least_size);
+    let (mut lefts, mut rights) = (MaskTally::new(), MaskTally::new());
+    let winning = credit_pairs(
+        left.ascending(),
+        right.ascending(),
+        quota,
+        least_size,
+        &mut lefts,
+        &mut rights,
+    );
+    Counts {
+        winning,
+        with_chair: both(&lefts.by_slot(), &rights.by_slot()),
     }
-    running.counts()
+}
+
+/// Adds the pairs that reach the quota and the least size to the tallies, and answers how many there are.
+fn credit_pairs(
+    left: &[Entry],
+    right: &[Entry],
+    quota: u64,
+    least_size: u8,
+    lefts: &mut MaskTally,
+    rights: &mut MaskTally,
+) -> u64
+    requires left { IsHalf left.now }
+    requires right { IsHalf right.now }
+    requires left_even { IsEven lefts.old }
+    requires left_room { total lefts.old ≤ 2 ^ 62 }
+    requires right_even { IsEven rights.old }
+    requires right_room { total rights.old ≤ 2 ^ 62 }
+    ensures winning { result ≡ large_pairs quota least_size left.now right.now }
+    ensures lefts { CreditsLefts (is_enough quota least_size) left.now right.now lefts.old lefts.new }
+    ensures rights { CreditsRights (is_enough quota least_size) left.now right.now rights.old rights.new }
+{
+    if least_size == 0 {
+        return walk(left, right, quota, lefts, rights);
+    }
+    walk_by_size(left, right, quota, least_size, lefts, rights)
+}
+
+/// The left totals and then the right ones.
+fn both(left: &[u64; 16], right: &[u64; 16]) -> [u64; 32]
+    ensures left { (slot : ℕ) → slot < 16 → slice_index result slot ≡ slice_index left.now slot }
+    ensures right { (slot : ℕ) → slot < 16 → slice_index result (16 + slot) ≡ slice_index right.now slot }
+{
+    let mut all = [0; 32];
+    for slot in 0..16 {
+        all[slot] = left[slot];
+        all[16 + slot] = right[slot];
+    }
+    all
 }
 
 /// The swings of the chair at each place, 0 where no winning pair has it (Banzhaf 1965; Felsenthal and Machover 1998).

@@ -1,56 +1,105 @@
-//! Walks over the pairs of groups that have chairs enough together.
-ghost use Rattle.std.specs.Prelude.{◌≡◌, ℕ, ◌+◌, ◌^◌, ◌<◌, ◌≤◌};
-ghost use Rattle.std.specs.List.{All};
+//! How many sets have at least so many chairs.
+ghost use Rattle.std.specs.Prelude.{◌≡◌, ℕ, ◌+◌, ◌-◌, ◌<◌, ◌≤◌, count_ones, length, take, drop, slice_index_or};
 ghost use Rattle.half_sums.specs.Entries.{IsHalf};
-ghost use Rattle.half_sums.specs.Groups.{size_of};
-ghost use Rattle.swing_walk.specs.Pairs.{large_pairs, large_with};
-ghost use Rattle.swing_walk.specs.Tallies.{IsRunning, marked_at};
+ghost use Rattle.swing_walk.specs.Sizes.{counted, one_at, IsTally};
 
-use crate::running::Running;
-use half_sums::{Entry, HalfSums};
+use half_sums::Entry;
 
 /// How many sizes a set of a half can have: 0 to 16 chairs.
-const SIZES: u8 = 17;
+const SIZES: usize = 17;
 
-impl Running {
-    /// Adds the pairs of two halves that reach the quota and the least size.
-    pub(crate) fn walk_groups(
-        &mut self,
-        left: &HalfSums,
-        right: &HalfSums,
-        quota: u64,
-        least_size: u8,
-    )
-        requires left { IsHalf left.now }
-        requires right { IsHalf right.now }
-        requires running { IsRunning self.old }
-        requires room { self.old.winning ≤ 2 ^ 60 }
-        ensures running { IsRunning self.new }
-        ensures winning { self.new.winning ≡ self.old.winning + large_pairs quota least_size left.now right.now }
-        ensures with_chair { (place : ℕ) → place < 32
-            → marked_at place self.new
-            ≡ marked_at place self.old + large_with quota least_size place left.now right.now }
+/// A 1 for each of the 17 sizes, and a 0 for each size but one: a set of so many chairs has its own 17 of these from 16
+/// less than its size on.
+const STEPS: [u32; 33] = [
+    1, 1, 1, 1, 1, 1, 1, 1, 1, 1, 1, 1, 1, 1, 1, 1, 1, 0, 0, 0, 0, 0, 0, 0, 0, 0, 0, 0, 0, 0, 0, 0,
+    0,
+];
+
+/// Sets counted by size: at each size how many have at least so many chairs.
+#[derive(Clone, Copy)]
+pub(crate) struct SizeTally {
+    pub(crate) at_least: [u32; SIZES],
+}
+
+impl SizeTally {
+    /// No set.
+    pub(crate) fn new() -> SizeTally
+        ensures none { (size : ℕ) → counted size result ≡ 0 }
     {
+        SizeTally {
+            at_least: [0; SIZES],
+        }
+    }
+
+    /// The sets of a list.
+    pub(crate) fn of(entries: &[Entry]) -> SizeTally
+        requires half { IsHalf entries.now }
+        ensures all { IsTally entries.now result }
+    {
+        let mut tally = SizeTally::new();
+        for at in 0..entries.len() {
+            tally.add(entries[at].mask);
+        }
+        tally
+    }
+
+    /// Takes in the set of a mask.
+    pub(crate) fn add(&mut self, mask: u16)
+        requires room { (size : ℕ) → counted size self.old ≤ 65536 }
+        ensures more { (size : ℕ) → counted size self.new ≡ counted size self.old + one_at size mask }
+    {
+        let steps = steps_of(mask);
         for size in 0..SIZES {
-            self.walk_group(left.group(size), size, right, quota, least_size);
+            self.at_least[size] += steps[size];
         }
     }
 
-    /// Adds the pairs of left sets of one size.
-    fn walk_group(&mut self, left: &[Entry], size: u8, right: &HalfSums, quota: u64, least_size: u8)
-        requires left { IsHalf left.now }
-        requires size { All (λ e. size_of e ≡ size) left.now }
-        requires right { IsHalf right.now }
-        requires running { IsRunning self.old }
-        requires room { self.old.winning ≤ 2 ^ 61 }
-        ensures running { IsRunning self.new }
-        ensures winning { self.new.winning ≡ self.old.winning + large_pairs quota least_size left.now right.now }
-        ensures with_chair { (place : ℕ) → place < 32
-            → marked_at place self.new
-            ≡ marked_at place self.old + large_with quota least_size place left.now right.now }
+    /// Lets the set of a mask go.
+    pub(crate) fn remove(&mut self, mask: u16)
+        requires there { (size : ℕ) → one_at size mask ≤ counted size self.old }
+        ensures less { (size : ℕ) → counted size self.new + one_at size mask ≡ counted size self.old }
     {
-        for other in least_size.saturating_sub(size)..SIZES {
-            self.walk(left, right.group(other), quota);
+        let steps = steps_of(mask);
+        for size in 0..SIZES {
+            self.at_least[size] -= steps[size];
         }
     }
+
+    /// How many of the sets have chairs enough together with the set of a mask.
+    pub(crate) fn partners(&self, mask: u16, least_size: u8) -> u64
+        ensures partners { result ≡ counted (least_size - count_ones mask) self.now }
+    {
+        let others = usize::from(least_size).saturating_sub(size(mask));
+        if others < SIZES {
+            u64::from(self.at_least[others])
+        } else {
+            0
+        }
+    }
+}
+
+/// What the set of a mask comes to at each size.
+fn steps_of(mask: u16) -> &'static [u32]
+    ensures long { length result.now ≡ 17 }
+    ensures each { (size : ℕ) → slice_index_or result.now size 0 ≡ one_at size mask }
+{
+    let first = 16 - size(mask);
+    part(&STEPS, first, first + SIZES)
+}
+
+/// The steps from a place on, up to another.
+fn part(steps: &'static [u32], from: usize, to: usize) -> &'static [u32]
+    requires ordered { from ≤ to }
+    requires within { to ≤ length steps.now }
+    ensures part { result.now ≡ take (to - from) (drop from steps.now) }
+{
+    &steps[from..to]
+}
+
+/// How many chairs a set has.
+fn size(mask: u16) -> usize
+    ensures size { result ≡ count_ones mask }
+    ensures few { result ≤ 16 }
+{
+    mask.count_ones() as usize
 }

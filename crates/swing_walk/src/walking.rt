@@ -4,7 +4,7 @@ ghost use Rattle.std.specs.List.{All};
 ghost use Rattle.half_sums.specs.Entries.{IsHalf};
 ghost use Rattle.swing_walk.specs.Pairs.{pairs_where, winning_pairs, reaches, has};
 ghost use Rattle.swing_walk.specs.Walks.{NoneReach, zero_entry};
-ghost use Rattle.swing_walk.specs.Tallies.{marked, total, IsEven};
+ghost use Rattle.swing_walk.specs.Tallies.{marked, total, IsEven, CreditsLefts, CreditsRights};
 
 use crate::sides::credit;
 use crate::tally::MaskTally;
@@ -50,8 +50,8 @@ fn lower(
     at
 }
 
-/// Adds the winning pairs to the tallies, and answers how many there are. A left entry is credited with the right
-/// entries that reach the quota with it.
+/// Adds the pairs that reach the quota to the tallies, and answers how many there are. A left entry is credited with
+/// the right entries that reach the quota with it.
 pub(crate) fn walk(
     left: &[Entry],
     right: &[Entry],
@@ -66,16 +66,8 @@ pub(crate) fn walk(
     requires right_even { IsEven rights.old }
     requires right_room { total rights.old ≤ 2 ^ 62 }
     ensures winning { result ≡ winning_pairs quota left.now right.now }
-    ensures left_even { IsEven lefts.new }
-    ensures left_total { total lefts.new ≡ total lefts.old + winning_pairs quota left.now right.now }
-    ensures left_marked { (slot : ℕ)
-        → marked slot lefts.new
-        ≡ marked slot lefts.old + pairs_where (λ a b. reaches quota a b && has slot a) left.now right.now }
-    ensures right_even { IsEven rights.new }
-    ensures right_total { total rights.new ≡ total rights.old + winning_pairs quota left.now right.now }
-    ensures right_marked { (slot : ℕ)
-        → marked slot rights.new
-        ≡ marked slot rights.old + pairs_where (λ a b. reaches quota a b && has slot b) left.now right.now }
+    ensures lefts { CreditsLefts (reaches quota) left.now right.now lefts.old lefts.new }
+    ensures rights { CreditsRights (reaches quota) left.now right.now rights.old rights.new }
 {
     // A branch on the sums is learnt where they repeat, and is missed every other time where they don't.
     if left.len() != right.len() || left.len() < MANY || repeats(left) {
@@ -108,16 +100,8 @@ fn walk_in_turn(
     requires right_even { IsEven rights.old }
     requires right_room { total rights.old ≤ 2 ^ 62 }
     ensures winning { result ≡ winning_pairs quota left.now right.now }
-    ensures left_even { IsEven lefts.new }
-    ensures left_total { total lefts.new ≡ total lefts.old + winning_pairs quota left.now right.now }
-    ensures left_marked { (slot : ℕ)
-        → marked slot lefts.new
-        ≡ marked slot lefts.old + pairs_where (λ a b. reaches quota a b && has slot a) left.now right.now }
-    ensures right_even { IsEven rights.new }
-    ensures right_total { total rights.new ≡ total rights.old + winning_pairs quota left.now right.now }
-    ensures right_marked { (slot : ℕ)
-        → marked slot rights.new
-        ≡ marked slot rights.old + pairs_where (λ a b. reaches quota a b && has slot b) left.now right.now }
+    ensures lefts { CreditsLefts (reaches quota) left.now right.now lefts.old lefts.new }
+    ensures rights { CreditsRights (reaches quota) left.now right.now rights.old rights.new }
 {
     let mut at = right.len();
     let mut winning = 0;
@@ -148,16 +132,8 @@ fn walk_from_both_ends(
     requires right_even { IsEven rights.old }
     requires right_room { total rights.old ≤ 2 ^ 62 }
     ensures winning { result ≡ winning_pairs quota left.now right.now }
-    ensures left_even { IsEven lefts.new }
-    ensures left_total { total lefts.new ≡ total lefts.old + winning_pairs quota left.now right.now }
-    ensures left_marked { (slot : ℕ)
-        → marked slot lefts.new
-        ≡ marked slot lefts.old + pairs_where (λ a b. reaches quota a b && has slot a) left.now right.now }
-    ensures right_even { IsEven rights.new }
-    ensures right_total { total rights.new ≡ total rights.old + winning_pairs quota left.now right.now }
-    ensures right_marked { (slot : ℕ)
-        → marked slot rights.new
-        ≡ marked slot rights.old + pairs_where (λ a b. reaches quota a b && has slot b) left.now right.now }
+    ensures lefts { CreditsLefts (reaches quota) left.now right.now lefts.old lefts.new }
+    ensures rights { CreditsRights (reaches quota) left.now right.now rights.old rights.new }
 {
     let mut sides = [*lefts, *rights];
     let mut next = 0;

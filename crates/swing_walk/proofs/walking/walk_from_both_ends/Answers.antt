@@ -63,24 +63,21 @@ returns-clause-winning c =
     let met : c.loop-walked.next ≡ c.loop-walked.next_end = meet c.args.quota c.loop-walked.next c.loop-walked.at c.loop-walked.next_end c.loop-walked.at_end c.args.left.now c.args.right.now c.loop-walked.invariant.up c.loop-walked.invariant.down (omega arith) in
     omega (arith, met_left (reaches c.args.quota) c.args.left.now c.args.right.now 0 c.loop-walked.winning c.loop-walked.next c.loop-walked.next_end met (omega (arith, c.loop-walked.invariant.winning)))
 
-pub returns-clause-left_total : goal.returns-clause-left_total
-returns-clause-left_total c =
+pub returns-clause-lefts : goal.returns-clause-lefts
+returns-clause-lefts c =
     let met : c.loop-walked.next ≡ c.loop-walked.next_end = meet c.args.quota c.loop-walked.next c.loop-walked.at c.loop-walked.next_end c.loop-walked.at_end c.args.left.now c.args.right.now c.loop-walked.invariant.up c.loop-walked.invariant.down (omega arith) in
-    met_left (reaches c.args.quota) c.args.left.now c.args.right.now _ _ c.loop-walked.next c.loop-walked.next_end met c.loop-walked.invariant.left_total
+    record {
+      even = c.loop-walked.invariant.left_even;
+      total = met_left (reaches c.args.quota) c.args.left.now c.args.right.now _ _ c.loop-walked.next c.loop-walked.next_end met c.loop-walked.invariant.left_total;
+      marked = λ slot. met_left (λ a b. reaches c.args.quota a b && has slot a) c.args.left.now c.args.right.now _ _ c.loop-walked.next c.loop-walked.next_end met (c.loop-walked.invariant.left_marked slot);
+    }
 
-pub returns-clause-left_marked : goal.returns-clause-left_marked
-returns-clause-left_marked c =
-    let met : c.loop-walked.next ≡ c.loop-walked.next_end = meet c.args.quota c.loop-walked.next c.loop-walked.at c.loop-walked.next_end c.loop-walked.at_end c.args.left.now c.args.right.now c.loop-walked.invariant.up c.loop-walked.invariant.down (omega arith) in
-    λ slot. met_left (λ a b. reaches c.args.quota a b && has slot a) c.args.left.now c.args.right.now _ _ c.loop-walked.next c.loop-walked.next_end met (c.loop-walked.invariant.left_marked slot)
-
-pub returns-clause-right_total : goal.returns-clause-right_total
-returns-clause-right_total c =
+pub returns-clause-rights : goal.returns-clause-rights
+returns-clause-rights c =
     let met : c.loop-walked.next ≡ c.loop-walked.next_end = meet c.args.quota c.loop-walked.next c.loop-walked.at c.loop-walked.next_end c.loop-walked.at_end c.args.left.now c.args.right.now c.loop-walked.invariant.up c.loop-walked.invariant.down (omega arith) in
     let same : c.loop-walked.at ≡ c.loop-walked.at_end = omega (arith, met) in
-    omega (arith, met_right (λ b a. reaches c.args.quota b a) c.args.left.now c.args.right.now _ _ c.loop-walked.at c.loop-walked.at_end same c.loop-walked.invariant.right_total, right_total c.args.quota 0 c.args.left.now c.args.right.now (omega arith) (none_before c.args.quota c.args.left.now c.args.right.now))
-
-pub returns-clause-right_marked : goal.returns-clause-right_marked
-returns-clause-right_marked c =
-    let met : c.loop-walked.next ≡ c.loop-walked.next_end = meet c.args.quota c.loop-walked.next c.loop-walked.at c.loop-walked.next_end c.loop-walked.at_end c.args.left.now c.args.right.now c.loop-walked.invariant.up c.loop-walked.invariant.down (omega arith) in
-    let same : c.loop-walked.at ≡ c.loop-walked.at_end = omega (arith, met) in
-    λ slot. omega (arith, met_right (λ b a. reaches c.args.quota b a && has slot b) c.args.left.now c.args.right.now _ _ c.loop-walked.at c.loop-walked.at_end same (c.loop-walked.invariant.right_marked slot), right_marked c.args.quota 0 slot c.args.left.now c.args.right.now (omega arith) (none_before c.args.quota c.args.left.now c.args.right.now))
+    record {
+      even = c.loop-walked.invariant.right_even;
+      total = omega (arith, met_right (λ b a. reaches c.args.quota b a) c.args.left.now c.args.right.now _ _ c.loop-walked.at c.loop-walked.at_end same c.loop-walked.invariant.right_total, right_total c.args.quota 0 c.args.left.now c.args.right.now (omega arith) (none_before c.args.quota c.args.left.now c.args.right.now));
+      marked = λ slot. omega (arith, met_right (λ b a. reaches c.args.quota b a && has slot b) c.args.left.now c.args.right.now _ _ c.loop-walked.at c.loop-walked.at_end same (c.loop-walked.invariant.right_marked slot), right_marked c.args.quota 0 slot c.args.left.now c.args.right.now (omega arith) (none_before c.args.quota c.args.left.now c.args.right.now));
+    }

@@ -48,10 +48,9 @@ loop-next-preserved c =
       right_marked = λ slot. omega (arith, c.lower-at.ensures.marked slot, c.loop-next.invariant.right_marked slot);
     }
 
-pub returns-clause-right_total : goal.returns-clause-right_total
-returns-clause-right_total c =
-    omega (arith, c.loop-next.invariant.right_total, right_total c.args.quota c.loop-next.at c.args.left.now c.args.right.now c.loop-next.invariant.within (λ k m before below. c.loop-next.invariant.apart k m (omega arith) below))
-
-pub returns-clause-right_marked : goal.returns-clause-right_marked
-returns-clause-right_marked c = λ slot.
-    omega (arith, c.loop-next.invariant.right_marked slot, right_marked c.args.quota c.loop-next.at slot c.args.left.now c.args.right.now c.loop-next.invariant.within (λ k m before below. c.loop-next.invariant.apart k m (omega arith) below))
+pub returns-clause-rights : goal.returns-clause-rights
+returns-clause-rights c = record {
+  even = c.loop-next.invariant.right_even;
+  total = omega (arith, c.loop-next.invariant.right_total, right_total c.args.quota c.loop-next.at c.args.left.now c.args.right.now c.loop-next.invariant.within (λ k m before below. c.loop-next.invariant.apart k m (omega arith) below));
+  marked = λ slot. omega (arith, c.loop-next.invariant.right_marked slot, right_marked c.args.quota c.loop-next.at slot c.args.left.now c.args.right.now c.loop-next.invariant.within (λ k m before below. c.loop-next.invariant.apart k m (omega arith) below));
+}

@@ -1,0 +1,76 @@
+-- The tally by size: its steps, and what an entry more comes to.
+use Rattle.std.proofs.Common.{◌≡◌, ℕ, ◌+◌, ◌-◌, ◌<◌, ◌≤◌, true, false, cond, List, [], ◌∷◌, length, take, drop, get_or, arith, refl, sym, ap, ◌∙◌, zero, suc, inl, inr}
+use Rattle.std.specs.Prelude.{nat_le, count_ones}
+use Rattle.std.proofs.lemmas.Bool.{le-leb, lt-leb, cases_lt}
+use Rattle.std.proofs.lemmas.List.{drop_more, get_or-take, get_or-drop, get_or_past, length-drop, length-take}
+use Rattle.std.proofs.lemmas.List.Sums.{sum_by-cons, sum_by_more, count_by-le-length}
+use Rattle.half_sums.specs.declared.entry.Entry.{Entry}
+use Rattle.half_sums.specs.Groups.{size_of}
+use Rattle.swing_walk.specs.Sizes.{at_least, one_at}
+use Rattle.swing_walk.specs.Walks.{zero_entry}
+
+-- so many ones, and then so many noughts
+abbrev pub steps : ℕ → ℕ → List ℕ
+steps zero zero = []
+steps zero (suc m) = 0 ∷ steps zero m
+steps (suc n) m = 1 ∷ steps n m
+
+noughts : (m k : ℕ) → get_or (steps zero m) k 0 ≡ 0
+noughts zero k = refl
+noughts (suc m) zero = refl
+noughts (suc m) (suc k) = noughts m k
+
+ones_at : (n m k : ℕ) → k < n → get_or (steps n m) k 0 ≡ 1
+ones_at zero m k h = absurd (omega arith)
+ones_at (suc n) m zero h = refl
+ones_at (suc n) m (suc k) h = ones_at n m k (omega arith)
+
+noughts_at : (n m k : ℕ) → n ≤ k → get_or (steps n m) k 0 ≡ 0
+noughts_at zero m k h = noughts m k
+noughts_at (suc n) m zero h = absurd (omega arith)
+noughts_at (suc n) m (suc k) h = noughts_at n m k (omega arith)
+
+-- the steps of a set of so many chairs
+own_step : (chairs size : ℕ) → chairs ≤ 16 → size < 17 → get_or (take (16 - chairs + 17 - (16 - chairs)) (drop (16 - chairs) (steps 17 16))) size 0 ≡ cond (nat_le size chairs) 1 0
+own_step chairs size few within =
+    get_or-take (16 - chairs + 17 - (16 - chairs)) (drop (16 - chairs) (steps 17 16)) size 0 (omega arith)
+    ∙ get_or-drop (16 - chairs) (steps 17 16) size 0
+    ∙ elim (cases_lt chairs size) [
+      | inl above ↦ noughts_at 17 16 (16 - chairs + size) (omega arith) ∙ ap (λ b. cond b 1 0) (sym (lt-leb size chairs above))
+      | inr own ↦ ones_at 17 16 (16 - chairs + size) (omega arith) ∙ ap (λ b. cond b 1 0) (sym (le-leb size chairs own))
+    ]
+
+pub own_steps : (chairs size : ℕ) → chairs ≤ 16 → get_or (take (16 - chairs + 17 - (16 - chairs)) (drop (16 - chairs) (steps 17 16))) size 0 ≡ cond (nat_le size chairs) 1 0
+own_steps chairs size few = elim (cases_lt size 17) [
+  | inl within ↦ own_step chairs size few within
+  | inr past ↦ get_or_past (take (16 - chairs + 17 - (16 - chairs)) (drop (16 - chairs) (steps 17 16))) size 0 (omega (arith, length-take (16 - chairs + 17 - (16 - chairs)) (drop (16 - chairs) (steps 17 16))))
+      ∙ ap (λ b. cond b 1 0) (sym (lt-leb size chairs (omega arith)))
+]
+
+pub one_most : (size mask : ℕ) → one_at size mask ≤ 1
+one_most size mask = elim (nat_le size (count_ones mask)) as (λ b. cond b 1 0 ≤ 1) [
+  | true ↦ omega arith
+  | false ↦ omega arith
+]
+
+-- an entry more at the front
+pub tally_front : (size at : ℕ) (entries : List Entry) → at < length entries → at_least size (drop at entries) ≡ one_at size (get_or entries at zero_entry).mask + at_least size (drop (at + 1) entries)
+tally_front size at entries inside =
+    let first : Entry = get_or entries at zero_entry in
+    let rest : List Entry = drop (at + 1) entries in
+    ap (at_least size) (drop_more entries at zero_entry inside) ∙ sum_by-cons (λ (e : Entry). cond (nat_le size (size_of e)) 1 0) first rest
+
+pub tally_back : (size at : ℕ) (entries : List Entry) → 0 < at → at ≤ length entries → at_least size (drop (at - 1) entries) ≡ one_at size (get_or entries (at - 1) zero_entry).mask + at_least size (drop at entries)
+tally_back size at entries some within =
+    let one : at - 1 + 1 ≡ at = omega arith in
+    rw one at (tally_front size (at - 1) entries (omega arith))
+
+-- an entry more at the end
+pub tally_more : (size at : ℕ) (entries : List Entry) → at < length entries → at_least size (take (at + 1) entries) ≡ at_least size (take at entries) + one_at size (get_or entries at zero_entry).mask
+tally_more size at entries inside = sum_by_more (λ (e : Entry). cond (nat_le size (size_of e)) 1 0) entries at zero_entry inside
+
+pub few_tallied : (entries : List Entry) (at size : ℕ) → length entries ≤ 65536 → at_least size (drop at entries) ≤ 65536
+few_tallied entries at size few = omega (arith, count_by-le-length (λ (e : Entry). nat_le size (size_of e)) (drop at entries), length-drop at entries)
+
+pub few_taken : (entries : List Entry) (at size : ℕ) → length entries ≤ 65536 → at_least size (take at entries) ≤ 65536
+few_taken entries at size few = omega (arith, count_by-le-length (λ (e : Entry). nat_le size (size_of e)) (take at entries), length-take at entries)
