@@ -1,12 +1,12 @@
 //! The lists of a half, and their rebuild in the room that they have.
-ghost use Rattle.std.specs.Prelude.{◌≡◌, ◌==◌, ℕ, ◌+◌, ◌-◌, ◌*◌, ◌^◌, ◌<◌, ◌≤◌, List, [], ◌∷◌, ◌++◌, length, map, take, drop, slice_index, IfOk, IsOkUnless};
+ghost use Rattle.std.specs.Prelude.{◌≡◌, ◌==◌, ℕ, ◌+◌, ◌-◌, ◌*◌, ◌^◌, ◌<◌, ◌≤◌, List, [], ◌∷◌, ◌++◌, length, map, take, drop, slice_index, true, IfOk, IsOkUnless};
 ghost use Rattle.std.specs.List.{All, IsDistinct};
 ghost use Rattle.std.specs.List.Sorted.{IsPermutation, IsNonDecreasingBy};
 ghost use Rattle.council_core.specs.declared.refusals.Refusal.TheVariants.{OutOfMemory};
 ghost use Rattle.council_core.specs.Sheets.{weight_of};
 ghost use Rattle.half_sums.specs.declared.entry.Entry.{Entry};
 ghost use Rattle.half_sums.specs.Entries.{joined, AreSubsets, IsHalf};
-ghost use Rattle.half_sums.specs.Groups.{group_of, grouped, fewer_than, AreGroups};
+ghost use Rattle.half_sums.specs.Groups.{group_of, grouped, fewer_than, AreGroups, AreLevel};
 
 use crate::Entry;
 use crate::groups::{ONE_SET, SIZES, with_one_more};
@@ -87,8 +87,40 @@ impl HalfSums {
         ensures subsets { AreSubsets chairs.now self.new }
     {
         self.starts = list(chairs, &mut self.ascending, &mut self.groups);
-        self.groups.regroup(self.ascending.as_slice(), &self.starts);
+        let ascending = self.ascending.as_slice();
+        regroup(chairs, ascending, &self.starts, &mut self.groups);
     }
+}
+
+/// Lists the sets of these chairs by size. Where all chairs have the same votes, sets of more chairs have more votes, so
+/// that the ascending list is by size as it stands.
+fn regroup(chairs: &[(u8, u64)], ascending: &[Entry], starts: &[usize; 18], groups: &mut SumList)
+    requires distinct { IsDistinct (λ a b. a == b) (map (λ chair. chair.0) chairs.now) }
+    requires subsets { AreSubsets chairs.now ascending.now }
+    requires half { IsHalf ascending.now }
+    requires starts { (size : ℕ) → size ≤ 17 → slice_index starts.now size ≡ fewer_than size ascending.now }
+    ensures groups { AreGroups ascending.now groups.new starts.now }
+{
+    if are_level(chairs) {
+        groups.copy(ascending);
+        return;
+    }
+    groups.regroup(ascending, starts);
+}
+
+/// Whether each chair has the same votes, and not none.
+fn are_level(chairs: &[(u8, u64)]) -> bool
+    ensures level { result ≡ true → AreLevel chairs.now }
+{
+    if chairs.is_empty() || chairs[0].1 == 0 {
+        return false;
+    }
+    for at in 1..chairs.len() {
+        if chairs[at].1 != chairs[0].1 {
+            return false;
+        }
+    }
+    true
 }
 
 /// The entries from a place on, up to another.

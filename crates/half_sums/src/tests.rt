@@ -27,6 +27,24 @@ fn sums_of_three(rt: HostRuntime) -> Result<(), Fail> {
 }
 
 #[test]
+fn three_chairs_of_one_vote(rt: HostRuntime) -> Result<(), Fail> {
+    let mut half = HalfSums::new(rt.alloc())?;
+    half.rebuild(&[(0, 1), (1, 1), (2, 1)]);
+    let entries = half.entries();
+    assert_eq!(rt; entries.len(), 8);
+    assert_eq!(rt; entries[0], Entry { sum: 0, mask: 0 });
+    assert_eq!(rt; entries[3].sum, 1);
+    assert_eq!(rt; entries[4].sum, 2);
+    assert_eq!(rt; entries[7], Entry { sum: 3, mask: 7 });
+    let pairs = half.group(2);
+    assert_eq!(rt; pairs.len(), 3);
+    assert_eq!(rt; u32::from(pairs[0].mask).count_ones(), 2);
+    assert_eq!(rt; u32::from(pairs[2].mask).count_ones(), 2);
+    assert_eq!(rt; half.group(3).len(), 1);
+    Ok(())
+}
+
+#[test]
 fn sixteen_chairs_of_no_weight(rt: HostRuntime) -> Result<(), Fail> {
     let mut half = HalfSums::new(rt.alloc())?;
     half.rebuild(&[
