@@ -9,71 +9,71 @@ use thiserror::Error;
 #[derive(Clone, Copy, Debug, PartialEq, Eq, Error)]
 pub enum Refusal {
     #[error("the chair is open already")]
-    ChairOpen,
+    ChairOpen = 1,
     #[error("the chair is not open")]
-    ChairNotOpen,
+    ChairNotOpen = 2,
     #[error("the chair has members, suspended ones counted")]
-    ChairHasMembers,
+    ChairHasMembers = 3,
     #[error("no member has this code")]
-    UnknownMember,
+    UnknownMember = 4,
     #[error("the member's voting rights are suspended")]
-    MemberSuspended,
+    MemberSuspended = 5,
     #[error("the member is there already")]
-    AlreadyThere,
+    AlreadyThere = 6,
     #[error("the member is suspended already")]
-    AlreadySuspended,
+    AlreadySuspended = 7,
     #[error("the member is not suspended")]
-    NotSuspended,
+    NotSuspended = 8,
     #[error("as many commands as the journal limit were accepted")]
-    JournalFull,
+    JournalFull = 9,
     #[error("out of memory")]
-    OutOfMemory,
+    OutOfMemory = 10,
     #[error("two members have the same code")]
-    DuplicateMember,
+    DuplicateMember = 11,
     #[error("there are more than 256 members")]
-    TooManyMembers,
+    TooManyMembers = 12,
     #[error("a limit is out of its range")]
-    BadLimit,
+    BadLimit = 13,
     #[error("a chair's number is not from 1 to 32")]
-    BadChair,
+    BadChair = 14,
     #[error("a member's code is not three ASCII capitals")]
-    BadMember,
+    BadMember = 15,
     #[error("a member has more than 2^40 votes")]
-    VotesTooLarge,
+    VotesTooLarge = 16,
     #[error("a record is not well formed")]
-    BadRecord,
+    BadRecord = 17,
     #[error("no place or no entry for a reader")]
-    NoEntry,
+    NoEntry = 18,
     #[error("the input could not be read")]
-    ReadFault,
+    ReadFault = 19,
     #[error("the output could not be written")]
-    WriteFault,
+    WriteFault = 20,
     #[error("the first record is not 'member,votes'")]
-    BadHeader,
+    BadHeader = 21,
     #[error("there is no reader of this number")]
-    BadReader,
+    BadReader = 22,
     #[error("a reader is in the way of the publication")]
-    Busy,
+    Busy = 23,
     #[error("a reading is not the sheet of a publication, or is older than the one before")]
-    Mismatch,
+    Mismatch = 24,
     #[error("a member has this code already")]
-    MemberExists,
+    MemberExists = 25,
     #[error("the member sits in a chair")]
-    MemberSeated,
+    MemberSeated = 26,
     #[error("a gate was closed")]
-    GateClosed,
+    GateClosed = 27,
     #[error("the input ends before the record 'script'")]
-    NoScript,
+    NoScript = 28,
     #[error("the input has more than 4,194,304 bytes")]
-    TooLong,
+    TooLong = 29,
     #[error("a command of the journal is refused")]
-    BadJournal,
+    BadJournal = 30,
     #[error("the cuts are not in order, or one is past the journal's end")]
-    BadCuts,
+    BadCuts = 31,
     #[error("the words are not a sheet's")]
-    BadSheet,
+    BadSheet = 32,
     #[error("more chairs are open than are counted")]
-    TooManyChairs,
+    TooManyChairs = 33,
 }
 
 impl Refusal {
@@ -126,41 +126,7 @@ impl Refusal {
     pub fn code(&self) -> u8
         ensures number { result ≡ code_of self.now }
     {
-        match self {
-            Refusal::ChairOpen => 1,
-            Refusal::ChairNotOpen => 2,
-            Refusal::ChairHasMembers => 3,
-            Refusal::UnknownMember => 4,
-            Refusal::MemberSuspended => 5,
-            Refusal::AlreadyThere => 6,
-            Refusal::AlreadySuspended => 7,
-            Refusal::NotSuspended => 8,
-            Refusal::JournalFull => 9,
-            Refusal::OutOfMemory => 10,
-            Refusal::DuplicateMember => 11,
-            Refusal::TooManyMembers => 12,
-            Refusal::BadLimit => 13,
-            Refusal::BadChair => 14,
-            Refusal::BadMember => 15,
-            Refusal::VotesTooLarge => 16,
-            Refusal::BadRecord => 17,
-            Refusal::NoEntry => 18,
-            Refusal::ReadFault => 19,
-            Refusal::WriteFault => 20,
-            Refusal::BadHeader => 21,
-            Refusal::BadReader => 22,
-            Refusal::Busy => 23,
-            Refusal::Mismatch => 24,
-            Refusal::MemberExists => 25,
-            Refusal::MemberSeated => 26,
-            Refusal::GateClosed => 27,
-            Refusal::NoScript => 28,
-            Refusal::TooLong => 29,
-            Refusal::BadJournal => 30,
-            Refusal::BadCuts => 31,
-            Refusal::BadSheet => 32,
-            Refusal::TooManyChairs => 33,
-        }
+        *self as u8
     }
 
     /// Its name, as the output writes it.
