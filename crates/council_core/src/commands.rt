@@ -5,7 +5,7 @@ ghost use Rattle.council_core.specs.Rolls.{fresh};
 use crate::values::{ChairId, MemberCode, Votes};
 
 /// A change of the register. `Register::apply` says which are refused, and why.
-#[derive(Clone, Copy)]
+#[derive(Clone, Copy, Debug, PartialEq, Eq)]
 pub enum Command {
     /// Opens a chair that is closed.
     Open(ChairId),
@@ -30,7 +30,7 @@ pub enum Command {
 }
 
 /// What the register knows of a member beside its code.
-#[derive(Clone, Copy)]
+#[derive(Clone, Copy, Debug, PartialEq, Eq)]
 pub struct Standing {
     /// The member's votes, whether they count or not.
     pub votes: Votes,
@@ -57,7 +57,7 @@ impl Standing {
 }
 
 /// A member as it stands after the commands accepted.
-#[derive(Clone, Copy)]
+#[derive(Clone, Copy, Debug, PartialEq, Eq)]
 pub struct MemberRow {
     /// The member.
     pub code: MemberCode,

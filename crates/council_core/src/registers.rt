@@ -27,7 +27,7 @@ use std::marker::Model;
 
 /// The members, their votes and the chairs that cast them, and the journal of the commands that
 /// made them so.
-#[derive(Drop)]
+#[derive(Debug, Drop)]
 pub struct Register {
     opening: Vec<(MemberCode, Votes)>,
     members: IndexMap<MemberCode, Standing>,

@@ -35,6 +35,7 @@ fn sheet_from_words(rt: HostRuntime) -> Result<(), Fail> {
     words[32] = 10;
     let sheet = Sheet::from_words(&words)?;
     assert_eq!(rt; sheet.weight(ChairId::new(1)?), Some(10));
+    assert_eq!(rt; Sheet::from_words(&sheet.words())?, sheet);
     words[33] = 1000001;
     assert!(rt; Sheet::from_words(&words).err() == Some(Refusal::BadSheet));
     Ok(())

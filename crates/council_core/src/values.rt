@@ -9,7 +9,7 @@ use std::marker::Model;
 
 /// A chair: the Executive Director, by number from 1 to 32, who casts the votes of its members
 /// as one block (Articles of Agreement, Article XII, Section 3(i)).
-#[derive(Clone, Copy, PartialEq, Eq)]
+#[derive(Clone, Copy, Debug, PartialEq, Eq)]
 pub struct ChairId {
     number: u8,
 }
@@ -61,7 +61,7 @@ impl ChairId {
 
 /// The votes of one member, basic and quota-based votes together, from 0 to 2^40 votes (Articles
 /// of Agreement, Article XII, Section 5(a)).
-#[derive(Clone, Copy, PartialEq, Eq)]
+#[derive(Clone, Copy, Debug, PartialEq, Eq)]
 pub struct Votes {
     count: u64,
 }
@@ -102,7 +102,7 @@ impl Votes {
 }
 
 /// A member, by a code of three ASCII capitals.
-#[derive(Clone, Copy, PartialEq, Eq, Hash)]
+#[derive(Clone, Copy, Debug, PartialEq, Eq, Hash)]
 pub struct MemberCode {
     letters: [u8; 3],
 }
