@@ -1,6 +1,5 @@
 -- A sheet's words, written one after another.
-use Rattle.std.proofs.Common.{◌≡◌, ℕ, suc, ◌+◌, ◌<◌, ◌≤◌, List, [], ◌∷◌, ◌++◌, length, sym, ap, refl, arith, slice_set, subst, sum_by}
-use Rattle.std.proofs.Common.{◌^◌, slice_index}
+use Rattle.std.proofs.Common.{◌≡◌, ℕ, suc, ◌+◌, ◌<◌, ◌≤◌, List, [], ◌∷◌, ◌++◌, length, sym, ap, refl, arith, slice_set, subst, sum_by, ◌^◌, slice_index}
 use Rattle.std.proofs.lemmas.Grind.{common_steps}
 use Rattle.std.proofs.lemmas.List.{take_at, get_or_append_left}
 use Rattle.council_core.specs.Sheets.{IsSheet, weight_in, cast_of, total_of, front_of}

@@ -1,5 +1,5 @@
 -- What a register keeps stays what the roll says.
-use Rattle.std.proofs.Common.{◌≡◌, ℕ, ◌+◌, ◌^◌, ◌<◌, ◌≤◌, ◌==◌, Bool, true, false, cond, not, ◌&&◌, ◌||◌, List, [], ◌∷◌, ◌++◌, length, sum_by, filter, Option, None, Some, IfSome, Ok, is_ok, sym, ◌∙◌, ap, subst, refl, arith, true≢false, slice_index, slice_set}
+use Rattle.std.proofs.Common.{◌≡◌, ℕ, ◌+◌, ◌^◌, ◌<◌, ◌≤◌, ◌==◌, Bool, true, false, cond, not, ◌&&◌, ◌||◌, List, [], ◌∷◌, ◌++◌, length, sum_by, filter, Option, None, Some, IfSome, Ok, is_ok, sym, ◌∙◌, ap, subst, refl, arith, true≢false, slice_index, slice_set, length-append}
 use borrow.Author.Tests.{eqb-true}
 use Rattle.std.specs.List.{list_any}
 use Rattle.std.proofs.lemmas.Grind.{common_steps}
@@ -8,7 +8,6 @@ use Rattle.std.proofs.lemmas.List.Elements.{All-append, All-from_recursion}
 use Rattle.std.proofs.lemmas.List.Sums.{sum_by-append, sum_by-cons}
 use Rattle.council_core.specs.declared.commands.Standing.{Standing}
 use Rattle.council_core.specs.Rolls.{Roll, Entry, same_chair, standing_among, with_standing, without, entered, fresh, admitted, withdrawn, max_members, sits_in, counted, votes_in, weight, is_open, chair_word, can_receive, has_members, step, opening_roll}
-use Rattle.std.proofs.Common.{length-append}
 use Rattle.std.specs.Result.{result_unwrap_or}
 use Rattle.council_core.specs.declared.commands.Command.{Command}
 use Rattle.council_core.specs.Ledgers.{Ledger, roll_of, appended}

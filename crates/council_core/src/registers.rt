@@ -1,12 +1,10 @@
 //! The register.
-ghost use Rattle.std.specs.Prelude.{◌≡◌, ◌≤◌, ◌<◌, ◌==◌, ℕ, length, None, Some, Ok, Err, true, false, IfOk, IfErr, OnErr, []};
+ghost use Rattle.std.specs.Prelude.{◌≡◌, ◌≤◌, ◌<◌, ◌==◌, ℕ, [], length, slice_get, None, Some, Ok, Err, true, false, IfOk, IfErr, OnErr};
 ghost use Rattle.std.specs.List.{list_any};
-ghost use Rattle.std.specs.Prelude.{slice_get};
 ghost use Rattle.std.specs.Option.{option_map};
 ghost use Rattle.council_core.specs.Members.{row_of};
 ghost use Rattle.council_core.specs.Sheets.{IsSheet};
-ghost use Rattle.council_core.specs.Rolls.{IsLegal};
-ghost use Rattle.council_core.specs.Rolls.{step, is_open, can_receive, standing_among, place_among, same_code, has_members};
+ghost use Rattle.council_core.specs.Rolls.{IsLegal, step, is_open, can_receive, standing_among, place_among, same_code, has_members};
 ghost use Rattle.council_core.specs.Verdicts.{Follows};
 ghost use Rattle.council_core.specs.Registers.{IsPlanned};
 ghost use Rattle.council_core.specs.Ledgers.{Ledger, IsLedger, roll_of, verdict_of, room_of, appended, sheet_of, has_duplicate, start_verdict};
