@@ -8,8 +8,19 @@ use std::thread::Threads;
 use std::time::{Clock, Duration};
 
 // Three publications, two readings of reader 1 and one of reader 2.
-const INPUT: &str =
-    "member,votes\nAAA,10\nBBB,20\nscript\nopen,1\npublish\nmove,AAA,1\npublish\nmove,BBB,1\npublish\nread,1,half\nread,2,half\nread,1,70\n";
+const INPUT: &str = "member,votes\n\
+     AAA,10\n\
+     BBB,20\n\
+     script\n\
+     open,1\n\
+     publish\n\
+     move,AAA,1\n\
+     publish\n\
+     move,BBB,1\n\
+     publish\n\
+     read,1,half\n\
+     read,2,half\n\
+     read,1,70\n";
 
 const OUTPUT: &str =
     "accepted,1\npublished,1\naccepted,2\npublished,2\naccepted,3\npublished,3\nreader,1,2\nreader,2,1\naudit,ok\n";

@@ -12,10 +12,9 @@ use Rattle.two_copy_steps.specs.declared.views.Stage.{Stage}
 use Rattle.two_copy_steps.specs.declared.views.Stage.TheVariants.{AtRest, Arrived, Reading, Leaving}
 use Rattle.two_copy_steps.specs.Deeds.{recorded, stage_deed}
 use Rattle.two_copy_steps.specs.Lawful.{last_front}
-use Rattle.two_copy_steps.specs.Stages.{IsReadable}
+use Rattle.two_copy_steps.specs.Stages.{IsReadable, sheet_read, steps_taken}
 use Rattle.two_copy_steps.specs.States.{EndsWith}
 use Rattle.board_share.specs.declared.readings.Reading as reading
-use Rattle.two_copy_steps.specs.Stages.{sheet_read, steps_taken}
 use Rattle.two_copy_steps.proofs.StageFacts as stages
 use Rattle.board_share.specs.Readers.{Pass, TookStep, HasLegalRecord, IsLegalSheet, last_of, last_read}
 

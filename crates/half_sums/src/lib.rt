@@ -9,6 +9,7 @@ mod merge;
 mod sums;
 
 pub use entry::Entry;
+pub use groups::{SIZES, SLOTS};
 pub use laws::mask_law;
 pub use sums::HalfSums;
 

@@ -8,7 +8,7 @@ ghost use Rattle.half_sums.specs.Entries.{joined};
 ghost use Rattle.half_sums.specs.Groups.{AreGroups, fewer_than};
 
 use crate::Entry;
-use crate::groups::spread;
+use crate::groups::{STARTS, spread};
 use crate::merge::merge;
 use council_core::Refusal;
 use std::alloc::Global;
@@ -85,7 +85,7 @@ impl SumList {
 
     /// Becomes another list's entries by size, those of one size in their order there. Behind the starts of the 17
     /// groups stands where the last one ends.
-    pub(crate) fn regroup(&mut self, list: &[Entry], starts: &[usize; 18])
+    pub(crate) fn regroup(&mut self, list: &[Entry], starts: &[usize; STARTS])
         requires starts { (size : ℕ) → size ≤ 17 → slice_index starts.now size ≡ fewer_than size list.now }
         requires few { length list.now ≤ 65536 }
         ensures groups { AreGroups list.now self.new starts.now }
@@ -118,7 +118,7 @@ fn copy(list: &[Entry], room: &mut [Entry])
 }
 
 /// Writes a list's entries by size to the front of the room.
-fn regroup(list: &[Entry], starts: &[usize; 18], room: &mut [Entry])
+fn regroup(list: &[Entry], starts: &[usize; STARTS], room: &mut [Entry])
     requires starts { (size : ℕ) → size ≤ 17 → slice_index starts.now size ≡ fewer_than size list.now }
     requires few { length list.now ≤ length room.old }
     ensures groups { AreGroups list.now (take (length list.now) room.new) starts.now }

@@ -9,7 +9,7 @@ ghost use Rattle.half_sums.specs.Entries.{joined, AreSubsets, IsHalf};
 ghost use Rattle.half_sums.specs.Groups.{group_of, grouped, fewer_than, AreGroups, AreLevel};
 
 use crate::Entry;
-use crate::groups::{ONE_SET, SIZES, with_one_more};
+use crate::groups::{ONE_SET, SIZES, STARTS, with_one_more};
 use crate::lists::SumList;
 use council_core::Refusal;
 use std::alloc::Global;
@@ -21,7 +21,7 @@ use std::mem;
 pub struct HalfSums {
     ascending: SumList,
     groups: SumList,
-    starts: [usize; 18],
+    starts: [usize; STARTS],
 }
 
 impl Model for HalfSums {
@@ -92,9 +92,14 @@ impl HalfSums {
     }
 }
 
-/// Lists the sets of these chairs by size. Where all chairs have the same votes, sets of more chairs have more votes, so
-/// that the ascending list is by size as it stands.
-fn regroup(chairs: &[(u8, u64)], ascending: &[Entry], starts: &[usize; 18], groups: &mut SumList)
+/// Lists the sets of these chairs by size. Where all chairs have the same votes, sets of more chairs have more votes,
+/// so that the ascending list is by size as it stands.
+fn regroup(
+    chairs: &[(u8, u64)],
+    ascending: &[Entry],
+    starts: &[usize; STARTS],
+    groups: &mut SumList,
+)
     requires distinct { IsDistinct (λ a b. a == b) (map (λ chair. chair.0) chairs.now) }
     requires subsets { AreSubsets chairs.now ascending.now }
     requires half { IsHalf ascending.now }
@@ -134,7 +139,7 @@ fn part(entries: &[Entry], from: usize, to: usize) -> &[Entry]
 
 /// Lists the sets of these chairs, ascending by sum, and answers where the groups of each size start. What stands in
 /// either list before is lost.
-fn list(chairs: &[(u8, u64)], ascending: &mut SumList, scratch: &mut SumList) -> [usize; 18]
+fn list(chairs: &[(u8, u64)], ascending: &mut SumList, scratch: &mut SumList) -> [usize; STARTS]
     requires slots { All (λ chair. chair.0 < 16) chairs.now }
     requires distinct { IsDistinct (λ a b. a == b) (map (λ chair. chair.0) chairs.now) }
     requires small { weight_of chairs.now ≤ 2 ^ 48 }

@@ -10,8 +10,8 @@ ghost use Rattle.power_index.specs.Indices.{AreIndices, indices_of};
 use crate::halves::refresh;
 use crate::indices::{Fraction, Indices};
 use crate::rows::{SwingTally, coalition_count, rows};
-use council_core::{Refusal, Sheet};
-use half_sums::HalfSums;
+use council_core::{Refusal, SHEET_WORDS, Sheet};
+use half_sums::{HalfSums, SLOTS};
 use majority_rule::{Majority, least_size, quota};
 use std::alloc::Global;
 use std::marker::Model;
@@ -63,7 +63,7 @@ impl Evaluator {
         let old = self.sheet.words();
         let new = sheet.words();
         let left = refresh(&mut self.left, &old, &new, 0);
-        let right = refresh(&mut self.right, &old, &new, 16);
+        let right = refresh(&mut self.right, &old, &new, SLOTS);
         self.sheet = *sheet;
         left + right
     }
@@ -135,7 +135,7 @@ impl Evaluator {
 fn blank() -> Sheet
     ensures zeros { result ≡ replicate 34 0 }
 {
-    match Sheet::from_words(&[0; 34]) {
+    match Sheet::from_words(&[0; SHEET_WORDS]) {
         Ok(sheet) => sheet,
         Err(_) => unreachable!(),
     }

@@ -5,10 +5,11 @@ ghost use Rattle.half_sums.specs.Entries.{AreSubsets};
 ghost use Rattle.power_index.specs.Halves.{half_chairs, same_half, one_if};
 
 use arrayvec::ArrayVec;
-use half_sums::HalfSums;
+use council_core::SHEET_WORDS;
+use half_sums::{HalfSums, SLOTS};
 
 /// The open chairs of the half from a place on, each by its slot, 0 to 15, and its weight.
-fn chairs_of(words: &[u64; 34], from: usize) -> ArrayVec<(u8, u64), 16>
+fn chairs_of(words: &[u64; SHEET_WORDS], from: usize) -> ArrayVec<(u8, u64), SLOTS>
     requires place { from ≤ 16 }
     ensures chairs { result.items ≡ half_chairs from words.now }
 {
@@ -23,15 +24,20 @@ fn chairs_of(words: &[u64; 34], from: usize) -> ArrayVec<(u8, u64), 16>
 }
 
 /// Whether the half from a place on has the same words.
-fn is_same(old: &[u64; 34], new: &[u64; 34], from: usize) -> bool
+fn is_same(old: &[u64; SHEET_WORDS], new: &[u64; SHEET_WORDS], from: usize) -> bool
     requires place { from ≤ 16 }
     ensures same { result ≡ same_half from old.now new.now }
 {
-    old[from..from + 16] == new[from..from + 16]
+    old[from..from + SLOTS] == new[from..from + SLOTS]
 }
 
 /// Rebuilds a half where its words differ, and answers how many were rebuilt, 0 or 1.
-pub(crate) fn refresh(half: &mut HalfSums, old: &[u64; 34], new: &[u64; 34], from: usize) -> u8
+pub(crate) fn refresh(
+    half: &mut HalfSums,
+    old: &[u64; SHEET_WORDS],
+    new: &[u64; SHEET_WORDS],
+    from: usize,
+) -> u8
     requires place { from ≤ 16 }
     requires lawful { IsSheet new.now }
     requires before { AreSubsets (half_chairs from old.now) half.old }

@@ -1,6 +1,6 @@
 //! What an evaluation answers.
 use arrayvec::ArrayVec;
-use council_core::ChairId;
+use council_core::{CHAIRS, ChairId};
 use majority_rule::Majority;
 
 /// An exact fraction of two whole numbers, not reduced.
@@ -59,5 +59,5 @@ pub struct Indices {
     /// The power of the board to act (Coleman 1971): the coalitions that win among all.
     pub act: Fraction,
     /// A row for each open chair, by chair number.
-    pub rows: ArrayVec<ChairPower, 32>,
+    pub rows: ArrayVec<ChairPower, CHAIRS>,
 }

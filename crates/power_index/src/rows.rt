@@ -7,7 +7,7 @@ ghost use Rattle.power_index.specs.Tallies.{IsTally};
 
 use crate::indices::{ChairPower, Fraction};
 use arrayvec::ArrayVec;
-use council_core::ChairId;
+use council_core::{CHAIRS, ChairId, SHEET_WORDS};
 use majority_rule::Majority;
 
 /// The winning coalitions of a sheet under a majority, and the swings of each place.
@@ -15,7 +15,7 @@ use majority_rule::Majority;
 pub(crate) struct SwingTally {
     pub(crate) majority: Majority,
     pub(crate) winning: u64,
-    pub(crate) swings: [u64; 32],
+    pub(crate) swings: [u64; CHAIRS],
 }
 
 /// What the rows of a sheet share: the open chairs, the winning coalitions, and the swings of all chairs.
@@ -81,13 +81,13 @@ fn row(totals: &Totals, chair: ChairId, weight: u64, swings: u64) -> ChairPower
 }
 
 /// The swings of all open chairs.
-fn swing_sum(words: &[u64; 34], tally: &SwingTally) -> u64
+fn swing_sum(words: &[u64; SHEET_WORDS], tally: &SwingTally) -> u64
     requires tally { IsTally words.now tally.now }
     ensures sum { result ≡ swings_among (rule_of tally.now.majority words.now) (open_chairs words.now)
         (open_chairs words.now) }
 {
     let mut sum = 0;
-    for place in 0..32 {
+    for place in 0..CHAIRS {
         if words[place] > 0 {
             sum += tally.swings[place];
         }
@@ -96,7 +96,11 @@ fn swing_sum(words: &[u64; 34], tally: &SwingTally) -> u64
 }
 
 /// A row for each open chair, by number.
-pub(crate) fn rows(words: &[u64; 34], tally: &SwingTally, chairs: u8) -> ArrayVec<ChairPower, 32>
+pub(crate) fn rows(
+    words: &[u64; SHEET_WORDS],
+    tally: &SwingTally,
+    chairs: u8,
+) -> ArrayVec<ChairPower, CHAIRS>
     requires tally { IsTally words.now tally.now }
     requires chairs { chairs ≡ length (open_chairs words.now) }
     ensures rows { result.items
@@ -108,7 +112,7 @@ pub(crate) fn rows(words: &[u64; 34], tally: &SwingTally, chairs: u8) -> ArrayVe
         swings: swing_sum(words, tally),
     };
     let mut rows = ArrayVec::new();
-    for place in 0..32 {
+    for place in 0..CHAIRS {
         let word = words[place];
         if word > 0 {
             rows.push(row(&totals, chair_at(place), word - 1, tally.swings[place]));

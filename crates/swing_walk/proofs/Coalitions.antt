@@ -8,8 +8,7 @@ use Rattle.std.proofs.lemmas.Bool.{eq-eqb, ne_eqb, le-leb, leb-true}
 use Rattle.std.proofs.lemmas.List.Sums.{sum_by-cons, sum_by-le-sum_by}
 use Rattle.std.proofs.lemmas.List.Sorted.{IsPermutation-cons, IsPermutation-append_left, IsPermutation-append_comm, sum_by-IsPermutation, length_permutation, list_any-IsPermutation}
 use Rattle.council_core.specs.Sheets.{weight_of}
-use Rattle.council_core.specs.Coalitions.{subsets}
-use Rattle.council_core.specs.Coalitions.{has_chair, IsRule, reaching}
+use Rattle.council_core.specs.Coalitions.{subsets, has_chair, IsRule, reaching}
 use Rattle.swing_walk.specs.Laws.{SwingLaw, CountLaw, BoundLaw}
 use Rattle.swing_walk.specs.Pairs.{swings_of}
 pub use Rattle.half_sums.proofs.SetSums.{sum_by-map, sum_agree, sum_agree_on, sum_zero, over, over-cons, subsets_avoid}

@@ -7,4 +7,4 @@ pub mod Steps
 pub mod Meeting
 pub mod SizeLemmas
 pub mod LargePairs
-pub mod WorkedHalves
+pub mod WorkedCases

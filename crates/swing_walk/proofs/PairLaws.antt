@@ -10,11 +10,10 @@ use Rattle.std.proofs.lemmas.List.Folds.{list_any-append, list_any_none}
 use Rattle.std.proofs.lemmas.List.Elements.{All-weaker}
 use Rattle.half_sums.specs.declared.entry.Entry.{Entry}
 use Rattle.council_core.specs.Sheets.{weight_of}
-use Rattle.council_core.specs.Coalitions.{subsets}
+use Rattle.council_core.specs.Coalitions.{subsets, has_chair, reaching}
 use Rattle.half_sums.specs.Entries.{entry_of, AreSubsets}
 use Rattle.half_sums.specs.Groups.{size_of}
 use Rattle.swing_walk.specs.Pairs.{pairs_where, reaches, has, has_place, is_large}
-use Rattle.council_core.specs.Coalitions.{has_chair, reaching}
 use Rattle.swing_walk.specs.Laws.{board_of, PairLaw}
 use Rattle.half_sums.proofs.SetSums.{sum_by-map, sum_agree, sum_agree_on, over, over-cons, subsets_avoid}
 use Rattle.half_sums.proofs.MaskLemmas.{mask_has, sets_sized}

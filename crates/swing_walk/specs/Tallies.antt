@@ -31,15 +31,15 @@ abbrev pub IsEven : MaskTally → Type 0
 IsEven t = sum_by (λ n. n) t.high ≡ sum_by (λ n. n) t.low
 
 -- a tally has taken in 1 for each pair that passes a test, at the mask of its left entry
-pub record CreditsLefts (test : Entry → Entry → Bool) (left right : List Entry) (before after : MaskTally) : Type 0 where
-  pub even : IsEven after
-  pub total : total after ≡ total before + pairs_where test left right
+pub record CreditsLefts (test : Entry → Entry → Bool) (left right : List Entry) (old new : MaskTally) : Type 0 where
+  pub even : IsEven new
+  pub total : total new ≡ total old + pairs_where test left right
   pub marked : (slot : ℕ)
-      → marked slot after ≡ marked slot before + pairs_where (λ l r. test l r && has slot l) left right
+      → marked slot new ≡ marked slot old + pairs_where (λ l r. test l r && has slot l) left right
 
 -- the same, at the mask of its right entry
-pub record CreditsRights (test : Entry → Entry → Bool) (left right : List Entry) (before after : MaskTally) : Type 0 where
-  pub even : IsEven after
-  pub total : total after ≡ total before + pairs_where test left right
+pub record CreditsRights (test : Entry → Entry → Bool) (left right : List Entry) (old new : MaskTally) : Type 0 where
+  pub even : IsEven new
+  pub total : total new ≡ total old + pairs_where test left right
   pub marked : (slot : ℕ)
-      → marked slot after ≡ marked slot before + pairs_where (λ l r. test l r && has slot r) left right
+      → marked slot new ≡ marked slot old + pairs_where (λ l r. test l r && has slot r) left right

@@ -64,7 +64,8 @@ fn lower_by_size(
         → marked slot tally.new
         + pairs_where (λ b a. is_enough asked.quota asked.least_size b a && has slot b) (drop from right.now) left.now
         ≡ marked slot tally.old
-        + pairs_where (λ b a. is_enough asked.quota asked.least_size b a && has slot b) (drop result right.now) left.now }
+        + pairs_where (λ b a. is_enough asked.quota asked.least_size b a && has slot b) (drop result right.now)
+        left.now }
 {
     let mut at = from;
     while at > 0 && asked.quota <= left[next].sum + right[at - 1].sum {

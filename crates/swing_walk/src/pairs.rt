@@ -7,7 +7,8 @@ ghost use Rattle.swing_walk.specs.Tallies.{total, IsEven, CreditsLefts, CreditsR
 use crate::by_size::walk_by_size;
 use crate::tally::MaskTally;
 use crate::walking::walk;
-use half_sums::{Entry, HalfSums};
+use council_core::CHAIRS;
+use half_sums::{Entry, HalfSums, SLOTS};
 
 /// The winning pairs of the sets of a left and a right half. Where these are the halves of a board, the pairs are its
 /// coalitions.
@@ -17,13 +18,13 @@ pub struct Counts {
     pub winning: u64,
     /// At each place how many of them have its chair: place 0 to 15 is the left slot of that number, place 16 to 31
     /// the right slot of 16 less.
-    pub with_chair: [u64; 32],
+    pub with_chair: [u64; CHAIRS],
 }
 
 /// Counts the pairs whose sums reach the quota, in votes, and which have at least so many chairs together.
 ///
-/// It takes one walk, up the left list and down the right one (Horowitz and Sahni 1974). Where a size is asked, the walk
-/// keeps count of the sets on either side by size. It takes no memory.
+/// It takes one walk, up the left list and down the right one (Horowitz and Sahni 1974). Where a size is asked, the
+/// walk keeps count of the sets on either side by size. It takes no memory.
 pub fn count(left: &HalfSums, right: &HalfSums, quota: u64, least_size: u8) -> Counts
     ensures winning { result.winning ≡ large_pairs quota least_size left.now right.now }
     ensures with_chair { (place : ℕ) → place < 32
@@ -70,21 +71,21 @@ fn credit_pairs(
 }
 
 /// The left totals and then the right ones.
-fn both(left: &[u64; 16], right: &[u64; 16]) -> [u64; 32]
+fn both(left: &[u64; SLOTS], right: &[u64; SLOTS]) -> [u64; CHAIRS]
     ensures left { (slot : ℕ) → slot < 16 → slice_index result slot ≡ slice_index left.now slot }
     ensures right { (slot : ℕ) → slot < 16 → slice_index result (16 + slot) ≡ slice_index right.now slot }
 {
-    let mut all = [0; 32];
-    for slot in 0..16 {
+    let mut all = [0; CHAIRS];
+    for slot in 0..SLOTS {
         all[slot] = left[slot];
-        all[16 + slot] = right[slot];
+        all[SLOTS + slot] = right[slot];
     }
     all
 }
 
 /// The swings of the chair at each place, 0 where no winning pair has it (Banzhaf 1965; Felsenthal and Machover 1998).
 /// The counts of the two halves of a board meet what is asked here, and their swings are those by the definition.
-pub fn swings(counts: &Counts) -> [u64; 32]
+pub fn swings(counts: &Counts) -> [u64; CHAIRS]
     requires few { counts.now.winning ≤ 2 ^ 32 }
     requires within { (place : ℕ) → place < 32 → slice_index counts.now.with_chair place ≤ counts.now.winning }
     requires half { (place : ℕ) → place < 32 → 0 < slice_index counts.now.with_chair place
@@ -92,8 +93,8 @@ pub fn swings(counts: &Counts) -> [u64; 32]
     ensures each { (place : ℕ) → place < 32
         → slice_index result place ≡ swings_of counts.now.winning (slice_index counts.now.with_chair place) }
 {
-    let mut swings = [0; 32];
-    for place in 0..32 {
+    let mut swings = [0; CHAIRS];
+    for place in 0..CHAIRS {
         let with_chair = counts.with_chair[place];
         swings[place] = if with_chair == 0 {
             0

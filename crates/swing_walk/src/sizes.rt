@@ -3,10 +3,7 @@ ghost use Rattle.std.specs.Prelude.{◌≡◌, ℕ, ◌+◌, ◌-◌, ◌<◌, �
 ghost use Rattle.half_sums.specs.Entries.{IsHalf};
 ghost use Rattle.swing_walk.specs.Sizes.{counted, one_at, IsTally};
 
-use half_sums::Entry;
-
-/// How many sizes a set of a half can have: 0 to 16 chairs.
-const SIZES: usize = 17;
+use half_sums::{Entry, SIZES, SLOTS};
 
 /// A 1 for each of the 17 sizes, and a 0 for each size but one: a set of so many chairs has its own 17 of these from 16
 /// less than its size on.
@@ -83,7 +80,7 @@ fn steps_of(mask: u16) -> &'static [u32]
     ensures long { length result.now ≡ 17 }
     ensures each { (size : ℕ) → slice_index_or result.now size 0 ≡ one_at size mask }
 {
-    let first = 16 - size(mask);
+    let first = SLOTS - size(mask);
     part(&STEPS, first, first + SIZES)
 }
 

@@ -3,11 +3,16 @@ ghost use Rattle.std.specs.Prelude.{◌≡◌, ℕ, ◌+◌, ◌-◌, ◌*◌, �
 ghost use Rattle.std.specs.Int.{bit_at};
 ghost use Rattle.swing_walk.specs.Tallies.{marked, total, IsEven, low_weight, high_weight};
 
+use half_sums::SLOTS;
+
+/// How many values a byte has.
+const BYTES: usize = 256;
+
 /// Amounts by mask: per value of the low byte of the masks and per value of the high one.
 #[derive(Clone, Copy)]
 pub(crate) struct MaskTally {
-    pub(crate) low: [u64; 256],
-    pub(crate) high: [u64; 256],
+    pub(crate) low: [u64; BYTES],
+    pub(crate) high: [u64; BYTES],
 }
 
 impl MaskTally {
@@ -18,8 +23,8 @@ impl MaskTally {
         ensures even { IsEven result }
     {
         MaskTally {
-            low: [0; 256],
-            high: [0; 256],
+            low: [0; BYTES],
+            high: [0; BYTES],
         }
     }
 
@@ -36,12 +41,12 @@ impl MaskTally {
     }
 
     /// Per slot the amounts whose masks have it.
-    pub(crate) fn by_slot(&self) -> [u64; 16]
+    pub(crate) fn by_slot(&self) -> [u64; SLOTS]
         requires even { IsEven self.now }
         requires room { total self.now < 2 ^ 63 }
         ensures marked { (slot : ℕ) → slot < 16 → slice_index result slot ≡ marked slot self.now }
     {
-        let mut totals = [0; 16];
+        let mut totals = [0; SLOTS];
         for byte in 0..256u16 {
             let at = usize::from(byte);
             add_byte(&mut totals, byte, self.low[at], self.high[at]);
@@ -51,7 +56,7 @@ impl MaskTally {
 }
 
 /// Adds what a byte stands for: one amount at its slots as a low byte, and another at its slots as a high one.
-fn add_byte(totals: &mut [u64; 16], byte: u16, low: u64, high: u64)
+fn add_byte(totals: &mut [u64; SLOTS], byte: u16, low: u64, high: u64)
     requires byte { byte < 256 }
     requires room { (slot : ℕ) → slot < 16 → slice_index totals.old slot + low + high < 2 ^ 64 }
     ensures more { (slot : ℕ) → slot < 16

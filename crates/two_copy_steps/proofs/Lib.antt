@@ -9,7 +9,7 @@ pub mod Starts
 pub mod EventLists
 pub mod Fixed
 pub mod Steps
-pub mod Cases
+pub mod WorkedCases
 pub mod Fresh
 pub mod EffectLists
 pub mod StateFacts

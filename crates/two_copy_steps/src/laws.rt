@@ -1,10 +1,5 @@
 //! Laws of the machine, as contracts of functions that do nothing: for whoever builds on it.
-ghost use Rattle.two_copy_steps.specs.Laws.{StartLaw, ReaderLaw, WriterLaw, BeginLaw};
-ghost use Rattle.two_copy_steps.specs.Laws.{StateRecordsLaw, StateUnderLaw, StateKnownLaw};
-ghost use Rattle.two_copy_steps.specs.Laws.{WriterTurnLaw, ReaderTurnLaw, BeginTurnLaw, IdleTurnLaw, SubmitTurnLaw};
-ghost use Rattle.two_copy_steps.specs.Laws.{BusyLaw, StayLaw, AtOnceLaw, CountLaw, GrowthLaw};
-ghost use Rattle.two_copy_steps.specs.Laws.{EventLaw, LedgerLaw, RecordsLaw, UnderLaw, RepliesLaw, FreshLaw, ToldLaw, NeverOlderLaw};
-ghost use Rattle.two_copy_steps.specs.Laws.{EffectsLaw, NotesLaw, AfterLaw};
+ghost use Rattle.two_copy_steps.specs.Laws.{StartLaw, ReaderLaw, WriterLaw, BeginLaw, StateRecordsLaw, StateUnderLaw, StateKnownLaw, WriterTurnLaw, ReaderTurnLaw, BeginTurnLaw, IdleTurnLaw, SubmitTurnLaw, BusyLaw, StayLaw, AtOnceLaw, CountLaw, GrowthLaw, EventLaw, LedgerLaw, RecordsLaw, UnderLaw, RepliesLaw, FreshLaw, ToldLaw, NeverOlderLaw, EffectsLaw, NotesLaw, AfterLaw};
 
 /// The machine is lawful at its start.
 pub fn start_law()

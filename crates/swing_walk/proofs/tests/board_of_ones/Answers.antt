@@ -1,5 +1,5 @@
 use Rattle.std.proofs.Common.{arith}
-use Rattle.swing_walk.proofs.WorkedHalves.{ones_meet}
+use Rattle.swing_walk.proofs.WorkedCases.{ones_meet}
 use Rattle.swing_walk.proofs.tests.board_of_ones.Goals as goal
 
 pub swings-requires-clause-few : goal.swings-requires-clause-few

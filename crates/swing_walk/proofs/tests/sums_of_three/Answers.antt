@@ -1,6 +1,6 @@
 use Rattle.std.proofs.Common.{rules, arith}
 use Rattle.std.specs.List.{IsDistinct}
-use Rattle.swing_walk.proofs.WorkedHalves.{three_meet}
+use Rattle.swing_walk.proofs.WorkedCases.{three_meet}
 use Rattle.swing_walk.proofs.tests.sums_of_three.Goals as goal
 
 pub rebuild-requires-clause-distinct : goal.rebuild-requires-clause-distinct
