@@ -11,7 +11,7 @@ ghost use Rattle.board_report.specs.declared.stops.Stop.TheVariants as stop;
 use crate::served::Served;
 use crate::stops::Stop;
 use board_share::{AuditFault, audit, audit_law};
-use council_core::{MemberCode, Votes};
+use council_core::{MAX_COMMANDS, MemberCode, Votes};
 use std::alloc::Global;
 
 // What an audit's fault says of records whose journal is legal and whose cuts are in order.
@@ -34,7 +34,7 @@ pub(crate) fn are_legal(
     members: &[(MemberCode, Votes)],
     served: &Served,
 ) -> Result<bool, Stop>
-    requires starts { start_verdict members.now 1000000 ≡ Ok tt }
+    requires starts { start_verdict members.now MAX_COMMANDS ≡ Ok tt }
     requires legal { IsLegal members.now served.now.journal.items }
     requires in_order { AreCuts served.now.journal.items (0 ∷ served.now.cuts.items) }
     ensures legal { IfOk result

@@ -10,7 +10,7 @@ use crate::opening::read_opening;
 use crate::requests::is_header_row;
 use crate::script::Script;
 use crate::stops::Stop;
-use council_core::{MemberCode, Refusal, Register, Votes};
+use council_core::{MAX_COMMANDS, MemberCode, Refusal, Register, Votes};
 use csv::ByteRecord;
 use std::alloc::Global;
 use std::io::Read;
@@ -48,7 +48,7 @@ fn start_register(
     limits: Limits,
 ) -> Result<Register, Stop>
     ensures started { Starts limits members.now result }
-    ensures starts { OnOk result (start_verdict members.now 1000000 ≡ Ok tt) }
+    ensures starts { OnOk result (start_verdict members.now MAX_COMMANDS ≡ Ok tt) }
 {
     match Register::start(alloc, members, limits.journal) {
         Ok(register) => Ok(register),
@@ -68,7 +68,7 @@ pub(crate) fn begin(
     ensures begun { IfOk result (λ b. begun_with limits (opened_of script.old) ≡ Ok (b.register, b.place, script.new)) }
     ensures fault { IfErr result (λ e. Fails e (begun_with limits (opened_of script.old))) }
     ensures members { IfOk result (λ b. b.register.opening ≡ b.members.items) }
-    ensures starts { IfOk result (λ b. start_verdict b.members.items 1000000 ≡ Ok tt) }
+    ensures starts { IfOk result (λ b. start_verdict b.members.items MAX_COMMANDS ≡ Ok tt) }
     ensures none { IfOk result (λ b. b.register.journal ≡ []) }
     ensures places { IfOk result (λ b. b.place + length script.new < 2 ^ 32) }
 {

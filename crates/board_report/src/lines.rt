@@ -1,12 +1,12 @@
 //! The lines of the output.
-ghost use Rattle.std.specs.Prelude.{◌≡◌, ◌≤◌, ◌+◌, ◌∷◌, [], length, codes, decimal, IfSome, IfNone};
+ghost use Rattle.std.specs.Prelude.{◌≡◌, ◌≤◌, ◌+◌, ◌∷◌, [], length, IfSome, IfNone};
 ghost use Rattle.board_report.specs.Desks.{reply_of};
 ghost use Rattle.board_report.specs.Lines.{accepted_line, busy_line, chair_line, fault_line, published_line, reading_line, refused_line, reply_line, note_lines, sheet_line};
 ghost use Rattle.board_report.specs.Plans.{audit_line, reader_line};
 ghost use Rattle.board_report.specs.Words.{word_of_majority};
 
 use crate::faults::Fault;
-use crate::line::Line;
+use crate::line::{LINE, Line};
 use crate::replies::Answer;
 use council_core::{Refusal, Sheet};
 use majority_rule::Majority;
@@ -15,7 +15,7 @@ use two_copy_steps::Note;
 
 fn accepted_line(accepted: u32) -> Line
     ensures text { result ≡ accepted_line accepted }
-    ensures fits { length result + 1 ≤ 256 }
+    ensures fits { length result + 1 ≤ LINE }
 {
     let mut line = Line::new("accepted");
     line.number(u64::from(accepted));
@@ -24,7 +24,7 @@ fn accepted_line(accepted: u32) -> Line
 
 fn refused_line(why: Refusal) -> Line
     ensures text { result ≡ refused_line why }
-    ensures fits { length result + 1 ≤ 256 }
+    ensures fits { length result + 1 ≤ LINE }
 {
     let mut line = Line::new("refused");
     line.number(u64::from(why.code()));
@@ -34,7 +34,7 @@ fn refused_line(why: Refusal) -> Line
 
 fn published_line(front: u32) -> Line
     ensures text { result ≡ published_line front }
-    ensures fits { length result + 1 ≤ 256 }
+    ensures fits { length result + 1 ≤ LINE }
 {
     let mut line = Line::new("published");
     line.number(u64::from(front));
@@ -44,7 +44,7 @@ fn published_line(front: u32) -> Line
 // The line of an answer to a command or to a publication.
 pub(crate) fn line_of_answer(answer: Answer) -> Line
     ensures text { result ≡ reply_line (reply_of answer) }
-    ensures fits { length result + 1 ≤ 256 }
+    ensures fits { length result + 1 ≤ LINE }
 {
     match answer {
         Answer::Accepted(accepted) => accepted_line(accepted),
@@ -57,7 +57,7 @@ pub(crate) fn line_of_answer(answer: Answer) -> Line
 pub(crate) fn line_of_note(note: Note) -> Option<Line>
     ensures text { IfSome result (λ line. note_lines note ≡ line ∷ []) }
     ensures none { IfNone result (note_lines note ≡ []) }
-    ensures fits { IfSome result (λ line. length line + 1 ≤ 256) }
+    ensures fits { IfSome result (λ line. length line + 1 ≤ LINE) }
 {
     match note {
         Note::Accepted(accepted) => Some(accepted_line(accepted)),
@@ -73,7 +73,7 @@ pub(crate) fn line_of_note(note: Note) -> Option<Line>
 
 fn busy_line(reader: u8) -> Line
     ensures text { result ≡ busy_line reader }
-    ensures fits { length result + 1 ≤ 256 }
+    ensures fits { length result + 1 ≤ LINE }
 {
     let mut line = Line::new("busy");
     line.number(u64::from(reader));
@@ -83,7 +83,7 @@ fn busy_line(reader: u8) -> Line
 // What a reader of the machine read.
 fn sheet_line(reader: u8, sheet: &Sheet) -> Line
     ensures text { result ≡ sheet_line reader sheet.now }
-    ensures fits { length result + 1 ≤ 256 }
+    ensures fits { length result + 1 ≤ LINE }
 {
     let mut line = Line::new("sheet");
     line.number(u64::from(reader));
@@ -108,7 +108,7 @@ fn word_of_majority(majority: Majority) -> &'static str
 // What a reader reads of the board as a whole.
 pub(crate) fn line_of_reading(reader: u64, indices: &Indices) -> Line
     ensures text { result ≡ reading_line reader indices.now }
-    ensures fits { length result + 1 ≤ 256 }
+    ensures fits { length result + 1 ≤ LINE }
 {
     let mut line = Line::new("reading");
     line.number(reader);
@@ -126,7 +126,7 @@ pub(crate) fn line_of_reading(reader: u64, indices: &Indices) -> Line
 // What a reader reads of one chair.
 pub(crate) fn line_of_chair(row: &ChairPower) -> Line
     ensures text { result ≡ chair_line row.now }
-    ensures fits { length result + 1 ≤ 256 }
+    ensures fits { length result + 1 ≤ LINE }
 {
     let mut line = Line::new("chair");
     line.number(u64::from(row.chair.number()));
@@ -142,7 +142,7 @@ pub(crate) fn line_of_chair(row: &ChairPower) -> Line
 // How many readings a reader took.
 pub(crate) fn line_of_count(reader: u64, count: u64) -> Line
     ensures text { result ≡ reader_line reader count }
-    ensures fits { length result + 1 ≤ 256 }
+    ensures fits { length result + 1 ≤ LINE }
 {
     let mut line = Line::new("reader");
     line.number(reader);
@@ -153,7 +153,7 @@ pub(crate) fn line_of_count(reader: u64, count: u64) -> Line
 // The audit found nothing.
 pub(crate) fn line_of_audit() -> Line
     ensures text { result ≡ audit_line }
-    ensures fits { length result + 1 ≤ 256 }
+    ensures fits { length result + 1 ≤ LINE }
 {
     let mut line = Line::new("audit");
     line.word("ok");
@@ -163,7 +163,7 @@ pub(crate) fn line_of_audit() -> Line
 // The last line of a run that a fault ends.
 pub(crate) fn line_of_fault(fault: Fault) -> Line
     ensures text { result ≡ fault_line fault }
-    ensures fits { length result + 1 ≤ 256 }
+    ensures fits { length result + 1 ≤ LINE }
 {
     let mut line = Line::new("fault");
     line.number(u64::from(fault.place));

@@ -1,5 +1,5 @@
 //! Replaying an input.
-ghost use Rattle.std.specs.Prelude.{◌≡◌, ◌≤◌, ℕ, List, map, IfSome, OnOk};
+ghost use Rattle.std.specs.Prelude.{◌≡◌, ℕ, List, map, IfSome, OnOk};
 ghost use Rattle.council_core.specs.Sequential.{respond, shown};
 ghost use Rattle.board_report.specs.Lines.{chair_line, reading_lines, reply_lines};
 ghost use Rattle.board_report.specs.Output.{Plays, Replays};

@@ -1,5 +1,5 @@
 //! A run of one writer thread and two reader threads.
-ghost use Rattle.std.specs.Prelude.{◌≡◌, ◌≤◌, ℕ, List, true, false, IfOk, IfErr, IfSome};
+ghost use Rattle.std.specs.Prelude.{◌≡◌, ℕ, List, true, false, IfOk, IfErr, IfSome};
 ghost use Rattle.board_report.specs.Outcomes.{HasRecords, IsOutcome, IsServed};
 ghost use Rattle.board_report.specs.Pens.{GoesOn};
 ghost use Rattle.board_report.specs.Plans.{AreOf, IsSound, plan_of, plan_shown};

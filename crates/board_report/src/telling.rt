@@ -1,5 +1,5 @@
 //! Writing what came of the work of all threads.
-ghost use Rattle.std.specs.Prelude.{◌≡◌, ◌≤◌, ◌∷◌, [], map, IsOkUnless};
+ghost use Rattle.std.specs.Prelude.{◌∷◌, [], map, IsOkUnless};
 ghost use Rattle.board_report.specs.Desks.{reply_of};
 ghost use Rattle.board_report.specs.Lines.{reply_line};
 ghost use Rattle.board_report.specs.Output.{Plays};

@@ -1,5 +1,5 @@
 //! Taking the two-copy machine through a schedule.
-ghost use Rattle.std.specs.Prelude.{◌≡◌, ◌≤◌, ℕ, List, true, replicate, IfSome, OnOk};
+ghost use Rattle.std.specs.Prelude.{◌≡◌, ℕ, List, true, replicate, IfSome, OnOk};
 ghost use Rattle.two_copy_steps.specs.Turns.{after, turn};
 ghost use Rattle.board_report.specs.Lines.{note_lines};
 ghost use Rattle.board_report.specs.Output.{Plays, Replays};

@@ -7,7 +7,7 @@ ghost use Rattle.power_index.specs.Indices.{AreIndices, indices_of};
 ghost use Rattle.board_share.specs.Readers.{HasLegalRecord, IsLegalSheet, last_front_of, last_of, number_of};
 
 use crate::readers::Reader;
-use council_core::{Refusal, Sheet};
+use council_core::{Refusal, SHEET_WORDS, Sheet};
 use majority_rule::Majority;
 use power_index::{Evaluator, Indices};
 use std::alloc::Global;
@@ -37,7 +37,7 @@ impl Analyst {
     pub fn new(alloc: Global, reader: Reader) -> Result<Analyst, (Reader, Refusal)>
         requires rest { reader.stage ≡ AtRest }
         ensures reader { IfOk result (λ a. a.reader ≡ reader) }
-        ensures blank { IfOk result (λ a. a.sheet ≡ replicate 34 0) }
+        ensures blank { IfOk result (λ a. a.sheet ≡ replicate SHEET_WORDS 0) }
         ensures returned { IfErr result (λ e. e.0 ≡ reader) }
         ensures memory { IfErr result (λ e. e.1 ≡ OutOfMemory) }
     {

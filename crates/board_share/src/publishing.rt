@@ -1,9 +1,8 @@
 //! A publication of all commands, by single loads.
-ghost use Rattle.std.specs.Prelude.{◌≡◌, ℕ, suc, ◌∷◌, ◌++◌, [], true, false, length, replicate, OnOk, OnErr, IfErr, IsOk};
+ghost use Rattle.std.specs.Prelude.{◌≡◌, suc, ◌∷◌, ◌++◌, [], true, false, length, replicate, OnOk, OnErr, IfErr, IsOk};
 ghost use Rattle.council_core.specs.Rolls.{sheet};
 ghost use Rattle.council_core.specs.Ledgers.{sheet_of};
 ghost use Rattle.two_copy_steps.specs.Deeds.{all_true, first_false};
-ghost use Rattle.two_copy_steps.specs.declared.views.Phase.TheVariants.{Filling, Swapping};
 ghost use Rattle.two_copy_steps.specs.Publications.{StaySeen};
 ghost use Rattle.board_share.specs.Writers.{Underway, IsIdle, IsSeeing, IsFilling, known_at};
 

@@ -1,5 +1,5 @@
 //! The steps of a reader over the shared words, each one load or one store of one word.
-ghost use Rattle.std.specs.Prelude.{◌≡◌, ◌+◌, ◌<◌, [], length, take};
+ghost use Rattle.std.specs.Prelude.{◌≡◌, ◌+◌, ◌<◌, [], take};
 ghost use Rattle.std.specs.Option.{option_map};
 ghost use Rattle.two_copy_steps.specs.declared.views.Stage.TheVariants.{AtRest, Arrived, Leaving};
 ghost use Rattle.two_copy_steps.specs.Deeds.{loaded};

@@ -1,7 +1,8 @@
 //! What changes the register, and what it knows of a member.
-ghost use Rattle.std.specs.Prelude.{◌≡◌, ◌≤◌, ◌^◌};
+ghost use Rattle.std.specs.Prelude.{◌≡◌, ◌≤◌};
 ghost use Rattle.council_core.specs.Rolls.{fresh};
 
+use crate::limits::MAX_VOTES;
 use crate::values::{ChairId, MemberCode, Votes};
 
 /// A change of the register. `Register::apply` says which are refused, and why.
@@ -44,7 +45,7 @@ impl Standing {
     // The standing of a member as it enters.
     pub(crate) fn fresh(votes: Votes) -> Standing
         ensures same { result ≡ fresh votes }
-        ensures small { votes ≤ 2 ^ 40 }
+        ensures small { votes ≤ MAX_VOTES }
     {
         // The prover asks for this line: the votes are in range.
         let _votes = votes.number();

@@ -76,43 +76,38 @@ pub enum Refusal {
     TooManyChairs = 33,
 }
 
+// The refusals by number, for whatever is made of all of them: the macro of that name is called with this list.
+macro_rules! refusals {
+    ($make:ident $($given:expr)?) => {
+        $make! { $($given)? =>
+            ChairOpen, ChairNotOpen, ChairHasMembers, UnknownMember, MemberSuspended, AlreadyThere,
+            AlreadySuspended, NotSuspended, JournalFull, OutOfMemory, DuplicateMember,
+            TooManyMembers, BadLimit, BadChair, BadMember, VotesTooLarge, BadRecord, NoEntry,
+            ReadFault, WriteFault, BadHeader, BadReader, Busy, Mismatch, MemberExists, MemberSeated,
+            GateClosed, NoScript, TooLong, BadJournal, BadCuts, BadSheet, TooManyChairs
+        }
+    };
+}
+
+// All of them as an array.
+macro_rules! listed {
+    (=> $($name:ident),*) => {
+        [$(Refusal::$name),*]
+    };
+}
+
+// The name of one, as it is written above.
+macro_rules! named {
+    ($refusal:expr => $($name:ident),*) => {
+        match $refusal {
+            $(Refusal::$name => stringify!($name),)*
+        }
+    };
+}
+
 impl Refusal {
     /// Each refusal once, by number.
-    pub const ALL: [Refusal; 33] = [
-        Refusal::ChairOpen,
-        Refusal::ChairNotOpen,
-        Refusal::ChairHasMembers,
-        Refusal::UnknownMember,
-        Refusal::MemberSuspended,
-        Refusal::AlreadyThere,
-        Refusal::AlreadySuspended,
-        Refusal::NotSuspended,
-        Refusal::JournalFull,
-        Refusal::OutOfMemory,
-        Refusal::DuplicateMember,
-        Refusal::TooManyMembers,
-        Refusal::BadLimit,
-        Refusal::BadChair,
-        Refusal::BadMember,
-        Refusal::VotesTooLarge,
-        Refusal::BadRecord,
-        Refusal::NoEntry,
-        Refusal::ReadFault,
-        Refusal::WriteFault,
-        Refusal::BadHeader,
-        Refusal::BadReader,
-        Refusal::Busy,
-        Refusal::Mismatch,
-        Refusal::MemberExists,
-        Refusal::MemberSeated,
-        Refusal::GateClosed,
-        Refusal::NoScript,
-        Refusal::TooLong,
-        Refusal::BadJournal,
-        Refusal::BadCuts,
-        Refusal::BadSheet,
-        Refusal::TooManyChairs,
-    ];
+    pub const ALL: [Refusal; 33] = refusals!(listed);
 
     /// The refusal of a number, where there is one.
     pub fn from_code(code: u8) -> Option<Refusal>
@@ -134,41 +129,7 @@ impl Refusal {
         ensures name { result.now ≡ name_of self.now }
         ensures short { length result.now ≤ 16 }
     {
-        match self {
-            Refusal::ChairOpen => "ChairOpen",
-            Refusal::ChairNotOpen => "ChairNotOpen",
-            Refusal::ChairHasMembers => "ChairHasMembers",
-            Refusal::UnknownMember => "UnknownMember",
-            Refusal::MemberSuspended => "MemberSuspended",
-            Refusal::AlreadyThere => "AlreadyThere",
-            Refusal::AlreadySuspended => "AlreadySuspended",
-            Refusal::NotSuspended => "NotSuspended",
-            Refusal::JournalFull => "JournalFull",
-            Refusal::OutOfMemory => "OutOfMemory",
-            Refusal::DuplicateMember => "DuplicateMember",
-            Refusal::TooManyMembers => "TooManyMembers",
-            Refusal::BadLimit => "BadLimit",
-            Refusal::BadChair => "BadChair",
-            Refusal::BadMember => "BadMember",
-            Refusal::VotesTooLarge => "VotesTooLarge",
-            Refusal::BadRecord => "BadRecord",
-            Refusal::NoEntry => "NoEntry",
-            Refusal::ReadFault => "ReadFault",
-            Refusal::WriteFault => "WriteFault",
-            Refusal::BadHeader => "BadHeader",
-            Refusal::BadReader => "BadReader",
-            Refusal::Busy => "Busy",
-            Refusal::Mismatch => "Mismatch",
-            Refusal::MemberExists => "MemberExists",
-            Refusal::MemberSeated => "MemberSeated",
-            Refusal::GateClosed => "GateClosed",
-            Refusal::NoScript => "NoScript",
-            Refusal::TooLong => "TooLong",
-            Refusal::BadJournal => "BadJournal",
-            Refusal::BadCuts => "BadCuts",
-            Refusal::BadSheet => "BadSheet",
-            Refusal::TooManyChairs => "TooManyChairs",
-        }
+        refusals!(named self)
     }
 }
 

@@ -1,5 +1,5 @@
 //! The register.
-ghost use Rattle.std.specs.Prelude.{◌≡◌, ◌≤◌, ◌<◌, ◌==◌, ℕ, [], length, slice_get, None, Some, Ok, Err, true, false, IfOk, IfErr, OnErr};
+ghost use Rattle.std.specs.Prelude.{◌≡◌, ◌≤◌, ◌<◌, ◌==◌, [], length, slice_get, None, Some, Ok, Err, true, false, IfOk, IfErr, OnErr};
 ghost use Rattle.std.specs.List.{list_any};
 ghost use Rattle.std.specs.Option.{option_map};
 ghost use Rattle.council_core.specs.Members.{row_of};
@@ -35,7 +35,6 @@ pub struct Register {
 }
 
 impl Model for Register {
-    ghost use Rattle.std.specs.Prelude.{ℕ, List};
     ghost use Rattle.council_core.specs.Ledgers.{Ledger};
     ghost use Rattle.council_core.specs.Registers.{IsKept};
 
@@ -108,7 +107,7 @@ impl Register {
         ensures commands { result.now ≡ self.now.journal }
         ensures legal { IsLegal self.now.opening self.now.journal }
         ensures within { length self.now.journal ≤ self.now.limit }
-        ensures limit { self.now.limit ≤ 1000000 }
+        ensures limit { self.now.limit ≤ MAX_COMMANDS }
     {
         self.journal.as_slice()
     }

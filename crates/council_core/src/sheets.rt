@@ -1,5 +1,5 @@
 //! The 34 numbers that readers see.
-ghost use Rattle.std.specs.Prelude.{◌≡◌, ◌≤◌, ◌<◌, ◌+◌, ◌^◌, ◌++◌, ◌∷◌, ◌↔◌, [], length, slice_index, ℕ, IsTrue, IsOk, IfOk, IsOkUnless};
+ghost use Rattle.std.specs.Prelude.{◌≡◌, ◌≤◌, ◌<◌, ◌+◌, ◌++◌, ◌∷◌, ◌↔◌, [], length, slice_index, ℕ, IsTrue, IsOk, IfOk, IsOkUnless};
 ghost use Rattle.council_core.specs.declared.refusals.Refusal.TheVariants.{BadSheet};
 ghost use Rattle.council_core.specs.Sheets.{cast_of, total_of, front_of, open_chairs, weight_word, IsSheet};
 
@@ -67,7 +67,7 @@ impl Sheet {
     /// The 34 words.
     pub fn words(&self) -> [u64; SHEET_WORDS]
         ensures same { result ≡ self.now }
-        ensures long { length result ≡ 34 }
+        ensures long { length result ≡ SHEET_WORDS }
         ensures lawful { IsSheet result }
     {
         let Sheet { words } = *self;
@@ -78,7 +78,7 @@ impl Sheet {
     /// suspended, also of those in no chair (Schedule L).
     pub fn total(&self) -> u64
         ensures same { result ≡ total_of self.now }
-        ensures high { result ≤ 2 ^ 48 }
+        ensures high { result ≤ MAX_TOTAL }
         ensures cast { cast_of self.now ≤ result }
     {
         self.words[TOTAL]
@@ -88,7 +88,7 @@ impl Sheet {
     #[tactic(auto, using(std::proofs::lemmas::Grind::common_steps, crate::proofs::OpenChairs::count_open, crate::proofs::OpenChairs::count_closed))]
     pub fn chairs(&self) -> u8
         ensures same { result ≡ length (open_chairs self.now) }
-        ensures high { result ≤ 32 }
+        ensures high { result ≤ CHAIRS }
     {
         let mut chairs = 0;
         for i in 0..CHAIRS {
@@ -118,7 +118,7 @@ impl Sheet {
     /// The votes that the open chairs cast together, from 0 to the total.
     pub fn cast(&self) -> u64
         ensures same { result ≡ cast_of self.now }
-        ensures high { result ≤ 2 ^ 48 }
+        ensures high { result ≤ MAX_TOTAL }
     {
         cast_in(&self.words)
     }
@@ -127,7 +127,7 @@ impl Sheet {
 // The weights that words show, added up.
 #[tactic(auto, using(std::proofs::lemmas::Grind::common_steps, crate::proofs::SheetLemmas::cast_step, crate::proofs::SheetLemmas::cast_below))]
 fn cast_in(words: &[u64; SHEET_WORDS]) -> u64
-    requires small { (k : ℕ) → k < 32 → slice_index words.now k ≤ 2 ^ 48 + 1 }
+    requires small { (k : ℕ) → k < CHAIRS → slice_index words.now k ≤ MAX_TOTAL + 1 }
     ensures same { result ≡ cast_of words.now }
 {
     let mut cast = 0;
@@ -139,7 +139,7 @@ fn cast_in(words: &[u64; SHEET_WORDS]) -> u64
 
 // Whether the words of the chairs are no larger than a sheet's.
 fn are_small(words: &[u64; SHEET_WORDS]) -> bool
-    ensures { IsTrue result ↔ ((k : ℕ) → k < 32 → slice_index words.now k ≤ 2 ^ 48 + 1) }
+    ensures { IsTrue result ↔ ((k : ℕ) → k < CHAIRS → slice_index words.now k ≤ MAX_TOTAL + 1) }
 {
     for i in 0..CHAIRS {
         if words[i] > MAX_TOTAL + 1 {

@@ -1,5 +1,5 @@
 //! The numbers and codes that commands speak of.
-ghost use Rattle.std.specs.Prelude.{◌≡◌, ◌≤◌, ◌<◌, ◌↔◌, ◌^◌, ℕ, length, List, All, IsOk, IfOk, IsOkUnless, IsErrOf};
+ghost use Rattle.std.specs.Prelude.{◌≡◌, ◌≤◌, ◌<◌, ◌↔◌, ◌^◌, ℕ, List, IsOk, IfOk, IsOkUnless};
 ghost use Rattle.council_core.specs.declared.refusals.Refusal.TheVariants.{BadChair, BadMember, VotesTooLarge};
 ghost use Rattle.council_core.specs.Codes.{IsCode};
 
@@ -38,7 +38,7 @@ impl Default for ChairId {
 impl ChairId {
     /// The chair of a number. A number that is 0 or above 32 is refused as `BadChair`.
     pub fn new(number: u8) -> Result<ChairId, Refusal>
-        ensures in_range { IsOk result ↔ ((1 ≤ number) × (number ≤ 32)) }
+        ensures in_range { IsOk result ↔ ((1 ≤ number) × (number ≤ CHAIRS)) }
         ensures kept { IfOk result (λ c. c ≡ number) }
         ensures refused { IsOkUnless result BadChair }
     {
@@ -53,7 +53,7 @@ impl ChairId {
     pub fn number(&self) -> u8
         ensures same { result ≡ self.now }
         ensures low { 1 ≤ result }
-        ensures high { result ≤ 32 }
+        ensures high { result ≤ CHAIRS }
     {
         self.number
     }
@@ -81,7 +81,7 @@ impl Model for Votes {
 impl Votes {
     /// So many votes. A number above 2^40 is refused as `VotesTooLarge`.
     pub fn new(number: u64) -> Result<Votes, Refusal>
-        ensures in_range { IsOk result ↔ (number ≤ 2 ^ 40) }
+        ensures in_range { IsOk result ↔ (number ≤ MAX_VOTES) }
         ensures kept { IfOk result (λ v. v ≡ number) }
         ensures refused { IsOkUnless result VotesTooLarge }
     {
@@ -95,7 +95,7 @@ impl Votes {
     /// How many votes, from 0 to 2^40.
     pub fn number(&self) -> u64
         ensures same { result ≡ self.now }
-        ensures high { result ≤ 2 ^ 40 }
+        ensures high { result ≤ MAX_VOTES }
     {
         self.count
     }

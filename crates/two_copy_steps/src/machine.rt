@@ -1,11 +1,11 @@
 //! The machine.
-ghost use Rattle.std.specs.Prelude.{◌≡◌, ◌≢◌, ℕ, suc, ◌+◌, ◌<◌, ◌≤◌, ◌==◌, ◌↔◌, true, false, if◌then◌else◌, length, take, IsOk, IfOk, IfErr, OnErr, IsOkUnless, Ok, Err};
+ghost use Rattle.std.specs.Prelude.{◌≡◌, ◌+◌, ◌<◌, ◌==◌, ◌↔◌, if◌then◌else◌, length, IsOk, IfOk, IfErr, OnErr, IsOkUnless, Ok, Err};
 ghost use Rattle.council_core.specs.Ledgers.{IsLedger, verdict_of};
 ghost use Rattle.council_core.specs.declared.refusals.Refusal.TheVariants.{OutOfMemory, BadLimit};
 ghost use Rattle.two_copy_steps.specs.declared.events.Event.TheVariants.{Submit, Publish, Writer, Reader};
 ghost use Rattle.two_copy_steps.specs.declared.views.Phase.TheVariants.{Idle, Seeing, Filling, Swapping};
 ghost use Rattle.two_copy_steps.specs.Deeds.{all_true};
-ghost use Rattle.two_copy_steps.specs.Turns.{turn, handed, started, written, phase_note, is_idle};
+ghost use Rattle.two_copy_steps.specs.Turns.{turn, handed, started, is_idle};
 ghost use Rattle.two_copy_steps.specs.Machines.{IsFew, WantsMemory};
 ghost use Rattle.two_copy_steps.specs.Publications.{seen_out_at};
 

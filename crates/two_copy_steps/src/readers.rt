@@ -6,16 +6,16 @@ ghost use Rattle.two_copy_steps.specs.Stages.{IsReadable};
 
 use crate::events::Note;
 use crate::stages::ReaderStage;
-use crate::table::{READERS, Table};
+use crate::table::{COPY_WORDS, READERS, Table};
 
 // One step of the reader at a place, and what it tells.
 pub(crate) fn advance(table: &mut Table, r: usize, stage: &mut ReaderStage) -> Note
-    requires within { pin 34 r < length table.old }
+    requires within { pin COPY_WORDS r < length table.old }
     requires few { r < READERS }
     requires readable { IsReadable stage.old }
-    ensures words { let d = stage_deed 34 r stage.old
+    ensures words { let d = stage_deed COPY_WORDS r stage.old
         in table.new ≡ slice_set table.old d.word (d.becomes (slice_index table.old d.word)) }
-    ensures stage { let d = stage_deed 34 r stage.old in stage.new ≡ d.after (slice_index table.old d.word) }
+    ensures stage { let d = stage_deed COPY_WORDS r stage.old in stage.new ≡ d.after (slice_index table.old d.word) }
     ensures note { result ≡ stage_note (suc r) stage.old }
 {
     let found = table.touch(stage.access(r));

@@ -1,8 +1,8 @@
 //! Whole lists of events.
-ghost use Rattle.std.specs.Prelude.{◌≡◌, ◌≤◌, [], ℕ, length, take, slice_get, Some, vec_capacity, IsOk, IfOk, IfErr, OnOk};
+ghost use Rattle.std.specs.Prelude.{◌≡◌, ◌≤◌, [], length, take, vec_capacity, IfOk, IfErr, OnOk};
 ghost use Rattle.council_core.specs.declared.refusals.Refusal.TheVariants.{OutOfMemory};
 ghost use Rattle.two_copy_steps.specs.Turns.{started, after, notes};
-ghost use Rattle.two_copy_steps.specs.Machines.{IsFew, WantsMemory};
+ghost use Rattle.two_copy_steps.specs.Machines.{IsFew};
 ghost use Rattle.two_copy_steps.specs.Records.{FrontsNeverFall};
 ghost use Rattle.two_copy_steps.specs.declared.events.Event.{Event};
 ghost use Rattle.two_copy_steps.specs.Runs.{machine_after, TellsReplies, KeepsRecordsTold, WantsMemoryFrom, KeepsRecordsLegal, StoresUnderNobody, IsFault};

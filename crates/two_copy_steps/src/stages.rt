@@ -68,11 +68,11 @@ impl ReaderStage {
     pub fn access(&self, r: usize) -> Access
         requires few { r < READERS }
         requires readable { IsReadable self.now }
-        ensures word { accessed result ≡ (stage_deed 34 r self.now).word }
-        ensures low { accessed result ≤ pin 34 r }
-        ensures becomes { (n : ℕ) → left_by result n ≡ (stage_deed 34 r self.now).becomes n }
+        ensures word { accessed result ≡ (stage_deed COPY_WORDS r self.now).word }
+        ensures low { accessed result ≤ pin COPY_WORDS r }
+        ensures becomes { (n : ℕ) → left_by result n ≡ (stage_deed COPY_WORDS r self.now).becomes n }
         ensures after { (n : ℕ)
-            → (stage_deed 34 r self.now).after (left_by result n) ≡ (stage_deed 34 r self.now).after n }
+            → (stage_deed COPY_WORDS r self.now).after (left_by result n) ≡ (stage_deed COPY_WORDS r self.now).after n }
     {
         match self.phase {
             ReaderPhase::AtRest => Access::Store(pin(r), 1),
@@ -86,7 +86,7 @@ impl ReaderStage {
     /// sheet that was read.
     pub fn advance(&mut self, found: u64) -> Option<Sheet>
         requires readable { IsReadable self.old }
-        ensures stage { (r : ℕ) → self.new ≡ (stage_deed 34 r self.old).after found }
+        ensures stage { (r : ℕ) → self.new ≡ (stage_deed COPY_WORDS r self.old).after found }
         ensures sheet { result ≡ sheet_read self.old }
     {
         match self.phase {

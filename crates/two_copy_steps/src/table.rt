@@ -1,5 +1,5 @@
 //! The shared words.
-ghost use Rattle.std.specs.Prelude.{◌≡◌, ℕ, List, ◌<◌, ◌≤◌, ◌++◌, ◌∷◌, [], length, replicate, take, slice_index, slice_set};
+ghost use Rattle.std.specs.Prelude.{◌≡◌, ℕ, List, ◌<◌, ◌≤◌, ◌++◌, ◌∷◌, length, replicate, take, slice_index, slice_set};
 ghost use Rattle.two_copy_steps.specs.declared.table.TheConstants.{WORDS};
 ghost use Rattle.two_copy_steps.specs.Deeds.{pin, place};
 ghost use Rattle.two_copy_steps.specs.Stages.{accessed, left_by};
@@ -102,7 +102,7 @@ impl Table {
 /// Where word k of the copy that a side names stands.
 pub fn place(side: u64, k: usize) -> usize
     requires within { k < COPY_WORDS }
-    ensures same { result ≡ place 34 side k }
+    ensures same { result ≡ place COPY_WORDS side k }
     ensures low { result < PINS }
 {
     if side == 0 { COPY_0 + k } else { COPY_1 + k }
@@ -111,7 +111,7 @@ pub fn place(side: u64, k: usize) -> usize
 /// Where the pin of the reader at r, counted from 0, stands.
 pub fn pin(r: usize) -> usize
     requires few { r < READERS }
-    ensures same { result ≡ pin 34 r }
+    ensures same { result ≡ pin COPY_WORDS r }
     ensures low { result < WORDS }
 {
     PINS + r
