@@ -148,7 +148,10 @@ impl WordWriter {
         ensures { Wrote self.old self.new word }
     {
         store::<J>(&self.board, &mut self.seat, place(1 - self.side, k), word);
-        self.begun = false;
+        // No other word can be the first step, and a flag written behind each store would cost as much again.
+        if k == 0 {
+            self.begun = false;
+        }
     }
 
     // Stores side: all commands are published.

@@ -1,17 +1,17 @@
--- A sheet's words, written one after another.
-use Rattle.std.proofs.Common.{◌≡◌, ℕ, suc, ◌+◌, ◌<◌, ◌≤◌, List, [], ◌∷◌, ◌++◌, length, sym, ap, refl, arith, slice_set, subst, sum_by, ◌^◌, slice_index}
+-- A sheet's words: those of the chairs, and the two written behind them.
+use Rattle.std.proofs.Common.{◌≡◌, ℕ, zero, suc, ◌+◌, ◌<◌, ◌≤◌, List, [], ◌∷◌, ◌++◌, length, take, sym, ap, refl, arith, slice_set, subst, sum_by, ◌^◌, slice_index}
 use Rattle.std.proofs.lemmas.Grind.{common_steps}
 use Rattle.std.proofs.lemmas.List.{take_at, get_or_append_left}
 use Rattle.council_core.specs.Sheets.{IsSheet, weight_in, cast_of, total_of, front_of}
 
--- the words, and the two written behind them
-pub written_behind : (words : List ℕ) (a b t f : ℕ) → length words ≡ 32 → slice_set (slice_set (words ++ a ∷ b ∷ []) 32 t) 33 f ≡ words ++ t ∷ f ∷ []
-written_behind words a b t f long =
-    subst (λ (n : ℕ). slice_set (slice_set (words ++ a ∷ b ∷ []) n t) (suc n) f ≡ words ++ t ∷ f ∷ []) long (behind words)
-  where
-    behind : (ws : List ℕ) → slice_set (slice_set (ws ++ a ∷ b ∷ []) (length ws) t) (suc (length ws)) f ≡ ws ++ t ∷ f ∷ []
-    behind [] = refl
-    behind (w ∷ ws) = ap (λ (l : List ℕ). w ∷ l) (behind ws)
+-- the words, and the two written into the room behind them
+pub written_behind : (n : ℕ) (words : List ℕ) (t f : ℕ) → length words ≡ suc (suc n) → slice_set (slice_set words n t) (suc n) f ≡ take n words ++ t ∷ f ∷ []
+written_behind zero (a ∷ b ∷ []) t f long = refl
+written_behind zero [] t f long = absurd (omega (arith, long))
+written_behind zero (a ∷ []) t f long = absurd (omega (arith, long))
+written_behind zero (a ∷ b ∷ c ∷ rest) t f long = absurd (omega (arith, long))
+written_behind (suc n) [] t f long = absurd (omega (arith, long))
+written_behind (suc n) (w ∷ words) t f long = ap (λ (l : List ℕ). w ∷ l) (written_behind n words t f (omega (arith, long)))
 
 -- what a sheet made of 32 words, a total and a front has
 pub IsSheet-made : (words : List ℕ) (t f : ℕ) → length words ≡ 32 → ((k : ℕ) → k < 32 → slice_index words k ≤ 2 ^ 48 + 1) → sum_by weight_in words ≤ t → t ≤ 2 ^ 48 → f ≤ 1000000 → IsSheet (words ++ t ∷ f ∷ [])

@@ -13,7 +13,7 @@ ghost use Rattle.council_core.specs.declared.refusals.Refusal.TheVariants.{OutOf
 
 use crate::changes::Change;
 use crate::commands::{Command, MemberRow, Standing};
-use crate::limits::{MAX_COMMANDS, MAX_MEMBERS};
+use crate::limits::{FRONT, MAX_COMMANDS, MAX_MEMBERS, TOTAL};
 use crate::refusals::Refusal;
 use crate::sheets::Sheet;
 use crate::stores::{append, copied, enter_all, enter_new, make_room, put, take_out};
@@ -135,9 +135,10 @@ impl Register {
         ensures in_range { IsSheet result }
         ensures ledger { IsLedger self.now }
     {
-        let accepted = self.journal.len() as u32;
-        let words = self.totals.words();
-        Sheet::assemble(&words, self.totals.total, accepted)
+        let mut words = self.totals.words();
+        words[TOTAL] = self.totals.total;
+        words[FRONT] = self.journal.len() as u64;
+        Sheet::of_words(&words)
     }
 
     fn is_open(&self, chair: ChairId) -> bool

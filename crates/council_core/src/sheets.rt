@@ -1,5 +1,5 @@
 //! The 34 numbers that readers see.
-ghost use Rattle.std.specs.Prelude.{◌≡◌, ◌≤◌, ◌<◌, ◌+◌, ◌++◌, ◌∷◌, ◌↔◌, [], length, slice_index, ℕ, IsTrue, IsOk, IfOk, IsOkUnless};
+ghost use Rattle.std.specs.Prelude.{◌≡◌, ◌≤◌, ◌<◌, ◌+◌, ◌↔◌, length, slice_index, ℕ, IsTrue, IsOk, IfOk, IsOkUnless};
 ghost use Rattle.council_core.specs.declared.refusals.Refusal.TheVariants.{BadSheet};
 ghost use Rattle.council_core.specs.Sheets.{cast_of, total_of, front_of, open_chairs, weight_word, IsSheet};
 
@@ -30,17 +30,6 @@ impl Model for Sheet {
 }
 
 impl Sheet {
-    pub(crate) fn assemble(words: &[u64; CHAIRS], total: u64, front: u32) -> Sheet
-        requires { IsSheet (words.now ++ total ∷ front ∷ []) }
-        ensures { result ≡ words.now ++ total ∷ front ∷ [] }
-    {
-        let mut all = [0; SHEET_WORDS];
-        all[..CHAIRS].copy_from_slice(words);
-        all[TOTAL] = total;
-        all[FRONT] = front as u64;
-        Sheet { words: all }
-    }
-
     /// The sheet of these words. They are refused as `BadSheet` unless each of the first 32 is at
     /// most 2^48 + 1, the weights add up to at most the total, the total is at most 2^48, and the
     /// front is at most 1,000,000.

@@ -12,7 +12,7 @@ loop-member-preserved c = record {
 }
 
 pub returns-clause-words : goal.returns-clause-words
-returns-clause-words c = zeros 32
+returns-clause-words c = zeros 34
 
 pub returns-clause-counts : goal.returns-clause-counts
 returns-clause-counts c = zeros 32
