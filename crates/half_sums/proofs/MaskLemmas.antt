@@ -34,16 +34,16 @@ mask_has k (chair ∷ s) =
     ]
 
 -- how many sets of the chairs have a mask
-abbrev pub hits : ℕ → List Chair → ℕ
+abbrev hits : ℕ → List Chair → ℕ
 hits mask chairs = over (λ s. cond (eqb (mask_of s) mask) 1 0) chairs
 
-pub times_hits : (mask : ℕ) (chairs : List Chair) (entries : List Entry) → AreSubsets chairs entries → times mask entries ≡ hits mask chairs
+times_hits : (mask : ℕ) (chairs : List Chair) (entries : List Entry) → AreSubsets chairs entries → times mask entries ≡ hits mask chairs
 times_hits mask chairs entries are =
     let f : Entry → ℕ = λ e. cond (eqb e.mask mask) 1 0 in
     sum_by-IsPermutation f _ _ are.each_once ∙ sum_by-map f entry_of (subsets chairs)
 
 -- a mask without one of its slots
-abbrev pub without : ℕ → ℕ → ℕ
+abbrev without : ℕ → ℕ → ℕ
 without slot mask = bit_xor mask (2 ^ slot)
 
 without_same : (slot mask : ℕ) → bit_at mask slot ≡ 1 → bit_at (without slot mask) slot ≡ 0
@@ -89,7 +89,7 @@ differ : (slot m mask : ℕ) → bit_at m slot ≢ bit_at mask slot → eqb m ma
 differ slot m mask other = ne_eqb m mask (λ e. other (ap (λ n. bit_at n slot) e))
 
 -- a mask without the first chair's slot is that of sets without the chair
-pub hits-without : (mask : ℕ) (chair : Chair) (chairs : List Chair) → bit_at mask chair.0 ≡ 0 → hits mask (chair ∷ chairs) ≡ hits mask chairs
+hits-without : (mask : ℕ) (chair : Chair) (chairs : List Chair) → bit_at mask chair.0 ≡ 0 → hits mask (chair ∷ chairs) ≡ hits mask chairs
 hits-without mask chair chairs lacks =
     let f : List Chair → ℕ = λ s. cond (eqb (mask_of s) mask) 1 0 in
     let none : over (λ s. f (chair ∷ s)) chairs ≡ 0 =
@@ -97,7 +97,7 @@ hits-without mask chair chairs lacks =
     omega (arith, over-cons f chair chairs, none)
 
 -- a mask with it is that of sets with the chair
-pub hits-with : (mask : ℕ) (chair : Chair) (chairs : List Chair) → has_chair chair.0 chairs ≡ false → bit_at mask chair.0 ≡ 1 → hits mask (chair ∷ chairs) ≡ hits (without chair.0 mask) chairs
+hits-with : (mask : ℕ) (chair : Chair) (chairs : List Chair) → has_chair chair.0 chairs ≡ false → bit_at mask chair.0 ≡ 1 → hits mask (chair ∷ chairs) ≡ hits (without chair.0 mask) chairs
 hits-with mask chair chairs absent has =
     let f : List Chair → ℕ = λ s. cond (eqb (mask_of s) mask) 1 0 in
     let g : List Chair → ℕ = λ s. cond (eqb (mask_of s) (without chair.0 mask)) 1 0 in
@@ -128,7 +128,7 @@ at_most_one : (b : Bool) → cond b 1 0 ≤ 1
 at_most_one true = omega arith
 at_most_one false = omega arith
 
-pub hits-le : (mask : ℕ) (chairs : List Chair) → IsDistinct eqb (map (λ c. c.0) chairs) → hits mask chairs ≤ 1
+hits-le : (mask : ℕ) (chairs : List Chair) → IsDistinct eqb (map (λ c. c.0) chairs) → hits mask chairs ≤ 1
 hits-le mask [] distinct = omega (arith, at_most_one (eqb 0 mask))
 hits-le mask (chair ∷ chairs) distinct =
     let tail : IsDistinct eqb (map (λ (c : Chair). c.0) chairs) = IsDistinct-tail eqb chair.0 (map (λ c. c.0) chairs) distinct in
@@ -145,7 +145,7 @@ no_slots mask over_none = same_from_bits mask 0 (λ k. bit_cases (bit_at mask k)
 pub of_others : (slot : ℕ) (chair : Chair) (chairs : List Chair) → chair.0 ≢ slot → has_chair slot (chair ∷ chairs) ≡ true → has_chair slot chairs ≡ true
 of_others slot chair chairs other h = sym (ap (λ b. b || has_chair slot chairs) (ne_eqb chair.0 slot other)) ∙ h
 
-pub hits-one : (mask : ℕ) (chairs : List Chair) → IsDistinct eqb (map (λ c. c.0) chairs) → IsOver chairs mask → hits mask chairs ≡ 1
+hits-one : (mask : ℕ) (chairs : List Chair) → IsDistinct eqb (map (λ c. c.0) chairs) → IsOver chairs mask → hits mask chairs ≡ 1
 hits-one mask [] distinct is_over =
     let one : ℕ = cond (eqb 0 mask) 1 0 in
     let is_one : one ≡ 1 = ap (λ b. cond b 1 0) (eq-eqb 0 mask (sym (no_slots mask is_over))) in
@@ -171,7 +171,7 @@ over_part slot chairs =
     part true there = λ k d h t. there
     part false absent = All-weaker (λ (s : List Chair). has_chair slot s ≡ false) (λ s. has_chair slot s ≡ true → has_chair slot chairs ≡ true) (λ s none t. absurd (cc)) (subsets chairs) (subsets_avoid (λ (c : Chair). eqb c.0 slot) chairs absent)
 
-pub sets_over : (chairs : List Chair) → All (λ s. IsOver chairs (mask_of s)) (subsets chairs)
+sets_over : (chairs : List Chair) → All (λ s. IsOver chairs (mask_of s)) (subsets chairs)
 sets_over chairs k d h slot one = over_part slot chairs k d h (sym (mask_has slot _) ∙ eq-eqb _ 1 one)
 
 -- no set of the others has the slot of the first chair

@@ -26,16 +26,16 @@ map_joined chair (s ∷ sets) =
     ap (λ n. let e : Entry = record { sum = n; mask = bit_or (mask_of s) (2 ^ chair.0) } in e) (omega (arith, sum_by-cons (λ (c : ℕ × ℕ). c.1) chair s)) in
     cc (here, map_joined chair sets)
 
-pub entries_of-cons : (chair : ℕ × ℕ) (chairs : List (ℕ × ℕ)) → entries_of (chair ∷ chairs) ≡ entries_of chairs ++ map (joined chair.1 (2 ^ chair.0)) (entries_of chairs)
+entries_of-cons : (chair : ℕ × ℕ) (chairs : List (ℕ × ℕ)) → entries_of (chair ∷ chairs) ≡ entries_of chairs ++ map (joined chair.1 (2 ^ chair.0)) (entries_of chairs)
 entries_of-cons chair chairs =
     map-append entry_of (subsets chairs) _ ∙ ap (λ es. entries_of chairs ++ es) (map_joined chair (subsets chairs))
 
-pub length-entries_of : (chairs : List (ℕ × ℕ)) → length (entries_of chairs) ≡ 2 ^ length chairs
+length-entries_of : (chairs : List (ℕ × ℕ)) → length (entries_of chairs) ≡ 2 ^ length chairs
 length-entries_of [] = refl
 length-entries_of (chair ∷ chairs) =
     rw (entries_of-cons chair chairs) (omega (arith, length-append (entries_of chairs) (map (joined chair.1 (2 ^ chair.0)) (entries_of chairs)), length-map (entries_of chairs) (joined chair.1 (2 ^ chair.0)), length-entries_of chairs, pow-suc 2 (length chairs)))
 
-pub sums_within : (chairs : List (ℕ × ℕ)) → All (λ e. e.sum ≤ weight_of chairs) (entries_of chairs)
+sums_within : (chairs : List (ℕ × ℕ)) → All (λ e. e.sum ≤ weight_of chairs) (entries_of chairs)
 sums_within [] = All-cons (λ (e : Entry). e.sum ≤ weight_of []) (entry_of []) [] (omega arith) (All-nil (λ (e : Entry). e.sum ≤ weight_of []))
 sums_within (chair ∷ chairs) =
     let P : Entry → Type 0 = λ e. e.sum ≤ weight_of (chair ∷ chairs) in
@@ -63,7 +63,7 @@ AreSubsets-more chairs chair weight bit es out are weight_is bit_is moves up =
 pub length_of_half : (chairs : List (ℕ × ℕ)) (es : List Entry) → AreSubsets chairs es → length es ≡ 2 ^ length chairs
 length_of_half chairs es are = length_permutation _ _ are.each_once ∙ length-entries_of chairs
 
-pub sums_of_half : (chairs : List (ℕ × ℕ)) (es : List Entry) → AreSubsets chairs es → All (λ e. e.sum ≤ weight_of chairs) es
+sums_of_half : (chairs : List (ℕ × ℕ)) (es : List Entry) → AreSubsets chairs es → All (λ e. e.sum ≤ weight_of chairs) es
 sums_of_half chairs es are = All-permutation (λ (e : Entry). e.sum ≤ weight_of chairs) _ _ are.each_once (sums_within chairs)
 
 slot_found : (xs : List ℕ) (n q : ℕ) → All (λ x. x < n) xs → list_any (eqb q) xs ≡ true → q < n

@@ -12,7 +12,7 @@ use Rattle.swing_walk.specs.Pairs.{large_pairs, large_with, swings_of}
 use Rattle.swing_walk.specs.Laws as laws
 use Rattle.swing_walk.specs.Laws.{board_of, AreHalf}
 use Rattle.swing_walk.proofs.BoardSets as sets
-use Rattle.swing_walk.proofs.Coalitions.{sum_by-map, sum_agree}
+use Rattle.half_sums.proofs.SetSums.{sum_by-map, sum_agree}
 use Rattle.swing_walk.proofs.PairLaws.{over-map, pair_law}
 use Rattle.power_index.specs.Halves.{half_words, half_chairs, AreHalves}
 use Rattle.power_index.specs.Counts.{eta_at, EvaluationLaw}

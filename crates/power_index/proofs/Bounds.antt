@@ -10,7 +10,8 @@ use Rattle.council_core.proofs.OpenChairs.{length-open}
 use Rattle.council_core.proofs.CoalitionLemmas.{length-subsets}
 use Rattle.majority_rule.specs.declared.majorities.Majority.{Majority}
 use Rattle.majority_rule.specs.Winning.{wins, rule_of}
-use Rattle.swing_walk.proofs.Coalitions.{sum_agree, both_true}
+use Rattle.half_sums.proofs.SetSums.{sum_agree}
+use Rattle.swing_walk.proofs.Coalitions.{both_true}
 use Rattle.power_index.specs.Counts.{eta_at}
 
 pub omega_bound : (wins : Rule) (chairs : List Chair) → omega_of wins chairs ≤ 2 ^ length chairs
@@ -26,7 +27,7 @@ few_chairs words = omega (arith, length-open 1 (take 32 words), length-take 32 w
 abbrev pub IsQuota : ℕ → ℕ → Majority → List ℕ → Type 0
 IsQuota quota least_size majority words = (w k : ℕ) → ((quota ≤ w) × (least_size ≤ k)) ↔ IsTrue (wins majority words w k)
 
-pub same_win : (quota least_size w k : ℕ) (majority : Majority) (words : List ℕ) → IsQuota quota least_size majority words → (leb quota w && leb least_size k) ≡ wins majority words w k
+same_win : (quota least_size w k : ℕ) (majority : Majority) (words : List ℕ) → IsQuota quota least_size majority words → (leb quota w && leb least_size k) ≡ wins majority words w k
 same_win quota least_size w k majority words is =
     alike (leb quota w && leb least_size k) (wins majority words w k)
     (λ reached. (is w k).0 (leb-true quota w (both_true (leb quota w) (leb least_size k) reached).0, leb-true least_size k (both_true (leb quota w) (leb least_size k) reached).1))
@@ -46,10 +47,10 @@ pub both_win : {A B : Type 0} (a b : Bool) → A ↔ IsTrue a → B ↔ IsTrue b
 both_win a b f g = (λ h. both_hold a b (f.0 h.0) (g.0 h.1), λ h. (f.1 (both_true a b h).0, g.1 (both_true a b h).1))
 
 -- rules that agree on each set count alike
-pub omega_agree : (p q : Rule) (chairs : List Chair) → ((s : List Chair) → p s ≡ q s) → omega_of p chairs ≡ omega_of q chairs
+omega_agree : (p q : Rule) (chairs : List Chair) → ((s : List Chair) → p s ≡ q s) → omega_of p chairs ≡ omega_of q chairs
 omega_agree p q chairs same = sum_agree (λ s. cond (p s) 1 0) (λ s. cond (q s) 1 0) (subsets chairs) (λ s. ap (λ b. cond b 1 0) (same s))
 
-pub eta_agree : (p q : Rule) (chair : Chair) (chairs : List Chair) → ((s : List Chair) → p s ≡ q s) → eta_of p chair chairs ≡ eta_of q chair chairs
+eta_agree : (p q : Rule) (chair : Chair) (chairs : List Chair) → ((s : List Chair) → p s ≡ q s) → eta_of p chair chairs ≡ eta_of q chair chairs
 eta_agree p q chair chairs same =
     sum_agree (λ s. cond (not (has_chair chair.0 s) && (not (p s) && p (chair ∷ s))) 1 0) (λ s. cond (not (has_chair chair.0 s) && (not (q s) && q (chair ∷ s))) 1 0) (subsets chairs)
     (λ s. (let f : Bool → Bool → ℕ = λ a b. cond (not (has_chair chair.0 s) && (not a && b)) 1 0 in

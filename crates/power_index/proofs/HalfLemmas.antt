@@ -1,17 +1,13 @@
 -- The chairs of a half, word by word, and what a rebuild asks of them.
-use Rattle.std.proofs.Common.{◌≡◌, ℕ, ◌+◌, ◌-◌, ◌^◌, ◌<◌, ◌≤◌, List, [], ◌∷◌, ◌++◌, map, length, take, drop, get_or, arith, sym, ap, ◌∙◌, eqb, subst, true, replicate}
+use Rattle.std.proofs.Common.{◌≡◌, ℕ, ◌+◌, ◌-◌, ◌^◌, ◌<◌, ◌≤◌, List, [], ◌∷◌, ◌++◌, map, length, take, drop, get_or, arith, sym, ap, ◌∙◌, eqb, subst, replicate}
 use Rattle.std.specs.List.{sum_by, All, IsDistinct}
-use Rattle.std.specs.Cmp.Lexicographic.{same_text}
-use Rattle.std.proofs.lemmas.List.{take-replicate, drop-replicate, get_or-replicate, take-take, drop-take, length-take, length-drop, get_or-take, get_or-drop}
+use Rattle.std.proofs.lemmas.List.{get_or-replicate, drop-take, length-take, length-drop, get_or-take, get_or-drop}
 use Rattle.std.proofs.lemmas.List.Elements.{All-weaker}
 use Rattle.std.proofs.lemmas.List.Sums.{sum_by-take-drop}
 use Rattle.council_core.specs.Sheets.{Chair, open_from, weight_of, weight_in, IsSheet}
 use Rattle.council_core.proofs.OpenChairs.{open_more, closed_more, weight_of-open, numbers_within, numbers_distinct}
 use Rattle.council_core.proofs.SheetLemmas.{cast_below}
-use Rattle.half_sums.specs.declared.entry.Entry.{Entry}
-use Rattle.half_sums.specs.Entries.{AreSubsets}
-use Rattle.half_sums.proofs.SubsetFacts.{AreSubsets-none}
-use Rattle.power_index.specs.Halves.{half_words, half_chairs, same_half}
+use Rattle.power_index.specs.Halves.{half_words, half_chairs}
 
 half_word : (from i : ℕ) (words : List ℕ) → i < 16 → get_or (half_words from words) i 0 ≡ get_or words (from + i) 0
 half_word from i words h = get_or-take 16 (drop from words) i 0 h ∙ get_or-drop from words i 0
@@ -34,9 +30,6 @@ half_open from i words long low h some =
 pub half_closed : (from i : ℕ) (words : List ℕ) → length words ≡ 34 → from ≤ 16 → i < 16 → get_or words (from + i) 0 ≡ 0 → half_front from (i + 1) words ≡ half_front from i words
 half_closed from i words long low h shut = closed_more 0 (half_words from words) i (half_inside from i words long low h) (half_word from i words h ∙ shut)
 
-pub half_all : (from : ℕ) (words : List ℕ) → half_front from 16 words ≡ half_chairs from words
-half_all from words = ap (open_from 0) (take-take 16 16 (drop from words) (omega arith))
-
 pub half_slots : (from : ℕ) (words : List ℕ) → All (λ chair. chair.0 < 16) (half_chairs from words)
 half_slots from words =
     All-weaker (λ (ch : Chair). (0 ≤ ch.0) × (ch.0 < 0 + length (half_words from words))) (λ ch. ch.0 < 16)
@@ -51,10 +44,6 @@ half_small from words low lawful =
     let part : sum_by weight_in (take from (take (from + 16) words)) + sum_by weight_in (drop from (take (from + 16) words)) ≡ sum_by weight_in (take (from + 16) words) = sum_by-take-drop weight_in (take (from + 16) words) from in
     omega (arith, weight_of-open 0 (half_words from words), cut, part, cast_below words (from + 16) (omega arith), lawful.cast, lawful.total)
 
--- a half whose words stay keeps its entries
-pub half_kept : (from : ℕ) (old new : List ℕ) (es : List Entry) → same_half from old new ≡ true → AreSubsets (half_chairs from old) es → AreSubsets (half_chairs from new) es
-half_kept from old new es same are = subst (λ (ws : List ℕ). AreSubsets (open_from 0 ws) es) (same_text (half_words from old) (half_words from new) (sym same)) are
-
 pub blank_lawful : IsSheet (replicate 34 0)
 blank_lawful = record {
   chairs = λ k h. (let z : get_or (replicate 34 0) k 0 ≡ 0 = get_or-replicate 34 k 0 0 (omega arith) in subst (λ (n : ℕ). n ≤ 2 ^ 48 + 1) (sym z) (omega arith));
@@ -62,9 +51,3 @@ blank_lawful = record {
   total = omega arith;
   front = omega arith;
 }
-
--- the empty half is that of a blank sheet
-pub half_blank : (from : ℕ) → from ≤ 16 → AreSubsets (half_chairs from (replicate 34 0)) (record { sum = 0; mask = 0 } ∷ [])
-half_blank from h =
-    let zeros : half_words from (replicate 34 0) ≡ replicate 16 0 = ap (take 16) (drop-replicate from 34 0) ∙ take-replicate 16 (34 - from) 0 (omega arith) in
-    subst (λ (ws : List ℕ). AreSubsets (open_from 0 ws) (record { sum = 0; mask = 0 } ∷ [])) (sym zeros) AreSubsets-none

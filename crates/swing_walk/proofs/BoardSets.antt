@@ -27,10 +27,6 @@ flat_map_agree : {X Y : Type 0} (f g : X → List Y) (xs : List X) → ((x : X) 
 flat_map_agree f g [] same = refl
 flat_map_agree f g (x ∷ xs) same = cc (same x, flat_map_agree f g xs same)
 
--- the sets of two lists, put together
-together : {X : Type 0} → List (List X) → List X → List (List X)
-together sets a = map (λ t. a ++ t) sets
-
 flat_map-joined : {X : Type 0} (x : X) (sets firsts : List (List X)) → flat_map (λ a. map (λ t. a ++ t) sets) (map (λ s. x ∷ s) firsts) ≡ map (λ s. x ∷ s) (flat_map (λ a. map (λ t. a ++ t) sets) firsts)
 flat_map-joined x sets [] = refl
 flat_map-joined {X} x sets (a ∷ firsts) =

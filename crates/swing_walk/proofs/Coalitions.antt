@@ -11,9 +11,9 @@ use Rattle.council_core.specs.Sheets.{weight_of}
 use Rattle.council_core.specs.Coalitions.{subsets, has_chair, IsRule, reaching}
 use Rattle.swing_walk.specs.Laws.{SwingLaw, CountLaw, BoundLaw}
 use Rattle.swing_walk.specs.Pairs.{swings_of}
-pub use Rattle.half_sums.proofs.SetSums.{sum_by-map, sum_agree, sum_agree_on, sum_zero, over, over-cons, subsets_avoid}
+use Rattle.half_sums.proofs.SetSums.{sum_agree, sum_agree_on, sum_zero, over, over-cons, subsets_avoid}
 
-pub sum_add : {X : Type 0} (f g : X → ℕ) (xs : List X) → sum_by (λ x. f x + g x) xs ≡ sum_by f xs + sum_by g xs
+sum_add : {X : Type 0} (f g : X → ℕ) (xs : List X) → sum_by (λ x. f x + g x) xs ≡ sum_by f xs + sum_by g xs
 sum_add f g [] = refl
 sum_add f g (x ∷ xs) = omega (arith, sum_by-cons f x xs, sum_by-cons g x xs, sum_by-cons (λ x. f x + g x) x xs, sum_add f g xs)
 
@@ -28,7 +28,7 @@ swap_two : {X : Type 0} (x y : X) (s : List X) → IsPermutation (x ∷ y ∷ s)
 swap_two x y s = IsPermutation-append_left s (x ∷ y ∷ []) (y ∷ x ∷ []) (IsPermutation-append_comm (x ∷ []) (y ∷ []))
 
 -- a chair in the middle may stand first
-pub over_middle : {X : Type 0} (f : List X → ℕ) → ((s t : List X) → IsPermutation s t → f s ≡ f t) → (xs ys : List X) (c : X) → over f (xs ++ c ∷ ys) ≡ over f (c ∷ (xs ++ ys))
+over_middle : {X : Type 0} (f : List X → ℕ) → ((s t : List X) → IsPermutation s t → f s ≡ f t) → (xs ys : List X) (c : X) → over f (xs ++ c ∷ ys) ≡ over f (c ∷ (xs ++ ys))
 over_middle f same [] ys c = refl
 over_middle {X} f same (x ∷ xs) ys c =
     let fx : List X → ℕ = λ s. f (x ∷ s) in

@@ -19,22 +19,6 @@ pub record Stands (quota i a : ℕ) (left right : List Entry) : Type 0 where
   pub apart : NoneReach quota i a left right
   pub reached : (k m : ℕ) → i ≤ k → k < length left → a ≤ m → m < length right → quota ≤ (get_or left k zero_entry).sum + (get_or right m zero_entry).sum
 
-pub Stands-first : (quota : ℕ) (left right : List Entry) → Stands quota 0 (length right) left right
-Stands-first quota left right = record {
-  left_in = omega arith;
-  right_in = omega arith;
-  apart = λ k m before below. absurd (omega arith);
-  reached = λ k m from inside above within. absurd (omega arith);
-}
-
-pub Stands-last : (quota : ℕ) (left right : List Entry) → Stands quota (length left) 0 left right
-Stands-last quota left right = record {
-  left_in = omega arith;
-  right_in = omega arith;
-  apart = λ k m before below. absurd (omega arith);
-  reached = λ k m from inside above within. absurd (omega arith);
-}
-
 not_before : (quota i a j b : ℕ) (left right : List Entry) → Stands quota i a left right → Stands quota j b left right → i + b ≡ j + a → j ≤ i
 not_before quota i a j b left right s t same = elim (cases_lt i j) as (λ _. j ≤ i) [
   | inl before ↦ absurd (omega (arith, t.apart i a before (omega arith), s.reached i a (omega arith) (omega (arith, t.left_in)) (omega arith) (omega (arith, t.right_in))))

@@ -1,9 +1,9 @@
 -- The tally by size: its steps, and what an entry more comes to.
-use Rattle.std.proofs.Common.{◌≡◌, ℕ, ◌+◌, ◌-◌, ◌<◌, ◌≤◌, true, false, cond, List, [], ◌∷◌, length, take, drop, get_or, arith, refl, sym, ap, ◌∙◌, zero, suc, inl, inr}
-use Rattle.std.specs.Prelude.{nat_le, count_ones}
+use Rattle.std.proofs.Common.{◌≡◌, ℕ, ◌+◌, ◌-◌, ◌<◌, ◌≤◌, cond, List, [], ◌∷◌, length, take, drop, get_or, arith, refl, sym, ap, ◌∙◌, zero, suc, inl, inr}
+use Rattle.std.specs.Prelude.{nat_le}
 use Rattle.std.proofs.lemmas.Bool.{le-leb, lt-leb, cases_lt}
 use Rattle.std.proofs.lemmas.List.{drop_more, get_or-take, get_or-drop, get_or_past, length-drop, length-take}
-use Rattle.std.proofs.lemmas.List.Sums.{sum_by-cons, sum_by_more, count_by-le-length}
+use Rattle.std.proofs.lemmas.List.Sums.{sum_by-cons, count_by-le-length}
 use Rattle.half_sums.specs.declared.entry.Entry.{Entry}
 use Rattle.half_sums.specs.Groups.{size_of}
 use Rattle.swing_walk.specs.Sizes.{at_least, one_at}
@@ -47,12 +47,6 @@ own_steps chairs size few = elim (cases_lt size 17) [
       ∙ ap (λ b. cond b 1 0) (sym (lt-leb size chairs (omega arith)))
 ]
 
-pub one_most : (size mask : ℕ) → one_at size mask ≤ 1
-one_most size mask = elim (nat_le size (count_ones mask)) as (λ b. cond b 1 0 ≤ 1) [
-  | true ↦ omega arith
-  | false ↦ omega arith
-]
-
 -- an entry more at the front
 pub tally_front : (size at : ℕ) (entries : List Entry) → at < length entries → at_least size (drop at entries) ≡ one_at size (get_or entries at zero_entry).mask + at_least size (drop (at + 1) entries)
 tally_front size at entries inside =
@@ -65,12 +59,5 @@ tally_back size at entries some within =
     let one : at - 1 + 1 ≡ at = omega arith in
     rw one at (tally_front size (at - 1) entries (omega arith))
 
--- an entry more at the end
-pub tally_more : (size at : ℕ) (entries : List Entry) → at < length entries → at_least size (take (at + 1) entries) ≡ at_least size (take at entries) + one_at size (get_or entries at zero_entry).mask
-tally_more size at entries inside = sum_by_more (λ (e : Entry). cond (nat_le size (size_of e)) 1 0) entries at zero_entry inside
-
 pub few_tallied : (entries : List Entry) (at size : ℕ) → length entries ≤ 65536 → at_least size (drop at entries) ≤ 65536
 few_tallied entries at size few = omega (arith, count_by-le-length (λ (e : Entry). nat_le size (size_of e)) (drop at entries), length-drop at entries)
-
-pub few_taken : (entries : List Entry) (at size : ℕ) → length entries ≤ 65536 → at_least size (take at entries) ≤ 65536
-few_taken entries at size few = omega (arith, count_by-le-length (λ (e : Entry). nat_le size (size_of e)) (take at entries), length-take at entries)

@@ -34,12 +34,6 @@ pairs_back test left right at some within =
     let inside : at - 1 < length right = omega arith in
     rw one at (sum_by-drop_more (λ b. count_by (test b) left) right (at - 1) zero_entry inside)
 
--- where the next left entry falls short, so do all before it, with all right entries below
-pub apart_more : (quota next at : ℕ) (left right : List Entry) → IsNonDecreasingBy (λ e. e.sum) left → IsNonDecreasingBy (λ e. e.sum) right → next < length left → at ≤ length right →
-    (0 < at → (get_or left next zero_entry).sum + (get_or right (at - 1) zero_entry).sum < quota) → NoneReach quota (next + 1) at left right
-apart_more quota next at left right left_up right_up within inside low k m before below =
-    omega (arith, low (omega arith), left_up k next zero_entry (omega arith) within, right_up m (at - 1) zero_entry (omega arith) (omega arith))
-
 pairs_none : (test : Entry → Entry → Bool) (xs : List Entry) → pairs_where test xs [] ≡ 0
 pairs_none test [] = refl
 pairs_none test (x ∷ xs) = omega (arith, sum_by-cons (λ (l : Entry). count_by (test l) []) x xs, pairs_none test xs)
