@@ -50,10 +50,10 @@ AreSubsets-none =
     let one : List Entry = record { sum = 0; mask = 0 } ∷ [] in
     record { each_once = IsPermutation-refl one; ascending = IsNonDecreasingBy-short (λ (e : Entry). e.sum) one (omega arith) }
 
-pub AreSubsets-more : (chairs : List (ℕ × ℕ)) (chair : ℕ × ℕ) (weight bit : ℕ) (es out : List Entry) → AreSubsets chairs es → chair.1 ≡ weight → 2 ^ chair.0 ≡ bit → IsPermutation (es ++ map (joined weight bit) es) out → IsNonDecreasingBy (λ e. e.sum) out → AreSubsets (chair ∷ chairs) out
-AreSubsets-more chairs chair weight bit es out are weight_is bit_is moves up =
+pub AreSubsets-more : (chairs : List (ℕ × ℕ)) (chair : ℕ × ℕ) (bit : ℕ) (es out : List Entry) → AreSubsets chairs es → 2 ^ chair.0 ≡ bit → IsPermutation (es ++ map (joined chair.1 bit) es) out → IsNonDecreasingBy (λ e. e.sum) out → AreSubsets (chair ∷ chairs) out
+AreSubsets-more chairs chair bit es out are bit_is moves up =
     let f : Entry → Entry = joined chair.1 (2 ^ chair.0) in
-    let f_is : f ≡ joined weight bit = ap (λ w. joined w (2 ^ chair.0)) weight_is ∙ ap (joined weight) bit_is in
+    let f_is : f ≡ joined chair.1 bit = ap (joined chair.1) bit_is in
     let ends : IsPermutation (es ++ map f es) out = rw f_is moves in
     record {
       each_once = rw (entries_of-cons chair chairs) (IsPermutation-trans _ _ _ (IsPermutation-append _ _ _ _ are.each_once (IsPermutation-map f _ _ are.each_once)) ends);

@@ -1,13 +1,13 @@
 -- What a tally says at an open place, and the rows that agree with it.
 use Rattle.std.proofs.Common.{◌≡◌, ℕ, ◌^◌, ◌<◌, ◌≤◌, List, length, get_or, arith, sym, ap, ◌∙◌, subst}
-use Rattle.council_core.specs.Sheets.{open_chairs}
-use Rattle.council_core.specs.Coalitions.{eta_of}
+use Rattle.council_core.specs.Sheets.{Chair, open_chairs}
+use Rattle.council_core.specs.Coalitions.{Rule, eta_of, omega_of}
 use Rattle.half_sums.specs.declared.entry.Entry.{Entry}
 use Rattle.majority_rule.specs.Winning.{rule_of}
 use Rattle.swing_walk.specs.Pairs.{large_pairs, large_with, swings_of}
 use Rattle.power_index.specs.Halves.{AreHalves}
 use Rattle.power_index.specs.Counts.{AreCounts}
-use Rattle.power_index.specs.Indices.{power_of}
+use Rattle.power_index.specs.Indices.{power_of, swings_among}
 use Rattle.power_index.specs.Tallies.{IsTally}
 use Rattle.power_index.specs.declared.rows.SwingTally.{SwingTally}
 use Rattle.power_index.proofs.BoardLaw.{evaluation_law}
@@ -25,9 +25,18 @@ pub winning_part : (words : List ℕ) (tally : SwingTally) (n : ℕ) → IsTally
 winning_part words tally n is count =
     subst (λ (m : ℕ). tally.winning ≤ 2 ^ m) (sym count) (omega (arith, is.omega, omega_bound (rule_of tally.majority words) (open_chairs words)))
 
-pub power_agree : (n n' o o' s s' e e' k k' w : ℕ) → n ≡ n' → o ≡ o' → s ≡ s' → e ≡ e' → k ≡ k' → power_of n o s e (k, w) ≡ power_of n' o' s' e' (k', w)
-power_agree n n' o o' s s' e e' k k' w hn ho hs he hk =
-    ap (λ x. power_of x o s e (k, w)) hn ∙ ap (λ x. power_of n' x s e (k, w)) ho ∙ ap (λ x. power_of n' o' x e (k, w)) hs ∙ ap (λ x. power_of n' o' s' x (k, w)) he ∙ ap (λ x. power_of n' o' s' e' (x, w)) hk
+-- the numbers of a row by the tally are those of the chair
+pub row_agree : (words : List ℕ) (tally : SwingTally) (n etas i : ℕ) → IsTally words tally → n ≡ length (open_chairs words) → etas ≡ swings_among (rule_of tally.majority words) (open_chairs words) (open_chairs words) → i < 32 → 0 < get_or words i 0 →
+    let rule = rule_of tally.majority words in let board = open_chairs words in power_of n tally.winning etas (get_or tally.swings i 0) (chair_at i words) ≡ power_of (length board) (omega_of rule board) (swings_among rule board board) (eta_of rule (chair_at i words) board) (chair_at i words)
+row_agree words tally n etas i is count sum h some =
+    let rule : Rule = rule_of tally.majority words in
+    let board : List Chair = open_chairs words in
+    let eta : ℕ = get_or tally.swings i 0 in
+    let ch : Chair = chair_at i words in
+    ap (λ x. power_of x tally.winning etas eta ch) count
+    ∙ ap (λ x. power_of (length board) x etas eta ch) is.omega
+    ∙ ap (λ x. power_of (length board) (omega_of rule board) x eta ch) sum
+    ∙ ap (λ x. power_of (length board) (omega_of rule board) (swings_among rule board board) x ch) (swings_open words tally i is h some)
 
 pub are_counts : (quota least_size : ℕ) (words : List ℕ) (from to : List Entry) (winning : ℕ) (with_chair : ℕ → ℕ) → AreHalves words from to →
     winning ≡ large_pairs quota least_size from to → ((place : ℕ) → place < 32 → with_chair place ≡ large_with quota least_size place from to) → AreCounts quota least_size words winning with_chair

@@ -8,6 +8,7 @@ use Rattle.std.proofs.lemmas.Bool.{cases_lt, leb-true, leb-false}
 use Rattle.std.proofs.lemmas.List.{take_all, length-take, length-drop, get_or-take, get_or-drop}
 use Rattle.std.proofs.lemmas.List.Sums.{sum_by-drop_more}
 use Rattle.half_sums.specs.declared.entry.Entry.{Entry}
+use Rattle.half_sums.proofs.BothEnds.{Ascend}
 use Rattle.swing_walk.specs.Pairs.{pairs_where, reaches, has}
 use Rattle.swing_walk.specs.Walks.{NoneReach, zero_entry}
 use Rattle.swing_walk.proofs.Counting.{Splits, count_partners, count_marked, pairs_more, sum_default}
@@ -114,11 +115,6 @@ step_right quota i a left right l inside s =
       right_marked = λ slot. omega (arith, sum_by-drop_more (λ b. count_by (λ a. reaches quota b a && has slot b) left) right a zero_entry inside, count_marked quota i slot r left s);
     }
 
--- a step up the left list or down the right one
-pub record Up (quota i a p q : ℕ) (left right : List Entry) (l r : Entry) (x y : ℕ) : Type 0 where
-  pub stands : Stands quota p q left right
-  pub step : Step quota i q p a left right l r x y
-
 pub at_most_one : (t : Bool) → cond t 1 0 ≤ 1
 at_most_one true = omega arith
 at_most_one false = omega arith
@@ -127,77 +123,104 @@ pub cond_most : (t : Bool) (m n most : ℕ) → m ≤ most → n ≤ most → co
 cond_most true m n most first second = first
 cond_most false m n most first second = second
 
-pub step_up : (quota i a p q walked n x y : ℕ) (left right : List Entry) (reached : Bool) → IsNonDecreasingBy (λ e. e.sum) left → IsNonDecreasingBy (λ e. e.sum) right → Stands quota i a left right → i < length left → 0 < a →
-    reached ≡ nat_le quota ((get_or left i zero_entry).sum + (get_or right (a - 1) zero_entry).sum) → n ≡ cond reached 1 0 → q ≡ a - n → i + length right ≡ walked + a → p ≡ walked + 1 + q - length right →
-    x ≡ cond reached 0 (length right - a) → y ≡ cond reached (length left - i) 0 → Up quota i a p q left right (get_or left i zero_entry) (get_or right (a - 1) zero_entry) x y
-step_up quota i a p q walked n x y left right true left_up right_up s inside some test one to_q place to_p x_is y_is =
-    let high : quota ≤ (get_or left i zero_entry).sum + (get_or right (a - 1) zero_entry).sum = leb-true _ _ (sym test) in
-    let q_is : q ≡ a - 1 = omega (arith, one) in
-    let p_is : p ≡ i = omega (arith, one, s.right_in) in
-    let back : a - 1 + 1 ≡ a = omega arith in
+-- a step up: a place, the pair across it, whether the pair reaches, and where the walk stands then
+pub record StepUp (quota i a p q : ℕ) (left right : List Entry) (reached : Bool) : Type 0 where
+  pub walked : ℕ
+  pub stands : Stands quota i a left right
+  pub place : i + length right ≡ walked + a
+  pub some_left : i < length left
+  pub some_right : 0 < a
+  pub test : reached ≡ nat_le quota ((get_or left i zero_entry).sum + (get_or right (a - 1) zero_entry).sum)
+  pub to_right : q ≡ a - cond reached 1 0
+  pub to_left : p ≡ walked + 1 + q - length right
+
+-- what a step up the left list or down the right one comes to
+pub record Up (quota i a p q : ℕ) (left right : List Entry) (reached : Bool) : Type 0 where
+  pub stands : Stands quota p q left right
+  pub step : Step quota i q p a left right (get_or left i zero_entry) (get_or right (a - 1) zero_entry) (cond reached 0 (length right - a)) (cond reached (length left - i) 0)
+
+pub step_up : (quota i a p q : ℕ) (left right : List Entry) (reached : Bool) → Ascend left right → StepUp quota i a p q left right reached → Up quota i a p q left right reached
+step_up quota i a p q left right true up t =
+    let s : Stands quota i a left right = t.stands in
+    let high : quota ≤ (get_or left i zero_entry).sum + (get_or right (a - 1) zero_entry).sum = leb-true _ _ (sym t.test) in
+    let q_is : q ≡ a - 1 = omega (arith, t.to_right) in
+    let p_is : p ≡ i = omega (arith, t.to_right, t.to_left, t.place, t.some_right, s.right_in) in
+    let back : a - 1 + 1 ≡ a = omega (arith, t.some_right) in
     let stands : Stands quota i (a - 1) left right = record {
       left_in = s.left_in;
       right_in = omega (arith, s.right_in);
       apart = λ k m before below. s.apart k m before (omega arith);
       reached = λ k m from within above below. elim (cases_lt m a) as (λ _. quota ≤ (get_or left k zero_entry).sum + (get_or right m zero_entry).sum) [
         | inl here ↦ (let same : a - 1 ≡ m = omega arith in
-            omega (arith, rw same at high, left_up i k zero_entry from within))
+            omega (arith, rw same at high, up.first_up i k zero_entry from within))
         | inr there ↦ s.reached k m from within there below
       ];
     } in
     let step : Step quota i (a - 1) i (a - 1 + 1) left right (get_or left i zero_entry) (get_or right (a - 1) zero_entry) 0 (length left - i) =
-    step_right quota i (a - 1) left right (get_or left i zero_entry) (omega (arith, s.right_in)) (high_right quota i a left right left_up s inside some high) in
-    record { stands = rw (p_is, q_is) stands; step = rw (p_is, q_is, x_is, y_is) (rw back at step) }
-step_up quota i a p q walked n x y left right false left_up right_up s inside some test one to_q place to_p x_is y_is =
-    let low : (get_or left i zero_entry).sum + (get_or right (a - 1) zero_entry).sum < quota = leb-false _ _ (sym test) in
-    let q_is : q ≡ a = omega (arith, one) in
-    let p_is : p ≡ i + 1 = omega (arith, one, s.right_in) in
+    step_right quota i (a - 1) left right (get_or left i zero_entry) (omega (arith, s.right_in, t.some_right)) (high_right quota i a left right up.first_up s t.some_left t.some_right high) in
+    record { stands = rw (p_is, q_is) stands; step = rw (p_is, q_is) (rw back at step) }
+step_up quota i a p q left right false up t =
+    let s : Stands quota i a left right = t.stands in
+    let low : (get_or left i zero_entry).sum + (get_or right (a - 1) zero_entry).sum < quota = leb-false _ _ (sym t.test) in
+    let q_is : q ≡ a = omega (arith, t.to_right) in
+    let p_is : p ≡ i + 1 = omega (arith, t.to_right, t.to_left, t.place, s.right_in) in
     let stands : Stands quota (i + 1) a left right = record {
-      left_in = omega arith;
+      left_in = omega (arith, t.some_left);
       right_in = s.right_in;
-      apart = λ k m before below. omega (arith, low, left_up k i zero_entry (omega arith) inside, right_up m (a - 1) zero_entry (omega arith) (omega (arith, s.right_in)));
+      apart = λ k m before below. omega (arith, low, up.first_up k i zero_entry (omega arith) t.some_left, up.second_up m (a - 1) zero_entry (omega arith) (omega (arith, s.right_in, t.some_right)));
       reached = λ k m from within above below. s.reached k m (omega arith) within above below;
     } in
     let step : Step quota i a (i + 1) a left right (get_or left i zero_entry) (get_or right (a - 1) zero_entry) (length right - a) 0 =
-    step_left quota i a left right (get_or right (a - 1) zero_entry) inside (low_left quota i a left right right_up s inside some low) in
-    record { stands = rw (p_is, q_is) stands; step = rw (p_is, q_is, x_is, y_is) step }
+    step_left quota i a left right (get_or right (a - 1) zero_entry) t.some_left (low_left quota i a left right up.second_up s t.some_left t.some_right low) in
+    record { stands = rw (p_is, q_is) stands; step = rw (p_is, q_is) step }
 
--- a step down the left list or up the right one
-pub record Down (quota j b p q : ℕ) (left right : List Entry) (l r : Entry) (x y : ℕ) : Type 0 where
+-- a step down: a place, the pair across it, whether the pair reaches, and where the walk stands then
+pub record StepDown (quota j b p q : ℕ) (left right : List Entry) (reached : Bool) : Type 0 where
+  pub walked : ℕ
+  pub stands : Stands quota j b left right
+  pub place : length left + b ≡ walked + j
+  pub some_left : 0 < j
+  pub some_right : b < length right
+  pub test : reached ≡ nat_le quota ((get_or left (j - 1) zero_entry).sum + (get_or right b zero_entry).sum)
+  pub to_left : p ≡ j - cond reached 1 0
+  pub to_right : q ≡ walked + 1 + p - length left
+
+-- what a step down the left list or up the right one comes to
+pub record Down (quota j b p q : ℕ) (left right : List Entry) (reached : Bool) : Type 0 where
   pub stands : Stands quota p q left right
-  pub step : Step quota p b j q left right l r x y
+  pub step : Step quota p b j q left right (get_or left (j - 1) zero_entry) (get_or right b zero_entry) (cond (not reached) 0 (length right - b)) (cond (not reached) (length left - j) 0)
 
-pub step_down : (quota j b p q walked n x y : ℕ) (left right : List Entry) (reached : Bool) → IsNonDecreasingBy (λ e. e.sum) left → IsNonDecreasingBy (λ e. e.sum) right → Stands quota j b left right → 0 < j → b < length right →
-    reached ≡ nat_le quota ((get_or left (j - 1) zero_entry).sum + (get_or right b zero_entry).sum) → n ≡ cond reached 1 0 → p ≡ j - n → length left + b ≡ walked + j → q ≡ walked + 1 + p - length left →
-    x ≡ cond (not reached) 0 (length right - b) → y ≡ cond (not reached) (length left - j) 0 → Down quota j b p q left right (get_or left (j - 1) zero_entry) (get_or right b zero_entry) x y
-step_down quota j b p q walked n x y left right true left_up right_up s some inside test one to_p place to_q x_is y_is =
-    let high : quota ≤ (get_or left (j - 1) zero_entry).sum + (get_or right b zero_entry).sum = leb-true _ _ (sym test) in
-    let p_is : p ≡ j - 1 = omega (arith, one) in
-    let q_is : q ≡ b = omega (arith, one, s.left_in) in
-    let back : j - 1 + 1 ≡ j = omega arith in
+pub step_down : (quota j b p q : ℕ) (left right : List Entry) (reached : Bool) → Ascend left right → StepDown quota j b p q left right reached → Down quota j b p q left right reached
+step_down quota j b p q left right true up t =
+    let s : Stands quota j b left right = t.stands in
+    let high : quota ≤ (get_or left (j - 1) zero_entry).sum + (get_or right b zero_entry).sum = leb-true _ _ (sym t.test) in
+    let p_is : p ≡ j - 1 = omega (arith, t.to_left) in
+    let q_is : q ≡ b = omega (arith, t.to_left, t.to_right, t.place, t.some_left, s.left_in) in
+    let back : j - 1 + 1 ≡ j = omega (arith, t.some_left) in
     let stands : Stands quota (j - 1) b left right = record {
       left_in = omega (arith, s.left_in);
       right_in = s.right_in;
       apart = λ k m before below. s.apart k m (omega arith) below;
       reached = λ k m from within above below.
-          omega (arith, high, left_up (j - 1) k zero_entry from within, right_up b m zero_entry above below);
+          omega (arith, high, up.first_up (j - 1) k zero_entry from within, up.second_up b m zero_entry above below);
     } in
     let step : Step quota (j - 1) b (j - 1 + 1) b left right (get_or left (j - 1) zero_entry) (get_or right b zero_entry) (length right - b) 0 =
-    step_left quota (j - 1) b left right (get_or right b zero_entry) (omega (arith, s.left_in)) (high_left quota j b left right right_up s some inside high) in
-    record { stands = rw (p_is, q_is) stands; step = rw (p_is, q_is, x_is, y_is) (rw back at step) }
-step_down quota j b p q walked n x y left right false left_up right_up s some inside test one to_p place to_q x_is y_is =
-    let low : (get_or left (j - 1) zero_entry).sum + (get_or right b zero_entry).sum < quota = leb-false _ _ (sym test) in
-    let p_is : p ≡ j = omega (arith, one) in
-    let q_is : q ≡ b + 1 = omega (arith, one, s.left_in) in
+    step_left quota (j - 1) b left right (get_or right b zero_entry) (omega (arith, s.left_in, t.some_left)) (high_left quota j b left right up.second_up s t.some_left t.some_right high) in
+    record { stands = rw (p_is, q_is) stands; step = rw (p_is, q_is) (rw back at step) }
+step_down quota j b p q left right false up t =
+    let s : Stands quota j b left right = t.stands in
+    let low : (get_or left (j - 1) zero_entry).sum + (get_or right b zero_entry).sum < quota = leb-false _ _ (sym t.test) in
+    let p_is : p ≡ j = omega (arith, t.to_left) in
+    let q_is : q ≡ b + 1 = omega (arith, t.to_left, t.to_right, t.place, s.left_in) in
     let stands : Stands quota j (b + 1) left right = record {
       left_in = s.left_in;
-      right_in = omega arith;
-      apart = λ k m before below. omega (arith, low, left_up k (j - 1) zero_entry (omega arith) (omega (arith, s.left_in)), right_up m b zero_entry (omega arith) inside);
+      right_in = omega (arith, t.some_right);
+      apart = λ k m before below. omega (arith, low, up.first_up k (j - 1) zero_entry (omega arith) (omega (arith, s.left_in, t.some_left)), up.second_up m b zero_entry (omega arith) t.some_right);
       reached = λ k m from within above below. s.reached k m from within (omega arith) below;
     } in
     let step : Step quota j b j (b + 1) left right (get_or left (j - 1) zero_entry) (get_or right b zero_entry) 0 (length left - j) =
-    step_right quota j b left right (get_or left (j - 1) zero_entry) inside (low_right quota j b left right left_up s some inside low) in
-    record { stands = rw (p_is, q_is) stands; step = rw (p_is, q_is, x_is, y_is) step }
+    step_right quota j b left right (get_or left (j - 1) zero_entry) t.some_right (low_right quota j b left right up.first_up s t.some_left t.some_right low) in
+    record { stands = rw (p_is, q_is) stands; step = rw (p_is, q_is) step }
 
 -- where both walks stand at one place, all is counted
 pub met_left : (test : Entry → Entry → Bool) (left right : List Entry) (old now i j : ℕ) → i ≡ j → now + LeftOf test left right j ≡ old + LeftOf test left right i + LeftOf test left right (length left) → now ≡ old + pairs_where test left right

@@ -58,9 +58,11 @@ pairs_swap test xs (y ∷ ys) = omega (arith, pairs_column test xs ys y, pairs_s
 pub pairs_agree : (p q : Entry → Entry → Bool) (xs ys : List Entry) → ((a b : Entry) → p a b ≡ q a b) → pairs_where p xs ys ≡ pairs_where q xs ys
 pairs_agree p q xs ys same = sum_agree _ _ xs (λ a. count_agree (p a) (q a) ys (λ k d h. same a (get_or ys k d)))
 
--- where no right entry below `at` passes with any left one
-pub pairs_above : (test : Entry → Entry → Bool) (left right : List Entry) (at : ℕ) → at ≤ length right →
-    ((k m : ℕ) (d e : Entry) → k < length left → m < at → test (get_or right m e) (get_or left k d) ≡ false) → pairs_where test (drop at right) left ≡ pairs_where test right left
+-- no right entry below a place passes with any left one
+abbrev pub NonePass : (Entry → Entry → Bool) → List Entry → List Entry → ℕ → Type 0
+NonePass test left right at = (k m : ℕ) (d e : Entry) → k < length left → m < at → test (get_or right m e) (get_or left k d) ≡ false
+
+pub pairs_above : (test : Entry → Entry → Bool) (left right : List Entry) (at : ℕ) → at ≤ length right → NonePass test left right at → pairs_where test (drop at right) left ≡ pairs_where test right left
 pairs_above test left right at within none =
     let f : Entry → ℕ = λ b. count_by (test b) left in
     let zero_each : All (λ b. f b ≤ 0) (take at right) = λ m e h.
@@ -68,7 +70,7 @@ pairs_above test left right at within none =
     rw (get_or-take at right m e below) (omega (arith, count_none (test (get_or right m e)) left (λ k d inside. none k m d e inside below))) in
     omega (arith, sum_by-take-drop f right at, sum_by-le f 0 (take at right) zero_each)
 
-pub falls_short : (quota at : ℕ) (left right : List Entry) → at ≤ length right → NoneReach quota (length left) at left right → (k m : ℕ) (d e : Entry) → k < length left → m < at → reaches quota (get_or right m e) (get_or left k d) ≡ false
+pub falls_short : (quota at : ℕ) (left right : List Entry) → at ≤ length right → NoneReach quota (length left) at left right → NonePass (reaches quota) left right at
 falls_short quota at left right within apart k m d e inside below =
     lt-leb _ _ (omega (arith, apart k m inside below, sum_default left k d zero_entry inside, sum_default right m e zero_entry (omega arith)))
 

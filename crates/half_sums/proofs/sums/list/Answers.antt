@@ -1,4 +1,4 @@
-use Rattle.std.proofs.Common.{◌≡◌, ◌-◌, ◌<◌, [], ◌∷◌, arith, length, drop, get_or, refl}
+use Rattle.std.proofs.Common.{◌≡◌, ◌-◌, ◌<◌, [], ◌∷◌, arith, length, drop, get_or}
 use Rattle.std.specs.List.{All}
 use Rattle.std.proofs.lemmas.List.{drop_all}
 use Rattle.std.specs.Int.{bit_at}
@@ -40,7 +40,7 @@ loop-at-preserved c =
     let free : All (λ e. bit_at e.mask (get_or chairs (at - 1) (0, 0)).0 ≡ 0) old = slot_free (get_or chairs (at - 1) (0, 0)) (drop at chairs) old (distinct_left chairs at c.requires.distinct (omega arith) (omega arith)) c.loop-at.invariant.subsets in
     record {
       subsets = rw (drop_back chairs at (omega arith) (omega arith))
-          (AreSubsets-more _ _ _ _ _ _ c.loop-at.invariant.subsets refl bit_is c.add.ensures.each_once c.add.ensures.half.ascending);
+          (AreSubsets-more _ _ _ _ _ c.loop-at.invariant.subsets bit_is c.add.ensures.each_once c.add.ensures.half.ascending);
       half = c.add.ensures.half;
-      starts = AreStarts-more _ _ _ old _ _ _ c.loop-at.invariant.starts free bit_is c.add.ensures.each_once c.with_one_more.ensures.first c.with_one_more.ensures.next;
+      starts = AreStarts-more old _ _ _ c.loop-at.invariant.starts record { weight = _; slot = _; bit = _; free = free; bit_is = bit_is; moves = c.add.ensures.each_once } c.with_one_more.ensures.first c.with_one_more.ensures.next;
     }

@@ -7,7 +7,7 @@ use Rattle.power_index.specs.declared.indices.ChairPower.{ChairPower}
 use Rattle.power_index.specs.Indices.{power_of, swings_among}
 use Rattle.power_index.proofs.Bounds.{few_chairs}
 use Rattle.power_index.proofs.RowLemmas.{chair_at, front_closed, map_open}
-use Rattle.power_index.proofs.TallyLemmas.{swings_open, winning_part, power_agree}
+use Rattle.power_index.proofs.TallyLemmas.{winning_part, row_agree}
 use Rattle.power_index.proofs.rows.rows.Goals as goal
 use Rattle.power_index.proofs.rows.rows.Goals.{then-word-gt0, else-word-gt0}
 
@@ -24,8 +24,8 @@ loop-place-preserved c =
     let g : Chair → ChairPower = λ ch. power_of (length board) (omega_of rule board) (swings_among rule board board) (eta_of rule ch board) ch in
     elim c.if-word-gt0.branch [
       | then-word-gt0 w ↦ (
-          let value : w.row.result ≡ g (chair_at c.loop-place.place c.args.words.now) = w.row.ensures.power
-          ∙ power_agree _ _ _ _ _ _ _ _ _ _ _ c.requires.chairs c.requires.tally.omega c.swing_sum.ensures.sum (swings_open c.args.words.now c.args.tally.now c.loop-place.place c.requires.tally (omega arith) (omega arith)) w.chair_at.ensures.number in
+          let value : w.row.result ≡ g (chair_at c.loop-place.place c.args.words.now) =
+          rw w.chair_at.ensures.number at w.row.ensures.power ∙ row_agree c.args.words.now c.args.tally.now c.args.chairs c.swing_sum.result c.loop-place.place c.requires.tally c.requires.chairs c.swing_sum.ensures.sum (omega arith) (omega arith) in
           let items : c.if-word-gt0.rows.items ≡ c.loop-place.rows.items ++ w.row.result ∷ [] = cc in
           record {
             rows = items ∙ ap (λ r. c.loop-place.rows.items ++ r ∷ []) value ∙ ap (λ l. l ++ g (chair_at c.loop-place.place c.args.words.now) ∷ []) c.loop-place.invariant.rows ∙ sym (map_open g c.args.words.now c.loop-place.place (omega arith) (omega arith));

@@ -1,10 +1,10 @@
-use Rattle.std.proofs.Common.{rules, ◌≡◌, ◌+◌, ◌-◌, cond, not, arith, refl, get_or, length}
+use Rattle.std.proofs.Common.{rules, ◌≡◌, ◌+◌, ◌-◌, cond, not, arith, refl, length}
 use Rattle.std.specs.Prelude.{◌&&◌}
 use Rattle.std.proofs.Math.Facts.{Fits-of_lt}
 use Rattle.swing_walk.specs.Pairs.{reaches, has}
-use Rattle.swing_walk.specs.Walks.{zero_entry}
 use Rattle.swing_walk.proofs.Counting.{pairs_room}
 use Rattle.swing_walk.proofs.Steps.{back_room, right_total, right_marked}
+use Rattle.half_sums.proofs.BothEnds.{Ascend}
 use Rattle.swing_walk.proofs.Meeting.{Up, Down, at_most_one, cond_most, step_up, step_down, meet, met_left, met_right, none_before}
 use Rattle.swing_walk.proofs.walking.walk_from_both_ends.Goals as goal
 
@@ -40,10 +40,31 @@ loop-walked-preserved c =
     let next = c.loop-walked.walked + 1 + at - length c.args.right.now in
     let next_end = c.loop-walked.next_end - c.from-next_end.result in
     let at_end = c.loop-walked.walked + 1 + next_end - length c.args.left.now in
-    let up : Up c.args.quota c.loop-walked.next c.loop-walked.at next at c.args.left.now c.args.right.now (get_or c.args.left.now c.loop-walked.next zero_entry) (get_or c.args.right.now (c.loop-walked.at - 1) zero_entry) _ _ =
-    step_up c.args.quota c.loop-walked.next c.loop-walked.at next at c.loop-walked.walked c.from-at.result _ _ c.args.left.now c.args.right.now c.is_winning-reached.result c.requires.left.ascending c.requires.right.ascending c.loop-walked.invariant.up (omega (arith, c.loop-walked.invariant.up.right_in)) (omega arith) c.is_winning-reached.ensures.reaches up_by refl c.loop-walked.invariant.up_at refl refl refl in
-    let down : Down c.args.quota c.loop-walked.next_end c.loop-walked.at_end next_end at_end c.args.left.now c.args.right.now (get_or c.args.left.now (c.loop-walked.next_end - 1) zero_entry) (get_or c.args.right.now c.loop-walked.at_end zero_entry) _ _ =
-    step_down c.args.quota c.loop-walked.next_end c.loop-walked.at_end next_end at_end c.loop-walked.walked c.from-next_end.result _ _ c.args.left.now c.args.right.now c.is_winning-reached-in-loop-walked.result c.requires.left.ascending c.requires.right.ascending c.loop-walked.invariant.down (omega arith) (omega (arith, c.loop-walked.invariant.down.left_in)) c.is_winning-reached-in-loop-walked.ensures.reaches down_by refl c.loop-walked.invariant.down_at refl refl refl in
+    let reached = c.is_winning-reached.result in
+    let reached_end = c.is_winning-reached-in-loop-walked.result in
+    let ascend : Ascend c.args.left.now c.args.right.now = record { first_up = c.requires.left.ascending; second_up = c.requires.right.ascending } in
+    let up : Up c.args.quota c.loop-walked.next c.loop-walked.at next at c.args.left.now c.args.right.now reached =
+    step_up c.args.quota c.loop-walked.next c.loop-walked.at next at c.args.left.now c.args.right.now reached ascend record {
+      walked = c.loop-walked.walked;
+      stands = c.loop-walked.invariant.up;
+      place = c.loop-walked.invariant.up_at;
+      some_left = omega (arith, c.loop-walked.invariant.up.right_in);
+      some_right = omega arith;
+      test = c.is_winning-reached.ensures.reaches;
+      to_right = omega (arith, up_by);
+      to_left = refl;
+    } in
+    let down : Down c.args.quota c.loop-walked.next_end c.loop-walked.at_end next_end at_end c.args.left.now c.args.right.now reached_end =
+    step_down c.args.quota c.loop-walked.next_end c.loop-walked.at_end next_end at_end c.args.left.now c.args.right.now reached_end ascend record {
+      walked = c.loop-walked.walked;
+      stands = c.loop-walked.invariant.down;
+      place = c.loop-walked.invariant.down_at;
+      some_left = omega arith;
+      some_right = omega (arith, c.loop-walked.invariant.down.left_in);
+      test = c.is_winning-reached-in-loop-walked.ensures.reaches;
+      to_left = omega (arith, down_by);
+      to_right = refl;
+    } in
     record {
       up = up.stands;
       up_at = omega (arith, c.loop-walked.invariant.up_at, c.loop-walked.invariant.up.left_in, up_by, at_most_one c.is_winning-reached.result);
