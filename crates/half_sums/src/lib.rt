@@ -11,6 +11,7 @@ mod sums;
 pub use entry::Entry;
 pub use groups::{SIZES, SLOTS};
 pub use laws::mask_law;
+pub use lists::ROOM;
 pub use sums::HalfSums;
 
 #[cfg(test)]

@@ -4,18 +4,19 @@ ghost use Rattle.std.specs.List.{All};
 ghost use Rattle.std.specs.List.Sorted.{IsPermutation, IsNonDecreasingBy};
 ghost use Rattle.council_core.specs.declared.refusals.Refusal.TheVariants.{OutOfMemory};
 ghost use Rattle.half_sums.specs.declared.entry.Entry.{Entry};
+ghost use Rattle.half_sums.specs.declared.lists.TheConstants.{ROOM};
 ghost use Rattle.half_sums.specs.Entries.{joined};
 ghost use Rattle.half_sums.specs.Groups.{AreGroups, fewer_than};
 
 use crate::Entry;
-use crate::groups::{STARTS, spread};
+use crate::groups::{SIZES, STARTS, spread};
 use crate::merge::merge;
 use council_core::Refusal;
 use std::alloc::Global;
 use std::marker::Model;
 
 /// The entries of a half of sixteen chairs: 2 to the power 16.
-const ROOM: usize = 65_536;
+pub const ROOM: usize = 65_536;
 
 /// The set of no chair.
 const NO_CHAIR: Entry = Entry { sum: 0, mask: 0 };
@@ -33,7 +34,7 @@ impl Model for SumList {
 
     ghost view = { λ l. take l.count l.room.items };
 
-    ghost invariant = { λ l. (length l.room.items ≡ 65536) × (l.count ≤ 65536) };
+    ghost invariant = { λ l. (length l.room.items ≡ ROOM) × (l.count ≤ ROOM) };
 }
 
 impl SumList {
@@ -64,7 +65,7 @@ impl SumList {
 
     /// Becomes another list's entries, each as it is and each with a chair of this weight and bit.
     pub(crate) fn double(&mut self, list: &[Entry], weight: u64, bit: u16)
-        requires few { 2 * length list.now ≤ 65536 }
+        requires few { 2 * length list.now ≤ ROOM }
         requires small { All (λ e. e.sum + weight < 2 ^ 64) list.now }
         requires ascends { IsNonDecreasingBy (λ e. e.sum) list.now }
         ensures each_once { IsPermutation (list.now ++ map (joined weight bit) list.now) self.new }
@@ -76,7 +77,7 @@ impl SumList {
 
     /// Becomes another list.
     pub(crate) fn copy(&mut self, list: &[Entry])
-        requires few { length list.now ≤ 65536 }
+        requires few { length list.now ≤ ROOM }
         ensures same { self.new ≡ list.now }
     {
         copy(list, &mut self.room);
@@ -86,8 +87,8 @@ impl SumList {
     /// Becomes another list's entries by size, those of one size in their order there. Behind the starts of the 17
     /// groups stands where the last one ends.
     pub(crate) fn regroup(&mut self, list: &[Entry], starts: &[usize; STARTS])
-        requires starts { (size : ℕ) → size ≤ 17 → slice_index starts.now size ≡ fewer_than size list.now }
-        requires few { length list.now ≤ 65536 }
+        requires starts { (size : ℕ) → size ≤ SIZES → slice_index starts.now size ≡ fewer_than size list.now }
+        requires few { length list.now ≤ ROOM }
         ensures groups { AreGroups list.now self.new starts.now }
     {
         regroup(list, starts, &mut self.room);
@@ -119,7 +120,7 @@ fn copy(list: &[Entry], room: &mut [Entry])
 
 /// Writes a list's entries by size to the front of the room.
 fn regroup(list: &[Entry], starts: &[usize; STARTS], room: &mut [Entry])
-    requires starts { (size : ℕ) → size ≤ 17 → slice_index starts.now size ≡ fewer_than size list.now }
+    requires starts { (size : ℕ) → size ≤ SIZES → slice_index starts.now size ≡ fewer_than size list.now }
     requires few { length list.now ≤ length room.old }
     ensures groups { AreGroups list.now (take (length list.now) room.new) starts.now }
     ensures long { length room.new ≡ length room.old }

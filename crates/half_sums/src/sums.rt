@@ -9,8 +9,8 @@ ghost use Rattle.half_sums.specs.Entries.{joined, AreSubsets, IsHalf};
 ghost use Rattle.half_sums.specs.Groups.{group_of, grouped, fewer_than, AreGroups, AreLevel};
 
 use crate::Entry;
-use crate::groups::{ONE_SET, SIZES, STARTS, with_one_more};
-use crate::lists::SumList;
+use crate::groups::{ONE_SET, SIZES, SLOTS, STARTS, with_one_more};
+use crate::lists::{ROOM, SumList};
 use council_core::Refusal;
 use std::alloc::Global;
 use std::marker::Model;
@@ -81,7 +81,7 @@ impl HalfSums {
     /// Makes the lists of these chairs in place of those before. A chair is its slot, 0 to 15, and its weight in
     /// votes; 0 is a weight like any other. It takes no memory and always succeeds.
     pub fn rebuild(&mut self, chairs: &[(u8, u64)])
-        requires slots { All (λ chair. chair.0 < 16) chairs.now }
+        requires slots { All (λ chair. chair.0 < SLOTS) chairs.now }
         requires distinct { IsDistinct (λ a b. a == b) (map (λ chair. chair.0) chairs.now) }
         requires small { weight_of chairs.now ≤ 2 ^ 48 }
         ensures subsets { AreSubsets chairs.now self.new }
@@ -103,7 +103,7 @@ fn regroup(
     requires distinct { IsDistinct (λ a b. a == b) (map (λ chair. chair.0) chairs.now) }
     requires subsets { AreSubsets chairs.now ascending.now }
     requires half { IsHalf ascending.now }
-    requires starts { (size : ℕ) → size ≤ 17 → slice_index starts.now size ≡ fewer_than size ascending.now }
+    requires starts { (size : ℕ) → size ≤ SIZES → slice_index starts.now size ≡ fewer_than size ascending.now }
     ensures groups { AreGroups ascending.now groups.new starts.now }
 {
     if are_level(chairs) {
@@ -140,12 +140,12 @@ fn part(entries: &[Entry], from: usize, to: usize) -> &[Entry]
 /// Lists the sets of these chairs, ascending by sum, and answers where the groups of each size start. What stands in
 /// either list before is lost.
 fn list(chairs: &[(u8, u64)], ascending: &mut SumList, scratch: &mut SumList) -> [usize; STARTS]
-    requires slots { All (λ chair. chair.0 < 16) chairs.now }
+    requires slots { All (λ chair. chair.0 < SLOTS) chairs.now }
     requires distinct { IsDistinct (λ a b. a == b) (map (λ chair. chair.0) chairs.now) }
     requires small { weight_of chairs.now ≤ 2 ^ 48 }
     ensures subsets { AreSubsets chairs.now ascending.new }
     ensures half { IsHalf ascending.new }
-    ensures starts { (size : ℕ) → size ≤ 17 → slice_index result size ≡ fewer_than size ascending.new }
+    ensures starts { (size : ℕ) → size ≤ SIZES → slice_index result size ≡ fewer_than size ascending.new }
 {
     ascending.clear();
     let mut starts = ONE_SET;
@@ -160,7 +160,7 @@ fn list(chairs: &[(u8, u64)], ascending: &mut SumList, scratch: &mut SumList) ->
 /// Adds a chair: each set as it was, and each set with the chair.
 fn add(ascending: &mut SumList, scratch: &mut SumList, weight: u64, bit: u16)
     requires half { IsHalf ascending.old }
-    requires few { 2 * length ascending.old ≤ 65536 }
+    requires few { 2 * length ascending.old ≤ ROOM }
     requires small { All (λ e. e.sum + weight ≤ 2 ^ 48) ascending.old }
     ensures each_once { IsPermutation (ascending.old ++ map (joined weight bit) ascending.old) ascending.new }
     ensures half { IsHalf ascending.new }

@@ -45,7 +45,7 @@ impl Evaluator {
     /// `OutOfMemory`, the only refusal, comes where the room for the two halves was not granted. Nothing is left
     /// behind then.
     pub fn new(alloc: Global) -> Result<Evaluator, Refusal>
-        ensures blank { IfOk result (λ e. e ≡ replicate 34 0) }
+        ensures blank { IfOk result (λ e. e ≡ replicate SHEET_WORDS 0) }
         ensures memory { IsOkUnless result OutOfMemory }
     {
         let sheet = blank();
@@ -133,7 +133,7 @@ impl Evaluator {
 
 /// The sheet of zeros.
 fn blank() -> Sheet
-    ensures zeros { result ≡ replicate 34 0 }
+    ensures zeros { result ≡ replicate SHEET_WORDS 0 }
 {
     match Sheet::from_words(&[0; SHEET_WORDS]) {
         Ok(sheet) => sheet,

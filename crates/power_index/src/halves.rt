@@ -10,7 +10,7 @@ use half_sums::{HalfSums, SLOTS};
 
 /// The open chairs of the half from a place on, each by its slot, 0 to 15, and its weight.
 fn chairs_of(words: &[u64; SHEET_WORDS], from: usize) -> ArrayVec<(u8, u64), SLOTS>
-    requires place { from ≤ 16 }
+    requires place { from ≤ SLOTS }
     ensures chairs { result.items ≡ half_chairs from words.now }
 {
     let mut chairs = ArrayVec::new();
@@ -25,7 +25,7 @@ fn chairs_of(words: &[u64; SHEET_WORDS], from: usize) -> ArrayVec<(u8, u64), SLO
 
 /// Whether the half from a place on has the same words.
 fn is_same(old: &[u64; SHEET_WORDS], new: &[u64; SHEET_WORDS], from: usize) -> bool
-    requires place { from ≤ 16 }
+    requires place { from ≤ SLOTS }
     ensures same { result ≡ same_half from old.now new.now }
 {
     old[from..from + SLOTS] == new[from..from + SLOTS]
@@ -38,7 +38,7 @@ pub(crate) fn refresh(
     new: &[u64; SHEET_WORDS],
     from: usize,
 ) -> u8
-    requires place { from ≤ 16 }
+    requires place { from ≤ SLOTS }
     requires lawful { IsSheet new.now }
     requires before { AreSubsets (half_chairs from old.now) half.old }
     ensures after { AreSubsets (half_chairs from new.now) half.new }

@@ -28,7 +28,7 @@ struct Totals {
 
 /// The number of coalitions of so many chairs.
 pub(crate) fn coalition_count(chairs: u8) -> u64
-    requires chairs { chairs ≤ 32 }
+    requires chairs { chairs ≤ CHAIRS }
     ensures same { result ≡ 2 ^ chairs }
     ensures few { result ≤ 2 ^ 32 }
 {
@@ -48,7 +48,7 @@ fn unless_zero(num: u64, den: u64) -> Option<Fraction>
 
 /// The chair of a place.
 fn chair_at(place: usize) -> ChairId
-    requires place { place < 32 }
+    requires place { place < CHAIRS }
     ensures number { result ≡ place + 1 }
 {
     match ChairId::new(place as u8 + 1) {
@@ -59,7 +59,7 @@ fn chair_at(place: usize) -> ChairId
 
 /// The row of one chair.
 fn row(totals: &Totals, chair: ChairId, weight: u64, swings: u64) -> ChairPower
-    requires chairs { totals.now.chairs ≤ 32 }
+    requires chairs { totals.now.chairs ≤ CHAIRS }
     requires winning { totals.now.winning ≤ 2 ^ totals.now.chairs }
     ensures power { result ≡ power_of totals.now.chairs totals.now.winning totals.now.swings swings (chair, weight) }
 {

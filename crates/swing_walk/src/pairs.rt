@@ -27,7 +27,7 @@ pub struct Counts {
 /// walk keeps count of the sets on either side by size. It takes no memory.
 pub fn count(left: &HalfSums, right: &HalfSums, quota: u64, least_size: u8) -> Counts
     ensures winning { result.winning ≡ large_pairs quota least_size left.now right.now }
-    ensures with_chair { (place : ℕ) → place < 32
+    ensures with_chair { (place : ℕ) → place < CHAIRS
         → slice_index result.with_chair place ≡ large_with quota least_size place left.now right.now }
 {
     let (mut lefts, mut rights) = (MaskTally::new(), MaskTally::new());
@@ -72,8 +72,8 @@ fn credit_pairs(
 
 /// The left totals and then the right ones.
 fn both(left: &[u64; SLOTS], right: &[u64; SLOTS]) -> [u64; CHAIRS]
-    ensures left { (slot : ℕ) → slot < 16 → slice_index result slot ≡ slice_index left.now slot }
-    ensures right { (slot : ℕ) → slot < 16 → slice_index result (16 + slot) ≡ slice_index right.now slot }
+    ensures left { (slot : ℕ) → slot < SLOTS → slice_index result slot ≡ slice_index left.now slot }
+    ensures right { (slot : ℕ) → slot < SLOTS → slice_index result (SLOTS + slot) ≡ slice_index right.now slot }
 {
     let mut all = [0; CHAIRS];
     for slot in 0..SLOTS {
@@ -87,10 +87,10 @@ fn both(left: &[u64; SLOTS], right: &[u64; SLOTS]) -> [u64; CHAIRS]
 /// The counts of the two halves of a board meet what is asked here, and their swings are those by the definition.
 pub fn swings(counts: &Counts) -> [u64; CHAIRS]
     requires few { counts.now.winning ≤ 2 ^ 32 }
-    requires within { (place : ℕ) → place < 32 → slice_index counts.now.with_chair place ≤ counts.now.winning }
-    requires half { (place : ℕ) → place < 32 → 0 < slice_index counts.now.with_chair place
+    requires within { (place : ℕ) → place < CHAIRS → slice_index counts.now.with_chair place ≤ counts.now.winning }
+    requires half { (place : ℕ) → place < CHAIRS → 0 < slice_index counts.now.with_chair place
         → counts.now.winning ≤ 2 * slice_index counts.now.with_chair place }
-    ensures each { (place : ℕ) → place < 32
+    ensures each { (place : ℕ) → place < CHAIRS
         → slice_index result place ≡ swings_of counts.now.winning (slice_index counts.now.with_chair place) }
 {
     let mut swings = [0; CHAIRS];

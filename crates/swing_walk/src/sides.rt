@@ -5,7 +5,7 @@ ghost use Rattle.swing_walk.specs.Tallies.{marked, total, IsEven};
 ghost use Rattle.swing_walk.specs.Sides.{side};
 
 use crate::tally::MaskTally;
-use half_sums::Entry;
+use half_sums::{Entry, ROOM};
 
 /// Credits the right entry with `lefts` where it is its turn, else the left entry with `rights`, and answers what the
 /// left one gets. Values and a place are chosen, and not a way to go on.
@@ -19,8 +19,8 @@ pub(crate) fn credit(
 ) -> u64
     requires left_even { IsEven (side 0 sides.old) }
     requires right_even { IsEven (side 1 sides.old) }
-    requires few_rights { rights ≤ 65536 }
-    requires few_lefts { lefts ≤ 65536 }
+    requires few_rights { rights ≤ ROOM }
+    requires few_lefts { lefts ≤ ROOM }
     requires left_room { total (side 0 sides.old) ≤ 2 ^ 63 }
     requires right_room { total (side 1 sides.old) ≤ 2 ^ 63 }
     ensures left { result ≡ cond to_right 0 rights }

@@ -3,7 +3,7 @@ ghost use Rattle.std.specs.Prelude.{◌≡◌, ℕ, ◌+◌, ◌-◌, ◌<◌, �
 ghost use Rattle.half_sums.specs.Entries.{IsHalf};
 ghost use Rattle.swing_walk.specs.Sizes.{counted, one_at, IsTally};
 
-use half_sums::{Entry, SIZES, SLOTS};
+use half_sums::{Entry, ROOM, SIZES, SLOTS};
 
 /// A 1 for each of the 17 sizes, and a 0 for each size but one: a set of so many chairs has its own 17 of these from 16
 /// less than its size on.
@@ -42,7 +42,7 @@ impl SizeTally {
 
     /// Takes in the set of a mask.
     pub(crate) fn add(&mut self, mask: u16)
-        requires room { (size : ℕ) → counted size self.old ≤ 65536 }
+        requires room { (size : ℕ) → counted size self.old ≤ ROOM }
         ensures more { (size : ℕ) → counted size self.new ≡ counted size self.old + one_at size mask }
     {
         let steps = steps_of(mask);
@@ -77,7 +77,7 @@ impl SizeTally {
 
 /// What the set of a mask comes to at each size.
 fn steps_of(mask: u16) -> &'static [u32]
-    ensures long { length result.now ≡ 17 }
+    ensures long { length result.now ≡ SIZES }
     ensures each { (size : ℕ) → slice_index_or result.now size 0 ≡ one_at size mask }
 {
     let first = SLOTS - size(mask);
@@ -96,7 +96,7 @@ fn part(steps: &'static [u32], from: usize, to: usize) -> &'static [u32]
 /// How many chairs a set has.
 fn size(mask: u16) -> usize
     ensures size { result ≡ count_ones mask }
-    ensures few { result ≤ 16 }
+    ensures few { result ≤ SLOTS }
 {
     mask.count_ones() as usize
 }

@@ -44,7 +44,7 @@ impl MaskTally {
     pub(crate) fn by_slot(&self) -> [u64; SLOTS]
         requires even { IsEven self.now }
         requires room { total self.now < 2 ^ 63 }
-        ensures marked { (slot : ℕ) → slot < 16 → slice_index result slot ≡ marked slot self.now }
+        ensures marked { (slot : ℕ) → slot < SLOTS → slice_index result slot ≡ marked slot self.now }
     {
         let mut totals = [0; SLOTS];
         for byte in 0..256u16 {
@@ -57,9 +57,9 @@ impl MaskTally {
 
 /// Adds what a byte stands for: one amount at its slots as a low byte, and another at its slots as a high one.
 fn add_byte(totals: &mut [u64; SLOTS], byte: u16, low: u64, high: u64)
-    requires byte { byte < 256 }
-    requires room { (slot : ℕ) → slot < 16 → slice_index totals.old slot + low + high < 2 ^ 64 }
-    ensures more { (slot : ℕ) → slot < 16
+    requires byte { byte < BYTES }
+    requires room { (slot : ℕ) → slot < SLOTS → slice_index totals.old slot + low + high < 2 ^ 64 }
+    ensures more { (slot : ℕ) → slot < SLOTS
         → slice_index totals.new slot
         ≡ slice_index totals.old slot + (low_weight slot byte * low + high_weight slot byte * high) }
 {
@@ -71,7 +71,7 @@ fn add_byte(totals: &mut [u64; SLOTS], byte: u16, low: u64, high: u64)
 
 /// The amount where the mask has the slot, else 0.
 fn at_bit(mask: u16, slot: usize, amount: u64) -> u64
-    requires slot { slot < 16 }
+    requires slot { slot < SLOTS }
     ensures amount { result ≡ bit_at mask slot * amount }
 {
     if (mask >> slot) & 1 == 1 { amount } else { 0 }
