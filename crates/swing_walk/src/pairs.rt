@@ -76,10 +76,8 @@ fn both(left: &[u64; SLOTS], right: &[u64; SLOTS]) -> [u64; CHAIRS]
     ensures right { (slot : ℕ) → slot < SLOTS → slice_index result (SLOTS + slot) ≡ slice_index right.now slot }
 {
     let mut all = [0; CHAIRS];
-    for slot in 0..SLOTS {
-        all[slot] = left[slot];
-        all[SLOTS + slot] = right[slot];
-    }
+    all[..SLOTS].copy_from_slice(left);
+    all[SLOTS..].copy_from_slice(right);
     all
 }
 
