@@ -5,3 +5,4 @@ pub mod GroupFacts
 pub mod SetSums
 pub mod MaskLemmas
 pub mod LevelLists
+pub mod WorkedCases

@@ -1,5 +1,5 @@
 -- Entries: the sets of a half's chairs by weight and slots, as lists of subset sums (Horowitz and Sahni 1974).
-use Rattle.std.specs.Prelude.{ℕ, ◌≡◌, ◌+◌, ◌^◌, ◌<◌, ◌≤◌, List, [], ◌∷◌, map, bit_or, length, refl}
+use Rattle.std.specs.Prelude.{ℕ, ◌≡◌, ◌+◌, ◌^◌, ◌<◌, ◌≤◌, List, [], ◌∷◌, map, bit_or, length}
 use Rattle.std.specs.List.{All}
 use Rattle.std.specs.List.Sorted.{IsPermutation, IsNonDecreasingBy}
 use Rattle.half_sums.specs.declared.entry.Entry.{Entry}
@@ -34,9 +34,3 @@ pub record IsHalf (entries : List Entry) : Type 0 where
 -- worked example: chairs of 50, 49 and 1 votes
 abbrev pub three : List (ℕ × ℕ)
 three = (0, 50) ∷ (1, 49) ∷ (2, 1) ∷ []
-
-pub three_entries : entries_of three
-    ≡ record { sum = 0; mask = 0 } ∷ record { sum = 1; mask = 4 } ∷ record { sum = 49; mask = 2 }
-    ∷ record { sum = 50; mask = 6 } ∷ record { sum = 50; mask = 1 } ∷ record { sum = 51; mask = 5 }
-    ∷ record { sum = 99; mask = 3 } ∷ record { sum = 100; mask = 7 } ∷ []
-three_entries = refl

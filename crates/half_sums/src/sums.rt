@@ -1,7 +1,7 @@
 //! The lists of a half, and their rebuild in the room that they have.
 ghost use Rattle.std.specs.Prelude.{◌≡◌, ◌==◌, ℕ, ◌+◌, ◌-◌, ◌*◌, ◌^◌, ◌<◌, ◌≤◌, List, [], ◌∷◌, ◌++◌, length, map, take, drop, slice_index, true, IfOk, IsOkUnless};
 ghost use Rattle.std.specs.List.{All, IsDistinct};
-ghost use Rattle.std.specs.List.Sorted.{IsPermutation, IsNonDecreasingBy};
+ghost use Rattle.std.specs.List.Sorted.{IsPermutation};
 ghost use Rattle.council_core.specs.declared.refusals.Refusal.TheVariants.{OutOfMemory};
 ghost use Rattle.council_core.specs.Sheets.{weight_of};
 ghost use Rattle.half_sums.specs.declared.entry.Entry.{Entry};

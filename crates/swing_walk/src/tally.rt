@@ -1,5 +1,5 @@
 //! Amounts per chair, kept by the bytes of the masks that they come with.
-ghost use Rattle.std.specs.Prelude.{◌≡◌, ℕ, ◌+◌, ◌-◌, ◌*◌, ◌^◌, ◌<◌, ◌≤◌, length, slice_index};
+ghost use Rattle.std.specs.Prelude.{◌≡◌, ℕ, ◌+◌, ◌-◌, ◌*◌, ◌^◌, ◌<◌, slice_index};
 ghost use Rattle.std.specs.Int.{bit_at};
 ghost use Rattle.swing_walk.specs.Tallies.{marked, total, IsEven, low_weight, high_weight};
 

@@ -1,0 +1,47 @@
+-- Quotas and least sizes of worked cases, computed by their definition from the 34 words of a sheet.
+use Rattle.std.proofs.Common.{◌≡◌, ℕ, List, [], ◌∷◌, ◌++◌, true, false, refl, replicate}
+use Rattle.majority_rule.specs.declared.majorities.Majority.TheVariants.{Half, Seventy, EightyFive, Quorum}
+use Rattle.majority_rule.specs.Winning.{quota_of, least_size_of, wins, rule_of}
+
+-- chairs 1, 2 and 3 with 50, 49 and 1 votes, and 100 votes more in no chair
+abbrev three_chairs : List ℕ
+three_chairs = 51 ∷ 50 ∷ 2 ∷ replicate 29 0 ++ 200 ∷ 6 ∷ []
+
+-- more than half of the 100 votes cast
+pub half_of_three : quota_of Half three_chairs ≡ 51
+half_of_three = refl
+
+-- 70 per cent of the total of 200, and 85
+pub seventy_of_three : quota_of Seventy three_chairs ≡ 140
+seventy_of_three = refl
+
+pub eighty_five_of_three : quota_of EightyFive three_chairs ≡ 170
+eighty_five_of_three = refl
+
+-- half of the total, and a majority of the chairs
+pub quorum_of_three : quota_of Quorum three_chairs ≡ 100
+quorum_of_three = refl
+
+pub two_of_three : least_size_of Quorum three_chairs ≡ 2
+two_of_three = refl
+
+pub any_of_three : least_size_of Half three_chairs ≡ 0
+any_of_three = refl
+
+-- 49 and 1 votes are no more than half of those cast; 50 and 1 are
+pub two_lose : rule_of Half three_chairs ((2, 49) ∷ (3, 1) ∷ []) ≡ false
+two_lose = refl
+
+pub two_win : rule_of Half three_chairs ((1, 50) ∷ (3, 1) ∷ []) ≡ true
+two_win = refl
+
+-- half of the total by one chair alone is no quorum, by two it is
+pub alone_no_quorum : wins Quorum three_chairs 100 1 ≡ false
+alone_no_quorum = refl
+
+pub two_a_quorum : wins Quorum three_chairs 100 2 ≡ true
+two_a_quorum = refl
+
+-- no weight at all never wins at a share of the total, also of a total of 0
+pub nothing_of_nothing : wins Seventy (replicate 34 0) 0 0 ≡ false
+nothing_of_nothing = refl
