@@ -3,7 +3,9 @@ use crate::growth_calls::{NONE, begun, open, opens, seats};
 use crate::refused_growths::Call;
 use crate::seen::{add_machine, add_sheet};
 use board_share::{Analyst, Reader, Writer, start};
-use council_core::{ChairId, MemberCode, Refusal, Register, Sheet, Votes};
+use council_core::{
+    ChairId, FRONT, MemberCode, Refusal, Register, SHEET_WORDS, Sheet, TOTAL, Votes,
+};
 use majority_rule::{Majority, least_size, quota, wins};
 use power_index::Evaluator;
 use std::alloc::Global;
@@ -62,20 +64,20 @@ fn are_checked() -> bool {
     letters == *b"AAA" && votes == 7 && name == "OutOfMemory" && Votes::new(u64::MAX).is_err()
 }
 
-fn looked_up_in(words: &[u64; 34]) -> Option<[u64; 9]> {
+fn looked_up_in(words: &[u64; SHEET_WORDS]) -> Option<[u64; 9]> {
     let sheet = Sheet::from_words(words).ok()?;
     let chair = ChairId::new(1).ok()?;
     Some(looked_up(&sheet, chair))
 }
 
 impl Call for Valuing {
-    type State = ([u64; 34], [u64; 9]);
+    type State = ([u64; SHEET_WORDS], [u64; 9]);
 
-    fn prepare(&self, _alloc: Global) -> Option<([u64; 34], [u64; 9])> {
-        let mut words = [0; 34];
+    fn prepare(&self, _alloc: Global) -> Option<([u64; SHEET_WORDS], [u64; 9])> {
+        let mut words = [0; SHEET_WORDS];
         words[0] = 11;
-        words[32] = 30;
-        words[33] = 2;
+        words[TOTAL] = 30;
+        words[FRONT] = 2;
         Some((words, [0; 9]))
     }
 
@@ -83,7 +85,7 @@ impl Call for Valuing {
         &self,
         _rt: &R,
         _alloc: Global,
-        state: &mut ([u64; 34], [u64; 9]),
+        state: &mut ([u64; SHEET_WORDS], [u64; 9]),
     ) -> u8 {
         let Some(seen) = looked_up_in(&state.0) else {
             return NONE;
@@ -96,7 +98,7 @@ impl Call for Valuing {
         }
     }
 
-    fn shown(&self, alloc: Global, state: &([u64; 34], [u64; 9])) -> Option<Vec<u64>> {
+    fn shown(&self, alloc: Global, state: &([u64; SHEET_WORDS], [u64; 9])) -> Option<Vec<u64>> {
         numbers(alloc, &state.1)
     }
 }
@@ -108,7 +110,7 @@ pub(crate) struct Viewing;
 #[derive(Drop)]
 pub(crate) struct Viewed {
     register: Register,
-    words: [u64; 34],
+    words: [u64; SHEET_WORDS],
     votes: u64,
 }
 
@@ -127,7 +129,7 @@ impl Call for Viewing {
     fn prepare(&self, alloc: Global) -> Option<Viewed> {
         Some(Viewed {
             register: seated(alloc)?,
-            words: [0; 34],
+            words: [0; SHEET_WORDS],
             votes: 0,
         })
     }

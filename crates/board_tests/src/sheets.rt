@@ -1,6 +1,6 @@
 //! The evaluator's indices against a plain recursion.
 use crate::plain::{self, Part};
-use council_core::{Refusal, Sheet};
+use council_core::{CHAIRS, Refusal, SHEET_WORDS, Sheet, TOTAL};
 use majority_rule::Majority;
 use power_index::{Evaluator, Fraction, Indices};
 use std::process::Abort;
@@ -32,28 +32,28 @@ const SHEETS: [(&[u64], u64); 14] = [
 
 // A sheet of these weights, spread over both halves.
 fn sheet_of(weights: &[u64], outside: u64) -> Result<Sheet, Refusal> {
-    let mut words = [0; 34];
+    let mut words = [0; SHEET_WORDS];
     let mut total = outside;
     for (at, weight) in weights.iter().enumerate() {
-        words[at * 5 % 32] = weight.saturating_add(1);
+        words[at * 5 % CHAIRS] = weight.saturating_add(1);
         total = total.saturating_add(*weight);
     }
-    words[32] = total;
+    words[TOTAL] = total;
     Sheet::from_words(&words)
 }
 
 // The words of the chairs of a sheet.
-fn chair_words(sheet: &Sheet) -> [u64; 32] {
+fn chair_words(sheet: &Sheet) -> [u64; CHAIRS] {
     let words = sheet.words();
-    let mut chairs = [0; 32];
-    for place in 0..32 {
+    let mut chairs = [0; CHAIRS];
+    for place in 0..CHAIRS {
         chairs[place] = words[place];
     }
     chairs
 }
 
 // The swings of the chair at a place.
-fn swings_at(chairs: &[u64; 32], place: usize, needed: Part) -> u64 {
+fn swings_at(chairs: &[u64; CHAIRS], place: usize, needed: Part) -> u64 {
     let mut others = *chairs;
     let Some(word) = others.get_mut(place) else {
         return 0;
@@ -72,7 +72,7 @@ fn needed_of(indices: &Indices) -> Part {
 }
 
 // Whether each row has the chair's swings, and the fractions over them.
-fn rows_agree(indices: &Indices, chairs: &[u64; 32], all: u64) -> bool {
+fn rows_agree(indices: &Indices, chairs: &[u64; CHAIRS], all: u64) -> bool {
     indices.rows.as_slice().iter().all(|row| {
         let place = row.chair.number() as usize - 1;
         let swings = swings_at(chairs, place, needed_of(indices));
@@ -87,9 +87,9 @@ fn rows_agree(indices: &Indices, chairs: &[u64; 32], all: u64) -> bool {
 }
 
 // The swings of all open chairs.
-fn all_swings(chairs: &[u64; 32], needed: Part) -> u64 {
+fn all_swings(chairs: &[u64; CHAIRS], needed: Part) -> u64 {
     let mut all = 0u64;
-    for place in 0..32 {
+    for place in 0..CHAIRS {
         if chairs[place] > 0 {
             all = all.wrapping_add(swings_at(chairs, place, needed));
         }
