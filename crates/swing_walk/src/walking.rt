@@ -143,16 +143,28 @@ fn walk_from_both_ends(
     let mut winning = 0;
     for walked in 0..left.len() {
         let (others, rest) = (right.len() - at, left.len() - next);
-        let (lower, upper) = (&left[next], &right[at - 1]);
-        let reached = is_winning(lower, upper, quota);
-        winning += credit(&mut sides, reached, lower, upper, others, rest);
+        let reached = is_winning(&left[next], &right[at - 1], quota);
+        winning += credit(
+            &mut sides,
+            reached,
+            &left[next],
+            &right[at - 1],
+            others,
+            rest,
+        );
         at -= usize::from(reached);
         next = walked + 1 + at - right.len();
 
         let (others, rest) = (right.len() - at_end, left.len() - next_end);
-        let (upper, lower) = (&left[next_end - 1], &right[at_end]);
-        let reached = is_winning(upper, lower, quota);
-        winning += credit(&mut sides, !reached, upper, lower, others, rest);
+        let reached = is_winning(&left[next_end - 1], &right[at_end], quota);
+        winning += credit(
+            &mut sides,
+            !reached,
+            &left[next_end - 1],
+            &right[at_end],
+            others,
+            rest,
+        );
         next_end -= usize::from(reached);
         at_end = walked + 1 + next_end - left.len();
     }
