@@ -1,5 +1,6 @@
 -- What a run has written, by how it ended.
-use Rattle.std.specs.Prelude.{◌≡◌, ◌≤◌, ℕ, length, take, ◌⊎◌, List, [], ◌∷◌, ◌++◌, Option, Some, None, Result, Ok, Err}
+use Rattle.std.specs.Prelude.{◌≡◌, ◌≤◌, ℕ, length, take, ◌⊎◌, List, [], ◌∷◌, ◌++◌, Option}
+use Rattle.std.specs.Prelude.{Some, None, Result, Ok, Err}
 use Rattle.std.specs.Io.KnownBytes.{Appends}
 use Rattle.council_core.specs.Ledgers.{Ledger, start_verdict}
 use Rattle.council_core.specs.Rolls.{Opening}
@@ -81,7 +82,8 @@ IsBroken f = (f ≡ fault_at why.OutOfMemory 0) ⊎ (f ≡ fault_at why.ReadFaul
 
 -- some first lines of a run, whole, and then the line of a fault
 abbrev pub IsBrokenOff : Run → Fault → List ℕ → Type 0
-IsBrokenOff run f text = (front : List Line) × IsFrontOf front run.lines × (text ≡ text_of (front ++ fault_line f ∷ []))
+IsBrokenOff run f text =
+    (front : List Line) × IsFrontOf front run.lines × (text ≡ text_of (front ++ fault_line f ∷ []))
 
 -- what a run writes where the writer works
 abbrev pub IsOutputOf : Run → List ℕ → Type 0

@@ -1,5 +1,6 @@
 -- What a run of the threads is asked, and what it writes, as functions of the bytes that it reads.
-use Rattle.std.specs.Prelude.{◌≡◌, ℕ, ◌<◌, ◌^◌, ◌++◌, List, [], ◌∷◌, length, map, Option, IfSome, Result, Ok, Err, codes, decimal}
+use Rattle.std.specs.Prelude.{◌≡◌, ℕ, ◌<◌, ◌^◌, ◌++◌, List, [], ◌∷◌, length, map, Option}
+use Rattle.std.specs.Prelude.{IfSome, Result, Ok, Err, codes, decimal}
 use Rattle.council_core.specs.Ledgers.{start_verdict}
 use Rattle.council_core.specs.Sequential.{Call, Reply, Sequential, replies_of}
 use Rattle.board_report.specs.Lines.{Line, line_of, reply_line}

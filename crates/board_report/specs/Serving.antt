@@ -1,5 +1,6 @@
 -- What `serve` has written, by how it ended.
-use Rattle.std.specs.Prelude.{◌≡◌, ℕ, ◌⊎◌, Bool, true, false, List, [], ◌∷◌, ◌++◌, Option, Some, None, Result, Ok, Err}
+use Rattle.std.specs.Prelude.{◌≡◌, ℕ, ◌⊎◌, Bool, true, false, List, [], ◌∷◌, ◌++◌, Option, Some}
+use Rattle.std.specs.Prelude.{None, Result, Ok, Err}
 use Rattle.std.specs.Io.KnownBytes.{Appends}
 use Rattle.council_core.specs.declared.refusals.Refusal.TheVariants as why
 use Rattle.board_report.specs.Lines.{Line, fault_line}
@@ -34,11 +35,15 @@ EndsAfter (Ok p) front f =
     ((front ≡ []) × (IsBroken f ⊎ (f ≡ fault_at why.GateClosed 0)))
     ⊎ ((front ≡ work_lines p) × (f ≡ fault_at why.Mismatch 0) × Differs p)
 
+-- lines after which such a fault may come, and its line
+abbrev pub EndsInFault : Result Planned Fault → List ℕ → Type 0
+EndsInFault spec text =
+    (front : List Line) × (f : Fault) × EndsAfter spec front f × (text ≡ text_of (front ++ fault_line f ∷ []))
+
 -- what `serve` writes where the writer works
 abbrev pub IsServeText : Result Planned Fault → List ℕ → Type 0
 IsServeText spec text =
-    ((p : Planned) × (spec ≡ Ok p) × (text ≡ text_of (work_lines p ++ audit_line ∷ [])))
-    ⊎ ((front : List Line) × (f : Fault) × EndsAfter spec front f × (text ≡ text_of (front ++ fault_line f ∷ [])))
+    ((p : Planned) × (spec ≡ Ok p) × (text ≡ text_of (work_lines p ++ audit_line ∷ []))) ⊎ EndsInFault spec text
 
 -- a front of one of these was appended
 abbrev pub CutsServe : Option (List ℕ) → Option (List ℕ) → Result Planned Fault → Type 0

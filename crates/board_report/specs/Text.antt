@@ -1,5 +1,6 @@
 -- What a run writes and how it ends, as a function of the bytes that it reads.
-use Rattle.std.specs.Prelude.{ℕ, ◌+◌, ◌==◌, ◌&&◌, List, [], ◌∷◌, ◌++◌, Bool, true, Option, Some, None, Result, Ok, Err, ⊤, length, nat_le, if◌then◌else◌}
+use Rattle.std.specs.Prelude.{ℕ, ◌+◌, ◌==◌, ◌&&◌, List, [], ◌∷◌, ◌++◌, Bool, true, Option, Some}
+use Rattle.std.specs.Prelude.{None, Result, Ok, Err, ⊤, length, nat_le, if◌then◌else◌}
 use Rattle.std.specs.List.{flat_map}
 use Rattle.csv.specs.Reading.{default_config, records, strip_bom}
 use Rattle.council_core.specs.Ledgers.{Ledger, start_verdict}
@@ -7,7 +8,8 @@ use Rattle.council_core.specs.Refusals.{code_of}
 use Rattle.council_core.specs.Rolls.{Opening}
 use Rattle.council_core.specs.Sequential.{Sequential, respond}
 use Rattle.council_core.specs.declared.refusals.Refusal.{Refusal}
-use Rattle.council_core.specs.declared.refusals.Refusal.TheVariants.{BadHeader, BadLimit, BadReader, BadRecord, NoScript, TooLong, TooManyMembers}
+use Rattle.council_core.specs.declared.refusals.Refusal.TheVariants.{BadHeader, BadLimit, BadReader, BadRecord}
+use Rattle.council_core.specs.declared.refusals.Refusal.TheVariants.{NoScript, TooLong, TooManyMembers}
 use Rattle.board_report.specs.Lines.{Line, fault_line, reply_lines}
 use Rattle.board_report.specs.Requests.{Row, call_of, is_header, is_mark, member_of, request_of}
 use Rattle.board_report.specs.declared.bounds.Limits.{Limits}
@@ -88,7 +90,8 @@ abbrev pub Opened : Type 0
 Opened = Opening × ℕ × List Row
 
 -- a member's record that is well formed, and what comes after it
-abbrev pub member_then : ℕ → Option (List ℕ × ℕ) → (List ℕ × ℕ → Result Opened Fault) → Result Opened Fault
+abbrev pub member_then : ℕ → Option (List ℕ × ℕ) → (List ℕ × ℕ → Result Opened Fault)
+    → Result Opened Fault
 member_then k None more = Err (fault_at BadRecord k)
 member_then k (Some m) more = more m
 
@@ -139,11 +142,13 @@ begun_run play (Err f) = stops f
 begun_run play (Ok b) = play b
 
 -- the run of a script on what the register at its start is made into
-abbrev pub played : {S : Type 0} → (Limits → Ledger → S) → (Limits → S → Row → Turn S) → Limits → Begun → Run
+abbrev pub played : {S : Type 0} → (Limits → Ledger → S) → (Limits → S → Row → Turn S)
+    → Limits → Begun → Run
 played opened step lim b = script_run (step lim) (opened lim b.0) b.1 b.2
 
 -- the run of these bytes, where each record of their script does such a step
-abbrev pub played_run : {S : Type 0} → (Limits → Ledger → S) → (Limits → S → Row → Turn S) → Limits → List ℕ → Run
+abbrev pub played_run : {S : Type 0} → (Limits → Ledger → S) → (Limits → S → Row → Turn S)
+    → Limits → List ℕ → Run
 played_run opened step lim bytes = begun_run (played opened step lim) (begun_of lim bytes)
 
 -- a register with no command published, which is the start of a replay

@@ -1,5 +1,6 @@
 -- What the records of a schedule do to the two-copy machine.
-use Rattle.std.specs.Prelude.{ℕ, List, [], ◌∷◌, Bool, true, Option, Some, None, Ok, Err, replicate, if◌then◌else◌, option_map, codes}
+use Rattle.std.specs.Prelude.{ℕ, List, [], ◌∷◌, Bool, true, Option, Some, None, Ok, Err, replicate}
+use Rattle.std.specs.Prelude.{if◌then◌else◌, option_map, codes}
 use Rattle.std.specs.List.{flat_map}
 use Rattle.std.specs.Option.{option_and_then}
 use Rattle.std.specs.Str.{bytes_eq}

@@ -42,7 +42,8 @@ pub(crate) fn are_legal(
         → AreLegalRecords members.now served.now.journal.items (0 ∷ served.now.cuts.items) (sheets_of served.now)) }
     ensures broken { IfOk result
         (λ legal. legal ≡ false
-        → AreLegalRecords members.now served.now.journal.items (0 ∷ served.now.cuts.items) (sheets_of served.now) → ⊥) }
+        → AreLegalRecords members.now served.now.journal.items (0 ∷ served.now.cuts.items) (sheets_of served.now)
+        → ⊥) }
     ensures memory { IsOkUnless result stop.OutOfMemory }
 {
     audit_law();

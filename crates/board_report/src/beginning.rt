@@ -1,5 +1,6 @@
 //! The beginning of a run: its input read whole, and the records before the script.
-ghost use Rattle.std.specs.Prelude.{◌≡◌, ◌≤◌, ◌<◌, ◌+◌, ◌^◌, ℕ, List, [], Ok, true, length, IfOk, IfErr, IfSome, OnOk};
+ghost use Rattle.std.specs.Prelude.{◌≡◌, ◌≤◌, ◌<◌, ◌+◌, ◌^◌, ℕ, List, [], Ok, true, length};
+ghost use Rattle.std.specs.Prelude.{IfOk, IfErr, IfSome, OnOk};
 ghost use Rattle.council_core.specs.Ledgers.{start_verdict};
 ghost use Rattle.board_report.specs.Output.{Fails, Starts};
 ghost use Rattle.board_report.specs.Text.{begun_of, begun_with, in_range, opened_of};
@@ -65,7 +66,8 @@ pub(crate) fn begin(
     limits: Limits,
 ) -> Result<Beginning, Stop>
     requires { length script.old < 2 ^ 31 }
-    ensures begun { IfOk result (λ b. begun_with limits (opened_of script.old) ≡ Ok (b.register, b.place, script.new)) }
+    ensures begun { IfOk result
+        (λ b. begun_with limits (opened_of script.old) ≡ Ok (b.register, b.place, script.new)) }
     ensures fault { IfErr result (λ e. Fails e (begun_with limits (opened_of script.old))) }
     ensures members { IfOk result (λ b. b.register.opening ≡ b.members.items) }
     ensures starts { IfOk result (λ b. start_verdict b.members.items MAX_COMMANDS ≡ Ok tt) }

@@ -1,7 +1,8 @@
 //! The lines of the output.
 ghost use Rattle.std.specs.Prelude.{◌≡◌, ◌≤◌, ◌+◌, ◌∷◌, [], length, IfSome, IfNone};
 ghost use Rattle.board_report.specs.Desks.{reply_of};
-ghost use Rattle.board_report.specs.Lines.{accepted_line, busy_line, chair_line, fault_line, published_line, reading_line, refused_line, reply_line, note_lines, sheet_line};
+ghost use Rattle.board_report.specs.Lines.{accepted_line, busy_line, chair_line, fault_line, published_line};
+ghost use Rattle.board_report.specs.Lines.{reading_line, refused_line, reply_line, note_lines, sheet_line};
 ghost use Rattle.board_report.specs.Plans.{audit_line, reader_line};
 ghost use Rattle.board_report.specs.Words.{word_of_majority};
 

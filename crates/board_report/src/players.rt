@@ -1,12 +1,14 @@
 //! Playing an input: the run that `replay` and `trace` share.
-ghost use Rattle.std.specs.Prelude.{◌≡◌, ◌≤◌, ◌<◌, ◌+◌, ◌^◌, ℕ, List, [], true, length, IfOk, IfSome, OnOk, IsOkUnless};
+ghost use Rattle.std.specs.Prelude.{◌≡◌, ◌≤◌, ◌<◌, ◌+◌, ◌^◌, ℕ, List, [], true, length, IfOk};
+ghost use Rattle.std.specs.Prelude.{IfSome, OnOk, IsOkUnless};
 ghost use Rattle.csv.specs.Reading.{default_config, records, strip_bom};
 ghost use Rattle.csv.specs.Records.{fields_of};
 ghost use Rattle.council_core.specs.Ledgers.{Ledger};
 ghost use Rattle.board_report.specs.Output.{Ends, Plays, Replays};
 ghost use Rattle.board_report.specs.Pens.{GoesOn};
 ghost use Rattle.board_report.specs.Requests.{Row};
-ghost use Rattle.board_report.specs.Text.{Turn, begun_run, begun_with, in_range, opened_of, played, played_run, script_run, step_run};
+ghost use Rattle.board_report.specs.Text.{Turn, begun_run, begun_with, in_range, opened_of, played, played_run};
+ghost use Rattle.board_report.specs.Text.{script_run, step_run};
 ghost use Rattle.board_report.specs.declared.bounds.Limits.{Limits};
 ghost use Rattle.board_report.specs.declared.stops.Stop.TheVariants as stop;
 
@@ -104,7 +106,8 @@ fn play_input<P: Player, R: Read, W: Write>(
 ) -> Result<(), Stop>
     ensures wrote { IfSome (R.remaining input.old)
         (λ bytes. Plays out.old.held out.new.held result (played_run P.opened P.step limits bytes)) }
-    ensures some { (bytes : List ℕ) × Plays out.old.held out.new.held result (played_run P.opened P.step limits bytes) }
+    ensures some { (bytes : List ℕ)
+        × Plays out.old.held out.new.held result (played_run P.opened P.step limits bytes) }
     ensures on { GoesOn out.old out.new }
 {
     let text = read_within(alloc, input, limits)?;

@@ -5,7 +5,8 @@ ghost use Rattle.clap.specs.Words.{HasKind, Kinds, Row, fault_of, found_of, kind
 ghost use Rattle.clap.specs.declared.error.ErrorKind.TheVariants.{OutOfMemory as LackOfMemory};
 ghost use Rattle.council_core.specs.Refusals.{code_of};
 ghost use Rattle.council_core.specs.declared.refusals.Refusal.TheVariants.{OutOfMemory};
-ghost use Rattle.board_report.specs.Commands.{AnswersWords, HasJournal, HasLimits, IsTaken, LacksMemory, RunExits, ServeExits, board_app, failure_text, no_text, streams};
+ghost use Rattle.board_report.specs.Commands.{AnswersWords, HasJournal, HasLimits, IsTaken, LacksMemory, RunExits};
+ghost use Rattle.board_report.specs.Commands.{ServeExits, board_app, failure_text, no_text, streams};
 ghost use Rattle.board_report.specs.Output.{AppendsFront};
 ghost use Rattle.board_report.specs.Plans.{plan_of};
 ghost use Rattle.board_report.specs.Text.{run_of};
@@ -162,7 +163,8 @@ fn run<T: Threads + Wait + Sync, R: Read, W: Write, E: Write>(
     ensures traces { (lim : Limits) → name.now ≡ codes "trace" → HasLimits (rows_of (found_of found.now)) lim
         → RunExits (trace_of lim) (R.remaining input.old) result
         (streams (W.contents out.old) (W.contents out.new) (E.contents err.old) (E.contents err.new)) }
-    ensures serves { (journal : ℕ) → name.now ≡ codes "serve" → HasJournal (rows_of (found_of found.now)) journal
+    ensures serves { (journal : ℕ) → name.now ≡ codes "serve"
+        → HasJournal (rows_of (found_of found.now)) journal
         → ServeExits (plan_of journal) (R.remaining input.old) result
         (streams (W.contents out.old) (W.contents out.new) (E.contents err.old) (E.contents err.new)) }
 {

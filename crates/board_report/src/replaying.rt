@@ -118,7 +118,8 @@ pub fn replay<R: Read, W: Write>(
 ) -> Result<(), Fault>
     ensures wrote { IfSome (R.remaining input.old)
         (λ bytes. Replays (W.contents out.old) (W.contents out.new) result (run_of limits bytes)) }
-    ensures some { (bytes : List ℕ) × Replays (W.contents out.old) (W.contents out.new) result (run_of limits bytes) }
+    ensures some { (bytes : List ℕ)
+        × Replays (W.contents out.old) (W.contents out.new) result (run_of limits bytes) }
 {
     play::<Desk, R, W>(alloc, input, out, limits)
 }

@@ -1,7 +1,8 @@
 //! What the records of an input ask for.
 ghost use Rattle.std.specs.Prelude.{◌≡◌};
 ghost use Rattle.csv.specs.Records.{fields_of};
-ghost use Rattle.board_report.specs.Requests.{command_of_one, command_of_two, is_header, is_mark, member_of, request_of};
+ghost use Rattle.board_report.specs.Requests.{command_of_one, command_of_two, is_header, is_mark, member_of};
+ghost use Rattle.board_report.specs.Requests.{request_of};
 ghost use Rattle.board_report.specs.Numbers.{number_of};
 ghost use Rattle.board_report.specs.declared.requests.Request.TheVariants.{Read};
 ghost use Rattle.board_report.specs.Text.{is_served};

@@ -125,7 +125,8 @@ pub fn trace<R: Read, W: Write>(
 ) -> Result<(), Fault>
     ensures wrote { IfSome (R.remaining input.old)
         (λ bytes. Replays (W.contents out.old) (W.contents out.new) result (trace_of limits bytes)) }
-    ensures some { (bytes : List ℕ) × Replays (W.contents out.old) (W.contents out.new) result (trace_of limits bytes) }
+    ensures some { (bytes : List ℕ)
+        × Replays (W.contents out.old) (W.contents out.new) result (trace_of limits bytes) }
 {
     play::<Machine, R, W>(alloc, input, out, limits)
 }

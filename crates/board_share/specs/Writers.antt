@@ -1,5 +1,6 @@
 -- What contracts see of the writer, and how its seat keeps it.
-use Rattle.std.specs.Prelude.{◌≡◌, ℕ, ◌<◌, ◌≤◌, Bool, true, false, List, [], ◌∷◌, ◌++◌, ◌==◌, if◌then◌else◌, length, replicate, nat_lt, Option, Some, None}
+use Rattle.std.specs.Prelude.{◌≡◌, ℕ, ◌<◌, ◌≤◌, Bool, true, false, List, [], ◌∷◌, ◌++◌}
+use Rattle.std.specs.Prelude.{◌==◌, if◌then◌else◌, length, replicate, nat_lt, Option, Some, None}
 use Rattle.atomic_table.specs.Table.{Me}
 use Rattle.atomic_table.specs.Seated.{TableId}
 use Rattle.council_core.specs.Rolls.{Opening, sheet}
@@ -45,7 +46,8 @@ desk_of ledger v begun = record { ledger = ledger; held = held_by v; due = due_o
 -- the commands of a publication that begins: a publishable list that extends the one last taken
 abbrev pub MayBegin : Opening → WriterView → Option (List Command) → Type 0
 MayBegin opening v None = Unit {0}
-MayBegin opening v (Some list) = IsPublishable opening list × ((rest : List Command) × (v.state.taken ++ rest ≡ list))
+MayBegin opening v (Some list) =
+    IsPublishable opening list × ((rest : List Command) × (v.state.taken ++ rest ≡ list))
 
 -- one list begins another
 abbrev pub Begins : List Command → List Command → Type 0
@@ -78,7 +80,8 @@ abbrev pub next_deed : Option (List Command) → Me Unit View → Deed WriterVie
 next_deed list me = let w = writer_or me.0.writer in writer_deed 34 (sheet w.0) (begun_with list w.1)
 
 -- what a step of the writer's seat asks: its word, and what becomes of it
-pub record MayWrite (table seat : TableId) (me : Me Unit View) (list : Option (List Command)) (place : ℕ) : Type 0 where
+pub record MayWrite (table seat : TableId) (me : Me Unit View) (list : Option (List Command)) (place : ℕ)
+    : Type 0 where
   pub same : seat ≡ table
   pub within : place < table.words
   pub writes : me.0.writer ≡ Some (writer_or me.0.writer)

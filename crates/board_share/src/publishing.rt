@@ -1,5 +1,6 @@
 //! A publication of all commands, by single loads.
-ghost use Rattle.std.specs.Prelude.{◌≡◌, suc, ◌∷◌, ◌++◌, [], true, false, length, replicate, OnOk, OnErr, IfErr, IsOk};
+ghost use Rattle.std.specs.Prelude.{◌≡◌, suc, ◌∷◌, ◌++◌, [], true, false, length, replicate, OnOk};
+ghost use Rattle.std.specs.Prelude.{OnErr, IfErr, IsOk};
 ghost use Rattle.council_core.specs.Rolls.{sheet};
 ghost use Rattle.council_core.specs.Ledgers.{sheet_of};
 ghost use Rattle.two_copy_steps.specs.Deeds.{all_true, first_false};

@@ -1,5 +1,6 @@
 //! The writer's register and its seat.
-ghost use Rattle.std.specs.Prelude.{◌≡◌, ℕ, ◌<◌, ◌≤◌, ◌==◌, true, false, Some, None, length, replicate, slice_get, slice_index, IfOk, OnErr};
+ghost use Rattle.std.specs.Prelude.{◌≡◌, ℕ, ◌<◌, ◌≤◌, ◌==◌, true, false, Some, None, length};
+ghost use Rattle.std.specs.Prelude.{replicate, slice_get, slice_index, IfOk, OnErr};
 ghost use Rattle.std.specs.Arc.{arc_value};
 ghost use Rattle.council_core.specs.Rolls.{sheet};
 ghost use Rattle.council_core.specs.Ledgers.{sheet_of, verdict_of, appended};

@@ -63,7 +63,8 @@ impl Writer {
         ensures cuts { OnOk result (self.new.cuts ≡ cuts_after self.old) }
         ensures seen_out { OnOk result (self.new.seen_out ≡ seen_out_after self.old) }
         ensures readers { length self.new.seen_out ≡ length self.old.seen_out }
-        ensures unchanged { OnErr result ((self.new.published ≡ self.old.published) × (self.new.cuts ≡ self.old.cuts)) }
+        ensures unchanged { OnErr result
+            ((self.new.published ≡ self.old.published) × (self.new.cuts ≡ self.old.cuts)) }
         ensures stay { OnErr result (StaySeen self.old.seen_out self.new.seen_out) }
         ensures busy { IfErr result
             (λ b. (b.reader ≡ suc (first_false self.new.seen_out)) × (all_true self.new.seen_out ≡ false)) }

@@ -147,3 +147,6 @@ count_open c words i h some = ap length (open_more c words i h some) ∙ length-
 
 pub count_closed : (c : ℕ) (words : List ℕ) (i : ℕ) → i < length words → get_or words i 0 ≡ 0 → length (open_from c (take (i + 1) words)) ≡ length (open_from c (take i words))
 count_closed c words i h shut = ap length (closed_more c words i h shut)
+
+-- what one more word does to the number of open chairs
+pub ruleset count_more = (count_open, count_closed)

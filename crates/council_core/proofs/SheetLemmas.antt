@@ -14,3 +14,6 @@ sum_of_fewer words i n h = subst (λ (l : List ℕ). sum_by weight_in l ≤ sum_
 -- the first words' sum is at most that of the 32
 pub cast_below : (words : List ℕ) (i : ℕ) → i ≤ 32 → sum_by weight_in (take i words) ≤ cast_of words
 cast_below words i h = sum_of_fewer words i 32 h
+
+-- what the loop over the words asks
+pub ruleset cast_more = (cast_step, cast_below)

@@ -1,5 +1,6 @@
 -- Laws that tie the definitions to one another.
-use Rattle.std.specs.Prelude.{◌≡◌, ℕ, ◌^◌, ◌≤◌, ◌++◌, ◌∷◌, [], Bool, false, List, length, map, filter, take, count_by, All, nat_eq}
+use Rattle.std.specs.Prelude.{◌≡◌, ℕ, ◌^◌, ◌≤◌, ◌++◌, ◌∷◌, [], Bool, false, List, length}
+use Rattle.std.specs.Prelude.{map, filter, take, count_by, All, nat_eq}
 use Rattle.std.specs.List.{IsDistinct}
 use Rattle.std.specs.Cmp.Lexicographic.{pointwise}
 use Rattle.council_core.specs.Coalitions.{subsets}
@@ -7,7 +8,8 @@ use Rattle.council_core.specs.Ledgers.{has_duplicate}
 use Rattle.council_core.specs.Rolls.{Opening, Roll, IsLegal, cast, sheet, words_of}
 use Rattle.council_core.specs.Sheets.{Chair, IsSheet, cast_of, front_of, open_chairs, weight_of}
 use Rattle.council_core.specs.declared.commands.Command.{Command}
-use Rattle.council_core.specs.declared.commands.Command.TheVariants.{Open, Close, Move, SetVotes, Suspend, Restore, Admit, Withdraw}
+use Rattle.council_core.specs.declared.commands.Command.TheVariants.{Open, Close, Move, SetVotes, Suspend, Restore}
+use Rattle.council_core.specs.declared.commands.Command.TheVariants.{Admit, Withdraw}
 
 -- the cast of a roll, by its members, is the cast that its sheet shows
 abbrev pub CastLaw : Type 0
@@ -32,7 +34,8 @@ EachOnceLaw = (chairs : List Chair) → IsDistinct nat_eq (map (λ c. c.0) chair
 
 -- one more command leaves the sheet of every list of first commands
 abbrev pub PrefixLaw : Type 0
-PrefixLaw = (opening : Opening) (commands : List Command) (command : Command) (front : ℕ) → front ≤ length commands
+PrefixLaw = (opening : Opening) (commands : List Command) (command : Command) (front : ℕ)
+    → front ≤ length commands
     → sheet opening (take front (commands ++ command ∷ [])) ≡ sheet opening (take front commands)
 
 -- the front of the sheet of the first commands is how many they are

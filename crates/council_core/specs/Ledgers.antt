@@ -1,9 +1,11 @@
 -- What a contract sees of a register: the members it began with, the commands accepted, and their limit.
-use Rattle.std.specs.Prelude.{ℕ, ◌≤◌, ◌==◌, if◌then◌else◌, List, [], ◌∷◌, ◌++◌, length, Result, Ok, Err, ⊤, Bool, false, ◌||◌, nat_lt}
+use Rattle.std.specs.Prelude.{ℕ, ◌≤◌, ◌==◌, if◌then◌else◌, List, [], ◌∷◌, ◌++◌, length}
+use Rattle.std.specs.Prelude.{Result, Ok, Err, ⊤, Bool, false, ◌||◌, nat_lt}
 use Rattle.std.specs.List.{list_any}
 use Rattle.council_core.specs.Rolls.{Roll, Opening, IsLegal, roll_after, same_code, step, sheet}
 use Rattle.council_core.specs.declared.refusals.Refusal.{Refusal}
-use Rattle.council_core.specs.declared.refusals.Refusal.TheVariants.{JournalFull, BadLimit, TooManyMembers, DuplicateMember}
+use Rattle.council_core.specs.declared.refusals.Refusal.TheVariants.{JournalFull, BadLimit, TooManyMembers}
+use Rattle.council_core.specs.declared.refusals.Refusal.TheVariants.{DuplicateMember}
 use Rattle.council_core.specs.declared.commands.Command.{Command}
 
 pub record Ledger : Type 0 where

@@ -1,7 +1,15 @@
 -- The number and the name of each refusal.
 use Rattle.std.specs.Prelude.{ℕ, List, [], ◌∷◌, Option, ◌==◌, find, codes}
 use Rattle.council_core.specs.declared.refusals.Refusal.{Refusal}
-use Rattle.council_core.specs.declared.refusals.Refusal.TheVariants.{ChairOpen, ChairNotOpen, ChairHasMembers, UnknownMember, MemberSuspended, AlreadyThere, AlreadySuspended, NotSuspended, JournalFull, OutOfMemory, DuplicateMember, TooManyMembers, BadLimit, BadChair, BadMember, VotesTooLarge, BadRecord, NoEntry, ReadFault, WriteFault, BadHeader, BadReader, Busy, Mismatch, MemberExists, MemberSeated, GateClosed, NoScript, TooLong, BadJournal, BadCuts, BadSheet, TooManyChairs}
+use Rattle.council_core.specs.declared.refusals.Refusal.TheVariants.{ChairOpen, ChairNotOpen, ChairHasMembers}
+use Rattle.council_core.specs.declared.refusals.Refusal.TheVariants.{UnknownMember, MemberSuspended, AlreadyThere}
+use Rattle.council_core.specs.declared.refusals.Refusal.TheVariants.{AlreadySuspended, NotSuspended, JournalFull}
+use Rattle.council_core.specs.declared.refusals.Refusal.TheVariants.{OutOfMemory, DuplicateMember, TooManyMembers}
+use Rattle.council_core.specs.declared.refusals.Refusal.TheVariants.{BadLimit, BadChair, BadMember, VotesTooLarge}
+use Rattle.council_core.specs.declared.refusals.Refusal.TheVariants.{BadRecord, NoEntry, ReadFault, WriteFault}
+use Rattle.council_core.specs.declared.refusals.Refusal.TheVariants.{BadHeader, BadReader, Busy, Mismatch, MemberExists}
+use Rattle.council_core.specs.declared.refusals.Refusal.TheVariants.{MemberSeated, GateClosed, NoScript, TooLong}
+use Rattle.council_core.specs.declared.refusals.Refusal.TheVariants.{BadJournal, BadCuts, BadSheet, TooManyChairs}
 
 -- its number
 abbrev pub code_of : Refusal → ℕ
@@ -78,10 +86,10 @@ name_of TooManyChairs = codes "TooManyChairs"
 -- each refusal once, by number
 abbrev pub every_refusal : List Refusal
 every_refusal = ChairOpen ∷ ChairNotOpen ∷ ChairHasMembers ∷ UnknownMember ∷ MemberSuspended ∷ AlreadyThere
-    ∷ AlreadySuspended ∷ NotSuspended ∷ JournalFull ∷ OutOfMemory ∷ DuplicateMember ∷ TooManyMembers ∷ BadLimit
-    ∷ BadChair ∷ BadMember ∷ VotesTooLarge ∷ BadRecord ∷ NoEntry ∷ ReadFault ∷ WriteFault ∷ BadHeader ∷ BadReader
-    ∷ Busy ∷ Mismatch ∷ MemberExists ∷ MemberSeated ∷ GateClosed ∷ NoScript ∷ TooLong ∷ BadJournal ∷ BadCuts
-    ∷ BadSheet ∷ TooManyChairs ∷ []
+    ∷ AlreadySuspended ∷ NotSuspended ∷ JournalFull ∷ OutOfMemory ∷ DuplicateMember ∷ TooManyMembers
+    ∷ BadLimit ∷ BadChair ∷ BadMember ∷ VotesTooLarge ∷ BadRecord ∷ NoEntry ∷ ReadFault ∷ WriteFault
+    ∷ BadHeader ∷ BadReader ∷ Busy ∷ Mismatch ∷ MemberExists ∷ MemberSeated ∷ GateClosed ∷ NoScript
+    ∷ TooLong ∷ BadJournal ∷ BadCuts ∷ BadSheet ∷ TooManyChairs ∷ []
 
 -- the refusal of a number, where there is one
 abbrev pub refusal_of : ℕ → Option Refusal

@@ -1,6 +1,9 @@
 -- What a register keeps beside its journal, and that it is what the roll says.
-use Rattle.std.specs.Prelude.{◌≡◌, ℕ, ◌+◌, ◌^◌, ◌≤◌, ◌<◌, true, false, if◌then◌else◌, List, length, sum_by, All, slice_index, None, Some, Ok}
-use Rattle.council_core.specs.Rolls.{Roll, Entry, chair_word, sits_in, total, is_open, can_receive, standing_among, place_among, has_members, opened, closed, admitted, withdrawn, max_members, step, update, all_accepted, opening_roll}
+use Rattle.std.specs.Prelude.{◌≡◌, ℕ, ◌+◌, ◌^◌, ◌≤◌, ◌<◌, true, false, if◌then◌else◌}
+use Rattle.std.specs.Prelude.{List, length, sum_by, All, slice_index, None, Some, Ok}
+use Rattle.council_core.specs.Rolls.{Roll, Entry, chair_word, sits_in, total, is_open, can_receive, standing_among}
+use Rattle.council_core.specs.Rolls.{place_among, has_members, opened, closed, admitted, withdrawn, max_members, step}
+use Rattle.council_core.specs.Rolls.{update, all_accepted, opening_roll}
 use Rattle.council_core.specs.declared.changes.Change.{Change}
 use Rattle.council_core.specs.declared.changes.Change.TheVariants as change
 use Rattle.council_core.specs.declared.commands.Command.{Command}

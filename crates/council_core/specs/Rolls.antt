@@ -1,14 +1,20 @@
 -- The roll: members in order of entry, and the open chairs. What a command makes of it.
-use Rattle.std.specs.Prelude.{ℕ, ◌+◌, ◌≤◌, ◌==◌, Bool, true, false, not, ◌&&◌, if◌then◌else◌, List, [], ◌∷◌, ◌++◌, length, map, filter, position, sum_by, Option, None, Some, is_some, Result, Ok, Err, is_ok, IsTrue, nat_eq, nat_le}
+use Rattle.std.specs.Prelude.{ℕ, ◌+◌, ◌≤◌, ◌==◌, Bool, true, false, not, ◌&&◌, if◌then◌else◌}
+use Rattle.std.specs.Prelude.{List, [], ◌∷◌, ◌++◌, length, map, filter, position, sum_by, Option, None, Some}
+use Rattle.std.specs.Prelude.{is_some, Result, Ok, Err, is_ok, IsTrue, nat_eq, nat_le}
 use Rattle.std.specs.List.{list_any, range_with_len}
 use Rattle.std.specs.Option.{option_map_or}
 use Rattle.std.specs.Map.{keys_of, lookup}
 use Rattle.std.specs.Cmp.Lexicographic.{pointwise}
 use Rattle.std.specs.Result.{result_unwrap_or}
 use Rattle.council_core.specs.declared.refusals.Refusal.{Refusal}
-use Rattle.council_core.specs.declared.refusals.Refusal.TheVariants.{ChairOpen, ChairNotOpen, ChairHasMembers, UnknownMember, MemberSuspended, AlreadyThere, AlreadySuspended, NotSuspended, TooManyMembers, MemberExists, MemberSeated}
+use Rattle.council_core.specs.declared.refusals.Refusal.TheVariants.{ChairOpen, ChairNotOpen, ChairHasMembers}
+use Rattle.council_core.specs.declared.refusals.Refusal.TheVariants.{UnknownMember, MemberSuspended, AlreadyThere}
+use Rattle.council_core.specs.declared.refusals.Refusal.TheVariants.{AlreadySuspended, NotSuspended, TooManyMembers}
+use Rattle.council_core.specs.declared.refusals.Refusal.TheVariants.{MemberExists, MemberSeated}
 use Rattle.council_core.specs.declared.commands.Command.{Command}
-use Rattle.council_core.specs.declared.commands.Command.TheVariants.{Open, Close, Move, SetVotes, Suspend, Restore, Admit, Withdraw}
+use Rattle.council_core.specs.declared.commands.Command.TheVariants.{Open, Close, Move, SetVotes, Suspend, Restore}
+use Rattle.council_core.specs.declared.commands.Command.TheVariants.{Admit, Withdraw}
 use Rattle.council_core.specs.declared.commands.Standing.{Standing}
 
 -- a member's entry: its code, and its votes, chair and suspension

@@ -1,5 +1,6 @@
 -- The sequential register, and what the records of readers may hold.
-use Rattle.std.specs.Prelude.{◌≡◌, ℕ, ◌+◌, ◌≤◌, List, [], ◌∷◌, length, take, Result, Ok, Err, ⊤, Contains, All}
+use Rattle.std.specs.Prelude.{◌≡◌, ℕ, ◌+◌, ◌≤◌, List, [], ◌∷◌, length, take, Result, Ok, Err}
+use Rattle.std.specs.Prelude.{⊤, Contains, All}
 use Rattle.std.specs.List.Sorted.{IsNonDecreasing}
 use Rattle.council_core.specs.Rolls.{Opening, IsLegal, sheet}
 use Rattle.council_core.specs.Sheets.{front_of}
@@ -54,7 +55,8 @@ AreCuts commands cuts = IsNonDecreasing cuts × All (λ cut. cut ≤ length comm
 
 -- the sheet of one of the cuts
 abbrev pub IsCutSheet : Opening → List Command → List ℕ → List ℕ → Type 0
-IsCutSheet opening commands cuts words = (cut : ℕ) × Contains cuts cut × (words ≡ sheet opening (take cut commands))
+IsCutSheet opening commands cuts words =
+    (cut : ℕ) × Contains cuts cut × (words ≡ sheet opening (take cut commands))
 
 -- readings, oldest first: each is the sheet of a cut, and none has a front below the one before
 abbrev pub IsRecordFrom : Opening → List Command → List ℕ → ℕ → List (List ℕ) → Type 0

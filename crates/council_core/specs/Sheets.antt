@@ -1,5 +1,6 @@
 -- A sheet's 34 numbers: a word for each chair, the total, and the front.
-use Rattle.std.specs.Prelude.{ℕ, ◌+◌, ◌-◌, ◌^◌, ◌≤◌, ◌<◌, ◌==◌, Option, None, Some, if◌then◌else◌, List, [], ◌∷◌, sum_by, take, slice_index}
+use Rattle.std.specs.Prelude.{ℕ, ◌+◌, ◌-◌, ◌^◌, ◌≤◌, ◌<◌, ◌==◌, Option, None, Some}
+use Rattle.std.specs.Prelude.{if◌then◌else◌, List, [], ◌∷◌, sum_by, take, slice_index}
 
 -- an open chair: its number and its weight
 abbrev pub Chair : Type 0

@@ -1,6 +1,7 @@
 //! Laws of the definitions, as contracts of functions that do nothing: for whoever builds on
 //! these definitions, and for whoever asks whether they mean what they say.
-ghost use Rattle.council_core.specs.Laws.{CastLaw, CoalitionsLaw, EachOnceLaw, FrontLaw, PrefixLaw, SheetLaw, WeightsLaw};
+ghost use Rattle.council_core.specs.Laws.{CastLaw, CoalitionsLaw, EachOnceLaw, FrontLaw, PrefixLaw, SheetLaw};
+ghost use Rattle.council_core.specs.Laws.{WeightsLaw};
 
 /// The cast, counted member by member over the open chairs, is the sum of the weights that the
 /// sheet shows, which are those of its open chairs.

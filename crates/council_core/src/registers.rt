@@ -1,14 +1,18 @@
 //! The register.
-ghost use Rattle.std.specs.Prelude.{◌≡◌, ◌≤◌, ◌<◌, ◌==◌, [], length, slice_get, None, Some, Ok, Err, true, false, IfOk, IfErr, OnErr};
+ghost use Rattle.std.specs.Prelude.{◌≡◌, ◌≤◌, ◌<◌, ◌==◌, [], length, slice_get, None, Some, Ok};
+ghost use Rattle.std.specs.Prelude.{Err, true, false, IfOk, IfErr, OnErr};
 ghost use Rattle.std.specs.List.{list_any};
 ghost use Rattle.std.specs.Option.{option_map};
 ghost use Rattle.council_core.specs.Members.{row_of};
 ghost use Rattle.council_core.specs.Sheets.{IsSheet};
-ghost use Rattle.council_core.specs.Rolls.{IsLegal, step, is_open, can_receive, standing_among, place_among, same_code, has_members};
+ghost use Rattle.council_core.specs.Rolls.{IsLegal, step, is_open, can_receive, standing_among, place_among, same_code};
+ghost use Rattle.council_core.specs.Rolls.{has_members};
 ghost use Rattle.council_core.specs.Verdicts.{Follows};
 ghost use Rattle.council_core.specs.Registers.{IsPlanned};
-ghost use Rattle.council_core.specs.Ledgers.{Ledger, IsLedger, roll_of, verdict_of, room_of, appended, sheet_of, has_duplicate, start_verdict};
-ghost use Rattle.council_core.specs.declared.commands.Command.TheVariants.{Open, Close, Move, SetVotes, Suspend, Restore, Admit, Withdraw};
+ghost use Rattle.council_core.specs.Ledgers.{Ledger, IsLedger, roll_of, verdict_of, room_of, appended, sheet_of};
+ghost use Rattle.council_core.specs.Ledgers.{has_duplicate, start_verdict};
+ghost use Rattle.council_core.specs.declared.commands.Command.TheVariants.{Open, Close, Move, SetVotes, Suspend};
+ghost use Rattle.council_core.specs.declared.commands.Command.TheVariants.{Restore, Admit, Withdraw};
 ghost use Rattle.council_core.specs.declared.refusals.Refusal.TheVariants.{OutOfMemory, UnknownMember};
 
 use crate::changes::Change;
@@ -72,7 +76,8 @@ impl Register {
         journal_limit: u32,
     ) -> Result<Register, Refusal>
         ensures verdict { Follows (start_verdict members.now journal_limit) result OutOfMemory }
-        ensures started { IfOk result (λ r. r ≡ record { opening = members.now; journal = []; limit = journal_limit }) }
+        ensures started { IfOk result
+            (λ r. r ≡ record { opening = members.now; journal = []; limit = journal_limit }) }
     {
         if journal_limit == 0 || MAX_COMMANDS < journal_limit {
             return Err(Refusal::BadLimit);
@@ -324,7 +329,8 @@ impl Register {
     /// commands as the limit were accepted; else `OutOfMemory`.
     pub fn apply(&mut self, command: Command) -> Result<u32, Refusal>
         ensures verdict { Follows (verdict_of self.old command) result OutOfMemory }
-        ensures accepted { IfOk result (λ n. (self.new ≡ appended self.old command) × (n ≡ length self.new.journal)) }
+        ensures accepted { IfOk result
+            (λ n. (self.new ≡ appended self.old command) × (n ≡ length self.new.journal)) }
         ensures unchanged { OnErr result (self.new ≡ self.old) }
     {
         // The prover asks for this line: a plan has chairs.

@@ -1,5 +1,6 @@
 //! The 34 numbers that readers see.
-ghost use Rattle.std.specs.Prelude.{◌≡◌, ◌≤◌, ◌<◌, ◌+◌, ◌↔◌, length, slice_index, ℕ, IsTrue, IsOk, IfOk, IsOkUnless};
+ghost use Rattle.std.specs.Prelude.{◌≡◌, ◌≤◌, ◌<◌, ◌+◌, ◌↔◌, length, slice_index, ℕ};
+ghost use Rattle.std.specs.Prelude.{IsTrue, IsOk, IfOk, IsOkUnless};
 ghost use Rattle.council_core.specs.declared.refusals.Refusal.TheVariants.{BadSheet};
 ghost use Rattle.council_core.specs.Sheets.{cast_of, total_of, front_of, open_chairs, weight_word, IsSheet};
 
@@ -74,7 +75,7 @@ impl Sheet {
     }
 
     /// How many chairs are open, from 0 to 32.
-    #[tactic(auto, using(std::proofs::lemmas::Grind::common_steps, crate::proofs::OpenChairs::count_open, crate::proofs::OpenChairs::count_closed))]
+    #[tactic(auto, using(std::proofs::lemmas::Grind::common_steps, crate::proofs::OpenChairs::count_more))]
     pub fn chairs(&self) -> u8
         ensures same { result ≡ length (open_chairs self.now) }
         ensures high { result ≤ CHAIRS }
@@ -114,7 +115,7 @@ impl Sheet {
 }
 
 // The weights that words show, added up.
-#[tactic(auto, using(std::proofs::lemmas::Grind::common_steps, crate::proofs::SheetLemmas::cast_step, crate::proofs::SheetLemmas::cast_below))]
+#[tactic(auto, using(std::proofs::lemmas::Grind::common_steps, crate::proofs::SheetLemmas::cast_more))]
 fn cast_in(words: &[u64; SHEET_WORDS]) -> u64
     requires small { (k : ℕ) → k < CHAIRS → slice_index words.now k ≤ MAX_TOTAL + 1 }
     ensures same { result ≡ cast_of words.now }

@@ -1,5 +1,7 @@
 //! The lists of a half, and their rebuild in the room that they have.
-ghost use Rattle.std.specs.Prelude.{◌≡◌, ◌==◌, ℕ, ◌+◌, ◌-◌, ◌*◌, ◌^◌, ◌<◌, ◌≤◌, List, [], ◌∷◌, ◌++◌, length, map, take, drop, slice_index, true, IfOk, IsOkUnless};
+ghost use Rattle.std.specs.Prelude.{◌≡◌, ◌==◌, ℕ, ◌+◌, ◌-◌, ◌*◌, ◌^◌, ◌<◌, ◌≤◌};
+ghost use Rattle.std.specs.Prelude.{List, [], ◌∷◌, ◌++◌, length, map, take, drop, slice_index, true, IfOk};
+ghost use Rattle.std.specs.Prelude.{IsOkUnless};
 ghost use Rattle.std.specs.List.{All, IsDistinct};
 ghost use Rattle.std.specs.List.Sorted.{IsPermutation};
 ghost use Rattle.council_core.specs.declared.refusals.Refusal.TheVariants.{OutOfMemory};
@@ -103,7 +105,8 @@ fn regroup(
     requires distinct { IsDistinct (λ a b. a == b) (map (λ chair. chair.0) chairs.now) }
     requires subsets { AreSubsets chairs.now ascending.now }
     requires half { IsHalf ascending.now }
-    requires starts { (size : ℕ) → size ≤ SIZES → slice_index starts.now size ≡ fewer_than size ascending.now }
+    requires starts { (size : ℕ) → size ≤ SIZES
+        → slice_index starts.now size ≡ fewer_than size ascending.now }
     ensures groups { AreGroups ascending.now groups.new starts.now }
 {
     if are_level(chairs) {

@@ -1,5 +1,6 @@
 -- Which weights and sizes, and so which coalitions, win by a majority.
-use Rattle.std.specs.Prelude.{ℕ, ◌+◌, ◌*◌, ◌/◌, ◌≤◌, max, Bool, true, IsTrue, ◌&&◌, ◌↔◌, List, length, nat_lt, nat_le}
+use Rattle.std.specs.Prelude.{ℕ, ◌+◌, ◌*◌, ◌/◌, ◌≤◌, max, Bool, true, IsTrue, ◌&&◌, ◌↔◌}
+use Rattle.std.specs.Prelude.{List, length, nat_lt, nat_le}
 use Rattle.council_core.specs.Sheets.{weight_of, cast_of, total_of, open_chairs}
 use Rattle.council_core.specs.Coalitions.{Rule}
 use Rattle.majority_rule.specs.declared.majorities.Majority.{Majority}

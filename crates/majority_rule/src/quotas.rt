@@ -1,6 +1,7 @@
 //! The least weight and the least size that win, and whether a coalition does.
 ghost use Rattle.std.specs.Prelude.{◌≡◌, ◌≤◌, ◌^◌, ◌↔◌, ℕ, IsTrue};
-ghost use Rattle.majority_rule.specs.Winning.{MonotoneLaw, QuotaLaw, quota_of, least_size_of, weight_wins, size_wins, wins};
+ghost use Rattle.majority_rule.specs.Winning.{MonotoneLaw, QuotaLaw, quota_of, least_size_of, weight_wins, size_wins};
+ghost use Rattle.majority_rule.specs.Winning.{wins};
 
 use crate::majorities::Majority;
 use council_core::Sheet;

@@ -1,5 +1,6 @@
 -- What the counts over the two halves of a sheet come to (Horowitz and Sahni 1974).
-use Rattle.std.specs.Prelude.{◌≡◌, ℕ, ◌+◌, ◌-◌, ◌*◌, ◌^◌, ◌<◌, ◌≤◌, ◌==◌, if◌then◌else◌, List, slice_index}
+use Rattle.std.specs.Prelude.{◌≡◌, ℕ, ◌+◌, ◌-◌, ◌*◌, ◌^◌, ◌<◌, ◌≤◌, ◌==◌}
+use Rattle.std.specs.Prelude.{if◌then◌else◌, List, slice_index}
 use Rattle.council_core.specs.Sheets.{open_chairs}
 use Rattle.council_core.specs.Coalitions.{Rule, omega_of, eta_of, reaching}
 use Rattle.half_sums.specs.declared.entry.Entry.{Entry}
@@ -14,7 +15,8 @@ eta_at wins words place =
 
 -- counts of a sheet by a quota and a least size: omega, and with each chair what `swings` asks for and turns into its
 -- swings
-pub record AreCounts (quota least_size : ℕ) (words : List ℕ) (winning : ℕ) (with_chair : ℕ → ℕ) : Type 0 where
+pub record AreCounts (quota least_size : ℕ) (words : List ℕ) (winning : ℕ) (with_chair : ℕ → ℕ)
+    : Type 0 where
   pub omega : winning ≡ omega_of (reaching quota least_size) (open_chairs words)
   pub few : winning ≤ 2 ^ 32
   pub within : (place : ℕ) → place < 32 → with_chair place ≤ winning

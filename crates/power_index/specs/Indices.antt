@@ -1,7 +1,8 @@
 -- The voting power indices of a sheet, counted over all coalitions of its open chairs. Swings and the Banzhaf measure:
 -- Banzhaf 1965. The powers to prevent, to initiate and of the board to act: Coleman 1971. Names and fractions:
 -- Felsenthal and Machover 1998.
-use Rattle.std.specs.Prelude.{◌≡◌, ℕ, ◌-◌, ◌^◌, ◌≤◌, ◌==◌, ◌↔◌, IsTrue, if◌then◌else◌, List, length, map, sum_by, Option, None, Some}
+use Rattle.std.specs.Prelude.{◌≡◌, ℕ, ◌-◌, ◌^◌, ◌≤◌, ◌==◌, ◌↔◌, IsTrue}
+use Rattle.std.specs.Prelude.{if◌then◌else◌, List, length, map, sum_by, Option, None, Some}
 use Rattle.council_core.specs.Sheets.{Chair, open_chairs, cast_of, total_of, front_of}
 use Rattle.council_core.specs.Coalitions.{Rule, omega_of, eta_of}
 use Rattle.majority_rule.specs.declared.majorities.Majority.{Majority}
@@ -49,7 +50,8 @@ pub record AreIndices (majority : Majority) (words : List ℕ) (indices : Indice
   pub same_majority : indices.majority ≡ majority
   pub same_front : indices.front ≡ front_of words
   pub open_count : indices.chairs ≡ length (open_chairs words)
-  pub least_winning : (w k : ℕ) → ((indices.quota ≤ w) × (indices.least_size ≤ k)) ↔ IsTrue (wins majority words w k)
+  pub least_winning : (w k : ℕ)
+      → ((indices.quota ≤ w) × (indices.least_size ≤ k)) ↔ IsTrue (wins majority words w k)
   pub same_cast : indices.cast ≡ cast_of words
   pub same_total : indices.total ≡ total_of words
   pub omega : indices.winning ≡ omega_of (rule_of majority words) (open_chairs words)

@@ -1,5 +1,6 @@
 //! The sheet held, with the subset sums of its two halves.
-ghost use Rattle.std.specs.Prelude.{◌≡◌, ℕ, ◌≤◌, ◌↔◌, IfOk, IsOkUnless, IsTrue, replicate, slice_index};
+ghost use Rattle.std.specs.Prelude.{◌≡◌, ℕ, ◌≤◌, ◌↔◌, IfOk, IsOkUnless, IsTrue, replicate};
+ghost use Rattle.std.specs.Prelude.{slice_index};
 ghost use Rattle.council_core.specs.declared.refusals.Refusal.TheVariants.{OutOfMemory};
 ghost use Rattle.majority_rule.specs.Winning.{wins};
 ghost use Rattle.power_index.specs.Halves.{changed_halves};

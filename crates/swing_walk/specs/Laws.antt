@@ -1,5 +1,6 @@
 -- The laws of counting over pairs of entries and over all sets of chairs.
-use Rattle.std.specs.Prelude.{ℕ, ◌≡◌, ◌+◌, ◌*◌, ◌^◌, ◌<◌, ◌≤◌, ◌==◌, false, List, [], ◌∷◌, ◌++◌, map, flat_map, refl}
+use Rattle.std.specs.Prelude.{ℕ, ◌≡◌, ◌+◌, ◌*◌, ◌^◌, ◌<◌, ◌≤◌, ◌==◌, false, List, []}
+use Rattle.std.specs.Prelude.{◌∷◌, ◌++◌, map, flat_map, refl}
 use Rattle.std.specs.List.{All, IsDistinct}
 use Rattle.council_core.specs.Sheets.{Chair}
 use Rattle.council_core.specs.Coalitions.{Rule, subsets, has_chair, omega_of, omega_with, eta_of, IsRule, reaching}
@@ -41,8 +42,8 @@ three_large = (refl, refl, refl, refl)
 
 -- worked example: sixteen chairs of one vote each
 abbrev pub ones : List Chair
-ones = (0, 1) ∷ (1, 1) ∷ (2, 1) ∷ (3, 1) ∷ (4, 1) ∷ (5, 1) ∷ (6, 1) ∷ (7, 1) ∷ (8, 1) ∷ (9, 1) ∷ (10, 1) ∷ (11, 1)
-    ∷ (12, 1) ∷ (13, 1) ∷ (14, 1) ∷ (15, 1) ∷ []
+ones = (0, 1) ∷ (1, 1) ∷ (2, 1) ∷ (3, 1) ∷ (4, 1) ∷ (5, 1) ∷ (6, 1) ∷ (7, 1)
+    ∷ (8, 1) ∷ (9, 1) ∷ (10, 1) ∷ (11, 1) ∷ (12, 1) ∷ (13, 1) ∷ (14, 1) ∷ (15, 1) ∷ []
 
 -- the chairs of two halves, by place: 0 to 15 on the left, 16 to 31 on the right
 abbrev pub board_of : List Chair → List Chair → List Chair
@@ -65,7 +66,8 @@ pub record AreHalf (chairs : List Chair) : Type 0 where
 pub record PairsAreCoalitions (quota least_size : ℕ) (left right : List Chair) (from to : List Entry) : Type 0 where
   pub winning : large_pairs quota least_size from to ≡ omega_of (reaching quota least_size) (board_of left right)
   pub with_chair : (place : ℕ)
-      → large_with quota least_size place from to ≡ omega_with (reaching quota least_size) place (board_of left right)
+      → large_with quota least_size place from to
+      ≡ omega_with (reaching quota least_size) place (board_of left right)
 
 abbrev pub PairLaw : Type 0
 PairLaw = (quota least_size : ℕ) (left right : List Chair) (from to : List Entry) → AreHalf left → AreHalf right
@@ -98,5 +100,6 @@ pub record CountsMeet (quota least_size : ℕ) (left right : List Chair) (from t
       → swings_of (large_pairs quota least_size from to) (large_with quota least_size place from to) ≡ 0
 
 abbrev pub TwoHalvesLaw : Type 0
-TwoHalvesLaw = (quota least_size : ℕ) (left right : List Chair) (from to : List Entry) → AreHalf left → AreHalf right
-    → AreSubsets left from → AreSubsets right to → CountsMeet quota least_size left right from to
+TwoHalvesLaw = (quota least_size : ℕ) (left right : List Chair) (from to : List Entry)
+    → AreHalf left → AreHalf right → AreSubsets left from → AreSubsets right to
+    → CountsMeet quota least_size left right from to

@@ -1,5 +1,6 @@
 -- Pairs of a left and a right entry, counted one by one.
-use Rattle.std.specs.Prelude.{ℕ, ◌+◌, ◌-◌, ◌*◌, ◌==◌, Bool, List, nat_le, nat_lt, if◌then◌else◌, ◌&&◌}
+use Rattle.std.specs.Prelude.{ℕ, ◌+◌, ◌-◌, ◌*◌, ◌==◌, Bool, List, nat_le, nat_lt, if◌then◌else◌}
+use Rattle.std.specs.Prelude.{◌&&◌}
 use Rattle.std.specs.List.{sum_by, count_by}
 use Rattle.std.specs.Int.{bit_at}
 use Rattle.half_sums.specs.declared.entry.Entry.{Entry}

@@ -38,7 +38,8 @@ pub record CreditsLefts (test : Entry → Entry → Bool) (left right : List Ent
       → marked slot new ≡ marked slot old + pairs_where (λ l r. test l r && has slot l) left right
 
 -- the same, at the mask of its right entry
-pub record CreditsRights (test : Entry → Entry → Bool) (left right : List Entry) (old new : MaskTally) : Type 0 where
+pub record CreditsRights (test : Entry → Entry → Bool) (left right : List Entry) (old new : MaskTally)
+    : Type 0 where
   pub even : IsEven new
   pub total : total new ≡ total old + pairs_where test left right
   pub marked : (slot : ℕ)

@@ -1,5 +1,6 @@
 //! The walk that asks for chairs as well as for votes.
-ghost use Rattle.std.specs.Prelude.{◌≡◌, ℕ, ◌+◌, ◌^◌, ◌<◌, ◌≤◌, length, slice_index_or, drop, ◌&&◌};
+ghost use Rattle.std.specs.Prelude.{◌≡◌, ℕ, ◌+◌, ◌^◌, ◌<◌, ◌≤◌, length, slice_index_or, drop};
+ghost use Rattle.std.specs.Prelude.{◌&&◌};
 ghost use Rattle.std.specs.List.{All};
 ghost use Rattle.half_sums.specs.Entries.{IsHalf};
 ghost use Rattle.swing_walk.specs.Pairs.{pairs_where, large_pairs, is_enough, has};

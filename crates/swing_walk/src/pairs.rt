@@ -85,7 +85,8 @@ fn both(left: &[u64; SLOTS], right: &[u64; SLOTS]) -> [u64; CHAIRS]
 /// The counts of the two halves of a board meet what is asked here, and their swings are those by the definition.
 pub fn swings(counts: &Counts) -> [u64; CHAIRS]
     requires few { counts.now.winning ≤ 2 ^ 32 }
-    requires within { (place : ℕ) → place < CHAIRS → slice_index counts.now.with_chair place ≤ counts.now.winning }
+    requires within { (place : ℕ) → place < CHAIRS
+        → slice_index counts.now.with_chair place ≤ counts.now.winning }
     requires half { (place : ℕ) → place < CHAIRS → 0 < slice_index counts.now.with_chair place
         → counts.now.winning ≤ 2 * slice_index counts.now.with_chair place }
     ensures each { (place : ℕ) → place < CHAIRS

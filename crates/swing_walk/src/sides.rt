@@ -54,11 +54,13 @@ fn add_to(sides: &mut [MaskTally; 2], to_right: bool, mask: u16, amount: u64)
     ensures left_even { IsEven (side 0 sides.new) }
     ensures left_total { total (side 0 sides.new) ≡ total (side 0 sides.old) + cond to_right 0 amount }
     ensures left_marked { (slot : ℕ)
-        → marked slot (side 0 sides.new) ≡ marked slot (side 0 sides.old) + bit_at mask slot * cond to_right 0 amount }
+        → marked slot (side 0 sides.new)
+        ≡ marked slot (side 0 sides.old) + bit_at mask slot * cond to_right 0 amount }
     ensures right_even { IsEven (side 1 sides.new) }
     ensures right_total { total (side 1 sides.new) ≡ total (side 1 sides.old) + cond to_right amount 0 }
     ensures right_marked { (slot : ℕ)
-        → marked slot (side 1 sides.new) ≡ marked slot (side 1 sides.old) + bit_at mask slot * cond to_right amount 0 }
+        → marked slot (side 1 sides.new)
+        ≡ marked slot (side 1 sides.old) + bit_at mask slot * cond to_right amount 0 }
 {
     sides[usize::from(to_right)].add(mask, amount);
 }

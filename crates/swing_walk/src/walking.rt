@@ -1,5 +1,6 @@
 //! The walk up the left list and down the right one.
-ghost use Rattle.std.specs.Prelude.{◌≡◌, ℕ, ◌+◌, ◌-◌, ◌*◌, ◌^◌, ◌<◌, ◌≤◌, length, slice_index_or, drop, nat_le, ◌&&◌};
+ghost use Rattle.std.specs.Prelude.{◌≡◌, ℕ, ◌+◌, ◌-◌, ◌*◌, ◌^◌, ◌<◌, ◌≤◌, length};
+ghost use Rattle.std.specs.Prelude.{slice_index_or, drop, nat_le, ◌&&◌};
 ghost use Rattle.std.specs.List.{All};
 ghost use Rattle.half_sums.specs.Entries.{IsHalf};
 ghost use Rattle.swing_walk.specs.Pairs.{pairs_where, winning_pairs, reaches, has};
@@ -28,12 +29,14 @@ fn lower(
     requires next { next < length left.now }
     requires from { from ≤ length right.now }
     requires apart { NoneReach quota next from left.now right.now }
-    requires reached { All (λ e. quota ≤ (slice_index_or left.now next zero_entry).sum + e.sum) (drop from right.now) }
+    requires reached { All (λ e. quota ≤ (slice_index_or left.now next zero_entry).sum + e.sum)
+        (drop from right.now) }
     requires even { IsEven tally.old }
     requires room { total tally.old ≤ 2 ^ 63 }
     ensures within { result ≤ length right.now }
     ensures apart { NoneReach quota (next + 1) result left.now right.now }
-    ensures reached { All (λ e. quota ≤ (slice_index_or left.now next zero_entry).sum + e.sum) (drop result right.now) }
+    ensures reached { All (λ e. quota ≤ (slice_index_or left.now next zero_entry).sum + e.sum)
+        (drop result right.now) }
     ensures even { IsEven tally.new }
     ensures total { total tally.new + pairs_where (λ b a. reaches quota b a) (drop from right.now) left.now
         ≡ total tally.old + pairs_where (λ b a. reaches quota b a) (drop result right.now) left.now }

@@ -1,6 +1,7 @@
 -- One atomic step of an actor: one load or one store of one word, and what the actor knows after. This project's own
 -- two-copy machine, with one pin word for each reader.
-use Rattle.std.specs.Prelude.{ℕ, zero, suc, ◌+◌, ◌-◌, Bool, true, false, List, [], ◌∷◌, ◌++◌, length, slice_index, slice_set, replicate, if◌then◌else◌, ◌&&◌, ◌==◌}
+use Rattle.std.specs.Prelude.{ℕ, zero, suc, ◌+◌, ◌-◌, Bool, true, false, List, [], ◌∷◌, ◌++◌}
+use Rattle.std.specs.Prelude.{length, slice_index, slice_set, replicate, if◌then◌else◌, ◌&&◌, ◌==◌}
 use Rattle.council_core.specs.declared.commands.Command.{Command}
 use Rattle.two_copy_steps.specs.declared.views.ReaderView.{ReaderView}
 use Rattle.two_copy_steps.specs.declared.views.WriterView.{WriterView}
@@ -68,8 +69,11 @@ module _ (n : ℕ) where
   abbrev pub stage_deed : ℕ → Stage → Deed Stage
   stage_deed r AtRest = record { word = pin r; becomes = λ _. 1; after = λ _. Arrived }
   stage_deed r Arrived = record { word = 0; becomes = λ found. found; after = λ found. Reading found [] }
-  stage_deed r (Reading side words) = record
-      { word = place side (length words); becomes = λ found. found; after = λ found. loaded side (words ++ found ∷ []) }
+  stage_deed r (Reading side words) = record {
+    word = place side (length words);
+    becomes = λ found. found;
+    after = λ found. loaded side (words ++ found ∷ []);
+  }
   stage_deed r (Leaving side words) = record { word = pin r; becomes = λ _. 0; after = λ _. AtRest }
 
   -- the step of the reader at r, its record with it
@@ -115,7 +119,11 @@ module _ (n : ℕ) where
           after = λ found. if found == 0 then seeing w (slice_set w.seen_out r true) else record w { phase = Idle };
         }
     phase_deed w (Filling k) =
-        record { word = place (other w.side) k; becomes = λ _. slice_index (sheet w.taken) k; after = λ _. filled w k }
+        record {
+          word = place (other w.side) k;
+          becomes = λ _. slice_index (sheet w.taken) k;
+          after = λ _. filled w k;
+        }
     phase_deed w Swapping = record { word = 0; becomes = λ _. other w.side; after = λ _. swapped w }
 
     abbrev pub writing_deed : Writing → Deed Writing

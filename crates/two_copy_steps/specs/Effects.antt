@@ -1,12 +1,15 @@
 -- The register of one thread beside the machine: its calls, and what it replies to them.
-use Rattle.std.specs.Prelude.{◌≡◌, ℕ, zero, suc, Bool, true, false, List, [], ◌∷◌, ◌++◌, length, slice_get, if◌then◌else◌, ◌==◌, Option, None, Some}
+use Rattle.std.specs.Prelude.{◌≡◌, ℕ, zero, suc, Bool, true, false, List, [], ◌∷◌, ◌++◌, length}
+use Rattle.std.specs.Prelude.{slice_get, if◌then◌else◌, ◌==◌, Option, None, Some}
 use Rattle.council_core.specs.Ledgers.{Ledger}
-use Rattle.council_core.specs.Sequential.{Sequential, Call, submit, publish, Reply, accepted, refused, published, reading, replies_of, state_after}
+use Rattle.council_core.specs.Sequential.{Sequential, Call, submit, publish, Reply, accepted, refused, published}
+use Rattle.council_core.specs.Sequential.{reading, replies_of, state_after}
 use Rattle.council_core.specs.Sequential as sequential
 use Rattle.two_copy_steps.specs.declared.events.Event.{Event}
 use Rattle.two_copy_steps.specs.declared.events.Event.TheVariants.{Submit, Publish, Writer, Reader}
 use Rattle.two_copy_steps.specs.declared.events.Note.{Note}
-use Rattle.two_copy_steps.specs.declared.events.Note.TheVariants.{Accepted, Refused, Began, Moved, Published, Busy, Read, Skipped}
+use Rattle.two_copy_steps.specs.declared.events.Note.TheVariants.{Accepted, Refused, Began, Moved, Published, Busy}
+use Rattle.two_copy_steps.specs.declared.events.Note.TheVariants.{Read, Skipped}
 use Rattle.two_copy_steps.specs.declared.views.Stage.{Stage}
 use Rattle.two_copy_steps.specs.declared.views.Stage.TheVariants.{AtRest, Arrived, Reading, Leaving}
 use Rattle.two_copy_steps.specs.declared.views.Phase.{Phase}

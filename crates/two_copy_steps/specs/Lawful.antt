@@ -1,5 +1,6 @@
 -- The state of words and views, and which states are lawful.
-use Rattle.std.specs.Prelude.{◌≡◌, ◌≢◌, ℕ, ◌+◌, ◌<◌, ◌≤◌, true, false, List, [], ◌∷◌, ◌++◌, length, take, slice_index, slice_get, slice_set, Some, Contains}
+use Rattle.std.specs.Prelude.{◌≡◌, ◌≢◌, ℕ, ◌+◌, ◌<◌, ◌≤◌, true, false, List, [], ◌∷◌}
+use Rattle.std.specs.Prelude.{◌++◌, length, take, slice_index, slice_get, slice_set, Some, Contains}
 use Rattle.std.specs.List.Sorted.{IsNonDecreasing}
 use Rattle.council_core.specs.declared.commands.Command.{Command}
 use Rattle.council_core.specs.Rolls.{Opening, sheet, IsLegal}
@@ -53,13 +54,18 @@ abbrev pub last_front : ℕ → List (List ℕ) → ℕ
 last_front low [] = low
 last_front low (words ∷ rest) = last_front (front_of words) rest
 
--- the copy that a side names has these numbers
+-- the copy that a side names has so many of these numbers
+abbrev pub ShowsFirst : ℕ → List ℕ → ℕ → List ℕ → Type 0
+ShowsFirst k words side numbers = (i : ℕ) → i < k → slice_index words (place 34 side i) ≡ slice_index numbers i
+
+-- it has all of them
 abbrev pub Shows : List ℕ → ℕ → List ℕ → Type 0
-Shows words side numbers = (i : ℕ) → i < 34 → slice_index words (place 34 side i) ≡ slice_index numbers i
+Shows words side numbers = ShowsFirst 34 words side numbers
 
 -- the words read are the first ones of the copy that a side names
 abbrev pub IsReadFrom : List ℕ → ℕ → List ℕ → Type 0
-IsReadFrom words side loaded = (i : ℕ) → i < length loaded → slice_index loaded i ≡ slice_index words (place 34 side i)
+IsReadFrom words side loaded =
+    (i : ℕ) → i < length loaded → slice_index loaded i ≡ slice_index words (place 34 side i)
 
 -- a legal list whose sheet has the numbers of a sheet
 abbrev pub IsPublishable : Opening → List Command → Type 0
@@ -95,8 +101,7 @@ module _ (opening : Opening) (Legal : List Command → Type 0) where
   -- taken
   abbrev pub Stored : List ℕ → Writing → ℕ → Type 0
   Stored words w k =
-      (all_true w.seen_out ≡ true)
-      × ((i : ℕ) → i < k → slice_index words (place 34 (other w.side) i) ≡ slice_index (sheet opening w.taken) i)
+      (all_true w.seen_out ≡ true) × ShowsFirst k words (other w.side) (sheet opening w.taken)
 
   abbrev pub Fills : List ℕ → Writing → Phase → Type 0
   Fills words w Idle = Unit {0}
@@ -112,7 +117,8 @@ module _ (opening : Opening) (Legal : List Command → Type 0) where
     pub begins : (rest : List Command) × (v.state.published ++ rest ≡ v.state.taken)
     pub shown : Shows words v.state.side (sheet opening v.state.published)
     pub last_cut : (earlier : List ℕ) × (v.cuts ≡ earlier ++ length v.state.published ∷ [])
-    pub cuts : (cut : ℕ) → Contains v.cuts cut → (cut ≤ length v.state.published) × Legal (take cut v.state.published)
+    pub cuts : (cut : ℕ) → Contains v.cuts cut
+        → (cut ≤ length v.state.published) × Legal (take cut v.state.published)
     pub ascending : IsNonDecreasing v.cuts
     pub fills : Fills words v.state v.state.phase
 

@@ -1,5 +1,6 @@
 -- Laws of the machine, for whoever builds on it.
-use Rattle.std.specs.Prelude.{◌≡◌, ◌≢◌, ℕ, suc, ◌+◌, ◌≤◌, ◌==◌, true, false, List, [], ◌∷◌, ◌++◌, length, slice_get, slice_index, Some, if◌then◌else◌}
+use Rattle.std.specs.Prelude.{◌≡◌, ◌≢◌, ℕ, suc, ◌+◌, ◌≤◌, ◌==◌, true, false, List, []}
+use Rattle.std.specs.Prelude.{◌∷◌, ◌++◌, length, slice_get, slice_index, Some, if◌then◌else◌}
 use Rattle.council_core.specs.declared.commands.Command.{Command}
 use Rattle.council_core.specs.Rolls.{Opening}
 use Rattle.council_core.specs.Ledgers.{Ledger, IsLedger}
@@ -14,7 +15,8 @@ use Rattle.two_copy_steps.specs.declared.views.ReaderView.{ReaderView}
 use Rattle.two_copy_steps.specs.Lawful.{State, IsPublishable, read_by, written_by, begun_by}
 use Rattle.two_copy_steps.specs.States.{LawfulFor, HasRecords, IsApart, IsKnown}
 use Rattle.two_copy_steps.specs.Turns.{TwoCopies, turn, started, after, notes}
-use Rattle.two_copy_steps.specs.Passes.{Passes, opened, passed, record_at, state_of, IsLawful, HasLegalRecords, NoneUnder}
+use Rattle.two_copy_steps.specs.Passes.{Passes, opened, passed, record_at, state_of, IsLawful, HasLegalRecords}
+use Rattle.two_copy_steps.specs.Passes.{NoneUnder}
 use Rattle.two_copy_steps.specs.Deeds.{all_true, pin, stage_deed, reader_deed}
 use Rattle.two_copy_steps.specs.Stages.{steps_taken, sheet_read, IsReadable}
 use Rattle.two_copy_steps.specs.Publications.{IsLeastUnseen, StaySeen, stores_side}
@@ -121,7 +123,8 @@ GrowthLaw =
 
 -- each event keeps the machine lawful, with its cuts and records
 abbrev pub EventLaw : Type 0
-EventLaw = (m : TwoCopies) (p : Passes) → IsLawful IsPublishable m p → IsPublishable m.ledger.opening m.ledger.journal
+EventLaw = (m : TwoCopies) (p : Passes) → IsLawful IsPublishable m p
+    → IsPublishable m.ledger.opening m.ledger.journal
     → (event : Event) → IsLawful IsPublishable (turn m event).0 (passed m p event)
 
 -- each event keeps the journal legal and within its limit

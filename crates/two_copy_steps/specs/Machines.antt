@@ -12,7 +12,8 @@ use Rattle.two_copy_steps.specs.Turns.{TwoCopies, is_idle}
 use Rattle.two_copy_steps.specs.Passes.{Passes, IsLawful}
 
 -- the machine by what it keeps: how many commands are published, and the sheet of those last taken
-abbrev pub seen_as : Ledger → List ℕ → ℕ → ℕ → List ℕ → Phase → List Bool → List Stage → TwoCopies
+abbrev pub seen_as : Ledger → List ℕ → ℕ → ℕ → List ℕ → Phase → List Bool → List Stage
+    → TwoCopies
 seen_as ledger words side published taken phase seen_out readers =
     record {
       ledger = ledger;

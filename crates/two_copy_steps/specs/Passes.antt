@@ -1,5 +1,6 @@
 -- The cuts of the writer and the records of the readers. The machine doesn't store them and no step reads them.
-use Rattle.std.specs.Prelude.{◌≡◌, ℕ, zero, suc, false, List, [], ◌∷◌, ◌++◌, length, replicate, slice_index, slice_index_or, slice_get, slice_set, Option, None, Some}
+use Rattle.std.specs.Prelude.{◌≡◌, ℕ, zero, suc, false, List, [], ◌∷◌, ◌++◌, length, replicate}
+use Rattle.std.specs.Prelude.{slice_index, slice_index_or, slice_get, slice_set, Option, None, Some}
 use Rattle.council_core.specs.declared.commands.Command.{Command}
 use Rattle.council_core.specs.Rolls.{Opening}
 use Rattle.council_core.specs.Ledgers.{Ledger}
@@ -53,7 +54,8 @@ passes m p (event ∷ events) = passes (turn m event).0 (passed m p event) event
 abbrev pub viewed : List Stage → List (List (List ℕ)) → List ReaderView
 viewed [] records = []
 viewed (stage ∷ stages) [] = record { stage = stage; readings = [] } ∷ viewed stages []
-viewed (stage ∷ stages) (readings ∷ records) = record { stage = stage; readings = readings } ∷ viewed stages records
+viewed (stage ∷ stages) (readings ∷ records) =
+    record { stage = stage; readings = readings } ∷ viewed stages records
 
 -- the words and all views
 abbrev pub state_of : TwoCopies → Passes → State

@@ -1,5 +1,6 @@
 -- Who is seen out, and what a publication does about it.
-use Rattle.std.specs.Prelude.{◌≡◌, ℕ, zero, suc, ◌<◌, Bool, true, false, List, slice_index_or, slice_get, Some}
+use Rattle.std.specs.Prelude.{◌≡◌, ℕ, zero, suc, ◌<◌, Bool, true, false, List, slice_index_or, slice_get}
+use Rattle.std.specs.Prelude.{Some}
 use Rattle.two_copy_steps.specs.declared.events.Event.{Event}
 use Rattle.two_copy_steps.specs.declared.events.Event.TheVariants.{Writer}
 use Rattle.two_copy_steps.specs.declared.views.Phase.{Phase}

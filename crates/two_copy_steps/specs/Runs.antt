@@ -42,12 +42,15 @@ abbrev pub WantsMemoryFrom : TwoCopies → List Event → ℕ → Type 0
 WantsMemoryFrom m events place =
     (event : Event) × (slice_get events place ≡ Some event) × WantsMemory (after m (take place events)) event
 
--- the number of readers is refused before any event; else memory was wanting, for the notes before any event or for the
--- event that was next
+-- memory was wanting for the notes before any event, or can be for the event that was next
+abbrev pub LacksMemory : Ledger → ℕ → List Event → ℕ → Type 0
+LacksMemory ledger readers events done = (done ≡ 0) ⊎ WantsMemoryFrom (started ledger readers) events done
+
+-- the number of readers is refused before any event; else memory was wanting
 abbrev pub HasCause : Ledger → ℕ → List Event → ℕ → Refusal → Type 0
 HasCause ledger readers events done why =
     ((IsFew readers → ⊥) × (why ≡ BadLimit) × (done ≡ 0))
-    ⊎ (IsFew readers × (why ≡ OutOfMemory) × ((done ≡ 0) ⊎ WantsMemoryFrom (started ledger readers) events done))
+    ⊎ (IsFew readers × (why ≡ OutOfMemory) × LacksMemory ledger readers events done)
 
 -- the register is as the first events left it, and there is a cause
 pub record IsFault (ledger : Ledger) (readers : ℕ) (events : List Event) (register : Ledger) (done : ℕ)

@@ -1,5 +1,7 @@
 -- The machine as contracts see it, and what each event does to it and tells.
-use Rattle.std.specs.Prelude.{ℕ, zero, suc, ◌+◌, Bool, true, false, List, [], ◌∷◌, ◌++◌, length, replicate, slice_index, slice_get, slice_set, if◌then◌else◌, ◌==◌, nat_lt, Option, None, Some, Result, Ok, Err, ⊤}
+use Rattle.std.specs.Prelude.{ℕ, zero, suc, ◌+◌, Bool, true, false, List, [], ◌∷◌, ◌++◌, length}
+use Rattle.std.specs.Prelude.{replicate, slice_index, slice_get, slice_set, if◌then◌else◌, ◌==◌, nat_lt}
+use Rattle.std.specs.Prelude.{Option, None, Some, Result, Ok, Err, ⊤}
 use Rattle.council_core.specs.declared.commands.Command.{Command}
 use Rattle.council_core.specs.declared.refusals.Refusal.{Refusal}
 use Rattle.council_core.specs.Rolls.{sheet}
@@ -7,7 +9,8 @@ use Rattle.council_core.specs.Ledgers.{Ledger, verdict_of, appended, sheet_of}
 use Rattle.two_copy_steps.specs.declared.events.Event.{Event}
 use Rattle.two_copy_steps.specs.declared.events.Event.TheVariants.{Submit, Publish, Writer, Reader}
 use Rattle.two_copy_steps.specs.declared.events.Note.{Note}
-use Rattle.two_copy_steps.specs.declared.events.Note.TheVariants.{Accepted, Refused, Began, Moved, Published, Busy, Read, Skipped}
+use Rattle.two_copy_steps.specs.declared.events.Note.TheVariants.{Accepted, Refused, Began, Moved, Published, Busy}
+use Rattle.two_copy_steps.specs.declared.events.Note.TheVariants.{Read, Skipped}
 use Rattle.two_copy_steps.specs.declared.views.Writing.{Writing}
 use Rattle.two_copy_steps.specs.declared.views.Stage.{Stage}
 use Rattle.two_copy_steps.specs.declared.views.Stage.TheVariants.{AtRest, Arrived, Reading, Leaving}

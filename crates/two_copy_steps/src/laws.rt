@@ -1,5 +1,9 @@
 //! Laws of the machine, as contracts of functions that do nothing: for whoever builds on it.
-ghost use Rattle.two_copy_steps.specs.Laws.{StartLaw, ReaderLaw, WriterLaw, BeginLaw, StateRecordsLaw, StateUnderLaw, StateKnownLaw, WriterTurnLaw, ReaderTurnLaw, BeginTurnLaw, IdleTurnLaw, SubmitTurnLaw, BusyLaw, StayLaw, AtOnceLaw, CountLaw, GrowthLaw, EventLaw, LedgerLaw, RecordsLaw, UnderLaw, RepliesLaw, FreshLaw, ToldLaw, NeverOlderLaw, EffectsLaw, NotesLaw, AfterLaw};
+ghost use Rattle.two_copy_steps.specs.Laws.{StartLaw, ReaderLaw, WriterLaw, BeginLaw, StateRecordsLaw, StateUnderLaw};
+ghost use Rattle.two_copy_steps.specs.Laws.{StateKnownLaw, WriterTurnLaw, ReaderTurnLaw, BeginTurnLaw, IdleTurnLaw};
+ghost use Rattle.two_copy_steps.specs.Laws.{SubmitTurnLaw, BusyLaw, StayLaw, AtOnceLaw, CountLaw, GrowthLaw, EventLaw};
+ghost use Rattle.two_copy_steps.specs.Laws.{LedgerLaw, RecordsLaw, UnderLaw, RepliesLaw, FreshLaw, ToldLaw};
+ghost use Rattle.two_copy_steps.specs.Laws.{NeverOlderLaw, EffectsLaw, NotesLaw, AfterLaw};
 
 /// The machine is lawful at its start.
 pub fn start_law()

@@ -5,7 +5,8 @@ ghost use Rattle.two_copy_steps.specs.Turns.{started, after, notes};
 ghost use Rattle.two_copy_steps.specs.Machines.{IsFew};
 ghost use Rattle.two_copy_steps.specs.Records.{FrontsNeverFall};
 ghost use Rattle.two_copy_steps.specs.declared.events.Event.{Event};
-ghost use Rattle.two_copy_steps.specs.Runs.{machine_after, TellsReplies, KeepsRecordsTold, WantsMemoryFrom, KeepsRecordsLegal, StoresUnderNobody, IsFault};
+ghost use Rattle.two_copy_steps.specs.Runs.{machine_after, TellsReplies, KeepsRecordsTold, WantsMemoryFrom};
+ghost use Rattle.two_copy_steps.specs.Runs.{KeepsRecordsLegal, StoresUnderNobody, IsFault};
 
 use crate::events::{Event, Note};
 use crate::machine::Machine;

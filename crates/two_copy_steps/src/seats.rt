@@ -1,5 +1,6 @@
 //! The readers' stages, and who of them is seen out.
-ghost use Rattle.std.specs.Prelude.{◌≡◌, List, Bool, ◌<◌, ◌≤◌, true, false, length, take, replicate, Some, slice_get, slice_set};
+ghost use Rattle.std.specs.Prelude.{◌≡◌, List, Bool, ◌<◌, ◌≤◌, true, false, length, take, replicate};
+ghost use Rattle.std.specs.Prelude.{Some, slice_get, slice_set};
 ghost use Rattle.two_copy_steps.specs.declared.views.Stage.{Stage};
 ghost use Rattle.two_copy_steps.specs.declared.views.Stage.TheVariants.{AtRest};
 ghost use Rattle.two_copy_steps.specs.declared.table.TheConstants.{READERS};

@@ -72,7 +72,8 @@ impl ReaderStage {
         ensures low { accessed result ≤ pin COPY_WORDS r }
         ensures becomes { (n : ℕ) → left_by result n ≡ (stage_deed COPY_WORDS r self.now).becomes n }
         ensures after { (n : ℕ)
-            → (stage_deed COPY_WORDS r self.now).after (left_by result n) ≡ (stage_deed COPY_WORDS r self.now).after n }
+            → (stage_deed COPY_WORDS r self.now).after (left_by result n)
+            ≡ (stage_deed COPY_WORDS r self.now).after n }
     {
         match self.phase {
             ReaderPhase::AtRest => Access::Store(pin(r), 1),

@@ -1,5 +1,6 @@
 //! The shared words.
-ghost use Rattle.std.specs.Prelude.{◌≡◌, ℕ, List, ◌<◌, ◌≤◌, ◌++◌, ◌∷◌, length, replicate, take, slice_index, slice_set};
+ghost use Rattle.std.specs.Prelude.{◌≡◌, ℕ, List, ◌<◌, ◌≤◌, ◌++◌, ◌∷◌, length, replicate};
+ghost use Rattle.std.specs.Prelude.{take, slice_index, slice_set};
 ghost use Rattle.two_copy_steps.specs.declared.table.TheConstants.{WORDS};
 ghost use Rattle.two_copy_steps.specs.Deeds.{pin, place};
 ghost use Rattle.two_copy_steps.specs.Stages.{accessed, left_by};
