@@ -335,10 +335,7 @@ impl Register {
     {
         // The prover asks for this line: a plan has chairs.
         let _nowhere: Option<ChairId> = None;
-        let change = match self.plan(command) {
-            Ok(change) => change,
-            Err(why) => return Err(why),
-        };
+        let change = self.plan(command)?;
         self.check_room()?;
         make_room(&mut self.journal)?;
         match change {

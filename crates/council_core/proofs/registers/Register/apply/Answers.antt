@@ -9,40 +9,40 @@ use Rattle.council_core.proofs.registers.Register.apply.Goals as goal
 
 pub withdraw-requires-clause-words_hold : goal.withdraw-requires-clause-words_hold
 withdraw-requires-clause-words_hold c =
-    let stand = planned_as _ _ c.args.command _ _ c.self.view_is c.in-Stand.is c.in-Ok.ensures.planned in
+    let stand = planned_as _ _ c.args.command _ _ c.self.view_is c.in-Stand.is c.in_ok-change.ensures.planned in
     word_holds _ _ _ _ _ c.self.invariant.mirrors stand.0 c.in-Stand.old stand.2.known
 
 pub withdraw-requires-clause-counts_hold : goal.withdraw-requires-clause-counts_hold
 withdraw-requires-clause-counts_hold c =
-    let stand = planned_as _ _ c.args.command _ _ c.self.view_is c.in-Stand.is c.in-Ok.ensures.planned in
+    let stand = planned_as _ _ c.args.command _ _ c.self.view_is c.in-Stand.is c.in_ok-change.ensures.planned in
     count_holds _ _ _ _ _ c.self.invariant.mirrors stand.0 c.in-Stand.old stand.2.known
 
 pub withdraw-requires-clause-total_holds : goal.withdraw-requires-clause-total_holds
 withdraw-requires-clause-total_holds c =
-    let stand = planned_as _ _ c.args.command _ _ c.self.view_is c.in-Stand.is c.in-Ok.ensures.planned in
+    let stand = planned_as _ _ c.args.command _ _ c.self.view_is c.in-Stand.is c.in_ok-change.ensures.planned in
     total_holds _ _ _ _ _ c.self.invariant.mirrors stand.0 c.in-Stand.old stand.2.known
 
 pub enter-requires-clause-words_fit : goal.enter-requires-clause-words_fit
 enter-requires-clause-words_fit c =
-    let stand = planned_as _ _ c.args.command _ _ c.self.view_is c.in-Stand.is c.in-Ok.ensures.planned in
+    let stand = planned_as _ _ c.args.command _ _ c.self.view_is c.in-Stand.is c.in_ok-change.ensures.planned in
     let small = subst (λ n. n ≤ 2 ^ 40) c.number-votes.ensures.same c.number-votes.ensures.high in
     λ k h. word_fits _ _ _ _ _ c.self.invariant.mirrors stand.0 c.in-Stand.old stand.2.known c.in-Stand.new small k _ h (c.withdraw.ensures.words k h)
 
 pub enter-requires-clause-counts_fit : goal.enter-requires-clause-counts_fit
 enter-requires-clause-counts_fit c =
-    let stand = planned_as _ _ c.args.command _ _ c.self.view_is c.in-Stand.is c.in-Ok.ensures.planned in
+    let stand = planned_as _ _ c.args.command _ _ c.self.view_is c.in-Stand.is c.in_ok-change.ensures.planned in
     let small = subst (λ n. n ≤ 2 ^ 40) c.number-votes.ensures.same c.number-votes.ensures.high in
     λ k h. count_fits _ _ _ _ _ c.self.invariant.mirrors stand.0 c.in-Stand.old stand.2.known c.in-Stand.new small k _ h (c.withdraw.ensures.counts k h)
 
 pub enter-requires-clause-total_fits : goal.enter-requires-clause-total_fits
 enter-requires-clause-total_fits c =
-    let stand = planned_as _ _ c.args.command _ _ c.self.view_is c.in-Stand.is c.in-Ok.ensures.planned in
+    let stand = planned_as _ _ c.args.command _ _ c.self.view_is c.in-Stand.is c.in_ok-change.ensures.planned in
     let small = subst (λ n. n ≤ 2 ^ 40) c.number-votes.ensures.same c.number-votes.ensures.high in
     total_fits _ _ _ _ _ c.self.invariant.mirrors stand.0 c.in-Stand.old stand.2.known c.in-Stand.new small _ c.withdraw.ensures.total
 
 pub withdraw-requires-in-Leave-clause-total_holds : goal.withdraw-requires-in-Leave-clause-total_holds
 withdraw-requires-in-Leave-clause-total_holds c =
-    let leave = planned_as _ _ c.args.command _ _ c.self.view_is c.in-Leave.is c.in-Ok.ensures.planned in
+    let leave = planned_as _ _ c.args.command _ _ c.self.view_is c.in-Leave.is c.in_ok-change.ensures.planned in
     total_holds _ _ _ _ _ c.self.invariant.mirrors leave.0 c.in-Leave.old leave.2.known
 
 pub enter-requires-in-Enter-clause-counts_fit : goal.enter-requires-in-Enter-clause-counts_fit
@@ -64,22 +64,22 @@ invariant_of-self-2 c =
     = λ same. c.append.ensures ∙ ap (λ (j : List Command). j ++ c.args.command ∷ []) (same ∙ c.make_room.ensures.same) in
     elim c.match-change.branch [
       | in-Open w ↦
-          let opening = planned_as _ _ c.args.command _ _ c.self.view_is w.in-Open.is c.in-Ok.ensures.planned in
+          let opening = planned_as _ _ c.args.command _ _ c.self.view_is w.in-Open.is c.in_ok-change.ensures.planned in
           rw w.self-inside-is (IsKept-open l _ _ _ _ c.self.invariant c.args.command room _ (grown (ap (λ s. s.journal.items) w.self-inside-is))
           w.place_of.result w.in-Open.chair w.place_of.ensures.place w.place_of.ensures.within (search rules) opening)
       | in-Close w ↦
-          let closing = planned_as _ _ c.args.command _ _ c.self.view_is w.in-Close.is c.in-Ok.ensures.planned in
+          let closing = planned_as _ _ c.args.command _ _ c.self.view_is w.in-Close.is c.in_ok-change.ensures.planned in
           rw w.self-inside-is (IsKept-close l _ _ _ _ c.self.invariant c.args.command room _ (grown (ap (λ s. s.journal.items) w.self-inside-is))
           w.place_of-in-Close.result w.in-Close.chair w.place_of-in-Close.ensures.place w.place_of-in-Close.ensures.within (search rules) closing)
       | in-Stand w ↦
-          let stand = planned_as _ _ c.args.command _ _ c.self.view_is w.in-Stand.is c.in-Ok.ensures.planned in
+          let stand = planned_as _ _ c.args.command _ _ c.self.view_is w.in-Stand.is c.in_ok-change.ensures.planned in
           let small = subst (λ n. n ≤ 2 ^ 40) w.number-votes.ensures.same w.number-votes.ensures.high in
           rw w.self-inside-is (IsKept-change l _ _ _ _ c.self.invariant c.args.command room _ (grown (ap (λ s. s.journal.items) w.self-inside-is))
           w.in-Stand.place w.in-Stand.old w.in-Stand.new stand small
           _ _ _ _ _ _ w.withdraw.ensures.words w.enter.ensures.words w.withdraw.ensures.counts w.enter.ensures.counts w.withdraw.ensures.total w.enter.ensures.total
           w.put.new.members.entries w.put.ensures)
       | in-Enter+in_ok-enter_new-in-Enter w ↦
-          let entry = planned_as _ _ c.args.command _ _ c.self.view_is w.in-Enter.is c.in-Ok.ensures.planned in
+          let entry = planned_as _ _ c.args.command _ _ c.self.view_is w.in-Enter.is c.in_ok-change.ensures.planned in
           let as_fresh = w.fresh.ensures.same in
           rw w.self-inside-is (IsKept-admit l _ _ _ _ c.self.invariant c.args.command room _ (grown (ap (λ s. s.journal.items) w.self-inside-is))
           w.in-Enter.code w.in-Enter.votes entry w.fresh.ensures.small _ _ _
@@ -88,7 +88,7 @@ invariant_of-self-2 c =
           (w.enter-in-Enter.ensures.total ∙ ap (λ s. _ + counted s) as_fresh)
           w.enter_new.new.members.entries (w.in_ok-enter_new-in-Enter.ensures.ok))
       | in-Leave w ↦
-          let leave = planned_as _ _ c.args.command _ _ c.self.view_is w.in-Leave.is c.in-Ok.ensures.planned in
+          let leave = planned_as _ _ c.args.command _ _ c.self.view_is w.in-Leave.is c.in_ok-change.ensures.planned in
           rw w.self-inside-is (IsKept-withdraw l _ _ _ _ c.self.invariant c.args.command room _ (grown (ap (λ s. s.journal.items) w.self-inside-is))
           w.in-Leave.place w.in-Leave.old leave _ _ _
           w.withdraw-in-Leave.ensures.words w.withdraw-in-Leave.ensures.counts w.withdraw-in-Leave.ensures.total
