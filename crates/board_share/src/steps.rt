@@ -97,7 +97,7 @@ fn load_word(
         (pass_of seat.old.me.0 r (Stage.Reading side (take k words.old))) }
     requires few { k < COPY_WORDS }
     ensures { Stepped board.now.shared.table_id (pass_of seat.old.me.0 r (Stage.Reading side (take k words.old)))
-        seat.new.table_id seat.new.me (loaded 34 side (take (k + 1) words.new)) }
+        seat.new.table_id seat.new.me (loaded COPY_WORDS side (take (k + 1) words.new)) }
 {
     words[k] = board.shared.load::<Reads>(seat, place(side, k));
 }

@@ -16,7 +16,7 @@ use Rattle.half_sums.specs.Entries.{entry_of, AreSubsets}
 use Rattle.half_sums.specs.Groups.{size_of}
 use Rattle.half_sums.specs.Laws.{times, MaskLaw}
 use Rattle.half_sums.proofs.GroupFacts.{no_ones, size_more}
-use Rattle.half_sums.proofs.SetSums.{sum_by-map, sum_agree, sum_agree_on, sum_zero, over, over-cons, subsets_avoid}
+use Rattle.half_sums.proofs.SetSums.{at_most_one, sum_by-map, sum_agree, sum_agree_on, sum_zero, over, over-cons, subsets_avoid}
 
 top_bit : (m p : ℕ) → m < 2 → p ≡ 1 → eqb (max m p) 1 ≡ true
 top_bit m p small one = eq-eqb (max m p) 1 (omega arith)
@@ -123,10 +123,6 @@ bit_cases : (n : ℕ) → n < 2 → (P : Type 0) → (n ≡ 0 → P) → (n ≡ 
 bit_cases zero h P none one = none refl
 bit_cases (suc zero) h P none one = one refl
 bit_cases (suc (suc n)) h P none one = absurd (omega arith)
-
-at_most_one : (b : Bool) → cond b 1 0 ≤ 1
-at_most_one true = omega arith
-at_most_one false = omega arith
 
 hits-le : (mask : ℕ) (chairs : List Chair) → IsDistinct eqb (map (λ c. c.0) chairs) → hits mask chairs ≤ 1
 hits-le mask [] distinct = omega (arith, at_most_one (eqb 0 mask))

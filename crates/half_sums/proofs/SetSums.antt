@@ -1,5 +1,5 @@
 -- Sums over all sets of the elements of a list.
-use Rattle.std.proofs.Common.{◌≡◌, ℕ, ◌+◌, Bool, true, false, List, [], ◌∷◌, map, arith, refl, ap, ◌∙◌}
+use Rattle.std.proofs.Common.{◌≡◌, ℕ, ◌+◌, ◌≤◌, Bool, true, false, cond, List, [], ◌∷◌, map, arith, refl, ap, ◌∙◌}
 use Rattle.std.specs.Prelude.{◌||◌}
 use Rattle.std.specs.List.{sum_by, list_any, All}
 use Rattle.std.proofs.lemmas.List.Elements.{All-head, All-tail, All-cons, All-nil, All-append, All-map, All-weaker}
@@ -45,3 +45,8 @@ subsets_avoid {X} p (x ∷ xs) h =
     let rest : All P (subsets xs) = subsets_avoid p xs (or_right (p x) (list_any p xs) h) in
     All-append P (subsets xs) _ rest
     (All-map P (λ s. x ∷ s) (subsets xs) (All-weaker P (λ s. P (x ∷ s)) (λ s t. ap (λ b. b || list_any p s) (or_left (p x) (list_any p xs) h) ∙ t) (subsets xs) rest))
+
+-- what one test counts
+pub at_most_one : (b : Bool) → cond b 1 0 ≤ 1
+at_most_one true = omega arith
+at_most_one false = omega arith

@@ -8,7 +8,7 @@ mod lists;
 mod merge;
 mod sums;
 
-pub use entry::Entry;
+pub use entry::{Entry, repeats};
 pub use groups::{SIZES, SLOTS};
 pub use laws::mask_law;
 pub use lists::ROOM;

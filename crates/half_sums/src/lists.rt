@@ -107,7 +107,7 @@ fn double(list: &[Entry], weight: u64, bit: u16, room: &mut [Entry])
     ensures ascending { IsNonDecreasingBy (λ e. e.sum) (take (2 * length list.now) room.new) }
     ensures long { length room.new ≡ length room.old }
 {
-    merge(list, list, weight, bit, &mut room[..2 * list.len()]);
+    merge(list, weight, bit, &mut room[..2 * list.len()]);
 }
 
 /// Writes a list's entries to the front of the room.

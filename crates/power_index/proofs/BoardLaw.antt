@@ -1,7 +1,7 @@
 -- The chairs of the two halves are the open chairs of the sheet, numbered from 0, and so are their sets.
 use Rattle.std.proofs.Common.{◌≡◌, ℕ, ◌+◌, ◌-◌, ◌<◌, Bool, false, cond, List, [], ◌∷◌, ◌++◌, map, length, take, drop, get_or, arith, refl, sym, ap, ◌∙◌, eqb, leb, inl, inr, subst, ◌≢◌}
-use Rattle.std.specs.Prelude.{◌&&◌, ◌||◌, not}
-use Rattle.std.proofs.lemmas.Bool.{eq-eqb, ne_eqb, cases_eq}
+use Rattle.std.specs.Prelude.{◌&&◌, not}
+use Rattle.std.proofs.lemmas.Bool.{or_from, eq-eqb, ne_eqb, cases_eq}
 use Rattle.std.proofs.lemmas.List.{length-map, take-append-drop, take-take, drop-take, length-take, drop_more, get_or-take}
 use Rattle.std.proofs.lemmas.List.Folds.{list_any-append}
 use Rattle.council_core.specs.Sheets.{Chair, open_from, open_chairs, weight_of}
@@ -97,14 +97,11 @@ split_shut : (c : ℕ) (words : List ℕ) (i : ℕ) → i < length words → get
     open_from c words ≡ open_from c (take i words) ++ open_from (c + i + 1) (drop (i + 1) words)
 split_shut c words i h shut = split_at c words i h ∙ ap (λ l. open_from c (take i words) ++ (l ++ open_from (c + i + 1) (drop (i + 1) words))) (chair_of-shut (c + i) (get_or words i 0) shut)
 
-neither : (a b : Bool) → a ≡ false → b ≡ false → (a || b) ≡ false
-neither a b p q = ap (λ t. t || b) p ∙ q
-
 -- no chair before or after has its number
 absent_around : (c : ℕ) (words : List ℕ) (i : ℕ) → has_chair (c + i) (open_from c (take i words) ++ open_from (c + i + 1) (drop (i + 1) words)) ≡ false
 absent_around c words i =
     list_any-append (λ ch. eqb ch.0 (c + i)) (open_from c (take i words)) (open_from (c + i + 1) (drop (i + 1) words))
-    ∙ neither _ _ (absent_above (c + i) c (take i words) (omega (arith, length-take i words))) (absent_below (c + i) (c + i + 1) (drop (i + 1) words) (omega arith))
+    ∙ or_from _ _ (absent_above (c + i) c (take i words) (omega (arith, length-take i words))) (absent_below (c + i) (c + i + 1) (drop (i + 1) words) (omega arith))
 
 are_half : (from : ℕ) (words : List ℕ) → AreHalf (half_chairs from words)
 are_half from words = record {

@@ -8,25 +8,25 @@ use Rattle.swing_walk.specs.Pairs.{large_pairs, large_with, swings_of}
 use Rattle.power_index.specs.Halves.{AreHalves}
 use Rattle.power_index.specs.Counts.{AreCounts}
 use Rattle.power_index.specs.Indices.{power_of, swings_among}
-use Rattle.power_index.specs.Tallies.{IsTally}
+use Rattle.power_index.specs.Tallies.{IsSwingTally}
 use Rattle.power_index.specs.declared.rows.SwingTally.{SwingTally}
 use Rattle.power_index.proofs.BoardLaw.{evaluation_law}
 use Rattle.power_index.proofs.Bounds.{eta_bound, few_chairs, omega_bound}
 use Rattle.power_index.proofs.RowLemmas.{chair_at, eta_open, set_count_few}
 
-pub swings_open : (words : List ℕ) (tally : SwingTally) (i : ℕ) → IsTally words tally → i < 32 → 0 < get_or words i 0 → get_or tally.swings i 0 ≡ eta_of (rule_of tally.majority words) (chair_at i words) (open_chairs words)
+pub swings_open : (words : List ℕ) (tally : SwingTally) (i : ℕ) → IsSwingTally words tally → i < 32 → 0 < get_or words i 0 → get_or tally.swings i 0 ≡ eta_of (rule_of tally.majority words) (chair_at i words) (open_chairs words)
 swings_open words tally i is h some = is.each i h ∙ eta_open (rule_of tally.majority words) words i some
 
-pub swings_small : (words : List ℕ) (tally : SwingTally) (i : ℕ) → IsTally words tally → i < 32 → 0 < get_or words i 0 → get_or tally.swings i 0 ≤ 2 ^ 32
+pub swings_small : (words : List ℕ) (tally : SwingTally) (i : ℕ) → IsSwingTally words tally → i < 32 → 0 < get_or words i 0 → get_or tally.swings i 0 ≤ 2 ^ 32
 swings_small words tally i is h some =
     omega (arith, swings_open words tally i is h some, eta_bound (rule_of tally.majority words) (chair_at i words) (open_chairs words), set_count_few (length (open_chairs words)) (few_chairs words))
 
-pub winning_part : (words : List ℕ) (tally : SwingTally) (n : ℕ) → IsTally words tally → n ≡ length (open_chairs words) → tally.winning ≤ 2 ^ n
+pub winning_part : (words : List ℕ) (tally : SwingTally) (n : ℕ) → IsSwingTally words tally → n ≡ length (open_chairs words) → tally.winning ≤ 2 ^ n
 winning_part words tally n is count =
     subst (λ (m : ℕ). tally.winning ≤ 2 ^ m) (sym count) (omega (arith, is.omega, omega_bound (rule_of tally.majority words) (open_chairs words)))
 
 -- the numbers of a row by the tally are those of the chair
-pub row_agree : (words : List ℕ) (tally : SwingTally) (n etas i : ℕ) → IsTally words tally → n ≡ length (open_chairs words) → etas ≡ swings_among (rule_of tally.majority words) (open_chairs words) (open_chairs words) → i < 32 → 0 < get_or words i 0 →
+pub row_agree : (words : List ℕ) (tally : SwingTally) (n etas i : ℕ) → IsSwingTally words tally → n ≡ length (open_chairs words) → etas ≡ swings_among (rule_of tally.majority words) (open_chairs words) (open_chairs words) → i < 32 → 0 < get_or words i 0 →
     let rule = rule_of tally.majority words in let board = open_chairs words in power_of n tally.winning etas (get_or tally.swings i 0) (chair_at i words) ≡ power_of (length board) (omega_of rule board) (swings_among rule board board) (eta_of rule (chair_at i words) board) (chair_at i words)
 row_agree words tally n etas i is count sum h some =
     let rule : Rule = rule_of tally.majority words in

@@ -5,7 +5,7 @@ ghost use Rattle.council_core.specs.declared.refusals.Refusal.TheVariants.{OutOf
 ghost use Rattle.majority_rule.specs.Winning.{wins};
 ghost use Rattle.power_index.specs.Halves.{changed_halves};
 ghost use Rattle.power_index.specs.Counts.{AreCounts};
-ghost use Rattle.power_index.specs.Tallies.{IsTally};
+ghost use Rattle.power_index.specs.Tallies.{IsSwingTally};
 ghost use Rattle.power_index.specs.Indices.{AreIndices, indices_of};
 
 use crate::halves::refresh;
@@ -105,7 +105,7 @@ impl Evaluator {
     /// majority.
     fn tally(&self, majority: Majority, quota: u64, least_size: u8) -> SwingTally
         requires quota { (w k : ℕ) → ((quota ≤ w) × (least_size ≤ k)) ↔ IsTrue (wins majority self.now w k) }
-        ensures counts { IsTally self.now result }
+        ensures counts { IsSwingTally self.now result }
         ensures majority { result.majority ≡ majority }
     {
         let counts = self.counts(quota, least_size);

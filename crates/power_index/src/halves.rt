@@ -14,7 +14,7 @@ fn chairs_of(words: &[u64; SHEET_WORDS], from: usize) -> ArrayVec<(u8, u64), SLO
     ensures chairs { result.items ≡ half_chairs from words.now }
 {
     let mut chairs = ArrayVec::new();
-    for slot in 0..16 {
+    for slot in 0..SLOTS as u8 {
         let word = words[from + slot as usize];
         if word > 0 {
             chairs.push((slot, word - 1));

@@ -3,7 +3,7 @@ ghost use Rattle.std.specs.Prelude.{◌≡◌, ◌+◌, ◌^◌, ◌<◌, ◌≤
 ghost use Rattle.council_core.specs.Sheets.{open_chairs};
 ghost use Rattle.majority_rule.specs.Winning.{rule_of};
 ghost use Rattle.power_index.specs.Indices.{ratio_unless_zero, power_of, rows_among, swings_among};
-ghost use Rattle.power_index.specs.Tallies.{IsTally};
+ghost use Rattle.power_index.specs.Tallies.{IsSwingTally};
 
 use crate::indices::{ChairPower, Fraction};
 use arrayvec::ArrayVec;
@@ -82,7 +82,7 @@ fn row(totals: &Totals, chair: ChairId, weight: u64, swings: u64) -> ChairPower
 
 /// The swings of all open chairs.
 fn swing_sum(words: &[u64; SHEET_WORDS], tally: &SwingTally) -> u64
-    requires tally { IsTally words.now tally.now }
+    requires tally { IsSwingTally words.now tally.now }
     ensures sum { result ≡ swings_among (rule_of tally.now.majority words.now) (open_chairs words.now)
         (open_chairs words.now) }
 {
@@ -101,7 +101,7 @@ pub(crate) fn rows(
     tally: &SwingTally,
     chairs: u8,
 ) -> ArrayVec<ChairPower, CHAIRS>
-    requires tally { IsTally words.now tally.now }
+    requires tally { IsSwingTally words.now tally.now }
     requires chairs { chairs ≡ length (open_chairs words.now) }
     ensures rows { result.items
         ≡ rows_among (rule_of tally.now.majority words.now) (open_chairs words.now) (open_chairs words.now) }

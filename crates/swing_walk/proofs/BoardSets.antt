@@ -2,7 +2,7 @@
 use Rattle.std.proofs.Common.{◌≡◌, ◌≢◌, ℕ, ◌+◌, ◌-◌, ◌*◌, ◌^◌, ◌<◌, ◌≤◌, Bool, true, false, List, [], ◌∷◌, ◌++◌, map, length, arith, refl, sym, ap, ◌∙◌, subst, eqb, inl, inr}
 use Rattle.std.specs.Prelude.{◌&&◌, ◌||◌, flat_map}
 use Rattle.std.specs.List.{All, IsDistinct}
-use Rattle.std.proofs.lemmas.Bool.{eq-eqb, ne_eqb, cases_eq}
+use Rattle.std.proofs.lemmas.Bool.{or_from, eq-eqb, ne_eqb, cases_eq}
 use Rattle.std.proofs.lemmas.List.{append-nil, map-append, map-id}
 use Rattle.std.proofs.lemmas.List.Concat.{flat_map-append}
 use Rattle.std.proofs.lemmas.List.Folds.{list_any-append}
@@ -80,16 +80,13 @@ shifted_distinct (chair ∷ chairs) distinct =
     as_slot (chair.0 + 16) chairs (omega arith) ∙ ap (λ k. has_chair k chairs) back ∙ first_apart chair chairs distinct in
     distinct_more (shifted chair) (map shifted chairs) absent (shifted_distinct chairs (tail_of chair chairs distinct))
 
-neither : (a b : Bool) → a ≡ false → b ≡ false → (a || b) ≡ false
-neither a b p q = ap (λ t. t || b) p ∙ q
-
 -- the places of a board are distinct
 board_distinct : (left right : List Chair) → All (λ c. c.0 < 16) left → IsDistinct eqb (map (λ c. c.0) left) → IsDistinct eqb (map (λ c. c.0) right) → IsDistinct eqb (map (λ c. c.0) (board_of left right))
 board_distinct [] right slots distinct_left distinct_right = shifted_distinct right distinct_right
 board_distinct (chair ∷ left) right slots distinct_left distinct_right =
     let P : Chair → Type 0 = λ c. c.0 < 16 in
     let absent : has_chair chair.0 (left ++ map shifted right) ≡ false =
-    list_any-append (λ c. eqb c.0 chair.0) left (map shifted right) ∙ neither _ _ (first_apart chair left distinct_left) (none_below chair.0 right (All-head P chair left slots)) in
+    list_any-append (λ c. eqb c.0 chair.0) left (map shifted right) ∙ or_from _ _ (first_apart chair left distinct_left) (none_below chair.0 right (All-head P chair left slots)) in
     distinct_more chair (board_of left right) absent (board_distinct left right (All-tail P chair left slots) (tail_of chair left distinct_left) distinct_right)
 
 -- a chair among chairs of distinct numbers stands alone with its number

@@ -10,8 +10,10 @@ use Rattle.std.proofs.lemmas.List.Sums.{sum_by-drop_more}
 use Rattle.half_sums.specs.declared.entry.Entry.{Entry}
 use Rattle.half_sums.proofs.BothEnds.{Ascend}
 use Rattle.swing_walk.specs.Pairs.{pairs_where, reaches, has}
-use Rattle.swing_walk.specs.Walks.{NoneReach, zero_entry}
-use Rattle.swing_walk.proofs.Counting.{Splits, count_partners, count_marked, pairs_more, sum_default}
+use Rattle.half_sums.specs.Entries.{zero_entry}
+use Rattle.swing_walk.specs.Walks.{NoneReach}
+use Rattle.swing_walk.proofs.Counting.{Splits, count_partners, count_marked, pairs_more}
+use Rattle.half_sums.proofs.Merging.{sum_default}
 
 -- the first `i` left entries reach with none of the first `a` right ones, and all left ones from there on with all right ones from there on
 pub record Stands (quota i a : ℕ) (left right : List Entry) : Type 0 where
@@ -83,18 +85,18 @@ LeftOf test left right i = pairs_where test (take i left) right
 abbrev pub RightOf : (Entry → Entry → Bool) → List Entry → List Entry → ℕ → ℕ
 RightOf test left right a = pairs_where test (drop a right) left
 
--- one step between two places: what it credits to a left entry and to a right one
-pub record Step (quota i a p q : ℕ) (left right : List Entry) (l r : Entry) (x y : ℕ) : Type 0 where
-  pub lefts : LeftOf (reaches quota) left right p ≡ LeftOf (reaches quota) left right i + x
-  pub left_marked : (slot : ℕ) → LeftOf (λ a b. reaches quota a b && has slot a) left right p ≡ LeftOf (λ a b. reaches quota a b && has slot a) left right i + bit_at l.mask slot * x
-  pub rights : RightOf (λ b a. reaches quota b a) left right a ≡ RightOf (λ b a. reaches quota b a) left right q + y
-  pub right_marked : (slot : ℕ) → RightOf (λ b a. reaches quota b a && has slot b) left right a ≡ RightOf (λ b a. reaches quota b a && has slot b) left right q + bit_at r.mask slot * y
+-- one step between two places: the left entry and the right one that it credits, each with how much
+pub record Step (quota i a p q : ℕ) (left right : List Entry) (to_left to_right : Entry × ℕ) : Type 0 where
+  pub lefts : LeftOf (reaches quota) left right p ≡ LeftOf (reaches quota) left right i + to_left.1
+  pub left_marked : (slot : ℕ) → LeftOf (λ a b. reaches quota a b && has slot a) left right p ≡ LeftOf (λ a b. reaches quota a b && has slot a) left right i + bit_at to_left.0.mask slot * to_left.1
+  pub rights : RightOf (λ b a. reaches quota b a) left right a ≡ RightOf (λ b a. reaches quota b a) left right q + to_right.1
+  pub right_marked : (slot : ℕ) → RightOf (λ b a. reaches quota b a && has slot b) left right a ≡ RightOf (λ b a. reaches quota b a && has slot b) left right q + bit_at to_right.0.mask slot * to_right.1
 
 times-zero : (m : ℕ) → m * 0 ≡ 0
 times-zero m = omega arith
 
 -- a left entry is passed
-step_left : (quota i a : ℕ) (left right : List Entry) (r : Entry) → i < length left → Splits quota (get_or left i zero_entry).sum a right → Step quota i a (i + 1) a left right (get_or left i zero_entry) r (length right - a) 0
+step_left : (quota i a : ℕ) (left right : List Entry) (r : Entry) → i < length left → Splits quota (get_or left i zero_entry).sum a right → Step quota i a (i + 1) a left right (get_or left i zero_entry, length right - a) (r, 0)
 step_left quota i a left right r inside s =
     let l : Entry = get_or left i zero_entry in
     record {
@@ -105,7 +107,7 @@ step_left quota i a left right r inside s =
     }
 
 -- a right entry is passed
-step_right : (quota i a : ℕ) (left right : List Entry) (l : Entry) → a < length right → Splits quota (get_or right a zero_entry).sum i left → Step quota i a i (a + 1) left right l (get_or right a zero_entry) 0 (length left - i)
+step_right : (quota i a : ℕ) (left right : List Entry) (l : Entry) → a < length right → Splits quota (get_or right a zero_entry).sum i left → Step quota i a i (a + 1) left right (l, 0) (get_or right a zero_entry, length left - i)
 step_right quota i a left right l inside s =
     let r : Entry = get_or right a zero_entry in
     record {
@@ -114,10 +116,6 @@ step_right quota i a left right l inside s =
       rights = omega (arith, sum_by-drop_more (λ b. count_by (λ a. reaches quota b a) left) right a zero_entry inside, count_partners quota i r left s);
       right_marked = λ slot. omega (arith, sum_by-drop_more (λ b. count_by (λ a. reaches quota b a && has slot b) left) right a zero_entry inside, count_marked quota i slot r left s);
     }
-
-pub at_most_one : (t : Bool) → cond t 1 0 ≤ 1
-at_most_one true = omega arith
-at_most_one false = omega arith
 
 pub cond_most : (t : Bool) (m n most : ℕ) → m ≤ most → n ≤ most → cond t m n ≤ most
 cond_most true m n most first second = first
@@ -137,7 +135,7 @@ pub record StepUp (quota i a p q : ℕ) (left right : List Entry) (reached : Boo
 -- what a step up the left list or down the right one comes to
 pub record Up (quota i a p q : ℕ) (left right : List Entry) (reached : Bool) : Type 0 where
   pub stands : Stands quota p q left right
-  pub step : Step quota i q p a left right (get_or left i zero_entry) (get_or right (a - 1) zero_entry) (cond reached 0 (length right - a)) (cond reached (length left - i) 0)
+  pub step : Step quota i q p a left right (get_or left i zero_entry, cond reached 0 (length right - a)) (get_or right (a - 1) zero_entry, cond reached (length left - i) 0)
 
 pub step_up : (quota i a p q : ℕ) (left right : List Entry) (reached : Bool) → Ascend left right → StepUp quota i a p q left right reached → Up quota i a p q left right reached
 step_up quota i a p q left right true up t =
@@ -156,7 +154,7 @@ step_up quota i a p q left right true up t =
         | inr there ↦ s.reached k m from within there below
       ];
     } in
-    let step : Step quota i (a - 1) i (a - 1 + 1) left right (get_or left i zero_entry) (get_or right (a - 1) zero_entry) 0 (length left - i) =
+    let step : Step quota i (a - 1) i (a - 1 + 1) left right (get_or left i zero_entry, 0) (get_or right (a - 1) zero_entry, length left - i) =
     step_right quota i (a - 1) left right (get_or left i zero_entry) (omega (arith, s.right_in, t.some_right)) (high_right quota i a left right up.first_up s t.some_left t.some_right high) in
     record { stands = rw (p_is, q_is) stands; step = rw (p_is, q_is) (rw back at step) }
 step_up quota i a p q left right false up t =
@@ -170,7 +168,7 @@ step_up quota i a p q left right false up t =
       apart = λ k m before below. omega (arith, low, up.first_up k i zero_entry (omega arith) t.some_left, up.second_up m (a - 1) zero_entry (omega arith) (omega (arith, s.right_in, t.some_right)));
       reached = λ k m from within above below. s.reached k m (omega arith) within above below;
     } in
-    let step : Step quota i a (i + 1) a left right (get_or left i zero_entry) (get_or right (a - 1) zero_entry) (length right - a) 0 =
+    let step : Step quota i a (i + 1) a left right (get_or left i zero_entry, length right - a) (get_or right (a - 1) zero_entry, 0) =
     step_left quota i a left right (get_or right (a - 1) zero_entry) t.some_left (low_left quota i a left right up.second_up s t.some_left t.some_right low) in
     record { stands = rw (p_is, q_is) stands; step = rw (p_is, q_is) step }
 
@@ -188,7 +186,7 @@ pub record StepDown (quota j b p q : ℕ) (left right : List Entry) (reached : B
 -- what a step down the left list or up the right one comes to
 pub record Down (quota j b p q : ℕ) (left right : List Entry) (reached : Bool) : Type 0 where
   pub stands : Stands quota p q left right
-  pub step : Step quota p b j q left right (get_or left (j - 1) zero_entry) (get_or right b zero_entry) (cond (not reached) 0 (length right - b)) (cond (not reached) (length left - j) 0)
+  pub step : Step quota p b j q left right (get_or left (j - 1) zero_entry, cond (not reached) 0 (length right - b)) (get_or right b zero_entry, cond (not reached) (length left - j) 0)
 
 pub step_down : (quota j b p q : ℕ) (left right : List Entry) (reached : Bool) → Ascend left right → StepDown quota j b p q left right reached → Down quota j b p q left right reached
 step_down quota j b p q left right true up t =
@@ -204,7 +202,7 @@ step_down quota j b p q left right true up t =
       reached = λ k m from within above below.
           omega (arith, high, up.first_up (j - 1) k zero_entry from within, up.second_up b m zero_entry above below);
     } in
-    let step : Step quota (j - 1) b (j - 1 + 1) b left right (get_or left (j - 1) zero_entry) (get_or right b zero_entry) (length right - b) 0 =
+    let step : Step quota (j - 1) b (j - 1 + 1) b left right (get_or left (j - 1) zero_entry, length right - b) (get_or right b zero_entry, 0) =
     step_left quota (j - 1) b left right (get_or right b zero_entry) (omega (arith, s.left_in, t.some_left)) (high_left quota j b left right up.second_up s t.some_left t.some_right high) in
     record { stands = rw (p_is, q_is) stands; step = rw (p_is, q_is) (rw back at step) }
 step_down quota j b p q left right false up t =
@@ -218,7 +216,7 @@ step_down quota j b p q left right false up t =
       apart = λ k m before below. omega (arith, low, up.first_up k (j - 1) zero_entry (omega arith) (omega (arith, s.left_in, t.some_left)), up.second_up m b zero_entry (omega arith) t.some_right);
       reached = λ k m from within above below. s.reached k m from within (omega arith) below;
     } in
-    let step : Step quota j b j (b + 1) left right (get_or left (j - 1) zero_entry) (get_or right b zero_entry) 0 (length left - j) =
+    let step : Step quota j b j (b + 1) left right (get_or left (j - 1) zero_entry, 0) (get_or right b zero_entry, length left - j) =
     step_right quota j b left right (get_or left (j - 1) zero_entry) t.some_right (low_right quota j b left right up.first_up s t.some_left t.some_right low) in
     record { stands = rw (p_is, q_is) stands; step = rw (p_is, q_is) step }
 

@@ -7,7 +7,7 @@ use Rattle.std.proofs.lemmas.List.Sums.{sum_by-cons, count_by-le-length}
 use Rattle.half_sums.specs.declared.entry.Entry.{Entry}
 use Rattle.half_sums.specs.Groups.{size_of}
 use Rattle.swing_walk.specs.Sizes.{at_least, one_at}
-use Rattle.swing_walk.specs.Walks.{zero_entry}
+use Rattle.half_sums.specs.Entries.{zero_entry}
 
 -- so many ones, and then so many noughts
 abbrev pub steps : ℕ → ℕ → List ℕ

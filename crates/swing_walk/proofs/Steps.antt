@@ -9,8 +9,10 @@ use Rattle.std.proofs.lemmas.List.Elements.{All-cons}
 use Rattle.std.proofs.lemmas.Bool.{lt-leb}
 use Rattle.half_sums.specs.declared.entry.Entry.{Entry}
 use Rattle.swing_walk.specs.Pairs.{pairs_where, reaches, has, winning_pairs}
-use Rattle.swing_walk.specs.Walks.{NoneReach, zero_entry}
-use Rattle.swing_walk.proofs.Counting.{Splits, count_none, count_agree, sum_default, pairs_room}
+use Rattle.half_sums.specs.Entries.{zero_entry}
+use Rattle.swing_walk.specs.Walks.{NoneReach}
+use Rattle.swing_walk.proofs.Counting.{Splits, count_none, count_agree, pairs_room}
+use Rattle.half_sums.proofs.Merging.{sum_default}
 use Rattle.half_sums.proofs.SetSums.{sum_agree}
 
 -- the left list splits at the next entry, as seen from the right entry that begins to reach with it

@@ -14,8 +14,8 @@ abbrev pub counted : ℕ → SizeTally → ℕ
 counted size t = slice_index_or t.at_least size 0
 
 -- a tally counts just these entries
-abbrev pub IsTally : List Entry → SizeTally → Type 0
-IsTally entries t = (size : ℕ) → counted size t ≡ at_least size entries
+abbrev pub IsSizeTally : List Entry → SizeTally → Type 0
+IsSizeTally entries t = (size : ℕ) → counted size t ≡ at_least size entries
 
 -- what one set comes to at a size: 1 where it has at least so many chairs
 abbrev pub one_at : ℕ → ℕ → ℕ

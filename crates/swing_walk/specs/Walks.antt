@@ -1,10 +1,7 @@
 -- Where a walk stands between the two lists.
 use Rattle.std.specs.Prelude.{ℕ, ◌+◌, ◌<◌, List, slice_index_or}
 use Rattle.half_sums.specs.declared.entry.Entry.{Entry}
-
--- what is read where there is no entry
-abbrev pub zero_entry : Entry
-zero_entry = record { sum = 0; mask = 0 }
+use Rattle.half_sums.specs.Entries.{zero_entry}
 
 -- no pair of the first `i` left entries and the first `j` right ones reaches the quota
 abbrev pub NoneReach : ℕ → ℕ → ℕ → List Entry → List Entry → Type 0

@@ -2,10 +2,10 @@
 ghost use Rattle.std.specs.Prelude.{◌≡◌, ℕ, ◌+◌, ◌^◌, ◌<◌, ◌≤◌, length, slice_index_or, drop};
 ghost use Rattle.std.specs.Prelude.{◌&&◌};
 ghost use Rattle.std.specs.List.{All};
-ghost use Rattle.half_sums.specs.Entries.{IsHalf};
+ghost use Rattle.half_sums.specs.Entries.{IsHalf, zero_entry};
 ghost use Rattle.swing_walk.specs.Pairs.{pairs_where, large_pairs, is_enough, has};
-ghost use Rattle.swing_walk.specs.Sizes.{IsTally};
-ghost use Rattle.swing_walk.specs.Walks.{NoneReach, zero_entry};
+ghost use Rattle.swing_walk.specs.Sizes.{IsSizeTally};
+ghost use Rattle.swing_walk.specs.Walks.{NoneReach};
 ghost use Rattle.swing_walk.specs.Tallies.{marked, total, IsEven, CreditsLefts, CreditsRights};
 
 use crate::sizes::SizeTally;
@@ -46,16 +46,16 @@ fn lower_by_size(
     requires apart { NoneReach asked.quota next from left.now right.now }
     requires reached { All (λ e. asked.quota ≤ (slice_index_or left.now next zero_entry).sum + e.sum)
         (drop from right.now) }
-    requires lefts { IsTally (drop next left.now) sizes.old.lefts }
-    requires rights { IsTally (drop from right.now) sizes.old.rights }
+    requires lefts { IsSizeTally (drop next left.now) sizes.old.lefts }
+    requires rights { IsSizeTally (drop from right.now) sizes.old.rights }
     requires even { IsEven tally.old }
     requires room { total tally.old ≤ 2 ^ 63 }
     ensures within { result ≤ length right.now }
     ensures apart { NoneReach asked.quota (next + 1) result left.now right.now }
     ensures reached { All (λ e. asked.quota ≤ (slice_index_or left.now next zero_entry).sum + e.sum)
         (drop result right.now) }
-    ensures lefts { IsTally (drop next left.now) sizes.new.lefts }
-    ensures rights { IsTally (drop result right.now) sizes.new.rights }
+    ensures lefts { IsSizeTally (drop next left.now) sizes.new.lefts }
+    ensures rights { IsSizeTally (drop result right.now) sizes.new.rights }
     ensures even { IsEven tally.new }
     ensures total { total tally.new
         + pairs_where (λ b a. is_enough asked.quota asked.least_size b a) (drop from right.now) left.now

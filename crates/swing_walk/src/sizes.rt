@@ -2,7 +2,7 @@
 ghost use Rattle.std.specs.Prelude.{◌≡◌, ℕ, ◌+◌, ◌-◌, ◌<◌, ◌≤◌, count_ones, length, take};
 ghost use Rattle.std.specs.Prelude.{drop, slice_index_or};
 ghost use Rattle.half_sums.specs.Entries.{IsHalf};
-ghost use Rattle.swing_walk.specs.Sizes.{counted, one_at, IsTally};
+ghost use Rattle.swing_walk.specs.Sizes.{counted, one_at, IsSizeTally};
 
 use half_sums::{Entry, ROOM, SIZES, SLOTS};
 
@@ -32,7 +32,7 @@ impl SizeTally {
     /// The sets of a list.
     pub(crate) fn of(entries: &[Entry]) -> SizeTally
         requires half { IsHalf entries.now }
-        ensures all { IsTally entries.now result }
+        ensures all { IsSizeTally entries.now result }
     {
         let mut tally = SizeTally::new();
         for at in 0..entries.len() {

@@ -6,13 +6,13 @@ ghost use Rattle.swing_walk.specs.Tallies.{marked, total, IsEven, low_weight, hi
 use half_sums::SLOTS;
 
 /// How many values a byte has.
-const BYTES: usize = 256;
+const BYTES: u16 = 256;
 
 /// Amounts by mask: per value of the low byte of the masks and per value of the high one.
 #[derive(Clone, Copy)]
 pub(crate) struct MaskTally {
-    pub(crate) low: [u64; BYTES],
-    pub(crate) high: [u64; BYTES],
+    pub(crate) low: [u64; BYTES as usize],
+    pub(crate) high: [u64; BYTES as usize],
 }
 
 impl MaskTally {
@@ -23,8 +23,8 @@ impl MaskTally {
         ensures even { IsEven result }
     {
         MaskTally {
-            low: [0; BYTES],
-            high: [0; BYTES],
+            low: [0; BYTES as usize],
+            high: [0; BYTES as usize],
         }
     }
 
@@ -36,8 +36,8 @@ impl MaskTally {
         ensures total { total self.new ≡ total self.old + amount }
         ensures even { IsEven self.new }
     {
-        self.low[usize::from(mask % 256)] += amount;
-        self.high[usize::from(mask / 256)] += amount;
+        self.low[usize::from(mask % BYTES)] += amount;
+        self.high[usize::from(mask / BYTES)] += amount;
     }
 
     /// Per slot the amounts whose masks have it.
@@ -47,7 +47,7 @@ impl MaskTally {
         ensures marked { (slot : ℕ) → slot < SLOTS → slice_index result slot ≡ marked slot self.now }
     {
         let mut totals = [0; SLOTS];
-        for byte in 0..256u16 {
+        for byte in 0..BYTES {
             let at = usize::from(byte);
             add_byte(&mut totals, byte, self.low[at], self.high[at]);
         }

@@ -2,14 +2,14 @@
 ghost use Rattle.std.specs.Prelude.{◌≡◌, ℕ, ◌+◌, ◌-◌, ◌*◌, ◌^◌, ◌<◌, ◌≤◌, length};
 ghost use Rattle.std.specs.Prelude.{slice_index_or, drop, nat_le, ◌&&◌};
 ghost use Rattle.std.specs.List.{All};
-ghost use Rattle.half_sums.specs.Entries.{IsHalf};
+ghost use Rattle.half_sums.specs.Entries.{IsHalf, zero_entry};
 ghost use Rattle.swing_walk.specs.Pairs.{pairs_where, winning_pairs, reaches, has};
-ghost use Rattle.swing_walk.specs.Walks.{NoneReach, zero_entry};
+ghost use Rattle.swing_walk.specs.Walks.{NoneReach};
 ghost use Rattle.swing_walk.specs.Tallies.{marked, total, IsEven, CreditsLefts, CreditsRights};
 
 use crate::sides::credit;
 use crate::tally::MaskTally;
-use half_sums::Entry;
+use half_sums::{Entry, repeats};
 
 /// From so many entries on it gains to walk from both ends.
 const MANY: usize = 256;
@@ -78,13 +78,6 @@ pub(crate) fn walk(
     } else {
         walk_from_both_ends(left, right, quota, lefts, rights)
     }
-}
-
-/// Whether the entry in the upper middle and the next have the same sum, as with chairs of one weight. It chooses the
-/// faster way alone.
-fn repeats(list: &[Entry]) -> bool {
-    let middle = list.len() / 2;
-    middle + 1 < list.len() && list[middle].sum == list[middle + 1].sum
 }
 
 /// The walk from the first left entry on, by a branch on the sums.

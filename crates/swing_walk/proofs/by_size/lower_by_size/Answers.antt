@@ -5,7 +5,7 @@ use Rattle.std.specs.List.{count_by}
 use Rattle.half_sums.specs.declared.entry.Entry.{Entry}
 use Rattle.half_sums.specs.Groups.{size_of}
 use Rattle.swing_walk.specs.Pairs.{is_enough, has}
-use Rattle.swing_walk.specs.Walks.{zero_entry}
+use Rattle.half_sums.specs.Entries.{zero_entry}
 use Rattle.swing_walk.proofs.Counting.{Splits}
 use Rattle.swing_walk.proofs.Steps.{left_splits, pairs_back, back_room, reached_back}
 use Rattle.swing_walk.proofs.SizeLemmas.{few_tallied, tally_back}

@@ -2,8 +2,9 @@ use Rattle.std.proofs.Common.{◌≡◌, ℕ, ◌+◌, ◌≤◌, drop, length}
 use Rattle.std.specs.Prelude.{◌&&◌, slice_index_or}
 use Rattle.std.specs.List.{All}
 use Rattle.swing_walk.specs.Pairs.{pairs_where, is_enough, has}
-use Rattle.swing_walk.specs.Sizes.{IsTally}
-use Rattle.swing_walk.specs.Walks.{NoneReach, zero_entry}
+use Rattle.swing_walk.specs.Sizes.{IsSizeTally}
+use Rattle.half_sums.specs.Entries.{zero_entry}
+use Rattle.swing_walk.specs.Walks.{NoneReach}
 use Rattle.swing_walk.specs.Tallies.{marked, total, IsEven}
 use Rattle.swing_walk.proofs.by_size.lower_by_size.Given as goal
 
@@ -12,8 +13,8 @@ invariant-loop-at l = record {
   within : l.at ≤ length l.right;
   apart : NoneReach l.asked.quota l.next l.at l.left l.right;
   reached : All (λ e. l.asked.quota ≤ (slice_index_or l.left l.next zero_entry).sum + e.sum) (drop l.at l.right);
-  lefts : IsTally (drop l.next l.left) l.sizes.lefts;
-  rights : IsTally (drop l.at l.right) l.sizes.rights;
+  lefts : IsSizeTally (drop l.next l.left) l.sizes.lefts;
+  rights : IsSizeTally (drop l.at l.right) l.sizes.rights;
   even : IsEven l.tally;
   total : total l.tally + pairs_where (λ b a. is_enough l.asked.quota l.asked.least_size b a) (drop l.fn.from l.right) l.left ≡ total l.fn.tally + pairs_where (λ b a. is_enough l.asked.quota l.asked.least_size b a) (drop l.at l.right) l.left;
   marked : (slot : ℕ) → marked slot l.tally + pairs_where (λ b a. is_enough l.asked.quota l.asked.least_size b a && has slot b) (drop l.fn.from l.right) l.left ≡ marked slot l.fn.tally + pairs_where (λ b a. is_enough l.asked.quota l.asked.least_size b a && has slot b) (drop l.at l.right) l.left;

@@ -7,7 +7,7 @@ use Rattle.std.proofs.lemmas.List.Elements.{All-weaker}
 use Rattle.half_sums.specs.declared.entry.Entry.{Entry}
 use Rattle.half_sums.specs.Groups.{size_of}
 use Rattle.swing_walk.specs.Pairs.{is_enough, has}
-use Rattle.swing_walk.specs.Walks.{zero_entry}
+use Rattle.half_sums.specs.Entries.{zero_entry}
 use Rattle.swing_walk.proofs.Counting.{Splits, pairs_more, pairs_room}
 use Rattle.swing_walk.proofs.Steps.{short_from, back_room}
 use Rattle.swing_walk.proofs.SizeLemmas.{few_tallied, tally_front}

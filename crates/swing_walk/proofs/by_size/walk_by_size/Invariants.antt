@@ -2,8 +2,9 @@ use Rattle.std.proofs.Common.{◌≡◌, ℕ, ◌+◌, ◌<◌, ◌≤◌, take,
 use Rattle.std.specs.Prelude.{◌&&◌, slice_index_or}
 use Rattle.std.specs.List.{All}
 use Rattle.swing_walk.specs.Pairs.{pairs_where, large_pairs, is_enough, has}
-use Rattle.swing_walk.specs.Sizes.{IsTally}
-use Rattle.swing_walk.specs.Walks.{NoneReach, zero_entry}
+use Rattle.swing_walk.specs.Sizes.{IsSizeTally}
+use Rattle.half_sums.specs.Entries.{zero_entry}
+use Rattle.swing_walk.specs.Walks.{NoneReach}
 use Rattle.swing_walk.specs.Tallies.{marked, total, IsEven}
 use Rattle.swing_walk.proofs.by_size.walk_by_size.Given as goal
 
@@ -12,8 +13,8 @@ invariant-loop-next l = record {
   within : l.at ≤ length l.right;
   apart : NoneReach l.quota l.next l.at l.left l.right;
   reached : l.next < length l.left → All (λ e. l.quota ≤ (slice_index_or l.left l.next zero_entry).sum + e.sum) (drop l.at l.right);
-  lefts_left : IsTally (drop l.next l.left) l.sizes.lefts;
-  rights_reached : IsTally (drop l.at l.right) l.sizes.rights;
+  lefts_left : IsSizeTally (drop l.next l.left) l.sizes.lefts;
+  rights_reached : IsSizeTally (drop l.at l.right) l.sizes.rights;
   winning : l.winning ≡ large_pairs l.quota l.least_size (take l.next l.left) l.right;
   left_even : IsEven l.lefts;
   left_total : total l.lefts ≡ total l.fn.lefts + large_pairs l.quota l.least_size (take l.next l.left) l.right;

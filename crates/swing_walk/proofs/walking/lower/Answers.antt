@@ -2,7 +2,7 @@ use Rattle.std.proofs.Common.{◌+◌, ◌-◌, ◌≤◌, arith, get_or}
 use Rattle.std.specs.Prelude.{◌&&◌}
 use Rattle.half_sums.specs.declared.entry.Entry.{Entry}
 use Rattle.swing_walk.specs.Pairs.{reaches, has}
-use Rattle.swing_walk.specs.Walks.{zero_entry}
+use Rattle.half_sums.specs.Entries.{zero_entry}
 use Rattle.swing_walk.proofs.Counting.{Splits, count_partners, count_marked}
 use Rattle.swing_walk.proofs.Steps.{left_splits, pairs_back, back_room, reached_back}
 use Rattle.swing_walk.proofs.walking.lower.Goals as goal

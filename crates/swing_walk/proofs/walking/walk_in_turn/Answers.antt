@@ -4,7 +4,7 @@ use Rattle.std.proofs.Math.Facts.{Fits-of_lt}
 use Rattle.std.proofs.lemmas.List.Elements.{All-weaker}
 use Rattle.half_sums.specs.declared.entry.Entry.{Entry}
 use Rattle.swing_walk.specs.Pairs.{reaches, has}
-use Rattle.swing_walk.specs.Walks.{zero_entry}
+use Rattle.half_sums.specs.Entries.{zero_entry}
 use Rattle.swing_walk.proofs.Counting.{Splits, count_partners, count_marked, pairs_more, pairs_room}
 use Rattle.swing_walk.proofs.Steps.{short_from, back_room, right_total, right_marked}
 use Rattle.swing_walk.proofs.walking.walk_in_turn.Goals as goal

@@ -2,7 +2,8 @@ use Rattle.std.proofs.Common.{◌≡◌, ℕ, ◌+◌, ◌<◌, ◌≤◌, take,
 use Rattle.std.specs.Prelude.{◌&&◌, slice_index_or}
 use Rattle.std.specs.List.{All}
 use Rattle.swing_walk.specs.Pairs.{pairs_where, winning_pairs, reaches, has}
-use Rattle.swing_walk.specs.Walks.{NoneReach, zero_entry}
+use Rattle.half_sums.specs.Entries.{zero_entry}
+use Rattle.swing_walk.specs.Walks.{NoneReach}
 use Rattle.swing_walk.specs.Tallies.{marked, total, IsEven}
 use Rattle.swing_walk.proofs.walking.walk_in_turn.Given as goal
 
