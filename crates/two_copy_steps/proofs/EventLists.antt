@@ -15,20 +15,34 @@ use Rattle.two_copy_steps.proofs.Replies.{Agrees, event_agrees}
 use Rattle.two_copy_steps.proofs.Journals.{IsAccepted, IsWithin, journal_accepted, journal_grows, journal_within}
 use Rattle.two_copy_steps.proofs.Starts.{start_lawful, start_agrees}
 
-pub always_accepted : (events : List Event) (m : TwoCopies) → IsAccepted m.ledger.opening m.ledger.journal → IsAccepted (after m events).ledger.opening (after m events).ledger.journal
-always_accepted [] m h = h
-always_accepted (event ∷ events) m h = always_accepted events (turn m event).0 (journal_accepted m h event)
-
 pub always_lawful : (events : List Event) (m : TwoCopies) (p : Passes) → IsLawful IsAccepted m p → IsAccepted m.ledger.opening m.ledger.journal → IsLawful IsAccepted (after m events) (passes m p events)
 always_lawful [] m p l h = l
 always_lawful (event ∷ events) m p l h = always_lawful events (turn m event).0 (passed m p event) (turn_keeps IsAccepted m p l h event) (journal_accepted m h event)
 
+-- a lawful machine whose journal is accepted, and a register of one thread that agrees with it
+pub record Together (t : Thread) (m : TwoCopies) (p : Passes) : Type 0 where
+  pub lawful : IsLawful IsAccepted m p
+  pub accepted : IsAccepted m.ledger.opening m.ledger.journal
+  pub agrees : Agrees t m
+
+-- so they are after an event, and after all events
+pub together_on : (t : Thread) (m : TwoCopies) (p : Passes) → Together t m p → (event : Event) → Together (beside t m event) (turn m event).0 (passed m p event)
+together_on t m p h event =
+    record {
+      lawful = turn_keeps IsAccepted m p h.lawful h.accepted event;
+      accepted = journal_accepted m h.accepted event;
+      agrees = (event_agrees IsAccepted m p h.lawful t h.agrees event).0;
+    }
+
+pub together_after : (events : List Event) (t : Thread) (m : TwoCopies) (p : Passes) → Together t m p → (t' : Thread) × Together t' (after m events) (passes m p events)
+together_after [] t m p h = (t, h)
+together_after (event ∷ events) t m p h = together_after events (beside t m event) (turn m event).0 (passed m p event) (together_on t m p h event)
+
 -- each note is the reply of the register of one thread
-pub all_answer : (events : List Event) (m : TwoCopies) (p : Passes) → IsLawful IsAccepted m p → IsAccepted m.ledger.opening m.ledger.journal → (t : Thread) → Agrees t m → AllAnswer t m events
-all_answer [] m p l h t a = tt
-all_answer (event ∷ events) m p l h t a =
-    let g = event_agrees IsAccepted m p l t a event in
-    (g.1, all_answer events (turn m event).0 (passed m p event) (turn_keeps IsAccepted m p l h event) (journal_accepted m h event) (beside t m event) g.0)
+all_answer : (events : List Event) (t : Thread) (m : TwoCopies) (p : Passes) → Together t m p → AllAnswer t m events
+all_answer [] t m p h = tt
+all_answer (event ∷ events) t m p h =
+    ((event_agrees IsAccepted m p h.lawful t h.agrees event).1, all_answer events (beside t m event) (turn m event).0 (passed m p event) (together_on t m p h event))
 
 pub always_grows : (events : List Event) (m : TwoCopies) (n : ℕ) → n ≤ length m.ledger.journal → n ≤ length (after m events).ledger.journal
 always_grows [] m n h = h
@@ -63,11 +77,14 @@ legal_records m p l few =
 
 module _ (ledger : Ledger) (readers : ℕ) (accepted : IsAccepted ledger.opening ledger.journal) where
   -- from the start
-  pub run_lawful : (events : List Event) → IsLawful IsAccepted (after (started ledger readers) events) (passes (started ledger readers) (opened ledger readers) events)
+  pub start_together : Together (thread_of ledger) (started ledger readers) (opened ledger readers)
+  start_together = record { lawful = start_lawful IsAccepted ledger readers accepted; accepted = accepted; agrees = start_agrees ledger readers }
+
+  run_lawful : (events : List Event) → IsLawful IsAccepted (after (started ledger readers) events) (passes (started ledger readers) (opened ledger readers) events)
   run_lawful events = always_lawful events (started ledger readers) (opened ledger readers) (start_lawful IsAccepted ledger readers accepted) accepted
 
   pub run_answers : (events : List Event) → AllAnswer (thread_of ledger) (started ledger readers) events
-  run_answers events = all_answer events (started ledger readers) (opened ledger readers) (start_lawful IsAccepted ledger readers accepted) accepted (thread_of ledger) (start_agrees ledger readers)
+  run_answers events = all_answer events (thread_of ledger) (started ledger readers) (opened ledger readers) start_together
 
   pub run_apart : (events : List Event) → NoneUnder (after (started ledger readers) events)
   run_apart events = none_under IsAccepted (after (started ledger readers) events) (passes (started ledger readers) (opened ledger readers) events) (run_lawful events)

@@ -20,11 +20,8 @@ use Rattle.two_copy_steps.specs.Turns.{TwoCopies, turn, submitted, published_by,
 use Rattle.two_copy_steps.specs.Passes.{Passes, opened, passed, passes, IsLawful}
 use Rattle.two_copy_steps.specs.Effects.{Thread, thread_of, replied_at, replied_to, beside}
 use Rattle.two_copy_steps.proofs.Lists.{at_set}
-use Rattle.two_copy_steps.proofs.TurnSteps.{turn_keeps}
-use Rattle.two_copy_steps.proofs.Replies.{Agrees, event_agrees}
-use Rattle.two_copy_steps.proofs.Journals.{IsAccepted, journal_accepted}
-use Rattle.two_copy_steps.proofs.Starts.{start_lawful, start_agrees}
-use Rattle.two_copy_steps.proofs.EventLists.{run_lawful, always_accepted, after_append}
+use Rattle.two_copy_steps.proofs.Journals.{IsAccepted}
+use Rattle.two_copy_steps.proofs.EventLists.{Together, together_on, together_after, start_together, after_append}
 
 looked_published : (w : Writing) (r : ℕ) (b : Bool) → (cond b (seeing 34 w (set w.seen_out r true)) (record w { phase = Idle })).published ≡ w.published
 looked_published w r true = refl
@@ -70,15 +67,15 @@ shown_front m p l =
     let kept = length-take (length m.writer.published) m.ledger.journal in
     omega (arith, length-append m.writer.published l.state.writer.begins.0, length-append m.writer.taken l.extends.0)
 
-module _ (low r : ℕ) (m : TwoCopies) (p : Passes) (l : IsLawful IsAccepted m p) (t : Thread) (a : Agrees t m) (f : Fresh low r t m) where
+module _ (low r : ℕ) (t : Thread) (m : TwoCopies) (p : Passes) (h : Together t m p) (f : Fresh low r t m) where
   -- the reader's own step
   own : (stage : Stage) → slice_get m.readers r ≡ Some stage → FreshAt low (replied_at t (suc r) stage (suc r)) ((stage_deed 34 r stage).after (get_or m.words (stage_deed 34 r stage).word 0))
   own AtRest at = tt
   own Arrived at =
       let given : Option Reply = Some (respond t.register sequential.read).1 in
       let here : cond (eqb (suc r) (suc r)) given (t.replied (suc r)) ≡ given = ap (λ (b : Bool). cond b given (t.replied (suc r))) (eq-eqb (suc r) (suc r) refl) in
-      let is : given ≡ Some (reading (sheet m.ledger.opening (take (length m.writer.published) m.ledger.journal))) = ap (λ (s : Sequential). let g : Option Reply = Some (respond s sequential.read).1 in g) a.register in
-      let front = shown_front m p l in
+      let is : given ≡ Some (reading (sheet m.ledger.opening (take (length m.writer.published) m.ledger.journal))) = ap (λ (s : Sequential). let g : Option Reply = Some (respond s sequential.read).1 in g) h.agrees.register in
+      let front = shown_front m p h.lawful in
       let short = f.0 in
       (sheet m.ledger.opening (take (length m.writer.published) m.ledger.journal), here ∙ is, omega arith)
   own (Reading side words) at =
@@ -116,11 +113,11 @@ module _ (low r : ℕ) (m : TwoCopies) (p : Passes) (l : IsLawful IsAccepted m p
   fresh_stage (Reader zero) = f.1
   fresh_stage (Reader (suc q)) = fresh_reader q (slice_get m.readers q) refl
 
-  pub stays_fresh : (event : Event) → Fresh low r (beside t m event) (turn m event).0
-  stays_fresh event = (le_trans f.0 (published_grows m p l event), fresh_stage event)
+  stays_fresh : (event : Event) → Fresh low r (beside t m event) (turn m event).0
+  stays_fresh event = (le_trans f.0 (published_grows m p h.lawful event), fresh_stage event)
 
   -- what it then reads
-  pub reads_fresh : (words : List ℕ) → (turn m (Reader (suc r))).1 ≡ Read (suc r) words → low ≤ front_of words
+  reads_fresh : (words : List ℕ) → (turn m (Reader (suc r))).1 ≡ Read (suc r) words → low ≤ front_of words
   reads_fresh words told = by_stage (slice_get m.readers r) refl told
     where
       same_sheet : (x y : List ℕ) → Some (reading x) ≡ Some (reading y) → x ≡ y
@@ -136,22 +133,16 @@ module _ (low r : ℕ) (m : TwoCopies) (p : Passes) (l : IsLawful IsAccepted m p
       by_stage (Some (Reading side ws)) at e = absurd cc
       by_stage (Some (Leaving side ws)) at e =
           let g = f.1 (Leaving side ws) at in
-          let held = a.held r (Leaving side ws) at in
+          let held = h.agrees.held r (Leaving side ws) at in
           let is : g.0 ≡ words = same_sheet g.0 ws (sym g.1 ∙ held) ∙ read_words (suc r) (suc r) ws words e in
           subst (λ (x : List ℕ). low ≤ front_of x) is g.2
 
 -- whatever follows
-fresh_read : (low r : ℕ) (more : List Event) (m : TwoCopies) (p : Passes) → IsLawful IsAccepted m p → IsAccepted m.ledger.opening m.ledger.journal → (t : Thread) → Agrees t m → Fresh low r t m
-    → (words : List ℕ) → (turn (after m more) (Reader (suc r))).1 ≡ Read (suc r) words → low ≤ front_of words
-fresh_read low r [] m p l h t a f words told = reads_fresh low r m p l t a f words told
-fresh_read low r (event ∷ more) m p l h t a f words told =
-    fresh_read low r more (turn m event).0 (passed m p event) (turn_keeps IsAccepted m p l h event) (journal_accepted m h event) (beside t m event) (event_agrees IsAccepted m p l t a event).0
-    (stays_fresh low r m p l t a f event) words told
-
-agrees_after : (events : List Event) (m : TwoCopies) (p : Passes) → IsLawful IsAccepted m p → IsAccepted m.ledger.opening m.ledger.journal → (t : Thread) → Agrees t m → (t' : Thread) × Agrees t' (after m events)
-agrees_after [] m p l h t a = (t, a)
-agrees_after (event ∷ events) m p l h t a =
-    agrees_after events (turn m event).0 (passed m p event) (turn_keeps IsAccepted m p l h event) (journal_accepted m h event) (beside t m event) (event_agrees IsAccepted m p l t a event).0
+fresh_read : (low r : ℕ) (more : List Event) (t : Thread) (m : TwoCopies) (p : Passes) → Together t m p → Fresh low r t m → (words : List ℕ) → (turn (after m more) (Reader (suc r))).1 ≡ Read (suc r) words
+    → low ≤ front_of words
+fresh_read low r [] t m p h f words told = reads_fresh low r t m p h f words told
+fresh_read low r (event ∷ more) t m p h f words told =
+    fresh_read low r more (beside t m event) (turn m event).0 (passed m p event) (together_on t m p h event) (stays_fresh low r t m p h f event) words told
 
 module _ (ledger : Ledger) (readers : ℕ) (accepted : IsAccepted ledger.opening ledger.journal) where
   -- a reader at rest after some events reads, whatever follows, nothing older than what is published by then
@@ -160,9 +151,8 @@ module _ (ledger : Ledger) (readers : ℕ) (accepted : IsAccepted ledger.opening
   run_fresh events more r words rest told =
       let start : TwoCopies = started ledger readers in
       let m : TwoCopies = after start events in
-      let l = run_lawful ledger readers accepted events in
-      let t = agrees_after events start (opened ledger readers) (start_lawful IsAccepted ledger readers accepted) accepted (thread_of ledger) (start_agrees ledger readers) in
+      let t = together_after events (thread_of ledger) start (opened ledger readers) (start_together ledger readers accepted) in
       let low : ℕ = length m.writer.published in
-      fresh_read low r more m (passes start (opened ledger readers) events) l (always_accepted events start accepted) t.0 t.1
+      fresh_read low r more t.0 m (passes start (opened ledger readers) events) t.1
       (le_refl low, λ stage at. subst (FreshAt low (t.0.replied (suc r))) (same_Some AtRest stage (sym rest ∙ at)) tt)
       words (ap (λ (x : TwoCopies). (turn x (Reader (suc r))).1) (sym (after_append events more start)) ∙ told)

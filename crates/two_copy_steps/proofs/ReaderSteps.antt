@@ -122,24 +122,33 @@ module _ (opening : Opening) (Legal : List Command → Type 0) where
   abbrev stepped : ℕ → List ℕ → List (List ℕ) → Bool → ReaderView
   stepped s ws seen b = reader (cond b (Leaving s ws) (Reading s ws)) (recorded (Reading s []) (cond b (Leaving s ws) (Reading s ws)) seen)
 
-  loaded_ok : (words : List ℕ) (w : WriterView) (seen : List (List ℕ)) (r s : ℕ) (ws : List ℕ) (b : Beside opening Legal words w seen r s) → b.cut ≤ length w.state.published
-      → length ws ≤ 34 → IsReadFrom words s ws → get_or words (pin 34 r) 0 ≡ 1 → IsRecordFrom opening w.state.published w.cuts 0 seen
-      → ReaderOk opening Legal words w r (stepped s ws seen (eqb (length ws) 34))
-  loaded_ok words w seen r s ws b top short h pinned legal =
+  -- a reader that has loaded these words of the copy that a side names: its pin is 1, and its record is legal
+  record HasLoaded (words : List ℕ) (w : WriterView) (seen : List (List ℕ)) (r s : ℕ) (ws : List ℕ) : Type 0 where
+    pub beside : Beside opening Legal words w seen r s
+    pub within : beside.cut ≤ length w.state.published
+    pub few : length ws ≤ 34
+    pub read_from : IsReadFrom words s ws
+    pub pinned : get_or words (pin 34 r) 0 ≡ 1
+    pub record_legal : IsRecordFrom opening w.state.published w.cuts 0 seen
+
+  loaded_ok : (words : List ℕ) (w : WriterView) (seen : List (List ℕ)) (r s : ℕ) (ws : List ℕ) → HasLoaded words w seen r s ws → ReaderOk opening Legal words w r (stepped s ws seen (eqb (length ws) 34))
+  loaded_ok words w seen r s ws h =
+      let b = h.beside in
+      let few = h.few in
       dite (ℕ_discrete (length ws) 34)
       (λ e.
-      let is = whole words w seen r s ws b e h in
-      let front : front_of ws ≡ b.cut = ap front_of is ∙ front_of_cut opening w.state.published b.cut top in
+      let is = whole words w seen r s ws b e h.read_from in
+      let front : front_of ws ≡ b.cut = ap front_of is ∙ front_of_cut opening w.state.published b.cut h.within in
       let above = b.above in
       let last = last_front-push 0 seen ws in
       subst (λ (t : Bool). ReaderOk opening Legal words w r (stepped s ws seen t)) (sym (eq-eqb (length ws) 34 e))
       record {
-        pinned = pinned;
-        stands = (record { two = b.two; cut = b.cut; is_cut = b.is_cut; shows = b.shows; above = omega arith; late = b.late }, e, h, (seen, refl));
-        record_legal = record-push opening w.state.published w.cuts 0 seen ws legal (b.cut, b.is_cut, is) (omega arith);
+        pinned = h.pinned;
+        stands = (record { two = b.two; cut = b.cut; is_cut = b.is_cut; shows = b.shows; above = omega arith; late = b.late }, e, h.read_from, (seen, refl));
+        record_legal = record-push opening w.state.published w.cuts 0 seen ws h.record_legal (b.cut, b.is_cut, is) (omega arith);
       })
       (λ ne. subst (λ (t : Bool). ReaderOk opening Legal words w r (stepped s ws seen t)) (sym (ne_eqb (length ws) 34 ne))
-      record { pinned = pinned; stands = (b, omega arith, h); record_legal = legal })
+      record { pinned = h.pinned; stands = (b, omega arith, h.read_from); record_legal = h.record_legal })
 
   begins_side : (m : State) (l : Lawful opening Legal m) (r : ℕ) (seen : List (List ℕ)) → IsRecordFrom opening m.writer.state.published m.writer.cuts 0 seen
       → Beside opening Legal m.words m.writer seen r (get_or m.words 0 0)
@@ -181,7 +190,14 @@ module _ (opening : Opening) (Legal : List Command → Type 0) where
       let v : ReaderView = stepped s (ws ++ x ∷ []) seen (eqb (length (ws ++ x ∷ [])) 34) in
       subst (λ (vs : List ℕ). Lawful opening Legal (At vs m.writer (set m.readers r v))) (sym (set-get_or m.words i 0))
       (reader_moves m l r m.words v (same r m.words)
-      (loaded_ok m.words m.writer seen r s (ws ++ x ∷ []) b (l.writer.cuts b.cut b.is_cut).0 (omega arith) (λ j g. read_more m.words ws s x refl h.2 j (omega arith)) k.pinned k.record_legal))
+      (loaded_ok m.words m.writer seen r s (ws ++ x ∷ []) record {
+        beside = b;
+        within = (l.writer.cuts b.cut b.is_cut).0;
+        few = omega arith;
+        read_from = λ j g. read_more m.words ws s x refl h.2 j (omega arith);
+        pinned = k.pinned;
+        record_legal = k.record_legal;
+      }))
   reads m l r seen (Leaving s ws) here k =
       let wide = l.wide in
       reader_moves m l r (set m.words (pin 34 r) 0) (reader AtRest seen) (pin_set r 0 m.words)

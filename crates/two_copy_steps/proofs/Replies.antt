@@ -98,17 +98,17 @@ module _ (Legal : Opening → List Command → Type 0) where
   others_none : (number : ℕ) (given : Option Reply) (replied : ℕ → Option Reply) (k : ℕ) → k ≢ number → cond (eqb k number) given (replied k) ≡ replied k
   others_none number given replied k ne = ap (λ (b : Bool). cond b given (replied k)) (ne_eqb k number ne)
 
-  read_goes : (m : TwoCopies) (p : Passes) → IsLawful Legal m p → (b : Bool) (replied : ℕ → Option Reply) → AllHeld m.words replied m.readers → (is_idle m.writer.phase ≡ false → b ≡ true)
+  read_goes : (m : TwoCopies) (p : Passes) → IsLawful Legal m p → (b : Bool) (replied : ℕ → Option Reply) → Agrees (thread m replied b) m
       → (r : ℕ) (stage : Stage) → slice_get m.readers r ≡ Some stage → ReadGoes m b replied r stage
-  read_goes m p l b replied all busy r AtRest at = (
+  read_goes m p l b replied a r AtRest at = (
     record {
       register = refl;
-      held = all_held m r Arrived (set m.words (pin 34 r) 1) replied (λ k. cond (eqb k (suc r)) None (replied k)) all (pin_set r 1 m.words) (others_none (suc r) None replied) tt;
-      begun = busy;
+      held = all_held m r Arrived (set m.words (pin 34 r) 1) replied (λ k. cond (eqb k (suc r)) None (replied k)) a.held (pin_set r 1 m.words) (others_none (suc r) None replied) tt;
+      begun = a.begun;
     },
     tt,
   )
-  read_goes m p l b replied all busy r Arrived at =
+  read_goes m p l b replied a r Arrived at =
       let words : List ℕ = m.words in
       let s : ℕ = get_or words 0 0 in
       let o = l.state.writer in
@@ -117,39 +117,39 @@ module _ (Legal : Opening → List Command → Type 0) where
       let replied' : ℕ → Option Reply = λ k. cond (eqb k (suc r)) given (replied k) in
       let here : replied' (suc r) ≡ given = ap (λ (z : Bool). cond z given (replied (suc r))) (eq-eqb (suc r) (suc r) refl) in
       let shows : Shows words s new = λ i g. ap (λ (z : ℕ). get_or words (place 34 z i) 0) o.side_is ∙ (o.shown i g ∙ ap (λ (z : List Command). get_or (sheet m.ledger.opening z) i 0) (sym (is_shown m p l))) in
-      let held : AllHeld words replied' (set m.readers r (Reading s [])) = all_held m r (Reading s []) words replied replied' all (same r words) (others_none (suc r) given replied)
+      let held : AllHeld words replied' (set m.readers r (Reading s [])) = all_held m r (Reading s []) words replied replied' a.held (same r words) (others_none (suc r) given replied)
       (new, here, sheet_long m.ledger.opening (take (length m.writer.published) m.ledger.journal), shows) in (
         record {
           register = refl;
           held = subst (λ (vs : List ℕ). AllHeld vs replied' (set m.readers r (Reading s []))) (sym (set-get_or words 0 0)) held;
-          begun = busy;
+          begun = a.begun;
         },
         tt,
       )
-  read_goes m p l b replied all busy r (Reading s ws) at =
+  read_goes m p l b replied a r (Reading s ws) at =
       let words : List ℕ = m.words in
       let i : ℕ = place 34 s (length ws) in
       let x : ℕ = get_or words i 0 in
       let h = (l.state.each_reader r (view_at (Reading s ws) (record_at p.records r)) (viewed_at m.readers p.records r (Reading s ws) at)).stands in
       let short : length ws < 34 = h.1 in
       let more : length (ws ++ x ∷ []) ≡ length ws + 1 = length-append ws (x ∷ []) in
-      let g = all r (Reading s ws) at in
-      let held : AllHeld words replied (set m.readers r (loaded 34 s (ws ++ x ∷ []))) = all_held m r (loaded 34 s (ws ++ x ∷ [])) words replied replied all (same r words) (λ k ne. refl)
+      let g = a.held r (Reading s ws) at in
+      let held : AllHeld words replied (set m.readers r (loaded 34 s (ws ++ x ∷ []))) = all_held m r (loaded 34 s (ws ++ x ∷ [])) words replied replied a.held (same r words) (λ k ne. refl)
       (loaded_held words (replied (suc r)) s (ws ++ x ∷ []) g.0 g.1 g.2 g.3 (λ j lt. read_more words ws s x refl h.2 j (omega arith)) (omega arith)) in (
         record {
           register = refl;
           held = subst (λ (vs : List ℕ). AllHeld vs replied (set m.readers r (loaded 34 s (ws ++ x ∷ [])))) (sym (set-get_or words i 0)) held;
-          begun = busy;
+          begun = a.begun;
         },
         tt,
       )
-  read_goes m p l b replied all busy r (Leaving s ws) at = (
+  read_goes m p l b replied a r (Leaving s ws) at = (
     record {
       register = refl;
-      held = all_held m r AtRest (set m.words (pin 34 r) 0) replied replied all (pin_set r 0 m.words) (λ k ne. refl) tt;
-      begun = busy;
+      held = all_held m r AtRest (set m.words (pin 34 r) 0) replied replied a.held (pin_set r 0 m.words) (λ k ne. refl) tt;
+      begun = a.begun;
     },
-    all r (Leaving s ws) at,
+    a.held r (Leaving s ws) at,
   )
 
   -- the copies that readers read are left as they are
@@ -196,34 +196,34 @@ module _ (Legal : Opening → List Command → Type 0) where
   true_not_false : true ≡ false → ⊥
   true_not_false e = cc
 
-  write_goes : (m : TwoCopies) (p : Passes) → IsLawful Legal m p → (b : Bool) (replied : ℕ → Option Reply) → AllHeld m.words replied m.readers → (is_idle m.writer.phase ≡ false → b ≡ true)
+  write_goes : (m : TwoCopies) (p : Passes) → IsLawful Legal m p → (b : Bool) (replied : ℕ → Option Reply) → Agrees (thread m replied b) m
       → (phase : Phase) → m.writer.phase ≡ phase → WriteGoes m b replied phase
-  write_goes m p l b replied all busy Idle is = (
+  write_goes m p l b replied a Idle is = (
     (
       record {
         register = refl;
-        held = subst (λ (vs : List ℕ). AllHeld vs replied m.readers) (sym (set-get_or m.words 0 0)) all;
-        begun = busy;
+        held = subst (λ (vs : List ℕ). AllHeld vs replied m.readers) (sym (set-get_or m.words 0 0)) a.held;
+        begun = a.begun;
       },
       refl,
     ),
     tt,
   )
-  write_goes m p l b replied all busy Seeing is =
+  write_goes m p l b replied a Seeing is =
       let w = m.writer in
       let r : ℕ = first_false w.seen_out in
       let k : ℕ = get_or m.words (pin 34 r) 0 in (
         (
           record {
             register = ap (λ (z : List Command). let s : Sequential = record { ledger = m.ledger; published = length z } in s) (sym (looked_published w r (eqb k 0)));
-            held = subst (λ (vs : List ℕ). AllHeld vs replied m.readers) (sym (set-get_or m.words (pin 34 r) 0)) all;
-            begun = looked_begun w r b (eqb k 0) (busy (ap is_idle is));
+            held = subst (λ (vs : List ℕ). AllHeld vs replied m.readers) (sym (set-get_or m.words (pin 34 r) 0)) a.held;
+            begun = looked_begun w r b (eqb k 0) (a.begun (ap is_idle is));
           },
           looked_tells replied (suc r) (eqb k 0),
         ),
         tt,
       )
-  write_goes m p l b replied all busy (Filling k) is =
+  write_goes m p l b replied a (Filling k) is =
       let w = m.writer in
       let place' : ℕ = place 34 (other w.side) k in
       let x : ℕ = get_or (sheet m.ledger.opening w.taken) k 0 in
@@ -236,14 +236,14 @@ module _ (Legal : Opening → List Command → Type 0) where
                 (λ r s readings beside i lt.
                 let here : s ≡ w.side = dite (ℕ_discrete s w.side) (λ z. z) (λ ne. absurd (all_at w.seen_out r f.1.0 (beside.late ne))) in
                 get_or-set_other m.words place' (place 34 s i) x 0 (subst (λ (z : ℕ). place 34 z i ≢ place') (sym here) (place_apart w.side i k o.two lt f.0)))
-                replied all;
-            begun = λ _. busy (ap is_idle is);
+                replied a.held;
+            begun = λ _. a.begun (ap is_idle is);
           },
           tt,
         ),
         tt,
       )
-  write_goes m p l b replied all busy Swapping is =
+  write_goes m p l b replied a Swapping is =
       let w = m.writer in
       let whole = l.whole (ap is_idle is) in
       let long : length m.ledger.journal ≡ length w.taken = ap (length {A = Command}) (sym whole) in (
@@ -252,12 +252,12 @@ module _ (Legal : Opening → List Command → Type 0) where
             register = ap (λ (z : ℕ). let s : Sequential = record { ledger = m.ledger; published = z } in s) long;
             held = all_held_on m p l (set m.words 0 (other w.side))
                 (λ r s readings beside i lt. get_or-set_other m.words 0 (place 34 s i) (other w.side) 0 (λ z. let g = place_above s i in omega arith))
-                replied all;
+                replied a.held;
             begun = λ e. absurd (true_not_false e);
           },
           ap (λ (z : ℕ). published z ∷ []) long,
         ),
-        busy (ap is_idle is),
+        a.begun (ap is_idle is),
       )
 
   abbrev PublishGoes : TwoCopies → Bool → (ℕ → Option Reply) → Bool → Bool → Type 0
@@ -272,15 +272,15 @@ module _ (Legal : Opening → List Command → Type 0) where
       let ge = ltb-false (length m.writer.published) (length m.ledger.journal) none in
       omega (arith, length-append m.writer.published l.state.writer.begins.0, length-append m.writer.taken l.extends.0)
 
-  publish_goes : (m : TwoCopies) (p : Passes) → IsLawful Legal m p → (b : Bool) (replied : ℕ → Option Reply) → AllHeld m.words replied m.readers → (is_idle m.writer.phase ≡ false → b ≡ true)
+  publish_goes : (m : TwoCopies) (p : Passes) → IsLawful Legal m p → (b : Bool) (replied : ℕ → Option Reply) → Agrees (thread m replied b) m
       → (idle pending : Bool) → is_idle m.writer.phase ≡ idle → is_pending m ≡ pending → PublishGoes m b replied idle pending
-  publish_goes m p l b replied all busy false pending is now = (record { register = refl; held = all; begun = busy }, refl)
-  publish_goes m p l b replied all busy true true is now = (record { register = refl; held = all; begun = λ _. refl }, refl)
-  publish_goes m p l b replied all busy true false is now =
+  publish_goes m p l b replied a false pending is now = (a, refl)
+  publish_goes m p l b replied a true true is now = (record { register = refl; held = a.held; begun = λ _. refl }, refl)
+  publish_goes m p l b replied a true false is now =
       let long = not_pending m p l now in (
         record {
           register = ap (λ (z : ℕ). let s : Sequential = record { ledger = m.ledger; published = z } in s) long;
-          held = all;
+          held = a.held;
           begun = λ e. absurd (true_not_false (sym is ∙ e));
         },
         ap (λ (z : ℕ). published z ∷ []) long,
@@ -298,35 +298,31 @@ module _ (Legal : Opening → List Command → Type 0) where
       let replies = sequential.submitted (sequential_of m) command v in
       Agrees (record { register = replies.0; replied = replied; begun = begun_after b after.1 }) after.0 × Tells (replies.1 ∷ []) replied after.1
 
-  verdict_goes : (m : TwoCopies) (b : Bool) (replied : ℕ → Option Reply) → AllHeld m.words replied m.readers → (is_idle m.writer.phase ≡ false → b ≡ true) → (command : Command)
-      → (v : Result ⊤ Refusal) → VerdictGoes m b replied command v
-  verdict_goes m b replied all busy command (Ok u) = (record { register = refl; held = all; begun = busy }, refl)
-  verdict_goes m b replied all busy command (Err refusal) = (record { register = refl; held = all; begun = busy }, refl)
+  verdict_goes : (m : TwoCopies) (b : Bool) (replied : ℕ → Option Reply) → Agrees (thread m replied b) m → (command : Command) → (v : Result ⊤ Refusal) → VerdictGoes m b replied command v
+  verdict_goes m b replied a command (Ok u) = (record { register = refl; held = a.held; begun = a.begun }, refl)
+  verdict_goes m b replied a command (Err refusal) = (record { register = refl; held = a.held; begun = a.begun }, refl)
 
-  submit_goes : (m : TwoCopies) (b : Bool) (replied : ℕ → Option Reply) → AllHeld m.words replied m.readers → (is_idle m.writer.phase ≡ false → b ≡ true) → (command : Command)
-      → (idle : Bool) → SubmitGoes m b replied command idle
-  submit_goes m b replied all busy command false = (record { register = refl; held = all; begun = busy }, refl)
-  submit_goes m b replied all busy command true = verdict_goes m b replied all busy command (verdict_of m.ledger command)
+  submit_goes : (m : TwoCopies) (b : Bool) (replied : ℕ → Option Reply) → Agrees (thread m replied b) m → (command : Command) → (idle : Bool) → SubmitGoes m b replied command idle
+  submit_goes m b replied a command false = (a, refl)
+  submit_goes m b replied a command true = verdict_goes m b replied a command (verdict_of m.ledger command)
 
-  reader_goes : (m : TwoCopies) (p : Passes) → IsLawful Legal m p → (b : Bool) (replied : ℕ → Option Reply) → AllHeld m.words replied m.readers → (is_idle m.writer.phase ≡ false → b ≡ true)
-      → (r : ℕ) (o : Option Stage) → slice_get m.readers r ≡ o
+  reader_goes : (m : TwoCopies) (p : Passes) → IsLawful Legal m p → (b : Bool) (replied : ℕ → Option Reply) → Agrees (thread m replied b) m → (r : ℕ) (o : Option Stage) → slice_get m.readers r ≡ o
       → Goes m b (reader_effect o) (reader_turn m r o).1 (reader_turn m r o).0 replied (λ k. replied_to (thread m replied b) (suc r) o k)
-  reader_goes m p l b replied all busy r None at = (record { register = refl; held = all; begun = busy }, refl)
-  reader_goes m p l b replied all busy r (Some stage) at = read_goes m p l b replied all busy r stage at
+  reader_goes m p l b replied a r None at = (a, refl)
+  reader_goes m p l b replied a r (Some stage) at = read_goes m p l b replied a r stage at
 
   abbrev EventGoes : Thread → TwoCopies → Event → Type 0
   EventGoes t m event = Agrees (beside t m event) (turn m event).0 × Answers t m event
 
-  event_goes : (m : TwoCopies) (p : Passes) → IsLawful Legal m p → (b : Bool) (replied : ℕ → Option Reply) → AllHeld m.words replied m.readers → (is_idle m.writer.phase ≡ false → b ≡ true)
-      → (event : Event) → EventGoes (thread m replied b) m event
-  event_goes m p l b replied all busy (Submit command) = let g = submit_goes m b replied all busy command (is_idle m.writer.phase) in (g.0, (g.1, tt))
-  event_goes m p l b replied all busy Publish = let g = publish_goes m p l b replied all busy (is_idle m.writer.phase) (is_pending m) refl refl in (g.0, (g.1, tt))
-  event_goes m p l b replied all busy Writer = let g = write_goes m p l b replied all busy m.writer.phase refl in (g.0.0, (g.0.1, g.1))
-  event_goes m p l b replied all busy (Reader zero) = (record { register = refl; held = all; begun = busy }, (refl, tt))
-  event_goes m p l b replied all busy (Reader (suc r)) = let g = reader_goes m p l b replied all busy r (slice_get m.readers r) refl in (g.0, (g.1, tt))
+  event_goes : (m : TwoCopies) (p : Passes) → IsLawful Legal m p → (b : Bool) (replied : ℕ → Option Reply) → Agrees (thread m replied b) m → (event : Event) → EventGoes (thread m replied b) m event
+  event_goes m p l b replied a (Submit command) = let g = submit_goes m b replied a command (is_idle m.writer.phase) in (g.0, (g.1, tt))
+  event_goes m p l b replied a Publish = let g = publish_goes m p l b replied a (is_idle m.writer.phase) (is_pending m) refl refl in (g.0, (g.1, tt))
+  event_goes m p l b replied a Writer = let g = write_goes m p l b replied a m.writer.phase refl in (g.0.0, (g.0.1, g.1))
+  event_goes m p l b replied a (Reader zero) = (a, (refl, tt))
+  event_goes m p l b replied a (Reader (suc r)) = let g = reader_goes m p l b replied a r (slice_get m.readers r) refl in (g.0, (g.1, tt))
 
   -- an event keeps the machine in agreement with the register of one thread, and tells what that register replies
   pub event_agrees : (m : TwoCopies) (p : Passes) → IsLawful Legal m p → (t : Thread) → Agrees t m → (event : Event) → EventGoes t m event
   event_agrees m p l t a event =
       subst (λ (s : Sequential). EventGoes (let z : Thread = record { register = s; replied = t.replied; begun = t.begun } in z) m event) (sym a.register)
-      (event_goes m p l t.begun t.replied a.held a.begun event)
+      (event_goes m p l t.begun t.replied record { register = refl; held = a.held; begun = a.begun } event)

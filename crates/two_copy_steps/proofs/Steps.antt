@@ -139,31 +139,59 @@ module _ (L : Ledger) (W : List ℕ) (s n : ℕ) (t : List ℕ) (ph : Phase) (so
         ap (λ (commands : List Command). let m : TwoCopies = record old { writer = record { side = s; published = take n L.journal; taken = commands; phase = cond (all_true so) (Filling 0) Seeing; seen_out = so } } in m) (take-length L.journal)
         ∙ (ap (λ (b : Bool). (published_by old b).0) (sym is) ∙ ap (λ (b : Bool). (cond b (published_by old (is_pending old)) (old, Skipped)).0) (sym idle))
 
-    -- what is kept is lawful after an event, if it is the machine after that event
-    pub stays : (event : Event) (W' : List ℕ) (s' n' : ℕ) (t' : List ℕ) (ph' : Phase) (so' : List Bool) (R' : List Stage) → seen_as L W' s' n' t' ph' so' R' ≡ (turn old event).0
-        → n' ≤ length L.journal → front_of t' ≤ length L.journal → t' ≡ sheet L.opening (take (front_of t') L.journal) → length R' ≡ length R
-        → IsLawful IsPublishable (turn old event).0 (passed old p event) → IsMachine L W' s' n' t' ph' so' R'
-    stays event W' s' n' t' ph' so' R' is within taken sheet_is long l =
+    -- what is kept after an event: the machine then, lawful, with as many readers, and as taken last the sheet of some commands of the journal
+    record KeptAfter (event : Event) (words : List ℕ) (side published : ℕ) (taken : List ℕ) (phase : Phase) (seen_out : List Bool) (readers : List Stage) : Type 0 where
+      pub machine : seen_as L words side published taken phase seen_out readers ≡ (turn old event).0
+      pub published_within : published ≤ length L.journal
+      pub taken_within : front_of taken ≤ length L.journal
+      pub sheet_is : taken ≡ sheet L.opening (take (front_of taken) L.journal)
+      pub as_many : length readers ≡ length R
+      pub lawful : IsLawful IsPublishable (turn old event).0 (passed old p event)
+
+    stays : (event : Event) (W' : List ℕ) (s' n' : ℕ) (t' : List ℕ) (ph' : Phase) (so' : List Bool) (R' : List Stage) → KeptAfter event W' s' n' t' ph' so' R' → IsMachine L W' s' n' t' ph' so' R'
+    stays event W' s' n' t' ph' so' R' h =
         record {
-          published_within = within;
-          taken_within = taken;
-          sheet_is = sheet_is;
-          few = subst (λ (x : ℕ). x ≤ 4) (sym long) k.few;
-          lawful = (passed old p event, subst (λ (m : TwoCopies). IsLawful IsPublishable m (passed old p event)) (sym is) l);
+          published_within = h.published_within;
+          taken_within = h.taken_within;
+          sheet_is = h.sheet_is;
+          few = subst (λ (x : ℕ). x ≤ 4) (sym h.as_many) k.few;
+          lawful = (passed old p event, subst (λ (m : TwoCopies). IsLawful IsPublishable m (passed old p event)) (sym h.machine) h.lawful);
         }
 
     -- the writer's steps
     pub writer_stays : (W' : List ℕ) (s' n' : ℕ) (ph' : Phase) (so' : List Bool) → seen_as L W' s' n' t ph' so' R ≡ (turn old Writer).0 → n' ≤ length L.journal → IsMachine L W' s' n' t ph' so' R
-    writer_stays W' s' n' ph' so' is within = stays Writer W' s' n' t ph' so' R is within k.taken_within k.sheet_is refl (written_keeps IsPublishable old p k.lawful.1)
+    writer_stays W' s' n' ph' so' is within =
+        stays Writer W' s' n' t ph' so' R record {
+          machine = is;
+          published_within = within;
+          taken_within = k.taken_within;
+          sheet_is = k.sheet_is;
+          as_many = refl;
+          lawful = written_keeps IsPublishable old p k.lawful.1;
+        }
 
-    pub reader_stays : (number : ℕ) (W' : List ℕ) (R' : List Stage) → seen_as L W' s n t ph so R' ≡ (turn old (Reader number)).0 → length R' ≡ length R → IsMachine L W' s n t ph so R'
-    reader_stays number W' R' is long = stays (Reader number) W' s n t ph so R' is k.published_within k.taken_within k.sheet_is long (step_keeps IsPublishable old p k.lawful.1 number)
+    reader_stays : (number : ℕ) (W' : List ℕ) (R' : List Stage) → seen_as L W' s n t ph so R' ≡ (turn old (Reader number)).0 → length R' ≡ length R → IsMachine L W' s n t ph so R'
+    reader_stays number W' R' is long =
+        stays (Reader number) W' s n t ph so R' record {
+          machine = is;
+          published_within = k.published_within;
+          taken_within = k.taken_within;
+          sheet_is = k.sheet_is;
+          as_many = long;
+          lawful = step_keeps IsPublishable old p k.lawful.1 number;
+        }
 
     pub publish_stays : (t' : List ℕ) (ph' : Phase) → t' ≡ sheet_of L → IsPublishable L.opening L.journal → seen_as L W s n t' ph' so R ≡ (turn old Publish).0 → IsMachine L W s n t' ph' so R
     publish_stays t' ph' e legal is =
         let front : front_of t' ≡ length L.journal = ap front_of e in
-        stays Publish W s n t' ph' so R is k.published_within (omega arith)
-        (e ∙ ap (sheet L.opening) (sym (take-length L.journal) ∙ ap (λ (x : ℕ). take x L.journal) (sym front))) refl (publish_keeps IsPublishable old p k.lawful.1 legal)
+        stays Publish W s n t' ph' so R record {
+          machine = is;
+          published_within = k.published_within;
+          taken_within = omega arith;
+          sheet_is = e ∙ ap (sheet L.opening) (sym (take-length L.journal) ∙ ap (λ (x : ℕ). take x L.journal) (sym front));
+          as_many = refl;
+          lawful = publish_keeps IsPublishable old p k.lawful.1 legal;
+        }
 
     -- a command is accepted
     pub submitted_in : (L' : Ledger) (command : Command) → L' ≡ appended L command → seen_as L' W s n t ph so R ≡ (let m : TwoCopies = record old { ledger = appended L command } in m)
@@ -293,18 +321,28 @@ started_in L readers =
       readers = replicate readers AtRest;
     } in m
 
-pub start_is : (L : Ledger) (readers : ℕ) (W : List ℕ) (n : ℕ) (t : List ℕ) (so : List Bool) (R : List Stage) → readers ≤ 4 → IsPublishable L.opening L.journal
-    → W ≡ 0 ∷ sheet_of L ++ sheet_of L ++ replicate readers 0 → n ≡ length L.journal → t ≡ sheet_of L → so ≡ replicate readers true → R ≡ replicate readers AtRest
+-- what the machine keeps at its start: both copies have the register's sheet, all of it is published, and all readers are seen out and at rest
+pub record AtStart (ledger : Ledger) (readers : ℕ) (words : List ℕ) (published : ℕ) (taken : List ℕ) (seen_out : List Bool) (stages : List Stage) : Type 0 where
+  pub few : readers ≤ 4
+  pub legal : IsPublishable ledger.opening ledger.journal
+  pub words_are : words ≡ 0 ∷ sheet_of ledger ++ sheet_of ledger ++ replicate readers 0
+  pub published_all : published ≡ length ledger.journal
+  pub taken_all : taken ≡ sheet_of ledger
+  pub all_out : seen_out ≡ replicate readers true
+  pub all_rest : stages ≡ replicate readers AtRest
+
+pub start_is : (L : Ledger) (readers : ℕ) (W : List ℕ) (n : ℕ) (t : List ℕ) (so : List Bool) (R : List Stage) → AtStart L readers W n t so R
     → (seen_as L W 0 n t Idle so R ≡ started L readers) × IsMachine L W 0 n t Idle so R
-start_is L readers W n t so R few legal w e x f r =
-    let is : seen_as L W 0 n t Idle so R ≡ started L readers = (λ i. seen_as L (w i) 0 (e i) (x i) Idle (f i) (r i)) ∙ started_in L readers in
-    let front : front_of t ≡ length L.journal = ap front_of x in (
+start_is L readers W n t so R h =
+    let is : seen_as L W 0 n t Idle so R ≡ started L readers = (λ i. seen_as L (h.words_are i) 0 (h.published_all i) (h.taken_all i) Idle (h.all_out i) (h.all_rest i)) ∙ started_in L readers in
+    let all : n ≡ length L.journal = h.published_all in
+    let front : front_of t ≡ length L.journal = ap front_of h.taken_all in (
       is,
       record {
         published_within = omega arith;
         taken_within = omega arith;
-        sheet_is = x ∙ ap (sheet L.opening) (sym (take-length L.journal) ∙ ap (λ (y : ℕ). take y L.journal) (sym front));
-        few = subst (λ (y : ℕ). y ≤ 4) (sym (ap (length {A = Stage}) r ∙ length-replicate readers AtRest)) few;
-        lawful = (opened L readers, subst (λ (m : TwoCopies). IsLawful IsPublishable m (opened L readers)) (sym is) (start_lawful IsPublishable L readers legal));
+        sheet_is = h.taken_all ∙ ap (sheet L.opening) (sym (take-length L.journal) ∙ ap (λ (y : ℕ). take y L.journal) (sym front));
+        few = subst (λ (y : ℕ). y ≤ 4) (sym (ap (length {A = Stage}) h.all_rest ∙ length-replicate readers AtRest)) h.few;
+        lawful = (opened L readers, subst (λ (m : TwoCopies). IsLawful IsPublishable m (opened L readers)) (sym is) (start_lawful IsPublishable L readers h.legal));
       },
     )

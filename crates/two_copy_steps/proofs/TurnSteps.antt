@@ -184,17 +184,22 @@ module _ (Legal : Opening → List Command → Type 0) where
   not_other zero e = omega arith
   not_other (suc s) e = omega arith
 
-  none_there : (m : TwoCopies) (p : Passes) → IsLawful Legal m p → (phase : Phase) → m.writer.phase ≡ phase → (side r : ℕ) (stage : Stage) → side_filled m.writer.side phase ≡ Some side
-      → slice_get m.readers r ≡ Some stage → side_held stage ≡ Some side → ⊥
-  none_there m p l Idle is side r stage e at held = none-some side e
-  none_there m p l Seeing is side r stage e at held = none-some side e
-  none_there m p l Swapping is side r stage e at held = none-some side e
-  none_there m p l (Filling k) is side r stage e at held =
-      let ok = l.state.each_reader r (view_at stage (record_at p.records r)) (viewed_at m.readers p.records r stage at) in
-      let b = held_beside m p l side r stage ok.stands held in
+  -- the reader at r holds the copy that a side names
+  record Holds (m : TwoCopies) (side r : ℕ) : Type 0 where
+    pub stage : Stage
+    pub at : slice_get m.readers r ≡ Some stage
+    pub held : side_held stage ≡ Some side
+
+  none_there : (m : TwoCopies) (p : Passes) → IsLawful Legal m p → (phase : Phase) → m.writer.phase ≡ phase → (side r : ℕ) → side_filled m.writer.side phase ≡ Some side → Holds m side r → ⊥
+  none_there m p l Idle is side r e h = none-some side e
+  none_there m p l Seeing is side r e h = none-some side e
+  none_there m p l Swapping is side r e h = none-some side e
+  none_there m p l (Filling k) is side r e h =
+      let ok = l.state.each_reader r (view_at h.stage (record_at p.records r)) (viewed_at m.readers p.records r h.stage h.at) in
+      let b = held_beside m p l side r h.stage ok.stands h.held in
       let same : side ≡ m.writer.side = no_reader_there m.ledger.opening (Legal m.ledger.opening) (state_of m p) k l.state is r side (record_at p.records r) b in
       not_other m.writer.side (sym same ∙ sym (same_Some (other m.writer.side) side e))
 
   -- no word is stored under a reader
   pub none_under : (m : TwoCopies) (p : Passes) → IsLawful Legal m p → NoneUnder m
-  none_under m p l side r stage e at held = none_there m p l m.writer.phase refl side r stage e at held
+  none_under m p l side r stage e at held = none_there m p l m.writer.phase refl side r e record { stage = stage; at = at; held = held }
