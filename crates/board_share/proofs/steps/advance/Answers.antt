@@ -2,7 +2,9 @@ use Rattle.board_share.proofs.Passes.{left}
 use Rattle.board_share.proofs.steps.advance.Goals as goal
 
 pub returns-clause-seat : goal.returns-clause-seat
-returns-clause-seat c = left _ _ _ _ _ _ c.requires.reader _ _ c.touch-found.ensures.table c.touch-found.ensures.step (c.advance.ensures.stage c.args.r)
+returns-clause-seat c =
+    left _ _ _ _ _ _ c.requires.reader _ _ record { same = c.touch-found.ensures.table; next = c.touch-found.ensures.step; stage_is = c.advance.ensures.stage c.args.r }
 
 pub returns-in_err-sheet-clause-seat : goal.returns-in_err-sheet-clause-seat
-returns-in_err-sheet-clause-seat c = left _ _ _ _ _ _ c.requires.reader _ _ c.touch-found.ensures.table c.touch-found.ensures.step (c.advance.ensures.stage c.args.r)
+returns-in_err-sheet-clause-seat c =
+    left _ _ _ _ _ _ c.requires.reader _ _ record { same = c.touch-found.ensures.table; next = c.touch-found.ensures.step; stage_is = c.advance.ensures.stage c.args.r }

@@ -8,4 +8,4 @@ store-requires c =
     (h.same, subst (λ (place : ℕ). place < c.args.board.now.shared.table_id.words) (sym c.pin.ensures.same) h.within, stores _ _ _ _ _ h _ _ _ _ c.pin.ensures.same (λ n. refl) (λ n. refl))
 
 pub returns : goal.returns
-returns c = left _ _ _ _ _ _ c.requires _ _ c.store.ensures.0 c.store.ensures.2 refl
+returns c = left _ _ _ _ _ _ c.requires _ _ record { same = c.store.ensures.0; next = c.store.ensures.2; stage_is = refl }

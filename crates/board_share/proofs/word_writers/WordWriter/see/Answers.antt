@@ -30,10 +30,22 @@ set-requires-clause-few g c =
     omega arith
 
 pub invariant_of-self : goal.invariant_of-self
-invariant_of-self g c = gave_up _ _ _ _ _ _ _ _ c.self.invariant _ _ _ _ (c.requires.list ∙ ap (λ (d : Desk). d.due) (sym c.self.view_is)) (ap (λ (d : Desk). (known_at d).state.phase) c.self.view_is ∙ c.requires.phase) c.load-found.ensures.table c.load-found.ensures.view c.if-found-ne0.true
+invariant_of-self g c =
+    gave_up _ _ _ _ _ _ _ _ c.self.invariant _ _ _ _ record {
+      due = c.requires.list ∙ ap (λ (d : Desk). d.due) (sym c.self.view_is);
+      phase_is = ap (λ (d : Desk). (known_at d).state.phase) c.self.view_is ∙ c.requires.phase;
+      same = c.load-found.ensures.table;
+      next = c.load-found.ensures.view;
+    } c.if-found-ne0.true
 
 pub invariant_of-self-2 : goal.invariant_of-self-2
-invariant_of-self-2 g c = saw_out _ _ _ _ _ _ _ _ c.self.invariant _ _ _ _ _ _ (c.requires.list ∙ ap (λ (d : Desk). d.due) (sym c.self.view_is)) (ap (λ (d : Desk). (known_at d).state.phase) c.self.view_is ∙ c.requires.phase) c.load-found.ensures.table c.load-found.ensures.view c.if-found-ne0.false c.first_false-r.ensures c.set.ensures
+invariant_of-self-2 g c =
+    saw_out _ _ _ _ _ _ _ _ c.self.invariant _ _ _ _ _ _ record {
+      due = c.requires.list ∙ ap (λ (d : Desk). d.due) (sym c.self.view_is);
+      phase_is = ap (λ (d : Desk). (known_at d).state.phase) c.self.view_is ∙ c.requires.phase;
+      same = c.load-found.ensures.table;
+      next = c.load-found.ensures.view;
+    } c.if-found-ne0.false c.first_false-r.ensures c.set.ensures
 
 pub returns-then-found-ne0 : goal.returns-then-found-ne0
 returns-then-found-ne0 g c =

@@ -1,0 +1,24 @@
+-- One access of a seat to the words, and the deed that it does.
+use Rattle.std.proofs.Common.{◌≡◌, ℕ}
+use mathlib.Core.Option as maybe
+use Rattle.atomic_table.specs.Table.{Step, step}
+use Rattle.two_copy_steps.specs.Deeds.{Deed}
+
+-- the table's step, its word, and what that word becomes and what the seat is told, the last two by the number found there
+pub record SeatAccess : Type 0 where
+  pub taken : Step Unit
+  pub word : ℕ
+  pub becomes : ℕ → ℕ
+  pub told : ℕ → ℕ
+
+-- a load tells what it found, and a store what it stored
+abbrev pub load_of : ℕ → ℕ → SeatAccess
+load_of slots i = record { taken = step slots i 0 0 maybe.none; word = i; becomes = λ n. n; told = λ n. n }
+
+abbrev pub store_of : ℕ → ℕ → ℕ → SeatAccess
+store_of slots i x = record { taken = step slots i x 0 maybe.none; word = i; becomes = λ _. x; told = λ _. x }
+
+-- an access does what a deed does: its word becomes the same, and what is told leads where the number found does
+pub record Does {V : Type 0} (deed : Deed V) (access : SeatAccess) : Type 0 where
+  pub becomes : (n : ℕ) → access.becomes n ≡ deed.becomes n
+  pub leads : (n : ℕ) → deed.after (access.told n) ≡ deed.after n
