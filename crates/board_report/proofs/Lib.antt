@@ -1,3 +1,4 @@
+pub mod PlaceFacts
 pub mod PlayFacts
 pub mod FieldFacts
 pub mod ScriptFacts

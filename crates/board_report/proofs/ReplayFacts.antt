@@ -122,17 +122,24 @@ plays-failed_input (Some bytes) a e d lim play same p = plays-failed a e d play 
 pub some-failed : (a : Option (List ℕ)) (e d : Stop) (lim : Limits) (play : Begun → Run) → d ≡ e → (bytes : List ℕ) × Fails e (begun_of lim bytes) → (bytes : List ℕ) × Plays a a (Err d) (begun_run play (begun_of lim bytes))
 some-failed a e d lim play same p = (p.0, plays-failed a e d play (begun_of lim p.0) same p.1)
 
-pub some-played : (a b : Option (List ℕ)) (r : Result (Unit {0}) Stop) (lim : Limits) (play : Begun → Run) (text read : List ℕ) → in_range lim ≡ true → text ≡ read → length read ≤ 4194304
+-- a text that was read: an input that is not too long, where the limits are in range
+pub record TextRead (lim : Limits) (text : List ℕ) : Type 0 where
+  pub input : List ℕ
+  pub fits : in_range lim ≡ true
+  pub same : text ≡ input
+  pub short : length input ≤ 4194304
+
+pub some-played : (a b : Option (List ℕ)) (r : Result (Unit {0}) Stop) (lim : Limits) (play : Begun → Run) (text : List ℕ) → TextRead lim text
     → Plays a b r (begun_run play (begun_with lim (opened_of (records default_config (strip_bom text))))) → (bytes : List ℕ) × Plays a b r (begun_run play (begun_of lim bytes))
-some-played a b r lim play text read fits same short p = (read, rw (begun-records lim read fits short, ← same) p)
+some-played a b r lim play text read p = (read.input, rw (begun-records lim read.input read.fits read.short, ← read.same) p)
 
 -- the text that was read is the input
-pub played-input : (o a b : Option (List ℕ)) (r : Result (Unit {0}) Stop) (lim : Limits) (play : Begun → Run) (text read : List ℕ) → in_range lim ≡ true → text ≡ read
-    → length read ≤ 4194304 → IfSome o (λ bytes. read ≡ bytes) → Plays a b r (begun_run play (begun_with lim (opened_of (records default_config (strip_bom text)))))
+pub played-input : (o a b : Option (List ℕ)) (r : Result (Unit {0}) Stop) (lim : Limits) (play : Begun → Run) (text : List ℕ) (read : TextRead lim text)
+    → IfSome o (λ bytes. read.input ≡ bytes) → Plays a b r (begun_run play (begun_with lim (opened_of (records default_config (strip_bom text)))))
     → IfSome o (λ bytes. Plays a b r (begun_run play (begun_of lim bytes)))
-played-input None a b r lim play text read fits same short whole p = tt
-played-input (Some bytes) a b r lim play text read fits same short whole p =
-    rw (← whole, begun-records lim read fits short, ← same) p
+played-input None a b r lim play text read whole p = tt
+played-input (Some bytes) a b r lim play text read whole p =
+    rw (← whole, begun-records lim read.input read.fits read.short, ← read.same) p
 
 pub line-then : (a b c : Option (List ℕ)) (ls : List Line) (l : Line) → Appends a b (text_of ls) → Appends b c (line_text l) → Appends a c (text_of (ls ++ l ∷ []))
 line-then a b c ls l p q = lines-then a b c ls (l ∷ []) p (appends-same b c _ _ (sym (append-nil (line_text l))) q)
@@ -166,6 +173,12 @@ told-ends a b c f g run told p (inr e) =
     let P : List ℕ → Type 0 = λ t. AppendsFront a c t in
     inr (inr (e.0, (output run, inl refl, subst P (sym same) (front-then a b c run.lines (fault_line f) p e.1))))
 
+-- what stopped a run has a fault, and its line was written, or cut
+pub record FaultTold (b c : Option (List ℕ)) (s : Stop) (g : Fault) : Type 0 where
+  pub fault : Fault
+  pub stopped_by : fault_of s ≡ Some fault
+  pub ends : Ends b c fault g
+
 -- a run that was stopped, and the line of its fault
 ended-run : (a b c : Option (List ℕ)) (s : Stop) (f g : Fault) (run : Run) → StopsIn a b s run → fault_of s ≡ Some f → Ends b c f g → Replays a c (Err g) run
 ended-run a b c stop.OutOfMemory f g run p e q = let same : f ≡ fault_at why.OutOfMemory 0 = cc in broken-ends a b c f g run (inl same) p q
@@ -174,10 +187,10 @@ ended-run a b c stop.WriteFault f g run p e q = cc e
 ended-run a b c (stop.Told h) f g run p e q = told-ends a b c f g run (p.0 ∙ e) p.1 q
 
 -- the same, where the input is known
-pub replayed : (o a b c : Option (List ℕ)) (s : Stop) (f g : Fault) (run : List ℕ → Run) → IfSome o (λ bytes. Plays a b (Err s) (run bytes)) → fault_of s ≡ Some f → Ends b c f g
+pub replayed : (o a b c : Option (List ℕ)) (s : Stop) (g : Fault) (run : List ℕ → Run) → IfSome o (λ bytes. Plays a b (Err s) (run bytes)) → FaultTold b c s g
     → IfSome o (λ bytes. Replays a c (Err g) (run bytes))
-replayed None a b c s f g run p e q = tt
-replayed (Some bytes) a b c s f g run p e q = ended-run a b c s f g (run bytes) p e q
+replayed None a b c s g run p told = tt
+replayed (Some bytes) a b c s g run p told = ended-run a b c s told.fault g (run bytes) p told.stopped_by told.ends
 
 cut-by : (a b : Option (List ℕ)) (s : Stop) (run : Run) → fault_of s ≡ None → StopsIn a b s run → Replays a b (Err (fault_at why.WriteFault 0)) run
 cut-by a b stop.OutOfMemory run e p = cc e
@@ -191,9 +204,9 @@ replay-cut None a b s g run p e w = tt
 replay-cut (Some bytes) a b s g run p e w = rw w (cut-by a b s (run bytes) e p)
 
 -- the same of some bytes
-pub some-replayed : (a b c : Option (List ℕ)) (s : Stop) (f g : Fault) (run : List ℕ → Run) → (bytes : List ℕ) × Plays a b (Err s) (run bytes) → fault_of s ≡ Some f → Ends b c f g
+pub some-replayed : (a b c : Option (List ℕ)) (s : Stop) (g : Fault) (run : List ℕ → Run) → (bytes : List ℕ) × Plays a b (Err s) (run bytes) → FaultTold b c s g
     → (bytes : List ℕ) × Replays a c (Err g) (run bytes)
-some-replayed a b c s f g run p e q = (p.0, ended-run a b c s f g (run p.0) p.1 e q)
+some-replayed a b c s g run p told = (p.0, ended-run a b c s told.fault g (run p.0) p.1 told.stopped_by told.ends)
 
 pub some-cut : (a b : Option (List ℕ)) (s : Stop) (g : Fault) (run : List ℕ → Run) → (bytes : List ℕ) × Plays a b (Err s) (run bytes) → fault_of s ≡ None → g ≡ fault_at why.WriteFault 0
     → (bytes : List ℕ) × Replays a b (Err g) (run bytes)

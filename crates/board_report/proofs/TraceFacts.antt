@@ -1,5 +1,5 @@
 -- The lines of events, one event at a time.
-use Rattle.std.proofs.Common.{◌≡◌, ℕ, suc, ◌+◌, ◌-◌, ◌<◌, List, ◌∷◌, ◌++◌, Option, Ok, Err, replicate, refl, sym, ap, ◌∙◌, arith, append_assoc, subst}
+use Rattle.std.proofs.Common.{◌≡◌, ℕ, suc, ◌+◌, ◌-◌, ◌<◌, List, ◌∷◌, ◌++◌, Option, Ok, Err, replicate, refl, sym, ap, ◌∙◌, arith, append_assoc}
 use Rattle.std.specs.Io.KnownBytes.{Appends}
 use Rattle.two_copy_steps.specs.Turns.{TwoCopies, after, turn}
 use Rattle.two_copy_steps.specs.declared.events.Event.{Event}
@@ -8,7 +8,7 @@ use Rattle.board_report.specs.Output.{Plays}
 use Rattle.board_report.specs.Text.{prints, text_of}
 use Rattle.board_report.specs.Traces.{told}
 use Rattle.board_report.specs.declared.stops.Stop.{Stop}
-use Rattle.board_report.proofs.PlayFacts.{lines-then, plays-more, plays-whole}
+use Rattle.board_report.proofs.PlayFacts.{PlayedTo, lines-then, plays-more, plays-passed, plays-whole}
 
 -- one event fewer is left
 events-left : (n i : ℕ) (e : Event) → i < n → replicate (n - i) e ≡ e ∷ replicate (n - (i + 1)) e
@@ -34,7 +34,7 @@ module _ (m : TwoCopies) (e : Event) (n i : ℕ) (within : i < n) where
 
     pub told-stops : (s d : Stop) → d ≡ s → Plays b c (Err s) (prints (note_lines (turn m e).1)) → Plays a c (Err d) (prints whole)
     told-stops s d same p =
-        let P : Stop → Type 0 = λ t. Plays a c (Err t) (prints whole) in
         let rest = told (turn m e).0 (replicate (n - (i + 1)) e) in
-        subst P (sym same) (plays-whole a b c done (Err s) (prints whole) (prints (note_lines (turn m e).1 ++ rest)) so_far
-        (ap prints (parts ∙ ap (λ ls. done ++ ls) told-left)) (plays-more b c s (note_lines (turn m e).1) (prints rest) p))
+        let played : PlayedTo a b (prints whole) (prints (note_lines (turn m e).1 ++ rest)) =
+        record { lines = done; written = so_far; goes_on = ap prints (parts ∙ ap (λ ls. done ++ ls) told-left) } in
+        plays-passed a c s d (prints whole) same (plays-whole a b c (Err s) _ _ played (plays-more b c s (note_lines (turn m e).1) (prints rest) p))

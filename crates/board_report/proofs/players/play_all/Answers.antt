@@ -10,8 +10,8 @@ returns-in_default-to_fault-clause-wrote g c =
 
 pub returns-clause-wrote : goal.returns-clause-wrote
 returns-clause-wrote g c =
-    replayed (g.R.Read.remaining c.args.input.now) c.args.out.now.held c.play_input.new.out.held c.end_with.new.out.held
-    c.in-Err.stop c.in-Some.fault c.end_with.result (played_run g.P.Player.opened g.P.Player.step c.args.limits) c.in-Err.ensures.wrote (sym c.in-Some.ensures.same) c.end_with.ensures.ends
+    replayed (g.R.Read.remaining c.args.input.now) c.args.out.now.held c.play_input.new.out.held c.end_with.new.out.held c.in-Err.stop c.end_with.result
+    (played_run g.P.Player.opened g.P.Player.step c.args.limits) c.in-Err.ensures.wrote (record { fault = c.in-Some.fault; stopped_by = sym c.in-Some.ensures.same; ends = c.end_with.ensures.ends })
 
 pub returns-in_default-to_fault-clause-some : goal.returns-in_default-to_fault-clause-some
 returns-in_default-to_fault-clause-some g c =
@@ -20,5 +20,5 @@ returns-in_default-to_fault-clause-some g c =
 
 pub returns-clause-some : goal.returns-clause-some
 returns-clause-some g c =
-    some-replayed c.args.out.now.held c.play_input.new.out.held c.end_with.new.out.held
-    c.in-Err.stop c.in-Some.fault c.end_with.result (played_run g.P.Player.opened g.P.Player.step c.args.limits) c.in-Err.ensures.some (sym c.in-Some.ensures.same) c.end_with.ensures.ends
+    some-replayed c.args.out.now.held c.play_input.new.out.held c.end_with.new.out.held c.in-Err.stop c.end_with.result
+    (played_run g.P.Player.opened g.P.Player.step c.args.limits) c.in-Err.ensures.some (record { fault = c.in-Some.fault; stopped_by = sym c.in-Some.ensures.same; ends = c.end_with.ensures.ends })

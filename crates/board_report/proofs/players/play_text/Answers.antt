@@ -1,10 +1,9 @@
-use Rattle.std.proofs.Common.{List, [], inl, refl, subst}
-use Rattle.std.proofs.KnownBytes.{Appends-nil}
+use Rattle.std.proofs.Common.{List, inl, subst}
 use Rattle.std.proofs.lemmas.Result.{err_from_is_err_and}
 use Rattle.board_report.specs.Output.{Fails}
 use Rattle.board_report.specs.Requests.{Row}
 use Rattle.board_report.specs.Text.{begun_with, opened_of, played}
-use Rattle.board_report.proofs.PlayFacts.{plays-broken}
+use Rattle.board_report.proofs.PlayFacts.{played-none, plays-broken, plays-passed}
 use Rattle.board_report.proofs.ReplayFacts.{plays-failed}
 use Rattle.board_report.proofs.players.play_text.Goals as goal
 
@@ -17,4 +16,4 @@ returns-in_err-begun-clause-wrote g c =
 pub returns-in_err-player-clause-wrote : goal.returns-in_err-player-clause-wrote
 returns-in_err-player-clause-wrote g c =
     let p = err_from_is_err_and c.from_residual-in_err-player.result c.from_residual-in_err-player.ensures.1 in
-    rw p.1 (plays-broken _ _ c.in_err-player.field-0.0 p.0 [] _ _ p.2 (inl c.in_err-player.ensures.memory) (Appends-nil _) refl)
+    rw p.1 (plays-passed _ _ c.in_err-player.field-0.0 p.0 _ p.2 (plays-broken _ _ c.in_err-player.field-0.0 _ _ (inl c.in_err-player.ensures.memory) (played-none _ _)))

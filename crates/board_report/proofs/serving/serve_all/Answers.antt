@@ -29,10 +29,10 @@ returns-clause-wrote g c =
     known-input (g.R.Read.remaining c.args.input.now) _ (
       so_far.0,
       so_far.1,
-      ended-serve _ _ _ c.in-Err.stop c.in-Some.fault c.end_with.result (plan_of c.args.journal_limit so_far.0) so_far.2 (sym c.in-Some.ensures.same) c.end_with.ensures.ends,
+      ended-serve _ _ _ c.in-Err.stop c.end_with.result (plan_of c.args.journal_limit so_far.0) so_far.2 (record { fault = c.in-Some.fault; stopped_by = sym c.in-Some.ensures.same; ends = c.end_with.ensures.ends }),
     )
 
 pub returns-clause-some : goal.returns-clause-some
 returns-clause-some g c =
     let so_far = c.in-Err.ensures.wrote in
-    (so_far.0, ended-serve _ _ _ c.in-Err.stop c.in-Some.fault c.end_with.result (plan_of c.args.journal_limit so_far.0) so_far.2 (sym c.in-Some.ensures.same) c.end_with.ensures.ends)
+    (so_far.0, ended-serve _ _ _ c.in-Err.stop c.end_with.result (plan_of c.args.journal_limit so_far.0) so_far.2 (record { fault = c.in-Some.fault; stopped_by = sym c.in-Some.ensures.same; ends = c.end_with.ensures.ends }))
