@@ -7,12 +7,56 @@ use Rattle.std.proofs.lemmas.Bool.Decides.{nat_tests}
 use Rattle.std.proofs.lemmas.List.Elements.{All-append, All-from_recursion}
 use Rattle.std.proofs.lemmas.List.Sums.{sum_by-append, sum_by-cons}
 use Rattle.council_core.specs.declared.commands.Standing.{Standing}
+use Rattle.council_core.specs.declared.totals.ChairTotals.{ChairTotals}
 use Rattle.council_core.specs.Rolls.{Roll, Entry, same_chair, standing_among, with_standing, without, entered, fresh, admitted, withdrawn, max_members, sits_in, counted, votes_in, weight, is_open, chair_word, can_receive, has_members, step, opening_roll}
 use Rattle.std.specs.Result.{result_unwrap_or}
 use Rattle.council_core.specs.declared.commands.Command.{Command}
 use Rattle.council_core.specs.Ledgers.{Ledger, roll_of, appended}
 use Rattle.council_core.specs.Registers.{Mirrors, IsKept, seated, sits_as}
 use Rattle.council_core.proofs.RollLemmas.{fold_from-push, all_accepted-push, sum_with_standing, sum_without, part_of_sum, length-with_standing, length-without, all_with_standing, all_without}
+
+-- what a register keeps beside its journal: its members, and the running numbers of the chairs
+pub record Kept : Type 0 where
+  pub entries : List Entry
+  pub totals : ChairTotals
+
+-- what is kept is what the roll says
+abbrev pub IsMirror : Roll → Kept → Type 0
+IsMirror roll kept = Mirrors roll kept.entries kept.totals.words kept.totals.counts kept.totals.total
+
+-- what is kept stands beside this ledger
+abbrev pub IsBeside : Ledger → Kept → Type 0
+IsBeside l kept = IsKept l kept.entries kept.totals.words kept.totals.counts kept.totals.total
+
+-- the running numbers lose what a standing gave them
+pub record Loss (before after : ChairTotals) (old : Standing) : Type 0 where
+  pub words : (k : ℕ) → k < 32 → slice_index after.words k + votes_in (k + 1) old ≡ slice_index before.words k
+  pub counts : (k : ℕ) → k < 32 → slice_index after.counts k + sits_as (k + 1) old ≡ slice_index before.counts k
+  pub total : after.total + counted old ≡ before.total
+
+-- the running numbers gain what a standing gives them, and its votes are in range
+pub record Gain (before after : ChairTotals) (new : Standing) : Type 0 where
+  pub words : (k : ℕ) → k < 32 → slice_index after.words k ≡ slice_index before.words k + votes_in (k + 1) new
+  pub counts : (k : ℕ) → k < 32 → slice_index after.counts k ≡ slice_index before.counts k + sits_as (k + 1) new
+  pub total : after.total ≡ before.total + counted new
+  pub high : new.votes ≤ 2 ^ 40
+
+-- in the running numbers one standing gives way to another, with votes in range
+pub record Exchange (before after : ChairTotals) (old new : Standing) : Type 0 where
+  pub words : (k : ℕ) → k < 32 → slice_index after.words k + votes_in (k + 1) old ≡ slice_index before.words k + votes_in (k + 1) new
+  pub counts : (k : ℕ) → k < 32 → slice_index after.counts k + sits_as (k + 1) old ≡ slice_index before.counts k + sits_as (k + 1) new
+  pub total : after.total + counted old ≡ before.total + counted new
+  pub high : new.votes ≤ 2 ^ 40
+
+-- a loss and then a gain are an exchange
+pub exchange : (before between after : ChairTotals) (old new : Standing) → Loss before between old → Gain between after new → Exchange before after old new
+exchange before between after old new loss gain =
+    record {
+      words = λ k h. omega (arith, loss.words k h, gain.words k h);
+      counts = λ k h. omega (arith, loss.counts k h, gain.counts k h);
+      total = omega (arith, loss.total, gain.total);
+      high = gain.high;
+    }
 
 pub no_one : (b : Bool) → ◌≡◌ {A = ℕ} (cond b 1 0) 0 → b ≡ false
 no_one true h = absurd (omega (arith, h))
@@ -94,18 +138,26 @@ is_open-closed c d (x ∷ xs) =
     any_cond (λ e. d == e) (not (c == x)) (x ∷ filter (λ e. not (c == e)) xs) (filter (λ e. not (c == e)) xs)
     ∙ closed_step c d x (list_any (λ e. d == e) (filter (λ e. not (c == e)) xs)) (list_any (λ e. d == e) xs) (is_open-closed c d xs)
 
+-- a chair's word, its weight before and after, and what a change of standing takes from both and brings to both
+record WordChange (is_open : Bool) (before after old new word next : ℕ) : Type 0 where
+  says : word ≡ cond is_open (before + 1) 0
+  weighs : after + old ≡ before + new
+  moves : next + old ≡ word + new
+  none_old : is_open ≡ false → old ≡ 0
+  none_new : is_open ≡ false → new ≡ 0
+
 -- the word after a change of standing
-changed_word : (b : Bool) (before after old new word word' : ℕ) → word ≡ cond b (before + 1) 0 → after + old ≡ before + new → word' + old ≡ word + new → (b ≡ false → old ≡ 0) → (b ≡ false → new ≡ 0) → word' ≡ cond b (after + 1) 0
-changed_word true before after old new word word' h i j p q = omega arith
-changed_word false before after old new word word' h i j p q = omega (arith, p refl, q refl)
+changed_word : (is_open : Bool) (before after old new word next : ℕ) → WordChange is_open before after old new word next → next ≡ cond is_open (after + 1) 0
+changed_word true before after old new word next w = omega (arith, w.says, w.weighs, w.moves)
+changed_word false before after old new word next w = omega (arith, w.says, w.weighs, w.moves, w.none_old refl, w.none_new refl)
 
 -- a closed chair is opened: it has no members, so its weight is 0
-pub Mirrors-open : (roll : Roll) (es : List Entry) (words counts : List ℕ) (sum : ℕ) → Mirrors roll es words counts sum → (k : ℕ) → k < 32 → k < length words → is_open roll (k + 1) ≡ false
-    → Mirrors (record roll { open_chairs = (k + 1) ∷ roll.open_chairs }) es (slice_set words k 1) counts sum
-Mirrors-open roll es words counts sum m k small within shut =
+pub Mirrors-open : (roll : Roll) (kept : Kept) → IsMirror roll kept → (k : ℕ) → k < 32 → k < length kept.totals.words → is_open roll (k + 1) ≡ false
+    → IsMirror (record roll { open_chairs = (k + 1) ∷ roll.open_chairs }) (record kept { totals = record kept.totals { words = slice_set kept.totals.words k 1 } })
+Mirrors-open roll kept m k small within shut =
     record {
       same_members = m.same_members;
-      each_word = λ j h. open_word roll words k j within (m.each_word j h) (empty_weight (k + 1) roll.members (m.closed_empty (k + 1) shut));
+      each_word = λ j h. open_word roll kept.totals.words k j within (m.each_word j h) (empty_weight (k + 1) roll.members (m.closed_empty (k + 1) shut));
       each_count = m.each_count;
       same_total = m.same_total;
       closed_empty = λ c. (elim (c == (k + 1)) as (λ b. (b || is_open roll c) ≡ false → seated roll.members c ≡ 0) [ true ↦ λ e. absurd (true≢false e) | false ↦ λ e. m.closed_empty c e ]);
@@ -119,12 +171,12 @@ closed_word : (roll : Roll) (words : List ℕ) (k j : ℕ) → k < length words 
 closed_word roll words k j within say = grind (arith, common_steps, nat_tests, say)
 
 -- an open chair with no members is closed
-pub Mirrors-close : (roll : Roll) (es : List Entry) (words counts : List ℕ) (sum : ℕ) → Mirrors roll es words counts sum → (k : ℕ) → k < 32 → k < length words → has_members roll (k + 1) ≡ false
-    → Mirrors (record roll { open_chairs = filter (λ d. not (k + 1 == d)) roll.open_chairs }) es (slice_set words k 0) counts sum
-Mirrors-close roll es words counts sum m k small within empty =
+pub Mirrors-close : (roll : Roll) (kept : Kept) → IsMirror roll kept → (k : ℕ) → k < 32 → k < length kept.totals.words → has_members roll (k + 1) ≡ false
+    → IsMirror (record roll { open_chairs = filter (λ d. not (k + 1 == d)) roll.open_chairs }) (record kept { totals = record kept.totals { words = slice_set kept.totals.words k 0 } })
+Mirrors-close roll kept m k small within empty =
     record {
       same_members = m.same_members;
-      each_word = λ j h. closed_word roll words k j within (m.each_word j h) ∙ ap (λ b. cond b (weight roll (j + 1) + 1) 0) (sym (is_open-closed (k + 1) (j + 1) roll.open_chairs));
+      each_word = λ j h. closed_word roll kept.totals.words k j within (m.each_word j h) ∙ ap (λ b. cond b (weight roll (j + 1) + 1) 0) (sym (is_open-closed (k + 1) (j + 1) roll.open_chairs));
       each_count = m.each_count;
       same_total = m.same_total;
       closed_empty = λ c shut.
@@ -137,83 +189,89 @@ Mirrors-close roll es words counts sum m k small within empty =
     }
 
 -- a member's standing is changed
-pub Mirrors-update : (roll : Roll) (es : List Entry) (words counts words' counts' : List ℕ) (sum sum' : ℕ) (code : List ℕ) (old new : Standing) → Mirrors roll es words counts sum
-    → standing_among code roll.members ≡ Some old → can_receive roll new.chair ≡ true → new.votes ≤ 2 ^ 40
-    → ((k : ℕ) → k < 32 → slice_index words' k + votes_in (k + 1) old ≡ slice_index words k + votes_in (k + 1) new)
-    → ((k : ℕ) → k < 32 → slice_index counts' k + sits_as (k + 1) old ≡ slice_index counts k + sits_as (k + 1) new)
-    → sum' + counted old ≡ sum + counted new
-    → Mirrors (record roll { members = with_standing code new roll.members }) (with_standing code new es) words' counts' sum'
-Mirrors-update roll es words counts words' counts' sum sum' code old new m found fits small words_say counts_say sum_says =
+pub Mirrors-update : (roll : Roll) (kept : Kept) → IsMirror roll kept → (code : List ℕ) (old new : Standing) → standing_among code roll.members ≡ Some old → can_receive roll new.chair ≡ true
+    → (after : ChairTotals) → Exchange kept.totals after old new
+    → IsMirror (record roll { members = with_standing code new roll.members }) (record { entries = with_standing code new kept.entries; totals = after })
+Mirrors-update roll kept m code old new known fits after x =
     record {
       same_members = ap (with_standing code new) m.same_members;
       each_word = λ k h.
-          changed_word (is_open roll (k + 1)) (weight roll (k + 1)) (sum_by (λ m. votes_in (k + 1) m.1) (with_standing code new roll.members)) (votes_in (k + 1) old) (votes_in (k + 1) new) _ _
-          (m.each_word k h) (sum_with_standing code new (votes_in (k + 1)) roll.members old found) (words_say k h)
-          (λ shut. ap (λ b. cond b (counted old) 0) (seat_is_free (k + 1) roll code old found (m.closed_empty (k + 1) shut)))
-          (λ shut. ap (λ b. cond b (counted new) 0) (seat_is_open roll new.chair (k + 1) fits shut));
-      each_count = λ k h. omega (arith, sum_with_standing code new (sits_as (k + 1)) roll.members old found, counts_say k h, m.each_count k h);
-      same_total = omega (arith, sum_with_standing code new counted roll.members old found, sum_says, m.same_total);
+          changed_word (is_open roll (k + 1)) (weight roll (k + 1)) (sum_by (λ m. votes_in (k + 1) m.1) (with_standing code new roll.members)) (votes_in (k + 1) old) (votes_in (k + 1) new) (slice_index kept.totals.words k) (slice_index after.words k)
+          (record {
+            says = m.each_word k h;
+            weighs = sum_with_standing code new (votes_in (k + 1)) roll.members old known;
+            moves = x.words k h;
+            none_old = λ shut. ap (λ b. cond b (counted old) 0) (seat_is_free (k + 1) roll code old known (m.closed_empty (k + 1) shut));
+            none_new = λ shut. ap (λ b. cond b (counted new) 0) (seat_is_open roll new.chair (k + 1) fits shut);
+          });
+      each_count = λ k h. omega (arith, sum_with_standing code new (sits_as (k + 1)) roll.members old known, x.counts k h, m.each_count k h);
+      same_total = omega (arith, sum_with_standing code new counted roll.members old known, x.total, m.same_total);
       closed_empty = λ c shut.
-          let a = sum_with_standing code new (sits_as c) roll.members old found in
+          let a = sum_with_standing code new (sits_as c) roll.members old known in
           let b : sits_as c new ≡ 0 = ap (λ b. cond b 1 0) (seat_is_open roll new.chair c fits shut) in
           omega (arith, a, b, m.closed_empty c shut);
       few = rw length-with_standing m.few;
-      small = all_with_standing code new (λ s. s.votes ≤ 2 ^ 40) es m.small small;
+      small = all_with_standing code new (λ s. s.votes ≤ 2 ^ 40) kept.entries m.small x.high;
     }
 
 -- a member is entered, in no chair
-pub Mirrors-admit : (roll : Roll) (es : List Entry) (words counts words' counts' : List ℕ) (sum sum' : ℕ) (code : List ℕ) (votes : ℕ) → Mirrors roll es words counts sum
-    → length roll.members < max_members → votes ≤ 2 ^ 40
-    → ((k : ℕ) → k < 32 → slice_index words' k ≡ slice_index words k + votes_in (k + 1) (fresh votes))
-    → ((k : ℕ) → k < 32 → slice_index counts' k ≡ slice_index counts k + sits_as (k + 1) (fresh votes))
-    → sum' ≡ sum + counted (fresh votes)
-    → Mirrors (admitted roll code votes) (es ++ entered (code, votes) ∷ []) words' counts' sum'
-Mirrors-admit roll es words counts words' counts' sum sum' code votes m room small words_say counts_say sum_says =
+pub Mirrors-admit : (roll : Roll) (kept : Kept) → IsMirror roll kept → (code : List ℕ) (votes : ℕ) → length roll.members < max_members
+    → (after : ChairTotals) → Gain kept.totals after (fresh votes)
+    → IsMirror (admitted roll code votes) (record { entries = kept.entries ++ entered (code, votes) ∷ []; totals = after })
+Mirrors-admit roll kept m code votes room after gain =
     let more : (f : Standing → ℕ) → sum_by (λ e. f e.1) (roll.members ++ entered (code, votes) ∷ []) ≡ sum_by (λ e. f e.1) roll.members + (0 + f (fresh votes))
     = λ f. sum_by-append (λ (e : Entry). f e.1) roll.members (entered (code, votes) ∷ []) in
-    let few : length es < max_members = subst (λ (l : List Entry). length l < max_members) (sym m.same_members) room in
+    let few : length kept.entries < max_members = subst (λ (l : List Entry). length l < max_members) (sym m.same_members) room in
     record {
       same_members = ap (λ (l : List Entry). l ++ entered (code, votes) ∷ []) m.same_members;
       each_word = λ k h.
-          changed_word (is_open roll (k + 1)) (weight roll (k + 1)) (weight (admitted roll code votes) (k + 1)) 0 0 _ _
-          (m.each_word k h) (omega (arith, more (votes_in (k + 1)))) (omega (arith, words_say k h)) (λ shut. refl) (λ shut. refl);
-      each_count = λ k h. omega (arith, more (sits_as (k + 1)), counts_say k h, m.each_count k h);
-      same_total = omega (arith, more counted, sum_says, m.same_total);
+          changed_word (is_open roll (k + 1)) (weight roll (k + 1)) (weight (admitted roll code votes) (k + 1)) 0 0 (slice_index kept.totals.words k) (slice_index after.words k)
+          (record {
+            says = m.each_word k h;
+            weighs = omega (arith, more (votes_in (k + 1)));
+            moves = omega (arith, gain.words k h);
+            none_old = λ shut. refl;
+            none_new = λ shut. refl;
+          });
+      each_count = λ k h. omega (arith, more (sits_as (k + 1)), gain.counts k h, m.each_count k h);
+      same_total = omega (arith, more counted, gain.total, m.same_total);
       closed_empty = λ c shut. omega (arith, more (sits_as c), m.closed_empty c shut);
       few = rw length-append (omega (arith, few));
-      small = All-append (λ (e : Entry). e.1.votes ≤ 2 ^ 40) es (entered (code, votes) ∷ []) m.small (All-from_recursion (λ (e : Entry). e.1.votes ≤ 2 ^ 40) (entered (code, votes) ∷ []) (small, tt));
+      small = All-append (λ (e : Entry). e.1.votes ≤ 2 ^ 40) kept.entries (entered (code, votes) ∷ []) m.small (All-from_recursion (λ (e : Entry). e.1.votes ≤ 2 ^ 40) (entered (code, votes) ∷ []) (gain.high, tt));
     }
 
 -- a member that sits in no chair leaves
-pub Mirrors-withdraw : (roll : Roll) (es : List Entry) (words counts words' counts' : List ℕ) (sum sum' : ℕ) (code : List ℕ) (old : Standing) → Mirrors roll es words counts sum
-    → standing_among code roll.members ≡ Some old → old.chair ≡ None
-    → ((k : ℕ) → k < 32 → slice_index words' k + votes_in (k + 1) old ≡ slice_index words k)
-    → ((k : ℕ) → k < 32 → slice_index counts' k + sits_as (k + 1) old ≡ slice_index counts k)
-    → sum' + counted old ≡ sum
-    → Mirrors (withdrawn roll code) (without code es) words' counts' sum'
-Mirrors-withdraw roll es words counts words' counts' sum sum' code old m found unseated words_say counts_say sum_says =
+pub Mirrors-withdraw : (roll : Roll) (kept : Kept) → IsMirror roll kept → (code : List ℕ) (old : Standing) → standing_among code roll.members ≡ Some old → old.chair ≡ None
+    → (after : ChairTotals) → Loss kept.totals after old
+    → IsMirror (withdrawn roll code) (record { entries = without code kept.entries; totals = after })
+Mirrors-withdraw roll kept m code old known unseated after loss =
     let no_votes : (c : ℕ) → votes_in c old ≡ 0 = λ c. ap (λ chair. cond (same_chair chair (Some c)) (counted old) 0) unseated in
     let no_seat : (c : ℕ) → sits_as c old ≡ 0 = λ c. ap (λ chair. cond (same_chair chair (Some c)) 1 0) unseated in
     record {
       same_members = ap (without code) m.same_members;
       each_word = λ k h.
-          changed_word (is_open roll (k + 1)) (weight roll (k + 1)) (weight (withdrawn roll code) (k + 1)) (votes_in (k + 1) old) 0 _ _
-          (m.each_word k h) (omega (arith, sum_without code (votes_in (k + 1)) roll.members old found)) (omega (arith, words_say k h)) (λ shut. no_votes (k + 1)) (λ shut. refl);
-      each_count = λ k h. omega (arith, sum_without code (sits_as (k + 1)) roll.members old found, counts_say k h, m.each_count k h);
-      same_total = omega (arith, sum_without code counted roll.members old found, sum_says, m.same_total);
-      closed_empty = λ c shut. omega (arith, sum_without code (sits_as c) roll.members old found, no_seat c, m.closed_empty c shut);
-      few = omega (arith, m.few, length-without code es);
-      small = all_without code (λ (s : Standing). s.votes ≤ 2 ^ 40) es m.small;
+          changed_word (is_open roll (k + 1)) (weight roll (k + 1)) (weight (withdrawn roll code) (k + 1)) (votes_in (k + 1) old) 0 (slice_index kept.totals.words k) (slice_index after.words k)
+          (record {
+            says = m.each_word k h;
+            weighs = omega (arith, sum_without code (votes_in (k + 1)) roll.members old known);
+            moves = omega (arith, loss.words k h);
+            none_old = λ shut. no_votes (k + 1);
+            none_new = λ shut. refl;
+          });
+      each_count = λ k h. omega (arith, sum_without code (sits_as (k + 1)) roll.members old known, loss.counts k h, m.each_count k h);
+      same_total = omega (arith, sum_without code counted roll.members old known, loss.total, m.same_total);
+      closed_empty = λ c shut. omega (arith, sum_without code (sits_as c) roll.members old known, no_seat c, m.closed_empty c shut);
+      few = omega (arith, m.few, length-without code kept.entries);
+      small = all_without code (λ (s : Standing). s.votes ≤ 2 ^ 40) kept.entries m.small;
     }
 
 -- one more command is accepted, and the rest follows the roll
-pub IsKept-appended : (l : Ledger) (es : List Entry) (words counts : List ℕ) (sum : ℕ) → IsKept l es words counts sum
-    → (command : Command) (next : Roll) → step (roll_of l) command ≡ Ok next → length l.journal < l.limit
-    → (es' : List Entry) (words' counts' : List ℕ) (sum' : ℕ) → Mirrors next es' words' counts' sum' → IsKept (appended l command) es' words' counts' sum'
-IsKept-appended l es words counts sum kept command next steps room es' words' counts' sum' m =
+pub IsKept-appended : (l : Ledger) (kept : Kept) → IsBeside l kept → (command : Command) (next : Roll) → step (roll_of l) command ≡ Ok next → length l.journal < l.limit
+    → (now : Kept) → IsMirror next now → IsBeside (appended l command) now
+IsKept-appended l kept beside command next steps room now m =
     record {
-      legal = all_accepted-push (opening_roll l.opening) l.journal command ∙ ap (λ b. b && is_ok (step (roll_of l) command)) kept.legal ∙ ap is_ok steps;
+      legal = all_accepted-push (opening_roll l.opening) l.journal command ∙ ap (λ b. b && is_ok (step (roll_of l) command)) beside.legal ∙ ap is_ok steps;
       within = rw length-append (omega arith);
-      small_limit = kept.small_limit;
-      mirrors = subst (λ (r : Roll). Mirrors r es' words' counts' sum') (sym (fold_from-push (opening_roll l.opening) l.journal command ∙ ap (λ r. result_unwrap_or r (roll_of l)) steps)) m;
+      small_limit = beside.small_limit;
+      mirrors = subst (λ (r : Roll). IsMirror r now) (sym (fold_from-push (opening_roll l.opening) l.journal command ∙ ap (λ r. result_unwrap_or r (roll_of l)) steps)) m;
     }

@@ -12,11 +12,11 @@ use Rattle.council_core.specs.declared.commands.Command.{Command}
 use Rattle.council_core.specs.declared.commands.Standing.{Standing}
 use Rattle.council_core.specs.declared.refusals.Refusal.{Refusal}
 use Rattle.council_core.specs.declared.refusals.Refusal.TheVariants.{JournalFull}
-use Rattle.council_core.specs.Rolls.{Roll, Entry, same_code, standing_among, place_among, with_standing, without, entered, fresh, sits_in, counted, votes_in, weight, total, is_open, opened, closed, has_members}
-use Rattle.council_core.specs.Ledgers.{Ledger, roll_of, room_of, appended}
-use Rattle.council_core.specs.Registers.{Mirrors, IsKept, IsPlanned, IsOpening, IsClosing, IsChange, IsEntry, IsLeaving, seated, sits_as}
+use Rattle.council_core.specs.Rolls.{Roll, Entry, same_code, standing_among, place_among, with_standing, without, entered, fresh, sits_in, counted, votes_in, weight, total, is_open, opened, closed, has_members, admitted, withdrawn, step}
+use Rattle.council_core.specs.Ledgers.{Ledger, roll_of, room_of}
+use Rattle.council_core.specs.Registers.{Mirrors, IsPlanned, IsOpening, IsClosing, IsChange, IsEntry, IsLeaving, seated, sits_as}
 use Rattle.council_core.proofs.RollLemmas.{insert-with_standing, without-removed, part_of_sum}
-use Rattle.council_core.proofs.MirrorLemmas.{Mirrors-open, Mirrors-close, Mirrors-update, Mirrors-admit, Mirrors-withdraw, IsKept-appended, seat_is_free}
+use Rattle.council_core.proofs.MirrorLemmas.{Kept, IsMirror, IsBeside, Loss, Gain, Exchange, Mirrors-open, Mirrors-close, Mirrors-update, Mirrors-admit, Mirrors-withdraw, IsKept-appended, seat_is_free}
 
 below : (a b : ℕ) → (a ≡ b → ⊥) → a ≤ b → a < b
 below a b h k = omega (arith, h, k)
@@ -109,83 +109,77 @@ pub planned_as : (l v : Ledger) (command : Command) (x y : Change) → l ≡ v �
 planned_as l v command x y same is planned =
     subst (λ (z : Change). IsPlanned (roll_of l) command z) is (subst (λ (u : Ledger). IsPlanned (roll_of u) command x) (sym same) planned)
 
+-- a register that accepts a command: what it keeps, and its journal with the command written down
+pub record Accepts (l : Ledger) (command : Command) : Type 0 where
+  pub kept : Kept
+  pub beside : IsBeside l kept
+  pub room : room_of l ≡ Ok tt
+  pub journal : List Command
+  pub grown : journal ≡ l.journal ++ command ∷ []
+
 -- the change of an accepted command is carried out, and the command is written down
-module _ (l : Ledger) (es : List Entry) (words counts : List ℕ) (sum : ℕ) (kept : IsKept l es words counts sum) (command : Command) (room : room_of l ≡ Ok tt) (journal : List Command) (grown : journal ≡ l.journal ++ command ∷ []) where
-  written : (es' : List Entry) (words' counts' : List ℕ) (sum' : ℕ) → IsKept (appended l command) es' words' counts' sum' → IsKept (record { opening = l.opening; journal = journal; limit = l.limit }) es' words' counts' sum'
-  written es' words' counts' sum' there = subst (λ (j : List Command). IsKept (record { opening = l.opening; journal = j; limit = l.limit }) es' words' counts' sum') (sym grown) there
+module _ (l : Ledger) (command : Command) (a : Accepts l command) where
+  abbrev IsAfter : Kept → Type 0
+  IsAfter now = IsBeside (record { opening = l.opening; journal = a.journal; limit = l.limit }) now
+
+  written : (next : Roll) → step (roll_of l) command ≡ Ok next → (now : Kept) → IsMirror next now → IsAfter now
+  written next steps now m =
+      subst (λ (j : List Command). IsBeside (record { opening = l.opening; journal = j; limit = l.limit }) now) (sym a.grown)
+      (IsKept-appended l a.kept a.beside command next steps (room_is l a.room a.beside.within) now m)
 
   -- a chair is opened
-  pub IsKept-open : (k c : ℕ) → k + 1 ≡ c → k < 32 → k < length words → IsOpening (roll_of l) command c
-      → IsKept (record { opening = l.opening; journal = journal; limit = l.limit }) es (slice_set words k 1) counts sum
+  pub IsKept-open : (k c : ℕ) → k + 1 ≡ c → k < 32 → k < length a.kept.totals.words → IsOpening (roll_of l) command c
+      → IsAfter (record a.kept { totals = record a.kept.totals { words = slice_set a.kept.totals.words k 1 } })
   IsKept-open k c place small within opening =
-      let now = Mirrors-open (roll_of l) es words counts sum kept.mirrors k small within (ap (is_open (roll_of l)) place ∙ opening.shut) in
-      let there = subst (λ (d : ℕ). Mirrors (opened (roll_of l) d) es (slice_set words k 1) counts sum) place now in
-      written es (slice_set words k 1) counts sum
-      (IsKept-appended l es words counts sum kept command _ opening.effect (room_is l room kept.within) es (slice_set words k 1) counts sum there)
+      let now : Kept = record a.kept { totals = record a.kept.totals { words = slice_set a.kept.totals.words k 1 } } in
+      let m = Mirrors-open (roll_of l) a.kept a.beside.mirrors k small within (ap (is_open (roll_of l)) place ∙ opening.shut) in
+      written (opened (roll_of l) c) opening.effect now (subst (λ (d : ℕ). IsMirror (opened (roll_of l) d) now) place m)
 
   -- a chair is closed
-  pub IsKept-close : (k c : ℕ) → k + 1 ≡ c → k < 32 → k < length words → IsClosing (roll_of l) command c
-      → IsKept (record { opening = l.opening; journal = journal; limit = l.limit }) es (slice_set words k 0) counts sum
+  pub IsKept-close : (k c : ℕ) → k + 1 ≡ c → k < 32 → k < length a.kept.totals.words → IsClosing (roll_of l) command c
+      → IsAfter (record a.kept { totals = record a.kept.totals { words = slice_set a.kept.totals.words k 0 } })
   IsKept-close k c place small within closing =
-      let now = Mirrors-close (roll_of l) es words counts sum kept.mirrors k small within (ap (has_members (roll_of l)) place ∙ closing.empty) in
-      let there = subst (λ (d : ℕ). Mirrors (closed (roll_of l) d) es (slice_set words k 0) counts sum) place now in
-      written es (slice_set words k 0) counts sum
-      (IsKept-appended l es words counts sum kept command _ closing.effect (room_is l room kept.within) es (slice_set words k 0) counts sum there)
+      let now : Kept = record a.kept { totals = record a.kept.totals { words = slice_set a.kept.totals.words k 0 } } in
+      let m = Mirrors-close (roll_of l) a.kept a.beside.mirrors k small within (ap (has_members (roll_of l)) place ∙ closing.empty) in
+      written (closed (roll_of l) c) closing.effect now (subst (λ (d : ℕ). IsMirror (closed (roll_of l) d) now) place m)
 
   -- a member's standing is changed
-  pub IsKept-change : (place : ℕ) (old new : Standing) → (code : List ℕ) × (place_among code (roll_of l).members ≡ Some place) × IsChange (roll_of l) command code old new → new.votes ≤ 2 ^ 40
-      → (words1 words2 counts1 counts2 : List ℕ) (sum1 sum2 : ℕ)
-      → ((k : ℕ) → k < 32 → slice_index words1 k + votes_in (k + 1) old ≡ slice_index words k)
-      → ((k : ℕ) → k < 32 → slice_index words2 k ≡ slice_index words1 k + votes_in (k + 1) new)
-      → ((k : ℕ) → k < 32 → slice_index counts1 k + sits_as (k + 1) old ≡ slice_index counts k)
-      → ((k : ℕ) → k < 32 → slice_index counts2 k ≡ slice_index counts1 k + sits_as (k + 1) new)
-      → sum1 + counted old ≡ sum → sum2 ≡ sum1 + counted new
-      → (es' : List Entry) → es' ≡ set_value_at es place new
-      → IsKept (record { opening = l.opening; journal = journal; limit = l.limit }) es' words2 counts2 sum2
-  IsKept-change place old new planned small words1 words2 counts1 counts2 sum1 sum2 w1 w2 n1 n2 s1 s2 es' put =
+  pub IsKept-change : (place : ℕ) (old new : Standing) → (code : List ℕ) × (place_among code (roll_of l).members ≡ Some place) × IsChange (roll_of l) command code old new
+      → (now : Kept) → Exchange a.kept.totals now.totals old new → now.entries ≡ set_value_at a.kept.entries place new → IsAfter now
+  IsKept-change place old new planned now x put =
+      let es : List Entry = a.kept.entries in
       let code = planned.0 in
       let change = planned.2 in
-      let there : standing_among code es ≡ Some old = ap (standing_among code) kept.mirrors.same_members ∙ change.known in
-      let at : place_among code es ≡ Some place = ap (place_among code) kept.mirrors.same_members ∙ planned.1 in
+      let there : standing_among code es ≡ Some old = ap (standing_among code) a.beside.mirrors.same_members ∙ change.known in
+      let at : place_among code es ≡ Some place = ap (place_among code) a.beside.mirrors.same_members ∙ planned.1 in
       let first = (Found-position (same_code code) es place at).first in
-      let changed = Mirrors-update (roll_of l) es words counts words2 counts2 sum sum2 code old new kept.mirrors change.known change.seat small
-      (λ k h. omega (arith, w1 k h, w2 k h)) (λ k h. omega (arith, n1 k h, n2 k h)) (omega (arith, s1, s2)) in
-      let kept2 = IsKept-appended l es words counts sum kept command _ change.effect (room_is l room kept.within) (with_standing code new es) words2 counts2 sum2 changed in
-      let same : es' ≡ with_standing code new es = put ∙ sym (insert_entry-first same_code code new es place first) ∙ insert-with_standing code new es old there in
-      written es' words2 counts2 sum2 (subst (λ (e : List Entry). IsKept (appended l command) e words2 counts2 sum2) (sym same) kept2)
+      let same : now.entries ≡ with_standing code new es = put ∙ sym (insert_entry-first same_code code new es place first) ∙ insert-with_standing code new es old there in
+      let roll : Roll = roll_of l in
+      let next : Roll = record roll { members = with_standing code new roll.members } in
+      let m = Mirrors-update roll a.kept a.beside.mirrors code old new change.known change.seat now.totals x in
+      written next change.effect now (subst (λ (e : List Entry). IsMirror next (record { entries = e; totals = now.totals })) (sym same) m)
 
   -- a member is entered
-  pub IsKept-admit : (code : List ℕ) (votes : ℕ) → IsEntry (roll_of l) command code votes → votes ≤ 2 ^ 40
-      → (words' counts' : List ℕ) (sum' : ℕ)
-      → ((k : ℕ) → k < 32 → slice_index words' k ≡ slice_index words k + votes_in (k + 1) (fresh votes))
-      → ((k : ℕ) → k < 32 → slice_index counts' k ≡ slice_index counts k + sits_as (k + 1) (fresh votes))
-      → sum' ≡ sum + counted (fresh votes)
-      → (es' : List Entry) → es' ≡ es ++ entered (code, votes) ∷ []
-      → IsKept (record { opening = l.opening; journal = journal; limit = l.limit }) es' words' counts' sum'
-  IsKept-admit code votes entry small words' counts' sum' words_say counts_say sum_says es' put =
-      let changed = Mirrors-admit (roll_of l) es words counts words' counts' sum sum' code votes kept.mirrors entry.room small words_say counts_say sum_says in
-      let kept2 = IsKept-appended l es words counts sum kept command _ entry.effect (room_is l room kept.within) (es ++ entered (code, votes) ∷ []) words' counts' sum' changed in
-      written es' words' counts' sum' (subst (λ (e : List Entry). IsKept (appended l command) e words' counts' sum') (sym put) kept2)
+  pub IsKept-admit : (code : List ℕ) (votes : ℕ) → IsEntry (roll_of l) command code votes
+      → (now : Kept) → Gain a.kept.totals now.totals (fresh votes) → now.entries ≡ a.kept.entries ++ entered (code, votes) ∷ [] → IsAfter now
+  IsKept-admit code votes entry now gain put =
+      let m = Mirrors-admit (roll_of l) a.kept a.beside.mirrors code votes entry.room now.totals gain in
+      written (admitted (roll_of l) code votes) entry.effect now (subst (λ (e : List Entry). IsMirror (admitted (roll_of l) code votes) (record { entries = e; totals = now.totals })) (sym put) m)
 
   -- a member leaves
   pub IsKept-withdraw : (place : ℕ) (old : Standing) → (code : List ℕ) × (place_among code (roll_of l).members ≡ Some place) × IsLeaving (roll_of l) command code old
-      → (words' counts' : List ℕ) (sum' : ℕ)
-      → ((k : ℕ) → k < 32 → slice_index words' k + votes_in (k + 1) old ≡ slice_index words k)
-      → ((k : ℕ) → k < 32 → slice_index counts' k + sits_as (k + 1) old ≡ slice_index counts k)
-      → sum' + counted old ≡ sum
-      → (es' : List Entry) → es' ≡ remove es place
-      → IsKept (record { opening = l.opening; journal = journal; limit = l.limit }) es' words' counts' sum'
-  IsKept-withdraw place old planned words' counts' sum' words_say counts_say sum_says es' put =
+      → (now : Kept) → Loss a.kept.totals now.totals old → now.entries ≡ remove a.kept.entries place → IsAfter now
+  IsKept-withdraw place old planned now loss put =
+      let es : List Entry = a.kept.entries in
       let code = planned.0 in
       let leaving = planned.2 in
-      let at : place_among code es ≡ Some place = ap (place_among code) kept.mirrors.same_members ∙ planned.1 in
+      let at : place_among code es ≡ Some place = ap (place_among code) a.beside.mirrors.same_members ∙ planned.1 in
       let first = (Found-position (same_code code) es place at).first in
-      let changed = Mirrors-withdraw (roll_of l) es words counts words' counts' sum sum' code old kept.mirrors leaving.known leaving.unseated words_say counts_say sum_says in
-      let kept2 = IsKept-appended l es words counts sum kept command _ leaving.effect (room_is l room kept.within) (without code es) words' counts' sum' changed in
-      let same : es' ≡ without code es = put ∙ sym (remove_entry-first (same_code code) es place first) ∙ sym (without-removed code es) in
-      written es' words' counts' sum' (subst (λ (e : List Entry). IsKept (appended l command) e words' counts' sum') (sym same) kept2)
+      let same : now.entries ≡ without code es = put ∙ sym (remove_entry-first (same_code code) es place first) ∙ sym (without-removed code es) in
+      let m = Mirrors-withdraw (roll_of l) a.kept a.beside.mirrors code old leaving.known leaving.unseated now.totals loss in
+      written (withdrawn (roll_of l) code) leaving.effect now (subst (λ (e : List Entry). IsMirror (withdrawn (roll_of l) code) (record { entries = e; totals = now.totals })) (sym same) m)
 
   -- the place of a member is one of theirs
-  pub place_within : (place : ℕ) (old new : Standing) → (code : List ℕ) × (place_among code (roll_of l).members ≡ Some place) × IsChange (roll_of l) command code old new → place < length es
+  pub place_within : (place : ℕ) (old new : Standing) → (code : List ℕ) × (place_among code (roll_of l).members ≡ Some place) × IsChange (roll_of l) command code old new → place < length a.kept.entries
   place_within place old new planned =
-      (Found-position (same_code planned.0) es place (ap (place_among planned.0) kept.mirrors.same_members ∙ planned.1)).within
+      (Found-position (same_code planned.0) a.kept.entries place (ap (place_among planned.0) a.beside.mirrors.same_members ∙ planned.1)).within

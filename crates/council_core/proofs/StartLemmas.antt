@@ -6,7 +6,8 @@ use Rattle.std.proofs.lemmas.List.Elements.{All-from_recursion, recursion_from_A
 use Rattle.std.proofs.lemmas.List.Sums.{sum_by-cons}
 use Rattle.council_core.specs.Rolls.{Entry, Opening, entered, same_code, standing_among, counted}
 use Rattle.council_core.specs.Ledgers.{has_duplicate}
-use Rattle.council_core.specs.Registers.{IsKept, seated, sits_as}
+use Rattle.council_core.specs.Registers.{seated, sits_as}
+use Rattle.council_core.proofs.MirrorLemmas.{Kept, IsBeside}
 
 pub zeros : (n k : ℕ) → ◌≡◌ {A = ℕ} (get_or (replicate {A = ℕ} n 0) k 0) 0
 zeros zero k = refl
@@ -55,21 +56,29 @@ pub start_small : (opening : Opening) → AllByRecursion (λ m. m.1 ≤ 2 ^ 40) 
 start_small [] h = tt
 start_small (m ∷ ms) h = (h.0, start_small ms h.1)
 
-pub IsKept-start : (opening : Opening) (limit : ℕ) (es : List Entry) (words counts : List ℕ) (sum : ℕ) → es ≡ map entered opening → length opening ≤ 256 → limit ≤ 1000000
-    → ((k : ℕ) → slice_index words k ≡ 0) → ((k : ℕ) → slice_index counts k ≡ 0) → sum ≡ sum_by (λ (m : List ℕ × ℕ). m.1) opening → All (λ (m : List ℕ × ℕ). m.1 ≤ 2 ^ 40) opening
-    → IsKept (record { opening = opening; journal = []; limit = limit }) es words counts sum
-IsKept-start opening limit es words counts sum made few small words_say counts_say sum_says votes =
+-- what a register begins with: the members given, no weight and nobody in a chair, and all their votes
+pub record IsStart (opening : Opening) (limit : ℕ) (kept : Kept) : Type 0 where
+  pub made : kept.entries ≡ map entered opening
+  pub few : length opening ≤ 256
+  pub small : limit ≤ 1000000
+  pub words : (k : ℕ) → slice_index kept.totals.words k ≡ 0
+  pub counts : (k : ℕ) → slice_index kept.totals.counts k ≡ 0
+  pub total : kept.totals.total ≡ sum_by (λ (m : List ℕ × ℕ). m.1) opening
+  pub votes : All (λ (m : List ℕ × ℕ). m.1 ≤ 2 ^ 40) opening
+
+pub IsKept-start : (opening : Opening) (limit : ℕ) (kept : Kept) → IsStart opening limit kept → IsBeside (record { opening = opening; journal = []; limit = limit }) kept
+IsKept-start opening limit kept start =
     record {
       legal = refl;
       within = omega arith;
-      small_limit = small;
+      small_limit = start.small;
       mirrors = record {
-        same_members = made;
-        each_word = λ k h. words_say k;
-        each_count = λ k h. counts_say k ∙ sym (start_seated opening (k + 1));
-        same_total = sum_says ∙ sym (start_total opening);
+        same_members = start.made;
+        each_word = λ k h. start.words k;
+        each_count = λ k h. start.counts k ∙ sym (start_seated opening (k + 1));
+        same_total = start.total ∙ sym (start_total opening);
         closed_empty = λ c h. start_seated opening c;
-        few = subst (λ (l : List Entry). length l ≤ 256) (sym made) (rw length-map few);
-        small = subst (λ (l : List Entry). All (λ m. m.1.votes ≤ 2 ^ 40) l) (sym made) (All-from_recursion _ _ (start_small opening (recursion_from_All _ _ votes)));
+        few = subst (λ (l : List Entry). length l ≤ 256) (sym start.made) (rw length-map start.few);
+        small = subst (λ (l : List Entry). All (λ m. m.1.votes ≤ 2 ^ 40) l) (sym start.made) (All-from_recursion _ _ (start_small opening (recursion_from_All _ _ start.votes)));
       };
     }

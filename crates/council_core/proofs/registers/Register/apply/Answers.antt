@@ -3,7 +3,8 @@ use Rattle.council_core.specs.Ledgers.{Ledger, room_of}
 use Rattle.council_core.specs.Registers.{sits_as}
 use Rattle.council_core.specs.Rolls.{fresh, counted, votes_in}
 use Rattle.council_core.specs.declared.commands.Command.{Command}
-use Rattle.council_core.proofs.RegisterLemmas.{planned_as, IsKept-open, IsKept-close, IsKept-change, IsKept-admit, IsKept-withdraw, word_holds, count_holds, total_holds, seated_small, total_small, counted_small, word_fits, count_fits, total_fits}
+use Rattle.council_core.proofs.MirrorLemmas.{Kept, exchange}
+use Rattle.council_core.proofs.RegisterLemmas.{Accepts, planned_as, IsKept-open, IsKept-close, IsKept-change, IsKept-admit, IsKept-withdraw, word_holds, count_holds, total_holds, seated_small, total_small, counted_small, word_fits, count_fits, total_fits}
 use Rattle.council_core.proofs.registers.Register.apply.Goals.{in-Open, in-Close, in-Stand, in-Enter+in_ok-enter_new-in-Enter, in-Leave}
 use Rattle.council_core.proofs.registers.Register.apply.Goals as goal
 
@@ -60,37 +61,51 @@ invariant_of-self-2 c =
     let i = c.self.inside in
     let l : Ledger = record { opening = i.opening.items; journal = i.journal.items; limit = i.limit } in
     let room : room_of l ≡ Ok tt = subst (λ (v : Ledger). room_of v ≡ Ok tt) (sym c.self.view_is) (search rules) in
-    let grown : c.match-change.self-inside.journal.items ≡ c.make_room.new.journal.items → c.append.new.journal.items ≡ l.journal ++ c.args.command ∷ []
-    = λ same. c.append.ensures ∙ ap (λ (j : List Command). j ++ c.args.command ∷ []) (same ∙ c.make_room.ensures.same) in
+    let kept : Kept = record { entries = i.members.entries; totals = i.totals } in
+    let accepts : c.match-change.self-inside.journal.items ≡ c.make_room.new.journal.items → Accepts l c.args.command
+    = λ same. record {
+      kept = kept;
+      beside = c.self.invariant;
+      room = room;
+      journal = c.append.new.journal.items;
+      grown = c.append.ensures ∙ ap (λ (j : List Command). j ++ c.args.command ∷ []) (same ∙ c.make_room.ensures.same);
+    } in
     elim c.match-change.branch [
       | in-Open w ↦
           let opening = planned_as _ _ c.args.command _ _ c.self.view_is w.in-Open.is c.in_ok-change.ensures.planned in
-          rw w.self-inside-is (IsKept-open l _ _ _ _ c.self.invariant c.args.command room _ (grown (ap (λ s. s.journal.items) w.self-inside-is))
+          rw w.self-inside-is (IsKept-open l c.args.command (accepts (ap (λ s. s.journal.items) w.self-inside-is))
           w.place_of.result w.in-Open.chair w.place_of.ensures.place w.place_of.ensures.within (search rules) opening)
       | in-Close w ↦
           let closing = planned_as _ _ c.args.command _ _ c.self.view_is w.in-Close.is c.in_ok-change.ensures.planned in
-          rw w.self-inside-is (IsKept-close l _ _ _ _ c.self.invariant c.args.command room _ (grown (ap (λ s. s.journal.items) w.self-inside-is))
+          rw w.self-inside-is (IsKept-close l c.args.command (accepts (ap (λ s. s.journal.items) w.self-inside-is))
           w.place_of-in-Close.result w.in-Close.chair w.place_of-in-Close.ensures.place w.place_of-in-Close.ensures.within (search rules) closing)
       | in-Stand w ↦
           let stand = planned_as _ _ c.args.command _ _ c.self.view_is w.in-Stand.is c.in_ok-change.ensures.planned in
-          let small = subst (λ n. n ≤ 2 ^ 40) w.number-votes.ensures.same w.number-votes.ensures.high in
-          rw w.self-inside-is (IsKept-change l _ _ _ _ c.self.invariant c.args.command room _ (grown (ap (λ s. s.journal.items) w.self-inside-is))
-          w.in-Stand.place w.in-Stand.old w.in-Stand.new stand small
-          _ _ _ _ _ _ w.withdraw.ensures.words w.enter.ensures.words w.withdraw.ensures.counts w.enter.ensures.counts w.withdraw.ensures.total w.enter.ensures.total
-          w.put.new.members.entries w.put.ensures)
+          let now : Kept = record { entries = w.put.new.members.entries; totals = w.enter.new.self } in
+          rw w.self-inside-is (IsKept-change l c.args.command (accepts (ap (λ s. s.journal.items) w.self-inside-is))
+          w.in-Stand.place w.in-Stand.old w.in-Stand.new stand now
+          (exchange i.totals w.withdraw.new.self w.enter.new.self w.in-Stand.old w.in-Stand.new
+          (record { words = w.withdraw.ensures.words; counts = w.withdraw.ensures.counts; total = w.withdraw.ensures.total })
+          (record { words = w.enter.ensures.words; counts = w.enter.ensures.counts; total = w.enter.ensures.total; high = w.enter.ensures.high }))
+          w.put.ensures)
       | in-Enter+in_ok-enter_new-in-Enter w ↦
           let entry = planned_as _ _ c.args.command _ _ c.self.view_is w.in-Enter.is c.in_ok-change.ensures.planned in
           let as_fresh = w.fresh.ensures.same in
-          rw w.self-inside-is (IsKept-admit l _ _ _ _ c.self.invariant c.args.command room _ (grown (ap (λ s. s.journal.items) w.self-inside-is))
-          w.in-Enter.code w.in-Enter.votes entry w.fresh.ensures.small _ _ _
-          (λ k h. w.enter-in-Enter.ensures.words k h ∙ ap (λ s. _ + votes_in (k + 1) s) as_fresh)
-          (λ k h. w.enter-in-Enter.ensures.counts k h ∙ ap (λ s. _ + sits_as (k + 1) s) as_fresh)
-          (w.enter-in-Enter.ensures.total ∙ ap (λ s. _ + counted s) as_fresh)
-          w.enter_new.new.members.entries (w.in_ok-enter_new-in-Enter.ensures.ok))
+          let now : Kept = record { entries = w.enter_new.new.members.entries; totals = w.enter-in-Enter.new.self } in
+          rw w.self-inside-is (IsKept-admit l c.args.command (accepts (ap (λ s. s.journal.items) w.self-inside-is))
+          w.in-Enter.code w.in-Enter.votes entry now
+          (record {
+            words = λ k h. w.enter-in-Enter.ensures.words k h ∙ ap (λ s. _ + votes_in (k + 1) s) as_fresh;
+            counts = λ k h. w.enter-in-Enter.ensures.counts k h ∙ ap (λ s. _ + sits_as (k + 1) s) as_fresh;
+            total = w.enter-in-Enter.ensures.total ∙ ap (λ s. _ + counted s) as_fresh;
+            high = w.fresh.ensures.small;
+          })
+          w.in_ok-enter_new-in-Enter.ensures.ok)
       | in-Leave w ↦
           let leave = planned_as _ _ c.args.command _ _ c.self.view_is w.in-Leave.is c.in_ok-change.ensures.planned in
-          rw w.self-inside-is (IsKept-withdraw l _ _ _ _ c.self.invariant c.args.command room _ (grown (ap (λ s. s.journal.items) w.self-inside-is))
-          w.in-Leave.place w.in-Leave.old leave _ _ _
-          w.withdraw-in-Leave.ensures.words w.withdraw-in-Leave.ensures.counts w.withdraw-in-Leave.ensures.total
-          w.take_out.new.members.entries w.take_out.ensures)
+          let now : Kept = record { entries = w.take_out.new.members.entries; totals = w.withdraw-in-Leave.new.self } in
+          rw w.self-inside-is (IsKept-withdraw l c.args.command (accepts (ap (λ s. s.journal.items) w.self-inside-is))
+          w.in-Leave.place w.in-Leave.old leave now
+          (record { words = w.withdraw-in-Leave.ensures.words; counts = w.withdraw-in-Leave.ensures.counts; total = w.withdraw-in-Leave.ensures.total })
+          w.take_out.ensures)
     ]
