@@ -7,6 +7,7 @@ use Rattle.std.proofs.lemmas.Bool.Decides.{nat_tests}
 use Rattle.std.proofs.lemmas.List.Elements.{All-append, All-from_recursion}
 use Rattle.std.proofs.lemmas.List.Sums.{sum_by-append, sum_by-cons}
 use Rattle.council_core.specs.declared.commands.Standing.{Standing}
+use Rattle.council_core.specs.declared.registers.Register.TheInside.{Inside}
 use Rattle.council_core.specs.declared.totals.ChairTotals.{ChairTotals}
 use Rattle.council_core.specs.Rolls.{Roll, Entry, same_chair, standing_among, with_standing, without, entered, fresh, admitted, withdrawn, max_members, sits_in, counted, votes_in, weight, is_open, chair_word, can_receive, has_members, step, opening_roll}
 use Rattle.std.specs.Result.{result_unwrap_or}
@@ -19,6 +20,10 @@ use Rattle.council_core.proofs.RollLemmas.{fold_from-push, all_accepted-push, su
 pub record Kept : Type 0 where
   pub entries : List Entry
   pub totals : ChairTotals
+
+-- what the fields of a register keep
+abbrev pub kept_of : Inside → Kept
+kept_of r = record { entries = r.members.entries; totals = r.totals }
 
 -- what is kept is what the roll says
 abbrev pub IsMirror : Roll → Kept → Type 0

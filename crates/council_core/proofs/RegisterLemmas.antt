@@ -14,7 +14,7 @@ use Rattle.council_core.specs.declared.refusals.Refusal.{Refusal}
 use Rattle.council_core.specs.declared.refusals.Refusal.TheVariants.{JournalFull}
 use Rattle.council_core.specs.Rolls.{Roll, Entry, same_code, standing_among, place_among, with_standing, without, entered, fresh, sits_in, counted, votes_in, weight, total, is_open, opened, closed, has_members, admitted, withdrawn, step}
 use Rattle.council_core.specs.Ledgers.{Ledger, roll_of, room_of}
-use Rattle.council_core.specs.Registers.{Mirrors, IsPlanned, IsOpening, IsClosing, IsChange, IsEntry, IsLeaving, seated, sits_as}
+use Rattle.council_core.specs.Registers.{IsPlanned, IsOpening, IsClosing, IsChange, IsEntry, IsLeaving, seated, sits_as}
 use Rattle.council_core.proofs.RollLemmas.{insert-with_standing, without-removed, part_of_sum}
 use Rattle.council_core.proofs.MirrorLemmas.{Kept, IsMirror, IsBeside, Loss, Gain, Exchange, Mirrors-open, Mirrors-close, Mirrors-update, Mirrors-admit, Mirrors-withdraw, IsKept-appended, seat_is_free}
 
@@ -55,7 +55,7 @@ total_within roll few small =
 pub weight_within : (roll : Roll) (c : ℕ) → weight roll c ≤ total roll
 weight_within roll c = sum_by-le-sum_by (λ (m : Entry). votes_in c m.1) (λ (m : Entry). counted m.1) roll.members (λ e. votes_in-le c e.1)
 
-module _ (roll : Roll) (es : List Entry) (words counts : List ℕ) (sum : ℕ) (m : Mirrors roll es words counts sum) where
+module _ (roll : Roll) (kept : Kept) (m : IsMirror roll kept) where
   pub total_small : total roll ≤ 2 ^ 48
   total_small =
       total_within roll
@@ -71,38 +71,38 @@ module _ (roll : Roll) (es : List Entry) (words counts : List ℕ) (sum : ℕ) (
       let few : length roll.members ≤ 256 = subst (λ (l : List Entry). length l ≤ 256) m.same_members m.few in
       omega (arith, most, few)
 
-  pub word_small : (k : ℕ) → k < 32 → slice_index words k ≤ 2 ^ 48 + 1
+  pub word_small : (k : ℕ) → k < 32 → slice_index kept.totals.words k ≤ 2 ^ 48 + 1
   word_small k h =
-      elim (is_open roll (k + 1)) as (λ b. slice_index words k ≡ cond b (weight roll (k + 1) + 1) 0 → slice_index words k ≤ 2 ^ 48 + 1)
+      elim (is_open roll (k + 1)) as (λ b. slice_index kept.totals.words k ≡ cond b (weight roll (k + 1) + 1) 0 → slice_index kept.totals.words k ≤ 2 ^ 48 + 1)
       [ true ↦ λ e. omega (arith, e, weight_small (k + 1), total_small) | false ↦ λ e. omega (arith, e) ] (m.each_word k h)
 
   -- a member's part is there to be taken away
   module _ (code : List ℕ) (old : Standing) (found : standing_among code roll.members ≡ Some old) where
-    pub word_holds : (k : ℕ) → k < 32 → votes_in (k + 1) old ≤ slice_index words k
+    pub word_holds : (k : ℕ) → k < 32 → votes_in (k + 1) old ≤ slice_index kept.totals.words k
     word_holds k h =
-        elim (is_open roll (k + 1)) as (λ b. is_open roll (k + 1) ≡ b → slice_index words k ≡ cond b (weight roll (k + 1) + 1) 0 → votes_in (k + 1) old ≤ slice_index words k) [
+        elim (is_open roll (k + 1)) as (λ b. is_open roll (k + 1) ≡ b → slice_index kept.totals.words k ≡ cond b (weight roll (k + 1) + 1) 0 → votes_in (k + 1) old ≤ slice_index kept.totals.words k) [
           | true ↦ λ p e. omega (arith, e, part_of_sum code (votes_in (k + 1)) roll.members old found)
           | false ↦ λ p e.
               let none : votes_in (k + 1) old ≡ 0 = ap (λ b. cond b (counted old) 0) (seat_is_free (k + 1) roll code old found (m.closed_empty (k + 1) p)) in
               omega (arith, e, none)
         ] refl (m.each_word k h)
 
-    pub count_holds : (k : ℕ) → k < 32 → sits_as (k + 1) old ≤ slice_index counts k
+    pub count_holds : (k : ℕ) → k < 32 → sits_as (k + 1) old ≤ slice_index kept.totals.counts k
     count_holds k h = omega (arith, m.each_count k h, part_of_sum code (sits_as (k + 1)) roll.members old found)
 
-    pub total_holds : counted old ≤ sum
+    pub total_holds : counted old ≤ kept.totals.total
     total_holds = omega (arith, m.same_total, part_of_sum code counted roll.members old found)
 
-    -- and there is room for the new one
-    module _ (new : Standing) (small : new.votes ≤ 2 ^ 40) where
-      pub word_fits : (k word : ℕ) → k < 32 → word + votes_in (k + 1) old ≡ slice_index words k → word + votes_in (k + 1) new < 2 ^ 64
-      word_fits k word h e = omega (arith, e, word_small k h, votes_in-le (k + 1) new, counted_small new small)
+  -- and there is room for a new one in its place
+  module _ (old new : Standing) (small : new.votes ≤ 2 ^ 40) where
+    pub word_fits : (k word : ℕ) → k < 32 → word + votes_in (k + 1) old ≡ slice_index kept.totals.words k → word + votes_in (k + 1) new < 2 ^ 64
+    word_fits k word h e = omega (arith, e, word_small k h, votes_in-le (k + 1) new, counted_small new small)
 
-      pub count_fits : (k count : ℕ) → k < 32 → count + sits_as (k + 1) old ≡ slice_index counts k → count + 1 < 2 ^ 16
-      count_fits k count h e = omega (arith, e, m.each_count k h, seated_small (k + 1))
+    pub count_fits : (k count : ℕ) → k < 32 → count + sits_as (k + 1) old ≡ slice_index kept.totals.counts k → count + 1 < 2 ^ 16
+    count_fits k count h e = omega (arith, e, m.each_count k h, seated_small (k + 1))
 
-      pub total_fits : (rest : ℕ) → rest + counted old ≡ sum → rest + counted new < 2 ^ 64
-      total_fits rest e = omega (arith, e, m.same_total, total_small, counted_small new small)
+    pub total_fits : (rest : ℕ) → rest + counted old ≡ kept.totals.total → rest + counted new < 2 ^ 64
+    total_fits rest e = omega (arith, e, m.same_total, total_small, counted_small new small)
 
 -- a plan, said of the fields of a register in place of its view, and of the change in place of its match
 pub planned_as : (l v : Ledger) (command : Command) (x y : Change) → l ≡ v → x ≡ y → IsPlanned (roll_of v) command x → IsPlanned (roll_of l) command y

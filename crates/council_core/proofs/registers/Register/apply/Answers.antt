@@ -3,7 +3,7 @@ use Rattle.council_core.specs.Ledgers.{Ledger, room_of}
 use Rattle.council_core.specs.Registers.{sits_as}
 use Rattle.council_core.specs.Rolls.{fresh, counted, votes_in}
 use Rattle.council_core.specs.declared.commands.Command.{Command}
-use Rattle.council_core.proofs.MirrorLemmas.{Kept, exchange}
+use Rattle.council_core.proofs.MirrorLemmas.{Kept, kept_of, exchange}
 use Rattle.council_core.proofs.RegisterLemmas.{Accepts, planned_as, IsKept-open, IsKept-close, IsKept-change, IsKept-admit, IsKept-withdraw, word_holds, count_holds, total_holds, seated_small, total_small, counted_small, word_fits, count_fits, total_fits}
 use Rattle.council_core.proofs.registers.Register.apply.Goals.{in-Open, in-Close, in-Stand, in-Enter+in_ok-enter_new-in-Enter, in-Leave}
 use Rattle.council_core.proofs.registers.Register.apply.Goals as goal
@@ -11,60 +11,56 @@ use Rattle.council_core.proofs.registers.Register.apply.Goals as goal
 pub withdraw-requires-clause-words_hold : goal.withdraw-requires-clause-words_hold
 withdraw-requires-clause-words_hold c =
     let stand = planned_as _ _ c.args.command _ _ c.self.view_is c.in-Stand.is c.in_ok-change.ensures.planned in
-    word_holds _ _ _ _ _ c.self.invariant.mirrors stand.0 c.in-Stand.old stand.2.known
+    word_holds _ (kept_of c.self.inside) c.self.invariant.mirrors stand.0 c.in-Stand.old stand.2.known
 
 pub withdraw-requires-clause-counts_hold : goal.withdraw-requires-clause-counts_hold
 withdraw-requires-clause-counts_hold c =
     let stand = planned_as _ _ c.args.command _ _ c.self.view_is c.in-Stand.is c.in_ok-change.ensures.planned in
-    count_holds _ _ _ _ _ c.self.invariant.mirrors stand.0 c.in-Stand.old stand.2.known
+    count_holds _ (kept_of c.self.inside) c.self.invariant.mirrors stand.0 c.in-Stand.old stand.2.known
 
 pub withdraw-requires-clause-total_holds : goal.withdraw-requires-clause-total_holds
 withdraw-requires-clause-total_holds c =
     let stand = planned_as _ _ c.args.command _ _ c.self.view_is c.in-Stand.is c.in_ok-change.ensures.planned in
-    total_holds _ _ _ _ _ c.self.invariant.mirrors stand.0 c.in-Stand.old stand.2.known
+    total_holds _ (kept_of c.self.inside) c.self.invariant.mirrors stand.0 c.in-Stand.old stand.2.known
 
 pub enter-requires-clause-words_fit : goal.enter-requires-clause-words_fit
 enter-requires-clause-words_fit c =
-    let stand = planned_as _ _ c.args.command _ _ c.self.view_is c.in-Stand.is c.in_ok-change.ensures.planned in
     let small = subst (λ n. n ≤ 2 ^ 40) c.number-votes.ensures.same c.number-votes.ensures.high in
-    λ k h. word_fits _ _ _ _ _ c.self.invariant.mirrors stand.0 c.in-Stand.old stand.2.known c.in-Stand.new small k _ h (c.withdraw.ensures.words k h)
+    λ k h. word_fits _ (kept_of c.self.inside) c.self.invariant.mirrors c.in-Stand.old c.in-Stand.new small k _ h (c.withdraw.ensures.words k h)
 
 pub enter-requires-clause-counts_fit : goal.enter-requires-clause-counts_fit
 enter-requires-clause-counts_fit c =
-    let stand = planned_as _ _ c.args.command _ _ c.self.view_is c.in-Stand.is c.in_ok-change.ensures.planned in
     let small = subst (λ n. n ≤ 2 ^ 40) c.number-votes.ensures.same c.number-votes.ensures.high in
-    λ k h. count_fits _ _ _ _ _ c.self.invariant.mirrors stand.0 c.in-Stand.old stand.2.known c.in-Stand.new small k _ h (c.withdraw.ensures.counts k h)
+    λ k h. count_fits _ (kept_of c.self.inside) c.self.invariant.mirrors c.in-Stand.old c.in-Stand.new small k _ h (c.withdraw.ensures.counts k h)
 
 pub enter-requires-clause-total_fits : goal.enter-requires-clause-total_fits
 enter-requires-clause-total_fits c =
-    let stand = planned_as _ _ c.args.command _ _ c.self.view_is c.in-Stand.is c.in_ok-change.ensures.planned in
     let small = subst (λ n. n ≤ 2 ^ 40) c.number-votes.ensures.same c.number-votes.ensures.high in
-    total_fits _ _ _ _ _ c.self.invariant.mirrors stand.0 c.in-Stand.old stand.2.known c.in-Stand.new small _ c.withdraw.ensures.total
+    total_fits _ (kept_of c.self.inside) c.self.invariant.mirrors c.in-Stand.old c.in-Stand.new small _ c.withdraw.ensures.total
 
 pub withdraw-requires-in-Leave-clause-total_holds : goal.withdraw-requires-in-Leave-clause-total_holds
 withdraw-requires-in-Leave-clause-total_holds c =
     let leave = planned_as _ _ c.args.command _ _ c.self.view_is c.in-Leave.is c.in_ok-change.ensures.planned in
-    total_holds _ _ _ _ _ c.self.invariant.mirrors leave.0 c.in-Leave.old leave.2.known
+    total_holds _ (kept_of c.self.inside) c.self.invariant.mirrors leave.0 c.in-Leave.old leave.2.known
 
 pub enter-requires-in-Enter-clause-counts_fit : goal.enter-requires-in-Enter-clause-counts_fit
 enter-requires-in-Enter-clause-counts_fit c =
     let m = c.self.invariant.mirrors in
-    λ k h. omega (arith, m.each_count k h, seated_small _ _ _ _ _ m (k + 1))
+    λ k h. omega (arith, m.each_count k h, seated_small _ (kept_of c.self.inside) m (k + 1))
 
 pub enter-requires-in-Enter-clause-total_fits : goal.enter-requires-in-Enter-clause-total_fits
 enter-requires-in-Enter-clause-total_fits c =
     let m = c.self.invariant.mirrors in
-    omega (arith, m.same_total, total_small _ _ _ _ _ m, counted_small (fresh c.in-Enter.votes) c.fresh.ensures.small, ap counted c.fresh.ensures.same)
+    omega (arith, m.same_total, total_small _ (kept_of c.self.inside) m, counted_small (fresh c.in-Enter.votes) c.fresh.ensures.small, ap counted c.fresh.ensures.same)
 
 pub invariant_of-self-2 : goal.invariant_of-self-2
 invariant_of-self-2 c =
     let i = c.self.inside in
     let l : Ledger = record { opening = i.opening.items; journal = i.journal.items; limit = i.limit } in
     let room : room_of l ≡ Ok tt = subst (λ (v : Ledger). room_of v ≡ Ok tt) (sym c.self.view_is) (search rules) in
-    let kept : Kept = record { entries = i.members.entries; totals = i.totals } in
     let accepts : c.match-change.self-inside.journal.items ≡ c.make_room.new.journal.items → Accepts l c.args.command
     = λ same. record {
-      kept = kept;
+      kept = kept_of i;
       beside = c.self.invariant;
       room = room;
       journal = c.append.new.journal.items;

@@ -3,6 +3,7 @@ use Rattle.std.proofs.lemmas.List.{length-take, get_or-take}
 use Rattle.council_core.specs.Ledgers.{Ledger, roll_of, sheet_of}
 use Rattle.council_core.specs.Sheets.{weight_in, IsSheet}
 use Rattle.council_core.proofs.AssembleLemmas.{written_behind, IsSheet-made}
+use Rattle.council_core.proofs.MirrorLemmas.{kept_of}
 use Rattle.council_core.proofs.RegisterLemmas.{word_small, total_small}
 use Rattle.council_core.proofs.SheetOfLemmas.{same_words, cast_within, sheet_is}
 use Rattle.council_core.proofs.registers.Register.sheet.Goals as goal
@@ -18,9 +19,9 @@ of_words-requires c =
     let cast = ap (sum_by weight_in) (same_words (roll_of l) (take 32 w) long (λ k h. kept k h ∙ m.each_word k h)) in
     let front : c.len.result ≡ length i.journal.items = search rules in
     subst (λ (x : List ℕ). IsSheet x) (sym (written_behind 32 w i.totals.total c.len.result c.words-words.ensures.long)) (IsSheet-made (take 32 w) i.totals.total c.len.result long
-    (λ k h. subst (λ (n : ℕ). n ≤ 2 ^ 48 + 1) (sym (kept k h)) (word_small (roll_of l) i.members.entries i.totals.words i.totals.counts i.totals.total m k h))
+    (λ k h. subst (λ (n : ℕ). n ≤ 2 ^ 48 + 1) (sym (kept k h)) (word_small (roll_of l) (kept_of i) m k h))
     (omega (arith, cast, cast_within (roll_of l), m.same_total))
-    (omega (arith, m.same_total, total_small (roll_of l) i.members.entries i.totals.words i.totals.counts i.totals.total m))
+    (omega (arith, m.same_total, total_small (roll_of l) (kept_of i) m))
     (omega (arith, front, c.self.invariant.within, c.self.invariant.small_limit)))
 
 pub returns-clause-same : goal.returns-clause-same
