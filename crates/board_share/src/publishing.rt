@@ -1,16 +1,18 @@
 //! A publication of all commands, by single loads.
-ghost use Rattle.std.specs.Prelude.{◌≡◌, suc, ◌∷◌, ◌++◌, [], true, false, length, replicate, OnOk};
-ghost use Rattle.std.specs.Prelude.{OnErr, IfErr, IsOk};
-ghost use Rattle.council_core.specs.Rolls.{sheet};
-ghost use Rattle.council_core.specs.Ledgers.{sheet_of};
+ghost use Rattle.std.specs.Prelude.{◌≡◌, ◌<◌, ◌+◌, ◌*◌, ◌/◌, suc, ◌∷◌, ◌++◌, [], true, false, length, replicate, OnOk};
+ghost use Rattle.std.specs.Prelude.{IfOk, OnErr, IfErr, IsOk};
 ghost use Rattle.two_copy_steps.specs.Deeds.{all_true, first_false};
 ghost use Rattle.two_copy_steps.specs.Publications.{StaySeen};
 ghost use Rattle.board_share.specs.Writers.{Underway, IsIdle, IsSeeing, IsFilling, known_at};
 
 use crate::busy::Busy;
 use crate::word_writers::WordWriter;
+use council_core::{CHAIRS, FRONT, TOTAL};
 use std::marker::Brand;
 use two_copy_steps::COPY_WORDS;
+
+// How many chairs are stored in a row.
+const ROW: usize = 8;
 
 // Looks for each reader that isn't seen out, by one load of its pin. The first whose pin is at 1 is
 // answered, and the publication given up.
@@ -39,24 +41,52 @@ fn see_all(words: &mut WordWriter) -> Result<(), Busy>
     Ok(())
 }
 
-// Stores all words of the sheet.
-fn fill_all(words: &mut WordWriter, sheet: &[u64; COPY_WORDS])
+// Stores the next word of the sheet.
+fn fill_next(words: &mut WordWriter, k: usize)
+    requires filling { IsFilling words.old k }
+    requires within { k < COPY_WORDS }
+    ensures way { Underway words.old words.new }
+    ensures seen { (known_at words.new).state.seen_out ≡ (known_at words.old).state.seen_out }
+    ensures stored { IsFilling words.new (k + 1) }
+{
+    let word = words.register().sheet_word(k);
+    words.fill::<Brand>(k, word);
+}
+
+// Stores the words of eight chairs. So few steps the compiler writes one behind the other, and they wait less.
+fn fill_row(words: &mut WordWriter, row: usize)
+    requires filling { IsFilling words.old (ROW * row) }
+    requires within { row < CHAIRS / ROW }
+    ensures way { Underway words.old words.new }
+    ensures seen { (known_at words.new).state.seen_out ≡ (known_at words.old).state.seen_out }
+    ensures stored { IsFilling words.new (ROW * (row + 1)) }
+{
+    for k in 0..ROW {
+        fill_next(words, ROW * row + k);
+    }
+}
+
+// Stores all words of the sheet. They are read from the register one by one: a sheet made first would be waited for.
+fn fill_all(words: &mut WordWriter)
     requires begun { IsFilling words.old 0 }
-    requires sheet { sheet.now ≡ sheet_of words.old.ledger }
     ensures way { Underway words.old words.new }
     ensures seen { (known_at words.new).state.seen_out ≡ (known_at words.old).state.seen_out }
     ensures stored { IsFilling words.new COPY_WORDS }
 {
-    for k in 0..COPY_WORDS {
-        words.fill::<Brand>(k, sheet[k]);
+    for row in 0..CHAIRS / ROW {
+        fill_row(words, row);
     }
+    fill_next(words, TOTAL);
+    fill_next(words, FRONT);
 }
 
-// Publishes all commands, or gives it up where a reader is found in the middle of a reading.
-pub(crate) fn publish_all(words: &mut WordWriter) -> Result<(), Busy>
+// Publishes all commands and answers how many there are, or gives it up where a reader is found in the middle of a
+// reading.
+pub(crate) fn publish_all(words: &mut WordWriter) -> Result<u32, Busy>
     requires { IsIdle words.old }
     ensures ledger { words.new.ledger ≡ words.old.ledger }
     ensures idle { IsIdle words.new }
+    ensures front { IfOk result (λ n. n ≡ length words.old.ledger.journal) }
     ensures published { OnOk result ((known_at words.new).state.published ≡ words.old.ledger.journal) }
     ensures cut { OnOk result
         ((known_at words.new).cuts ≡ (known_at words.old).cuts ++ length words.old.ledger.journal ∷ []) }
@@ -72,9 +102,9 @@ pub(crate) fn publish_all(words: &mut WordWriter) -> Result<(), Busy>
         × (all_true (known_at words.new).state.seen_out ≡ false)) }
     ensures sure { all_true (known_at words.old).state.seen_out ≡ true → IsOk result }
 {
-    let sheet = words.begin();
+    let taken = words.begin();
     see_all(words)?;
-    fill_all(words, &sheet);
+    fill_all(words);
     words.swap::<Brand>();
-    Ok(())
+    Ok(taken)
 }

@@ -3,7 +3,7 @@ ghost use Rattle.std.specs.Prelude.{◌≡◌, ℕ, ◌<◌, ◌≤◌, ◌==◌
 ghost use Rattle.std.specs.Prelude.{replicate, slice_get, slice_index, IfOk, OnErr};
 ghost use Rattle.std.specs.Arc.{arc_value};
 ghost use Rattle.council_core.specs.Rolls.{sheet};
-ghost use Rattle.council_core.specs.Ledgers.{sheet_of, verdict_of, appended};
+ghost use Rattle.council_core.specs.Ledgers.{verdict_of, appended};
 ghost use Rattle.council_core.specs.Verdicts.{Follows};
 ghost use Rattle.council_core.specs.declared.refusals.Refusal.TheVariants.{OutOfMemory};
 ghost use Rattle.two_copy_steps.specs.declared.views.Phase.TheVariants.{Seeing, Filling, Swapping};
@@ -112,15 +112,14 @@ impl WordWriter {
         self.register.apply(command)
     }
 
-    // Begins a publication of all commands, and answers their sheet. No word is touched.
-    pub(crate) fn begin(&mut self) -> [u64; COPY_WORDS]
+    // Begins a publication of all commands, and answers how many there are. No word is touched.
+    pub(crate) fn begin(&mut self) -> u32
         ensures ledger { self.new.ledger ≡ self.old.ledger }
         ensures begun { known_at self.new ≡ begun_with (Some self.old.ledger.journal) (known_at self.old) }
-        ensures words { result ≡ sheet_of self.old.ledger }
+        ensures taken { result ≡ length self.old.ledger.journal }
     {
-        let sheet = self.register.sheet();
         self.begun = true;
-        sheet.words()
+        self.register.journal().len() as u32
     }
 
     // Loads the pin of the least reader that isn't seen out, and tells whether it is out now.

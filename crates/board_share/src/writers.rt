@@ -74,8 +74,7 @@ impl Writer {
         if self.words.register().accepted() <= self.words.published() {
             return Ok(self.words.published());
         }
-        publish_all(&mut self.words)?;
-        Ok(self.words.published())
+        publish_all(&mut self.words)
     }
 
     /// Publishes all commands, and answers how many there are. It waits for readers, for good where

@@ -17,7 +17,9 @@ use Rattle.council_core.specs.declared.refusals.Refusal.TheVariants.{ChairOpen, 
 use Rattle.council_core.specs.Rolls.{Roll, Entry, Opening, IsLegal, after, cast, can_receive, chair_numbers, chair_word, closed, fold_from, has_members, is_open, max_members, move_member, opening_roll, roll_after, same_chair, same_code, sheet, standing_among, step, total, update, weight, with_member, withdrawn, words_of, admit_member, admitted, entered}
 use Rattle.council_core.specs.Sheets.{IsSheet, cast_of, front_of, weight_in}
 use Rattle.council_core.specs.Laws.{IsOpening, SetsInRange}
+use Rattle.council_core.specs.Ledgers.{Ledger, roll_of, sheet_of}
 use Rattle.council_core.proofs.AssembleLemmas.{IsSheet-made}
+use Rattle.council_core.proofs.MirrorLemmas.{Kept, IsBeside}
 use Rattle.council_core.proofs.RegisterLemmas.{total_within, weight_within}
 use Rattle.council_core.proofs.RollLemmas.{all_with_standing, all_without, length-with_standing, length-without}
 use Rattle.council_core.proofs.SheetOfLemmas.{cast_within}
@@ -144,6 +146,17 @@ small_sheet roll front small few =
   where
     each : (k : ℕ) → k < 32 → total roll ≤ 2 ^ 48 → slice_index (map (chair_word roll) chair_numbers) k ≤ 2 ^ 48 + 1
     each k h all = subst (λ (w : ℕ). w ≤ 2 ^ 48 + 1) (sym (get_or-map-range_with_len (chair_word roll) 1 32 k (k + 1) 0 h (omega arith))) (word_within roll (k + 1) all)
+
+-- the numbers of the sheet of what a register keeps
+pub sheet_kept : (l : Ledger) (kept : Kept) → IsBeside l kept → IsSheet (sheet_of l)
+sheet_kept l kept k =
+    let m = k.mirrors in
+    small_sheet (roll_of l) (length l.journal)
+    record {
+      few = subst (λ (es : List Entry). length es ≤ 256) m.same_members m.few;
+      small = subst (λ (es : List Entry). All (λ e. e.1.votes ≤ 2 ^ 40) es) m.same_members m.small;
+    }
+    (omega (arith, k.within, k.small_limit))
 
 pub IsSheet-sheet : (opening : Opening) (commands : List Command) → IsOpening opening → All SetsInRange commands → IsLegal opening commands → IsSheet (sheet opening commands)
 IsSheet-sheet opening commands is sets legal =

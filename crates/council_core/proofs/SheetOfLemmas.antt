@@ -2,6 +2,8 @@
 use Rattle.std.proofs.Common.{◌≡◌, ℕ, zero, suc, ◌+◌, ◌-◌, ◌<◌, ◌≤◌, ◌==◌, true, false, cond, List, [], ◌∷◌, ◌++◌, length, map, sum_by, Option, None, Some, ◌∙◌, ap, refl, arith, slice_index, get_or}
 use borrow.Author.Tests.{eqb-true}
 use Rattle.std.specs.List.{range_with_len}
+use Rattle.std.proofs.lemmas.List.{get_or_append_left}
+use Rattle.std.proofs.lemmas.List.FromFn.{get_or-map-range_with_len}
 use Rattle.std.proofs.lemmas.Bool.Decides.{nat_tests}
 use Rattle.std.proofs.lemmas.List.Sums.{sum_by-cons}
 use Rattle.council_core.specs.Rolls.{Roll, Entry, same_chair, counted, votes_in, weight, total, is_open, chair_word, chair_numbers, words_of}
@@ -82,3 +84,9 @@ pub sheet_is : (roll : Roll) (words : List ℕ) (t f n : ℕ) → length words �
     → words ++ t ∷ f ∷ [] ≡ words_of roll n
 sheet_is roll words t f n long each e g =
     ap (λ (l : List ℕ). l ++ t ∷ f ∷ []) (same_words roll words long each) ∙ ap (λ (x : ℕ). map (chair_word roll) chair_numbers ++ x ∷ f ∷ []) e ∙ ap (λ (x : ℕ). map (chair_word roll) chair_numbers ++ total roll ∷ x ∷ []) g
+
+-- a sheet's number at the place of a chair
+pub word_at : (roll : Roll) (front k : ℕ) → k < 32 → slice_index (words_of roll front) k ≡ chair_word roll (k + 1)
+word_at roll front k h =
+    get_or_append_left (map (chair_word roll) chair_numbers) (total roll ∷ front ∷ []) 0 k h
+    ∙ get_or-map-range_with_len (chair_word roll) 1 32 k (k + 1) 0 h (omega arith)

@@ -1,6 +1,6 @@
 //! The register.
 ghost use Rattle.std.specs.Prelude.{◌≡◌, ◌≤◌, ◌<◌, ◌==◌, [], length, slice_get, None, Some, Ok};
-ghost use Rattle.std.specs.Prelude.{Err, true, false, IfOk, IfErr, OnErr};
+ghost use Rattle.std.specs.Prelude.{slice_index, Err, true, false, IfOk, IfErr, OnErr};
 ghost use Rattle.std.specs.List.{list_any};
 ghost use Rattle.std.specs.Option.{option_map};
 ghost use Rattle.council_core.specs.Members.{row_of};
@@ -17,7 +17,7 @@ ghost use Rattle.council_core.specs.declared.refusals.Refusal.TheVariants.{OutOf
 
 use crate::changes::Change;
 use crate::commands::{Command, MemberRow, Standing};
-use crate::limits::{FRONT, MAX_COMMANDS, MAX_MEMBERS, TOTAL};
+use crate::limits::{FRONT, MAX_COMMANDS, MAX_MEMBERS, SHEET_WORDS, TOTAL};
 use crate::refusals::Refusal;
 use crate::sheets::Sheet;
 use crate::stores::{append, copied, enter_all, enter_new, make_room, put, take_out};
@@ -107,10 +107,11 @@ impl Register {
     }
 
     /// The commands accepted, in order. Each was accepted in its turn, and there are at most as many as
-    /// the limit, which is at most a million.
+    /// the limit, which is at most a million. The numbers of their sheet are in range.
     pub fn journal(&self) -> &[Command]
         ensures commands { result.now ≡ self.now.journal }
         ensures legal { IsLegal self.now.opening self.now.journal }
+        ensures in_range { IsSheet (sheet_of self.now) }
         ensures within { length self.now.journal ≤ self.now.limit }
         ensures limit { self.now.limit ≤ MAX_COMMANDS }
     {
@@ -144,6 +145,19 @@ impl Register {
         words[TOTAL] = self.totals.total;
         words[FRONT] = self.journal.len() as u64;
         Sheet::of_words(&words)
+    }
+
+    /// The number at a place of the sheet after the commands accepted, from 0 to 33, without the others: a chair's
+    /// word, the total voting power in votes, or how many commands were accepted.
+    pub fn sheet_word(&self, place: usize) -> u64
+        requires within { place < SHEET_WORDS }
+        ensures same { result ≡ slice_index (sheet_of self.now) place }
+    {
+        match place {
+            TOTAL => self.totals.total,
+            FRONT => self.journal.len() as u64,
+            _ => self.totals.words[place],
+        }
     }
 
     fn is_open(&self, chair: ChairId) -> bool

@@ -1,4 +1,3 @@
-use Rattle.two_copy_steps.proofs.Steps.{publishable}
 use Rattle.board_share.proofs.word_writers.WordWriter.begin.Goals as goal
 
 pub invariant_of-self : goal.invariant_of-self
@@ -16,5 +15,5 @@ invariant_of-self c =
       published_is = i.published_is;
       taken_begins = i.taken_begins;
       published_begins = i.published_begins;
-      may_begin = (publishable _ _ c.sheet-sheet.ensures.ledger c.sheet-sheet.ensures.same c.sheet-sheet.ensures.in_range, i.taken_begins);
+      may_begin = ((c.journal.ensures.legal, c.journal.ensures.in_range), i.taken_begins);
     }
