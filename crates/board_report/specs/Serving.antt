@@ -43,7 +43,8 @@ EndsInFault spec text =
 -- what `serve` writes where the writer works
 abbrev pub IsServeText : Result Planned Fault → List ℕ → Type 0
 IsServeText spec text =
-    ((p : Planned) × (spec ≡ Ok p) × (text ≡ text_of (work_lines p ++ audit_line ∷ []))) ⊎ EndsInFault spec text
+    ((p : Planned) × (spec ≡ Ok p) × (text ≡ text_of (work_lines p ++ audit_line ∷ [])))
+    ⊎ EndsInFault spec text
 
 -- a front of one of these was appended
 abbrev pub CutsServe : Option (List ℕ) → Option (List ℕ) → Result Planned Fault → Type 0

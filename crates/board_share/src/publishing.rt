@@ -1,6 +1,6 @@
 //! A publication of all commands, by single loads.
-ghost use Rattle.std.specs.Prelude.{◌≡◌, ◌<◌, ◌+◌, ◌*◌, ◌/◌, suc, ◌∷◌, ◌++◌, [], true, false, length, replicate, OnOk};
-ghost use Rattle.std.specs.Prelude.{IfOk, OnErr, IfErr, IsOk};
+ghost use Rattle.std.specs.Prelude.{◌≡◌, ◌<◌, ◌+◌, ◌*◌, ◌/◌, suc, ◌∷◌, ◌++◌, [], true, false, length};
+ghost use Rattle.std.specs.Prelude.{replicate, OnOk, IfOk, OnErr, IfErr, IsOk};
 ghost use Rattle.two_copy_steps.specs.Deeds.{all_true, first_false};
 ghost use Rattle.two_copy_steps.specs.Publications.{StaySeen};
 ghost use Rattle.board_share.specs.Writers.{Underway, IsIdle, IsSeeing, IsFilling, known_at};

@@ -141,7 +141,8 @@ impl Call for Viewing {
             None => 0,
         };
         let counted = state.register.accepted() == 2 && state.register.journal().len() == 2;
-        if counted && state.votes == 20 && is_checked(&state.register) {
+        let worded = state.register.sheet_word(FRONT) == 2;
+        if counted && worded && state.votes == 20 && is_checked(&state.register) {
             0
         } else {
             NONE

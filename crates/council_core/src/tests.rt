@@ -1,4 +1,4 @@
-use crate::{ChairId, Command, MemberCode, Refusal, Register, Sheet, Votes};
+use crate::{ChairId, Command, FRONT, MemberCode, Refusal, Register, Sheet, TOTAL, Votes};
 use std::alloc::Global;
 use std::test::Fail;
 
@@ -51,6 +51,10 @@ fn register_accepts(rt: HostRuntime) -> Result<(), Fail> {
     assert!(rt; register.check(Command::Close(chair)).err() == Some(Refusal::ChairHasMembers));
     assert_eq!(rt; register.sheet().weight(chair), Some(10));
     assert_eq!(rt; register.sheet().front(), 2);
+    assert_eq!(rt; register.sheet_word(0), 11);
+    assert_eq!(rt; register.sheet_word(1), 0);
+    assert_eq!(rt; register.sheet_word(TOTAL), 10);
+    assert_eq!(rt; register.sheet_word(FRONT), 2);
     Ok(())
 }
 

@@ -23,6 +23,7 @@ fn sums_of_three(rt: HostRuntime) -> Result<(), Fail> {
     let sums = half.ascending();
     assert_eq!(rt; sums.len(), 8);
     assert_eq!(rt; sums[2], Entry { sum: 49, mask: 2 });
+    assert!(rt; !repeats(sums));
     Ok(())
 }
 

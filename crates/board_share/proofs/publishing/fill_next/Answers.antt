@@ -1,4 +1,4 @@
-use Rattle.std.proofs.Common.{◌∙◌, List, ℕ, get_or, sym, ap}
+use Rattle.std.proofs.Common.{◌∙◌, List, get_or, sym, ap}
 use Rattle.council_core.specs.Rolls.{sheet}
 use Rattle.council_core.specs.Ledgers.{Ledger, sheet_of}
 use Rattle.council_core.specs.declared.commands.Command.{Command}
