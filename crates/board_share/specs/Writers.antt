@@ -8,7 +8,7 @@ use Rattle.council_core.specs.Ledgers.{Ledger}
 use Rattle.council_core.specs.declared.commands.Command.{Command}
 use Rattle.two_copy_steps.specs.declared.views.WriterView.{WriterView}
 use Rattle.two_copy_steps.specs.declared.views.Phase.TheVariants.{Idle, Seeing, Filling, Swapping}
-use Rattle.two_copy_steps.specs.Deeds.{Deed, all_true, pin, writer_deed}
+use Rattle.two_copy_steps.specs.Deeds.{Deed, all_true, other, pin, writer_deed}
 use Rattle.two_copy_steps.specs.Lawful.{IsPublishable}
 use Rattle.board_share.specs.declared.views.View.{View}
 use Rattle.board_share.specs.Steps.{begun_with, with_writer}
@@ -92,6 +92,23 @@ pub record MayWrite (table seat : TableId) (me : Me Unit View) (list : Option (L
 -- and what it leaves
 abbrev pub next_me : Option (List Command) → Me Unit View → ℕ → Me Unit View
 next_me list me found = (with_writer me.0 (writer_or me.0.writer).0 ((next_deed list me).after found), me.1)
+
+-- the writer's seat where word k of its sheet is stored next
+abbrev pub at_word : Me Unit View → ℕ → Me Unit View
+at_word me k =
+    let w = writer_or me.0.writer in
+    let phase = if k == 34 then Swapping else Filling k in
+    (with_writer me.0 w.0 (record w.1 { state = record w.1.state { phase = phase } }), me.1)
+
+-- what is asked of the writer's seat where it stores word k of a register's sheet, in this copy
+pub record MayFill (table seat : TableId) (me : Me Unit View) (ledger : Ledger) (copy k : ℕ) : Type 0 where
+  pub same : seat ≡ table
+  pub within : pin 34 0 ≤ table.words
+  pub bare : me.1 ≡ []
+  pub next : me ≡ at_word me k
+  pub opening : (writer_or me.0.writer).0 ≡ ledger.opening
+  pub taken : (writer_or me.0.writer).1.state.taken ≡ ledger.journal
+  pub copy_is : copy ≡ other (writer_or me.0.writer).1.state.side
 
 -- from one moment to a later one of the same publication: the register, the side, what is published and taken, and
 -- the cuts are the same

@@ -1,5 +1,5 @@
 //! A publication of all commands, by single loads.
-ghost use Rattle.std.specs.Prelude.{◌≡◌, ◌<◌, ◌+◌, ◌*◌, ◌/◌, suc, ◌∷◌, ◌++◌, [], true, false, length};
+ghost use Rattle.std.specs.Prelude.{◌≡◌, suc, ◌∷◌, ◌++◌, [], true, false, length};
 ghost use Rattle.std.specs.Prelude.{replicate, OnOk, IfOk, OnErr, IfErr, IsOk};
 ghost use Rattle.two_copy_steps.specs.Deeds.{all_true, first_false};
 ghost use Rattle.two_copy_steps.specs.Publications.{StaySeen};
@@ -7,12 +7,8 @@ ghost use Rattle.board_share.specs.Writers.{Underway, IsIdle, IsSeeing, IsFillin
 
 use crate::busy::Busy;
 use crate::word_writers::WordWriter;
-use council_core::{CHAIRS, FRONT, TOTAL};
 use std::marker::Brand;
 use two_copy_steps::COPY_WORDS;
-
-// How many chairs are stored in a row.
-const ROW: usize = 8;
 
 // Looks for each reader that isn't seen out, by one load of its pin. The first whose pin is at 1 is
 // answered, and the publication given up.
@@ -41,31 +37,6 @@ fn see_all(words: &mut WordWriter) -> Result<(), Busy>
     Ok(())
 }
 
-// Stores the next word of the sheet.
-fn fill_next(words: &mut WordWriter, k: usize)
-    requires filling { IsFilling words.old k }
-    requires within { k < COPY_WORDS }
-    ensures way { Underway words.old words.new }
-    ensures seen { (known_at words.new).state.seen_out ≡ (known_at words.old).state.seen_out }
-    ensures stored { IsFilling words.new (k + 1) }
-{
-    let word = words.register().sheet_word(k);
-    words.fill::<Brand>(k, word);
-}
-
-// Stores the words of eight chairs. So few steps the compiler writes one behind the other, and they wait less.
-fn fill_row(words: &mut WordWriter, row: usize)
-    requires filling { IsFilling words.old (ROW * row) }
-    requires within { row < CHAIRS / ROW }
-    ensures way { Underway words.old words.new }
-    ensures seen { (known_at words.new).state.seen_out ≡ (known_at words.old).state.seen_out }
-    ensures stored { IsFilling words.new (ROW * (row + 1)) }
-{
-    for k in 0..ROW {
-        fill_next(words, ROW * row + k);
-    }
-}
-
 // Stores all words of the sheet. They are read from the register one by one: a sheet made first would be waited for.
 fn fill_all(words: &mut WordWriter)
     requires begun { IsFilling words.old 0 }
@@ -73,11 +44,9 @@ fn fill_all(words: &mut WordWriter)
     ensures seen { (known_at words.new).state.seen_out ≡ (known_at words.old).state.seen_out }
     ensures stored { IsFilling words.new COPY_WORDS }
 {
-    for row in 0..CHAIRS / ROW {
-        fill_row(words, row);
-    }
-    fill_next(words, TOTAL);
-    fill_next(words, FRONT);
+    let first = words.register().sheet_word(0);
+    words.fill::<Brand>(0, first);
+    words.fill_rest();
 }
 
 // Publishes all commands and answers how many there are, or gives it up where a reader is found in the middle of a

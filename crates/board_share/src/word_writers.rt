@@ -9,11 +9,11 @@ ghost use Rattle.council_core.specs.declared.refusals.Refusal.TheVariants.{OutOf
 ghost use Rattle.two_copy_steps.specs.declared.views.Phase.TheVariants.{Seeing, Filling, Swapping};
 ghost use Rattle.two_copy_steps.specs.Deeds.{all_true};
 ghost use Rattle.board_share.specs.Steps.{begun_with};
-ghost use Rattle.board_share.specs.Writers.{Begins, IsWriter, Wrote, desk_of, known_at};
+ghost use Rattle.board_share.specs.Writers.{Begins, IsFilling, IsWriter, Underway, Wrote, desk_of, known_at};
 
 use crate::rule::{Board, Taken};
 use crate::views::View;
-use crate::writer_steps::{load, store};
+use crate::writer_steps::{load, store, store_rest};
 use atomic_table::Seat;
 use council_core::{Command, Refusal, Register};
 use std::marker::Model;
@@ -152,6 +152,18 @@ impl WordWriter {
         if k == 0 {
             self.begun = false;
         }
+    }
+
+    // Stores all words of the sheet but the first, which is stored.
+    pub(crate) fn fill_rest(&mut self)
+        requires begun { self.old.due ≡ None }
+        requires first { IsFilling self.old 1 }
+        ensures way { Underway self.old self.new }
+        ensures seen { (known_at self.new).state.seen_out ≡ (known_at self.old).state.seen_out }
+        ensures stored { IsFilling self.new COPY_WORDS }
+    {
+        let copy = 1 - self.side;
+        store_rest(&self.board, &mut self.seat, &self.register, copy);
     }
 
     // Stores side: all commands are published.
