@@ -14,3 +14,4 @@ pub mod ServeFacts
 pub mod AuditFacts
 pub mod CutFacts
 pub mod ProgramFacts
+pub mod WorkedCases

@@ -331,6 +331,7 @@ impl Register {
     pub fn check(&self, command: Command) -> Result<(), Refusal>
         ensures verdict { result ≡ verdict_of self.now command }
     {
+        // The prover asks for a match: `?` would drop the change unseen.
         match self.plan(command) {
             Ok(_) => self.check_room(),
             Err(why) => Err(why),
