@@ -1,6 +1,6 @@
 //! Plain Rust beside the running board: two copies of 34 words with the board's own steps and orderings, and the ways that
 //! a Rust programmer would take else. One line for each: a name, and nanoseconds for a reading alone, a submit with its
-//! publication alone, and a reading by each of two readers beside a writer that publishes all the time.
+//! publication alone, and a reading by each of two readers beside a writer that publishes all the time; `-` where there is none.
 //!
 //! `bench/run-readers` builds it, with arc-swap where Debian's crate is there (`--cfg arc_swap`).
 use std::collections::HashMap;
@@ -44,6 +44,15 @@ impl Register {
         }
     }
 
+    /// One number of the sheet, without the others.
+    fn word(&self, k: usize) -> u64 {
+        match k {
+            32 => self.total,
+            33 => self.journal.len() as u64,
+            _ => self.weights[k],
+        }
+    }
+
     fn sheet(&self) -> Words {
         let mut words = [0; WORDS];
         words[..32].copy_from_slice(&self.weights);
@@ -82,6 +91,11 @@ impl TwoCopies {
     }
 
     fn publish(&self, words: &Words) {
+        self.publish_each(|k| words[k]);
+    }
+
+    /// The same of each word as it is told, so that no sheet needs to be made first.
+    fn publish_each(&self, word: impl Fn(usize) -> u64) {
         for r in 0..self.readers {
             while self.pins[r].load(SeqCst) == 1 {
                 spin_loop();
@@ -89,7 +103,7 @@ impl TwoCopies {
         }
         let other = 1 - (self.side.load(SeqCst) as usize & 1);
         for k in 0..WORDS {
-            self.copies[other][k].store(words[k], SeqCst);
+            self.copies[other][k].store(word(k), SeqCst);
         }
         self.side.store(other as u64, SeqCst);
     }
@@ -183,6 +197,12 @@ fn main() {
         one.publish(&register.sheet());
     });
     println!("two-copies {reading:.1} {submit:.1} {:.1}", beside(&|r| two.read(r), &|w| two.publish(w)));
+    let mut register = Register::new();
+    let submit = least(5, SUBMITS, || {
+        register.submit(black_box(*b"AAA"), black_box(10));
+        one.publish_each(|k| register.word(k));
+    });
+    println!("no-sheet - {submit:.1} -");
     let lock = SeqLock { sequence: AtomicU64::new(0), words: atomics() };
     time("seqlock", |_| lock.read(), |w| lock.publish(w));
     let lock = RwLock::new([0; WORDS]);
