@@ -49,15 +49,21 @@ module _ (table seat : TableId) (me : Me Unit View) (l : Ledger) (copy k : ℕ) 
   pub word_stored : (me' : Me Unit View) (x : ℕ) → me' ≡ next_me None me x → me' ≡ at_word me (k + 1)
   word_stored me' x e = e ∙ ap (λ (d : Deed WriterView). let m : Me Unit View = (with_writer me.0 w.0 (d.after x), me.1) in m) deed_is
 
+-- words were stored from a seat, up to this one
+pub record StoredTo (seat seat' : TableId) (me me' : Me Unit View) (j : ℕ) : Type 0 where
+  pub same : seat' ≡ seat
+  pub next : me' ≡ at_word me j
+
 -- a later word may be stored where the seat is as far as it
-pub fills_on : (table seat seat' : TableId) (me me' : Me Unit View) (l : Ledger) (copy k j : ℕ) → MayFill table seat me l copy k → seat' ≡ seat → me' ≡ at_word me j → MayFill table seat' me' l copy j
-fills_on table seat seat' me me' l copy k j h same next =
-    subst (λ (m : Me Unit View). MayFill table seat' m l copy j) (sym next) record {
-      same = same ∙ h.same;
-      within = h.within;
-      bare = h.bare;
-      next = refl;
-      opening = h.opening;
-      taken = h.taken;
-      copy_is = h.copy_is;
-    }
+module _ (table : TableId) (l : Ledger) (copy : ℕ) where
+  pub fills_on : (seat seat' : TableId) (me me' : Me Unit View) (k j : ℕ) → MayFill table seat me l copy k → StoredTo seat seat' me me' j → MayFill table seat' me' l copy j
+  fills_on seat seat' me me' k j h to =
+      subst (λ (m : Me Unit View). MayFill table seat' m l copy j) (sym to.next) record {
+        same = to.same ∙ h.same;
+        within = h.within;
+        bare = h.bare;
+        next = refl;
+        opening = h.opening;
+        taken = h.taken;
+        copy_is = h.copy_is;
+      }

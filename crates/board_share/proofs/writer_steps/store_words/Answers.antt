@@ -9,7 +9,7 @@ pub loop-k-preserved : goal.loop-k-preserved
 loop-k-preserved c =
     let i = c.loop-k.invariant in
     record {
-      fills = fills_on _ _ _ _ _ _ _ _ _ i.fills c.store_word.ensures.table c.store_word.ensures.stored;
+      fills = fills_on _ _ _ _ _ _ _ _ _ i.fills record { same = c.store_word.ensures.table; next = c.store_word.ensures.stored };
       table = c.store_word.ensures.table ∙ i.table;
       stored = c.store_word.ensures.stored ∙ ap (λ (m : Me Unit View). at_word m (c.loop-k.k + 1)) i.stored;
     }
