@@ -1,17 +1,1 @@
-pub mod PlaceFacts
-pub mod PlayFacts
-pub mod FieldFacts
-pub mod ScriptFacts
-pub mod WriteFacts
-pub mod OpeningFacts
-pub mod ReplayFacts
-pub mod TraceFacts
-pub mod PartFacts
-pub mod WorkFacts
-pub mod PlanFacts
-pub mod OutcomeFacts
-pub mod ServeFacts
-pub mod AuditFacts
-pub mod CutFacts
 pub mod ProgramFacts
-pub mod WorkedCases

@@ -12,14 +12,15 @@ use Rattle.clap.specs.declared.error.kind.ErrorKind.{ErrorKind}
 use Rattle.clap.specs.declared.error.kind.ErrorKind.TheVariants.{DisplayHelp, DisplayVersion}
 use Rattle.council_core.specs.Refusals.{code_of}
 use Rattle.council_core.specs.declared.refusals.Refusal.TheVariants.{OutOfMemory}
-use Rattle.board_report.specs.Lines.{fault_name}
-use Rattle.board_report.specs.Output.{AppendsFront, Replays}
-use Rattle.board_report.specs.Plans.{Planned}
-use Rattle.board_report.specs.Serving.{Serves}
-use Rattle.board_report.specs.Text.{Run}
-use Rattle.board_report.specs.declared.bounds.Limits.{Limits}
-use Rattle.board_report.specs.declared.faults.Fault.{Fault}
-use Rattle.board_report.specs.declared.served.Served.{Served}
+use Rattle.board_text.specs.Lines.{fault_name}
+use Rattle.board_text.specs.Output.{AppendsFront}
+use Rattle.board_runs.specs.Ended.{Replays}
+use Rattle.board_serve.specs.Plans.{Planned}
+use Rattle.board_serve.specs.Serving.{Serves}
+use Rattle.board_text.specs.Text.{Run}
+use Rattle.board_text.specs.declared.bounds.Limits.{Limits}
+use Rattle.board_text.specs.declared.faults.Fault.{Fault}
+use Rattle.board_serve.specs.declared.served.Served.{Served}
 
 -- an option `--NAME N`, a number from 1 to another, with a default
 abbrev pub number_rule : Text → ℕ → Text → Rule

@@ -2,8 +2,6 @@
 #![tactic(auto)]
 
 mod analysts;
-#[cfg(test)]
-mod audit_tests;
 mod audits;
 mod busy;
 mod laws;
@@ -13,10 +11,6 @@ mod readers;
 mod readings;
 mod rule;
 mod steps;
-#[cfg(test)]
-mod tests;
-#[cfg(test)]
-mod thread_tests;
 mod views;
 mod word_writers;
 mod writer_steps;

@@ -1,23 +1,11 @@
-//! Tests that cross crates.
+//! Tests of the program and of its calls, by their public names.
 #![tactic(auto)]
 
 #[cfg(test)]
-mod board_calls;
-#[cfg(test)]
-mod calls_without_memory;
-#[cfg(test)]
-mod growth_calls;
-#[cfg(test)]
 mod inputs;
 #[cfg(test)]
-mod plain;
+mod programs;
 #[cfg(test)]
-mod refused_growths;
-#[cfg(test)]
-mod run_calls;
-#[cfg(test)]
-mod seen;
-#[cfg(test)]
-mod sheets;
+mod serving;
 #[cfg(test)]
 mod streams;

@@ -41,21 +41,25 @@ impl<'a> Read for Choppy<'a> {
     }
 }
 
-// A writer that is interrupted some times, then takes a byte at a time; at its limit it takes nothing, or fails.
+// A writer that takes a byte at a time, one after each hundred of its interruptions and the rest after the last; at its
+// limit it takes nothing, or fails.
 #[derive(Drop)]
 struct Narrow {
     taken: Vec<u8>,
     interruptions: u32,
     limit: usize,
     fails: bool,
+    rested: bool,
 }
 
 impl Write for Narrow {
     fn write(&mut self, buf: &[u8]) -> io::Result<usize> {
-        if self.interruptions > 0 {
+        if self.interruptions > 0 && !self.rested {
             self.interruptions -= 1;
+            self.rested = self.interruptions % 100 == 0;
             return Err(io::Error::from(ErrorKind::Interrupted));
         }
+        self.rested = false;
         let Some(first) = buf.first() else {
             return Ok(0);
         };
@@ -163,6 +167,7 @@ fn writes<T: Threads + Wait + Sync>(
         interruptions,
         limit,
         fails,
+        rested: false,
     };
     let code = run(rt, alloc, command, &mut input, &mut out);
     (code, out.taken.as_slice() == wanted)
@@ -214,7 +219,8 @@ fn writers_that_interrupt_or_fail(rt: HostRuntime) -> Result<(), Fail> {
         let command = &COMMANDS[place];
         for (interruptions, limit, fails, code) in rows {
             let all = output_of(command);
-            let taken = if interruptions > 1_000 { 0 } else { limit };
+            // one byte after the first interruption, and one after each hundred up to the 901st
+            let taken = if interruptions > 1_000 { 10 } else { limit };
             let wanted = all.get(..taken).unwrap_or(all);
             let seen = writes(
                 &rt,

@@ -9,8 +9,6 @@ mod refusals;
 mod registers;
 mod sheets;
 mod stores;
-#[cfg(test)]
-mod tests;
 mod totals;
 mod values;
 

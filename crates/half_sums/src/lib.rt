@@ -13,6 +13,3 @@ pub use groups::{SIZES, SLOTS};
 pub use laws::mask_law;
 pub use lists::ROOM;
 pub use sums::HalfSums;
-
-#[cfg(test)]
-mod tests;

@@ -20,6 +20,3 @@ pub use indices::{ChairPower, Fraction, Indices};
 pub fn evaluation_law()
     ensures counts { EvaluationLaw }
 {}
-
-#[cfg(test)]
-mod tests;

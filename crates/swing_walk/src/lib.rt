@@ -12,6 +12,3 @@ mod walking;
 
 pub use laws::{count_law, pair_law, swing_law, two_halves_law};
 pub use pairs::{Counts, count, swings};
-
-#[cfg(test)]
-mod tests;

@@ -9,8 +9,6 @@ mod runs;
 mod seats;
 mod stages;
 mod table;
-#[cfg(test)]
-mod tests;
 mod views;
 
 pub use events::{Event, Note};

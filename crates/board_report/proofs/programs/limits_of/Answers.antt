@@ -1,7 +1,7 @@
 use Rattle.std.proofs.Common.{◌≡◌, ◌∙◌, ℕ, ap, codes}
 use Rattle.std.specs.Str.Parse.{ParsesUnsigned, ExplainsUnsignedError, HasUnsignedDigitsIfOk}
 use Rattle.clap.specs.Words.{found_of}
-use Rattle.board_report.specs.declared.bounds.Limits.{Limits}
+use Rattle.board_text.specs.declared.bounds.Limits.{Limits}
 use Rattle.board_report.proofs.ProgramFacts.{said-number}
 use Rattle.board_report.proofs.programs.limits_of.Goals as goal
 

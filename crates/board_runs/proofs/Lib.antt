@@ -1,0 +1,3 @@
+pub mod RecordFacts
+pub mod ReplayFacts
+pub mod TraceFacts

@@ -1,0 +1,114 @@
+-- The run of a whole input, and its end.
+use Rattle.std.proofs.Common.{◌≡◌, ◌≤◌, inl, inr, ℕ, true, List, [], ◌∷◌, ◌++◌, length, Option, Some, None, IfSome, Result, Err, refl, sym, ap, ◌∙◌, subst}
+use Rattle.std.proofs.KnownBytes.{Appends-nil}
+use Rattle.std.specs.Io.KnownBytes.{Appends}
+use Rattle.csv.specs.Reading.{default_config, records, strip_bom}
+use Rattle.council_core.specs.declared.refusals.Refusal.TheVariants as why
+use Rattle.board_text.specs.Lines.{Line, fault_line}
+use Rattle.board_text.specs.Text.{Begun, Run, begun_of, begun_with, end_lines, fault_at, in_range, opened_of, output, text_of}
+use Rattle.board_runs.specs.Scripts.{begun_run}
+use Rattle.board_text.specs.Output.{AppendsFront, AppendsLines, Ends, Fails, IsBroken, IsFrontOf, Plays, StopsIn, fault_of}
+use Rattle.board_runs.specs.Ended.{Replays}
+use Rattle.board_text.specs.declared.bounds.Limits.{Limits}
+use Rattle.board_text.specs.declared.faults.Fault.{Fault}
+use Rattle.board_text.specs.declared.stops.Stop.{Stop}
+use Rattle.board_text.specs.declared.stops.Stop.TheVariants as stop
+use Rattle.board_text.proofs.PlayFacts.{appends-same, front-before, front-none, text-after}
+use Rattle.board_text.proofs.BeginningFacts.{begun-records}
+use Rattle.board_text.proofs.PlayFacts.{FaultTold, front-then, line-then}
+
+nothing-written : (a : Option (List ℕ)) (lines : List Line) → AppendsLines a a lines
+nothing-written a lines = ([], front-none lines, Appends-nil a)
+
+fails-stop : (a : Option (List ℕ)) (e : Stop) (play : Begun → Run) (spec : Result Begun Fault) → Fails e spec → StopsIn a a e (begun_run play spec)
+fails-stop a stop.OutOfMemory play spec p = nothing-written a _
+fails-stop a stop.ReadFault play spec p = nothing-written a _
+fails-stop a stop.WriteFault play spec p = absurd p
+fails-stop a (stop.Told f) play spec p = rw p (refl, Appends-nil a)
+
+-- where nothing came of the input, nothing was written
+pub plays-failed : (a : Option (List ℕ)) (e d : Stop) (play : Begun → Run) (spec : Result Begun Fault) → d ≡ e → Fails e spec → Plays a a (Err d) (begun_run play spec)
+plays-failed a e d play spec same p = let P : Stop → Type 0 = λ s. StopsIn a a s (begun_run play spec) in subst P (sym same) (fails-stop a e play spec p)
+
+-- the same, where the input is known
+pub plays-failed_input : (o a : Option (List ℕ)) (e d : Stop) (lim : Limits) (play : Begun → Run) → d ≡ e
+    → IfSome o (λ bytes. Fails e (begun_of lim bytes)) → IfSome o (λ bytes. Plays a a (Err d) (begun_run play (begun_of lim bytes)))
+plays-failed_input None a e d lim play same p = tt
+plays-failed_input (Some bytes) a e d lim play same p = plays-failed a e d play (begun_of lim bytes) same p
+
+pub some-failed : (a : Option (List ℕ)) (e d : Stop) (lim : Limits) (play : Begun → Run) → d ≡ e → (bytes : List ℕ) × Fails e (begun_of lim bytes) → (bytes : List ℕ) × Plays a a (Err d) (begun_run play (begun_of lim bytes))
+some-failed a e d lim play same p = (p.0, plays-failed a e d play (begun_of lim p.0) same p.1)
+
+-- a text that was read: an input that is not too long, where the limits are in range
+pub record TextRead (lim : Limits) (text : List ℕ) : Type 0 where
+  pub input : List ℕ
+  pub fits : in_range lim ≡ true
+  pub same : text ≡ input
+  pub short : length input ≤ 4194304
+
+pub some-played : (a b : Option (List ℕ)) (r : Result (Unit {0}) Stop) (lim : Limits) (play : Begun → Run) (text : List ℕ) → TextRead lim text
+    → Plays a b r (begun_run play (begun_with lim (opened_of (records default_config (strip_bom text))))) → (bytes : List ℕ) × Plays a b r (begun_run play (begun_of lim bytes))
+some-played a b r lim play text read p = (read.input, rw (begun-records lim read.input read.fits read.short, ← read.same) p)
+
+-- the text that was read is the input
+pub played-input : (o a b : Option (List ℕ)) (r : Result (Unit {0}) Stop) (lim : Limits) (play : Begun → Run) (text : List ℕ) (read : TextRead lim text)
+    → IfSome o (λ bytes. read.input ≡ bytes) → Plays a b r (begun_run play (begun_with lim (opened_of (records default_config (strip_bom text)))))
+    → IfSome o (λ bytes. Plays a b r (begun_run play (begun_of lim bytes)))
+played-input None a b r lim play text read whole p = tt
+played-input (Some bytes) a b r lim play text read whole p =
+    rw (← whole, begun-records lim read.input read.fits read.short, ← read.same) p
+
+-- a run cut by the writer
+cut-run : (a b : Option (List ℕ)) (run : Run) → StopsIn a b stop.WriteFault run → Replays a b (Err (fault_at why.WriteFault 0)) run
+cut-run a b run p =
+    let P : List ℕ → Type 0 = λ t. IsFrontOf p.0 t in
+    let front = subst P (sym (text-after run.lines (end_lines run.end))) (front-before p.0 (text_of run.lines) (text_of (end_lines run.end)) p.1) in
+    inr (inr (refl, (output run, inl refl, (p.0, front, p.2))))
+
+broken-ends : (a b c : Option (List ℕ)) (f g : Fault) (run : Run) → IsBroken f → AppendsLines a b run.lines → Ends b c f g → Replays a c (Err g) run
+broken-ends a b c f g run broken p (inl e) =
+    rw e.0 (inr (inl (broken, (text_of (p.0 ++ fault_line f ∷ []), (p.0, p.1, refl), line-then a b c p.0 (fault_line f) p.2 e.1))))
+broken-ends a b c f g run broken p (inr e) =
+    inr (inr (e.0, (text_of (p.0 ++ fault_line f ∷ []), inr (f, broken, (p.0, p.1, refl)), front-then a b c p.0 (fault_line f) p.2 e.1)))
+
+told-ends : (a b c : Option (List ℕ)) (f g : Fault) (run : Run) → run.end ≡ Some f → Appends a b (text_of run.lines) → Ends b c f g → Replays a c (Err g) run
+told-ends a b c f g run told p (inl e) =
+    let same : output run ≡ text_of (run.lines ++ fault_line f ∷ []) = ap (λ x. text_of (run.lines ++ end_lines x)) told in
+    rw e.0 (inl (told, appends-same a c _ _ (sym same) (line-then a b c run.lines (fault_line f) p e.1)))
+told-ends a b c f g run told p (inr e) =
+    let same : output run ≡ text_of (run.lines ++ fault_line f ∷ []) = ap (λ x. text_of (run.lines ++ end_lines x)) told in
+    let P : List ℕ → Type 0 = λ t. AppendsFront a c t in
+    inr (inr (e.0, (output run, inl refl, subst P (sym same) (front-then a b c run.lines (fault_line f) p e.1))))
+
+-- a run that was stopped, and the line of its fault
+ended-run : (a b c : Option (List ℕ)) (s : Stop) (f g : Fault) (run : Run) → StopsIn a b s run → fault_of s ≡ Some f → Ends b c f g → Replays a c (Err g) run
+ended-run a b c stop.OutOfMemory f g run p e q = let same : f ≡ fault_at why.OutOfMemory 0 = cc in broken-ends a b c f g run (inl same) p q
+ended-run a b c stop.ReadFault f g run p e q = let same : f ≡ fault_at why.ReadFault 0 = cc in broken-ends a b c f g run (inr same) p q
+ended-run a b c stop.WriteFault f g run p e q = cc e
+ended-run a b c (stop.Told h) f g run p e q = told-ends a b c f g run (p.0 ∙ e) p.1 q
+
+-- the same, where the input is known
+pub replayed : (o a b c : Option (List ℕ)) (s : Stop) (g : Fault) (run : List ℕ → Run) → IfSome o (λ bytes. Plays a b (Err s) (run bytes)) → FaultTold b c s g
+    → IfSome o (λ bytes. Replays a c (Err g) (run bytes))
+replayed None a b c s g run p told = tt
+replayed (Some bytes) a b c s g run p told = ended-run a b c s told.fault g (run bytes) p told.stopped_by told.ends
+
+cut-by : (a b : Option (List ℕ)) (s : Stop) (run : Run) → fault_of s ≡ None → StopsIn a b s run → Replays a b (Err (fault_at why.WriteFault 0)) run
+cut-by a b stop.OutOfMemory run e p = cc e
+cut-by a b stop.ReadFault run e p = cc e
+cut-by a b stop.WriteFault run e p = cut-run a b run p
+cut-by a b (stop.Told f) run e p = cc e
+
+pub replay-cut : (o a b : Option (List ℕ)) (s : Stop) (g : Fault) (run : List ℕ → Run) → IfSome o (λ bytes. Plays a b (Err s) (run bytes)) → fault_of s ≡ None
+    → g ≡ fault_at why.WriteFault 0 → IfSome o (λ bytes. Replays a b (Err g) (run bytes))
+replay-cut None a b s g run p e w = tt
+replay-cut (Some bytes) a b s g run p e w = rw w (cut-by a b s (run bytes) e p)
+
+-- the same of some bytes
+pub some-replayed : (a b c : Option (List ℕ)) (s : Stop) (g : Fault) (run : List ℕ → Run) → (bytes : List ℕ) × Plays a b (Err s) (run bytes) → FaultTold b c s g
+    → (bytes : List ℕ) × Replays a c (Err g) (run bytes)
+some-replayed a b c s g run p told = (p.0, ended-run a b c s told.fault g (run p.0) p.1 told.stopped_by told.ends)
+
+pub some-cut : (a b : Option (List ℕ)) (s : Stop) (g : Fault) (run : List ℕ → Run) → (bytes : List ℕ) × Plays a b (Err s) (run bytes) → fault_of s ≡ None → g ≡ fault_at why.WriteFault 0
+    → (bytes : List ℕ) × Replays a b (Err g) (run bytes)
+some-cut a b s g run p e w = (p.0, rw w (cut-by a b s (run p.0) e p.1))

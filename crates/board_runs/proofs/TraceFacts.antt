@@ -1,0 +1,40 @@
+-- The lines of events, one event at a time.
+use Rattle.std.proofs.Common.{◌≡◌, ℕ, suc, ◌+◌, ◌-◌, ◌<◌, List, ◌∷◌, ◌++◌, Option, Ok, Err, replicate, refl, sym, ap, ◌∙◌, arith, append_assoc}
+use Rattle.std.specs.Io.KnownBytes.{Appends}
+use Rattle.two_copy_steps.specs.Turns.{TwoCopies, after, turn}
+use Rattle.two_copy_steps.specs.declared.events.Event.{Event}
+use Rattle.board_text.specs.Lines.{Line, note_lines}
+use Rattle.board_text.specs.Output.{Plays}
+use Rattle.board_text.specs.Text.{prints, text_of}
+use Rattle.board_runs.specs.Traces.{told}
+use Rattle.board_text.specs.declared.stops.Stop.{Stop}
+use Rattle.board_text.proofs.PlayFacts.{PlayedTo, lines-then, plays-more, plays-passed, plays-whole}
+
+-- one event fewer is left
+events-left : (n i : ℕ) (e : Event) → i < n → replicate (n - i) e ≡ e ∷ replicate (n - (i + 1)) e
+events-left n i e within = let same : n - i ≡ suc (n - (i + 1)) = omega (arith, within) in rw same refl
+
+module _ (m : TwoCopies) (e : Event) (n i : ℕ) (within : i < n) where
+  -- the lines of an event, and then those of the events after it
+  told-left : told m (replicate (n - i) e) ≡ note_lines (turn m e).1 ++ told (turn m e).0 (replicate (n - (i + 1)) e)
+  told-left = ap (λ es. told m es) (events-left n i e within)
+
+  pub after-left : (x : TwoCopies) → x ≡ (turn m e).0 → after m (replicate (n - i) e) ≡ after x (replicate (n - (i + 1)) e)
+  after-left x same = ap (λ es. after m es) (events-left n i e within) ∙ ap (λ y. after y (replicate (n - (i + 1)) e)) (sym same)
+
+  module _ (a b c : Option (List ℕ)) (done whole : List Line) (so_far : Appends a b (text_of done)) (parts : whole ≡ done ++ told m (replicate (n - i) e)) where
+    pub told-goes : (u : Unit {0}) (x : TwoCopies) → Plays b c (Ok u) (prints (note_lines (turn m e).1)) → x ≡ (turn m e).0
+        → (more : List Line) × Appends a c (text_of more) × (whole ≡ more ++ told x (replicate (n - (i + 1)) e))
+    told-goes u x p same = (
+      done ++ note_lines (turn m e).1,
+      lines-then a b c done (note_lines (turn m e).1) so_far p.1,
+      parts ∙ ap (λ ls. done ++ ls) told-left ∙ sym (append_assoc done (note_lines (turn m e).1) _)
+          ∙ ap (λ y. (done ++ note_lines (turn m e).1) ++ told y (replicate (n - (i + 1)) e)) (sym same),
+    )
+
+    pub told-stops : (s d : Stop) → d ≡ s → Plays b c (Err s) (prints (note_lines (turn m e).1)) → Plays a c (Err d) (prints whole)
+    told-stops s d same p =
+        let rest = told (turn m e).0 (replicate (n - (i + 1)) e) in
+        let played : PlayedTo a b (prints whole) (prints (note_lines (turn m e).1 ++ rest)) =
+        record { lines = done; written = so_far; goes_on = ap prints (parts ∙ ap (λ ls. done ++ ls) told-left) } in
+        plays-passed a c s d (prints whole) same (plays-whole a b c (Err s) _ _ played (plays-more b c s (note_lines (turn m e).1) (prints rest) p))

@@ -1,0 +1,15 @@
+-- What a desk shows beside its register.
+use Rattle.std.specs.Prelude.{◌≡◌, ℕ, ◌≤◌, List, length, take}
+use Rattle.council_core.specs.Ledgers.{Ledger}
+use Rattle.council_core.specs.Rolls.{sheet}
+use Rattle.council_core.specs.Sequential.{Sequential}
+use Rattle.council_core.specs.Sheets.{front_of}
+
+-- the sheet shown is that of the commands published, as many as its front says
+pub record IsShown (ledger : Ledger) (words : List ℕ) : Type 0 where
+  pub within : front_of words ≤ length ledger.journal
+  pub same : words ≡ sheet ledger.opening (take (front_of words) ledger.journal)
+
+-- a desk is a sequential register: what is published is what its sheet shows
+abbrev pub desk_of : Ledger → List ℕ → Sequential
+desk_of ledger words = record { ledger = ledger; published = front_of words }

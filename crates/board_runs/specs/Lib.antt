@@ -1,0 +1,5 @@
+pub mod Scripts
+pub mod Replays
+pub mod Traces
+pub mod Desks
+pub mod Ended

@@ -1,0 +1,49 @@
+-- What the records of a schedule do to the two-copy machine.
+use Rattle.std.specs.Prelude.{ℕ, List, [], ◌∷◌, Option, Some, None, Ok, Err, replicate}
+use Rattle.std.specs.Prelude.{if◌then◌else◌}
+use Rattle.std.specs.List.{flat_map}
+use Rattle.council_core.specs.Ledgers.{Ledger}
+use Rattle.council_core.specs.declared.refusals.Refusal.TheVariants.{BadReader, BadRecord}
+use Rattle.two_copy_steps.specs.Turns.{TwoCopies, after, notes}
+use Rattle.two_copy_steps.specs.Turns as machine
+use Rattle.two_copy_steps.specs.declared.events.Event.{Event}
+use Rattle.two_copy_steps.specs.declared.events.Event.TheVariants as event
+use Rattle.board_text.specs.Lines.{Line, note_lines}
+use Rattle.board_text.specs.Requests.{Row}
+use Rattle.board_text.specs.Text.{Run}
+use Rattle.board_runs.specs.Scripts.{Turn, played_run}
+use Rattle.board_text.specs.declared.bounds.Limits.{Limits}
+use Rattle.board_text.specs.declared.schedules.Act.{Act}
+use Rattle.board_text.specs.declared.schedules.Act.TheVariants as act
+use Rattle.board_text.specs.Schedules.{act_of, is_scheduled}
+
+-- the events of the machine that it is
+abbrev pub events_of : Act → List Event
+events_of (act.Submit c) = event.Submit c ∷ []
+events_of act.Publish = event.Publish ∷ []
+events_of (act.Writer count) = replicate count event.Writer
+events_of (act.Reader number count) = replicate count (event.Reader number)
+
+-- the lines of what events tell
+abbrev pub told : TwoCopies → List Event → List Line
+told m events = flat_map note_lines (notes m events)
+
+-- the machine is taken through these events, and its notes are printed
+abbrev pub acted : Limits → TwoCopies → Act → Turn TwoCopies
+acted lim m a = if is_scheduled lim a then Ok (told m (events_of a), after m (events_of a)) else Err BadReader
+
+abbrev pub acted_on : Limits → TwoCopies → Option Act → Turn TwoCopies
+acted_on lim m None = Err BadRecord
+acted_on lim m (Some a) = acted lim m a
+
+-- what one record of a schedule does
+abbrev pub trace_step : Limits → TwoCopies → Row → Turn TwoCopies
+trace_step lim m row = acted_on lim m (act_of row)
+
+-- the machine over a register at its start
+abbrev pub trace_start : Limits → Ledger → TwoCopies
+trace_start lim ledger = machine.started ledger lim.readers
+
+-- what `trace` writes on these bytes, and how it ends, where memory is found and the devices work
+abbrev pub trace_of : Limits → List ℕ → Run
+trace_of lim bytes = played_run trace_start trace_step lim bytes

@@ -1,0 +1,84 @@
+//! The desk: the register with the sheet that was last published, which readers see.
+ghost use Rattle.std.specs.Prelude.{◌≡◌, IfOk, IsOkUnless};
+ghost use Rattle.council_core.specs.Ledgers.{sheet_of};
+ghost use Rattle.council_core.specs.Sequential.{respond, shown, submit, publish};
+ghost use Rattle.power_index.specs.Indices.{indices_of};
+ghost use Rattle.board_runs.specs.Desks.{desk_of};
+ghost use Rattle.board_text.specs.Replies.{reply_of};
+ghost use Rattle.board_text.specs.declared.stops.Stop.TheVariants as stop;
+
+use board_text::{Answer, Stop};
+use council_core::{Command, Refusal, Register, Sheet};
+use majority_rule::Majority;
+use power_index::{Evaluator, Indices};
+use std::alloc::Global;
+use std::marker::Model;
+
+/// A register, the sheet last published, and what its indices are counted with. Contracts see a
+/// desk as the sequential register.
+#[derive(Drop)]
+pub(crate) struct Desk {
+    register: Register,
+    shown: Sheet,
+    evaluator: Evaluator,
+}
+
+impl Model for Desk {
+    ghost use Rattle.council_core.specs.Sequential.{Sequential};
+    ghost use Rattle.board_runs.specs.Desks.{IsShown, desk_of};
+
+    ghost Value = { Sequential };
+
+    ghost view = { λ d. desk_of d.register d.shown };
+
+    ghost invariant = { λ d. IsShown d.register d.shown };
+}
+
+impl Desk {
+    // A desk that shows the register as it stands.
+    pub(crate) fn open(alloc: Global, register: Register) -> Result<Desk, Stop>
+        ensures opened { IfOk result (λ d. d ≡ desk_of register (sheet_of register)) }
+        ensures memory { IsOkUnless result stop.OutOfMemory }
+    {
+        let shown = register.sheet();
+        match Evaluator::new(alloc) {
+            Ok(evaluator) => Ok(Desk {
+                register,
+                shown,
+                evaluator,
+            }),
+            Err(_) => Err(Stop::OutOfMemory),
+        }
+    }
+
+    // Submits a command, and publishes nothing.
+    pub(crate) fn submit(&mut self, command: Command) -> Result<Answer, Stop>
+        ensures replied { IfOk result (λ a. reply_of a ≡ (respond self.old (submit command)).1) }
+        ensures after { IfOk result (λ a. self.new ≡ (respond self.old (submit command)).0) }
+        ensures memory { IsOkUnless result stop.OutOfMemory }
+    {
+        match self.register.apply(command) {
+            Ok(accepted) => Ok(Answer::Accepted(accepted)),
+            Err(Refusal::OutOfMemory) => Err(Stop::OutOfMemory),
+            Err(why) => Ok(Answer::Refused(why)),
+        }
+    }
+
+    // Publishes all commands accepted.
+    pub(crate) fn publish(&mut self) -> Answer
+        ensures replied { reply_of result ≡ (respond self.old publish).1 }
+        ensures after { self.new ≡ (respond self.old publish).0 }
+    {
+        self.shown = self.register.sheet();
+        Answer::Published(self.register.accepted())
+    }
+
+    // The indices of the sheet last published.
+    pub(crate) fn indices(&mut self, majority: Majority) -> Indices
+        ensures counted { result ≡ indices_of majority (shown self.old) }
+        ensures unchanged { self.new ≡ self.old }
+    {
+        self.evaluator.set(&self.shown);
+        self.evaluator.evaluate(majority)
+    }
+}

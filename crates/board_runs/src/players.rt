@@ -1,0 +1,152 @@
+//! Playing an input: the run that `replay` and `trace` share.
+ghost use Rattle.std.specs.Prelude.{◌≡◌, ◌≤◌, ◌<◌, ◌+◌, ◌^◌, ℕ, List, [], true, length, IfOk};
+ghost use Rattle.std.specs.Prelude.{IfSome, OnOk, IsOkUnless};
+ghost use Rattle.csv.specs.Reading.{default_config, records, strip_bom};
+ghost use Rattle.csv.specs.Records.{fields_of};
+ghost use Rattle.council_core.specs.Ledgers.{Ledger};
+ghost use Rattle.board_text.specs.Output.{Plays};
+ghost use Rattle.board_runs.specs.Ended.{Replays};
+ghost use Rattle.board_text.specs.Pens.{GoesOn};
+ghost use Rattle.board_text.specs.Requests.{Row};
+ghost use Rattle.board_runs.specs.Scripts.{Turn, begun_run, played, played_run};
+ghost use Rattle.board_text.specs.Text.{begun_with, in_range, opened_of};
+ghost use Rattle.board_runs.specs.Scripts.{script_run, step_run};
+ghost use Rattle.board_text.specs.declared.bounds.Limits.{Limits};
+ghost use Rattle.board_text.specs.declared.stops.Stop.TheVariants as stop;
+
+use board_text::{
+    Fault, INPUT_LIMIT, Limits, Output, Script, Stop, begin, end_with, line_of_fault, read_within,
+};
+use council_core::{Refusal, Register};
+use csv::ByteRecord;
+use std::alloc::Global;
+use std::io::{Read, Write};
+
+/// What the records of a script are carried out on.
+pub(crate) trait Player: Sized + Drop {
+    // What the register at its start is made into.
+    ghost opened: { Limits → Ledger → Self };
+
+    // What a record does, and the lines that it prints.
+    ghost step: { Limits → Self → Row → Turn Self };
+
+    fn open(alloc: Global, register: Register, limits: Limits) -> Result<Self, Stop>
+        requires none { register.journal ≡ [] }
+        requires in_range { in_range limits ≡ true }
+        ensures opened { IfOk result (λ player. player ≡ opened limits register) }
+        ensures memory { IsOkUnless result stop.OutOfMemory };
+
+    // Carries out one record.
+    fn carry_out<W: Write>(
+        &mut self,
+        limits: Limits,
+        row: &ByteRecord,
+        place: u32,
+        out: &mut Output<'_, W>,
+    ) -> Result<(), Stop>
+        ensures wrote { Plays out.old.held out.new.held result
+            (step_run place (step limits self.old (fields_of row.now))) }
+        ensures state { OnOk result (IfOk (step limits self.old (fields_of row.now)) (λ p. self.new ≡ p.1)) }
+        ensures on { GoesOn out.old out.new };
+}
+
+// Carries out the script's records in order. `first` is the number of the first.
+fn play_script<P: Player, W: Write>(
+    script: &mut Script<'_>,
+    row: &mut ByteRecord,
+    limits: Limits,
+    mut player: P,
+    first: u32,
+    out: &mut Output<'_, W>,
+) -> Result<(), Stop>
+    requires places { first + length script.old < 2 ^ 32 }
+    ensures wrote { Plays out.old.held out.new.held result (script_run (P.step limits) player first script.old) }
+    ensures on { GoesOn out.old out.new }
+{
+    let mut place = first;
+    'records: loop {
+        if !script.next(row)? {
+            return Ok(());
+        }
+        player.carry_out(limits, row, place, out)?;
+        place += 1;
+    }
+}
+
+// Plays the records of a text.
+fn play_text<P: Player, W: Write>(
+    alloc: Global,
+    text: &[u8],
+    limits: Limits,
+    out: &mut Output<'_, W>,
+) -> Result<(), Stop>
+    requires short { length text.now ≤ INPUT_LIMIT }
+    requires in_range { in_range limits ≡ true }
+    ensures wrote { Plays out.old.held out.new.held result
+        (begun_run (played P.opened P.step limits)
+        (begun_with limits (opened_of (records default_config (strip_bom text.now))))) }
+    ensures on { GoesOn out.old out.new }
+{
+    let mut script = Script::new(alloc, text);
+    let mut row = ByteRecord::new(alloc);
+    let begun = begin(alloc, &mut script, &mut row, limits)?;
+    let player = P::open(alloc, begun.register, limits)?;
+    play_script(&mut script, &mut row, limits, player, begun.place, out)
+}
+
+// Plays the input, and leaves out the line of a fault.
+fn play_input<P: Player, R: Read, W: Write>(
+    alloc: Global,
+    input: &mut R,
+    out: &mut Output<'_, W>,
+    limits: Limits,
+) -> Result<(), Stop>
+    ensures wrote { IfSome (R.remaining input.old)
+        (λ bytes. Plays out.old.held out.new.held result (played_run P.opened P.step limits bytes)) }
+    ensures some { (bytes : List ℕ)
+        × Plays out.old.held out.new.held result (played_run P.opened P.step limits bytes) }
+    ensures on { GoesOn out.old out.new }
+{
+    let text = read_within(alloc, input, limits)?;
+    play_text::<P, W>(alloc, text.as_slice(), limits, out)
+}
+
+// Plays the input.
+fn play_all<P: Player, R: Read, W: Write>(
+    alloc: Global,
+    input: &mut R,
+    out: &mut Output<'_, W>,
+    limits: Limits,
+) -> Result<(), Fault>
+    ensures wrote { IfSome (R.remaining input.old)
+        (λ bytes. Replays out.old.held out.new.held result (played_run P.opened P.step limits bytes)) }
+    ensures some { (bytes : List ℕ)
+        × Replays out.old.held out.new.held result (played_run P.opened P.step limits bytes) }
+    ensures on { GoesOn out.old out.new }
+{
+    let Err(stop) = play_input::<P, R, W>(alloc, input, out, limits) else {
+        return Ok(());
+    };
+    let Some(fault) = stop.to_fault() else {
+        return Err(Fault::new(Refusal::WriteFault, 0));
+    };
+    Err(end_with(out, fault))
+}
+
+// The same, into a writer.
+pub(crate) fn play<P: Player, R: Read, W: Write>(
+    alloc: Global,
+    input: &mut R,
+    out: &mut W,
+    limits: Limits,
+) -> Result<(), Fault>
+    ensures wrote { IfSome (R.remaining input.old)
+        (λ bytes. Replays (W.contents out.old) (W.contents out.new) result (played_run P.opened P.step limits bytes)) }
+    ensures some { (bytes : List ℕ)
+        × Replays (W.contents out.old) (W.contents out.new) result (played_run P.opened P.step limits bytes) }
+{
+    let mut output = Output::new(out);
+    let result = play_all::<P, R, W>(alloc, input, &mut output, limits);
+    let _out = output.finish();
+    result
+}

@@ -1,0 +1,125 @@
+//! Replaying an input.
+ghost use Rattle.std.specs.Prelude.{◌≡◌, ℕ, List, map, IfSome, OnOk};
+ghost use Rattle.council_core.specs.Sequential.{respond, shown};
+ghost use Rattle.board_text.specs.Lines.{chair_line, reading_lines, reply_lines};
+ghost use Rattle.board_text.specs.Output.{Plays};
+ghost use Rattle.board_runs.specs.Ended.{Replays};
+ghost use Rattle.board_text.specs.Pens.{GoesOn};
+ghost use Rattle.board_text.specs.Requests.{call_of};
+ghost use Rattle.board_text.specs.Text.{prints};
+ghost use Rattle.board_runs.specs.Replays.{replay_start, replay_step, run_of};
+
+use crate::desks::Desk;
+use crate::players::{Player, play};
+use board_text::{
+    Fault, Limits, Output, Request, Stop, is_served, line_of_answer, line_of_chair,
+    line_of_reading, request_in,
+};
+use council_core::{Refusal, Register};
+use csv::ByteRecord;
+use majority_rule::Majority;
+use power_index::ChairPower;
+use std::alloc::Global;
+use std::io::{Read, Write};
+
+// Writes the lines of some chairs.
+fn write_chairs<W: Write>(rows: &[ChairPower], out: &mut Output<'_, W>) -> Result<(), Stop>
+    ensures wrote { Plays out.old.held out.new.held result (prints (map chair_line rows.now)) }
+    ensures on { GoesOn out.old out.new }
+{
+    for row in rows {
+        out.write_line(line_of_chair(row))?;
+    }
+    Ok(())
+}
+
+// Answers a reading with the sheet's indices.
+fn write_reading<W: Write>(
+    desk: &mut Desk,
+    reader: u64,
+    majority: Majority,
+    out: &mut Output<'_, W>,
+) -> Result<(), Stop>
+    ensures wrote { Plays out.old.held out.new.held result (prints (reading_lines reader majority (shown desk.old))) }
+    ensures state { desk.new ≡ desk.old }
+    ensures on { GoesOn out.old out.new }
+{
+    let indices = desk.indices(majority);
+    out.write_line(line_of_reading(reader, &indices))?;
+    write_chairs(indices.rows.as_slice(), out)
+}
+
+// Carries out a request of a reader that there is.
+fn replay_request<W: Write>(
+    desk: &mut Desk,
+    request: Request,
+    out: &mut Output<'_, W>,
+) -> Result<(), Stop>
+    ensures wrote { Plays out.old.held out.new.held result
+        (prints (reply_lines request (respond desk.old (call_of request)).1)) }
+    ensures state { OnOk result (desk.new ≡ (respond desk.old (call_of request)).0) }
+    ensures on { GoesOn out.old out.new }
+{
+    match request {
+        Request::Submit(command) => {
+            let answer = desk.submit(command)?;
+            return out.write_line(line_of_answer(answer));
+        }
+        Request::Publish => {
+            let answer = desk.publish();
+            return out.write_line(line_of_answer(answer));
+        }
+        Request::Read(reader, majority) => {
+            return write_reading(desk, reader, majority, out);
+        }
+    }
+}
+
+impl Player for Desk {
+    ghost opened = { replay_start };
+
+    ghost step = { replay_step };
+
+    fn open(alloc: Global, register: Register, _limits: Limits) -> Result<Desk, Stop> {
+        Desk::open(alloc, register)
+    }
+
+    fn carry_out<W: Write>(
+        &mut self,
+        limits: Limits,
+        row: &ByteRecord,
+        place: u32,
+        out: &mut Output<'_, W>,
+    ) -> Result<(), Stop> {
+        let Some(request) = request_in(row) else {
+            return Err(Stop::told(Refusal::BadRecord, place));
+        };
+        if !is_served(limits, &request) {
+            return Err(Stop::told(Refusal::BadReader, place));
+        }
+        replay_request(self, request, out)
+    }
+}
+
+/// Replays an input: reads it whole, and carries out the records of its script one by one. What is
+/// written and answered is what `run_of` says of the bytes that the reader gives, whichever way the
+/// run ends; where the reader doesn't tell its bytes, nothing is promised of them.
+///
+/// A fault's number is its refusal's, in this order: `BadLimit`; `ReadFault` and `TooLong` (more
+/// than 4,194,304 bytes); `BadHeader`; of the members' records `TooManyMembers`, `BadRecord` and
+/// `NoScript`; `DuplicateMember`; of the script's records `BadRecord` and `BadReader`, each with
+/// the record's number. `OutOfMemory` may come at any place, `WriteFault` at any write. The lines
+/// written before a fault stay, and its own line is the last, but after a `WriteFault`.
+pub fn replay<R: Read, W: Write>(
+    alloc: Global,
+    input: &mut R,
+    out: &mut W,
+    limits: Limits,
+) -> Result<(), Fault>
+    ensures wrote { IfSome (R.remaining input.old)
+        (λ bytes. Replays (W.contents out.old) (W.contents out.new) result (run_of limits bytes)) }
+    ensures some { (bytes : List ℕ)
+        × Replays (W.contents out.old) (W.contents out.new) result (run_of limits bytes) }
+{
+    play::<Desk, R, W>(alloc, input, out, limits)
+}

@@ -1,0 +1,129 @@
+//! Taking the two-copy machine through a schedule.
+ghost use Rattle.std.specs.Prelude.{◌≡◌, ℕ, List, true, replicate, IfSome, OnOk};
+ghost use Rattle.two_copy_steps.specs.Turns.{after, turn};
+ghost use Rattle.board_text.specs.Lines.{note_lines};
+ghost use Rattle.board_text.specs.Output.{Plays};
+ghost use Rattle.board_runs.specs.Ended.{Replays};
+ghost use Rattle.board_text.specs.Pens.{GoesOn};
+ghost use Rattle.board_text.specs.Text.{prints};
+ghost use Rattle.board_runs.specs.Traces.{events_of, told, trace_of, trace_start, trace_step};
+ghost use Rattle.board_text.specs.Schedules.{is_scheduled};
+
+use crate::players::{Player, play};
+use board_text::{Act, Fault, Limits, Output, Stop, act_in, is_scheduled, line_of_note};
+use council_core::{Refusal, Register};
+use csv::ByteRecord;
+use std::alloc::Global;
+use std::io::{Read, Write};
+use two_copy_steps::{Event, Machine, Note};
+
+// Writes what a note tells.
+fn write_note<W: Write>(note: Note, out: &mut Output<'_, W>) -> Result<(), Stop>
+    ensures wrote { Plays out.old.held out.new.held result (prints (note_lines note)) }
+    ensures on { GoesOn out.old out.new }
+{
+    match line_of_note(note) {
+        Some(line) => out.write_line(line),
+        None => Ok(()),
+    }
+}
+
+// Takes the machine through an event.
+fn take<W: Write>(machine: &mut Machine, event: Event, out: &mut Output<'_, W>) -> Result<(), Stop>
+    ensures wrote { Plays out.old.held out.new.held result (prints (note_lines (turn machine.old event).1)) }
+    ensures state { OnOk result (machine.new ≡ (turn machine.old event).0) }
+    ensures on { GoesOn out.old out.new }
+{
+    let Ok(note) = machine.step(event) else {
+        return Err(Stop::OutOfMemory);
+    };
+    write_note(note, out)
+}
+
+// Takes the machine through an event so many times.
+fn take_all<W: Write>(
+    machine: &mut Machine,
+    event: &Event,
+    count: u32,
+    out: &mut Output<'_, W>,
+) -> Result<(), Stop>
+    ensures wrote { Plays out.old.held out.new.held result (prints (told machine.old (replicate count event.now))) }
+    ensures state { OnOk result (machine.new ≡ after machine.old (replicate count event.now)) }
+    ensures on { GoesOn out.old out.new }
+{
+    for _turn in 0..count {
+        take(machine, *event, out)?;
+    }
+    Ok(())
+}
+
+// Takes the machine through what a record asks for.
+fn act_on<W: Write>(
+    machine: &mut Machine,
+    limits: Limits,
+    act: Act,
+    out: &mut Output<'_, W>,
+) -> Result<(), Stop>
+    requires known { is_scheduled limits act ≡ true }
+    ensures wrote { Plays out.old.held out.new.held result (prints (told machine.old (events_of act))) }
+    ensures state { OnOk result (machine.new ≡ after machine.old (events_of act)) }
+    ensures on { GoesOn out.old out.new }
+{
+    match act {
+        Act::Submit(command) => take_all(machine, &Event::Submit(command), 1, out),
+        Act::Publish => take_all(machine, &Event::Publish, 1, out),
+        Act::Writer(count) => take_all(machine, &Event::Writer, count, out),
+        Act::Reader(reader, count) => take_all(machine, &Event::Reader(reader as u8), count, out),
+    }
+}
+
+impl Player for Machine {
+    ghost opened = { trace_start };
+
+    ghost step = { trace_step };
+
+    fn open(_alloc: Global, register: Register, limits: Limits) -> Result<Machine, Stop> {
+        match Machine::start(register, limits.readers) {
+            Ok(machine) => Ok(machine),
+            Err(_) => unreachable!(),
+        }
+    }
+
+    fn carry_out<W: Write>(
+        &mut self,
+        limits: Limits,
+        row: &ByteRecord,
+        place: u32,
+        out: &mut Output<'_, W>,
+    ) -> Result<(), Stop> {
+        let Some(act) = act_in(row) else {
+            return Err(Stop::told(Refusal::BadRecord, place));
+        };
+        if !is_scheduled(limits, &act) {
+            return Err(Stop::told(Refusal::BadReader, place));
+        }
+        act_on(self, limits, act, out)
+    }
+}
+
+/// Takes the two-copy machine through an input's schedule: one writer and as many readers as the
+/// limits say, every step of which is a record's. Each event prints what the machine tells of it; an
+/// event that only moves prints nothing. What is written and answered is what `trace_of` says of the
+/// bytes that the reader gives, whichever way the run ends; where the reader doesn't tell its bytes,
+/// nothing is promised of them.
+///
+/// The faults are those of `replay`, in the same order. Want of memory as a command is handed over
+/// is `OutOfMemory` and ends the run: it is no line of the machine's.
+pub fn trace<R: Read, W: Write>(
+    alloc: Global,
+    input: &mut R,
+    out: &mut W,
+    limits: Limits,
+) -> Result<(), Fault>
+    ensures wrote { IfSome (R.remaining input.old)
+        (λ bytes. Replays (W.contents out.old) (W.contents out.new) result (trace_of limits bytes)) }
+    ensures some { (bytes : List ℕ)
+        × Replays (W.contents out.old) (W.contents out.new) result (trace_of limits bytes) }
+{
+    play::<Machine, R, W>(alloc, input, out, limits)
+}

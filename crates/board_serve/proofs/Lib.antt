@@ -1,0 +1,7 @@
+pub mod PartFacts
+pub mod PlanFacts
+pub mod CutFacts
+pub mod WorkFacts
+pub mod OutcomeFacts
+pub mod AuditFacts
+pub mod ServeFacts

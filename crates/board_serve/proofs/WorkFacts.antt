@@ -1,0 +1,114 @@
+-- The work of the threads, one record more at a time.
+use Rattle.std.proofs.Common.{◌≡◌, ◌+◌, ◌≤◌, ℕ, List, [], ◌∷◌, ◌++◌, length, map, take, refl, sym, ap, subst, ◌∙◌, arith, append_assoc}
+use Rattle.std.proofs.lemmas.List.{append-nil, length-append, map-append, take_more}
+use Rattle.std.proofs.lemmas.List.Elements.{All-append, All-cons, All-nil}
+use Rattle.std.proofs.lemmas.Grind.{flat_map-append}
+use Rattle.council_core.specs.Sequential.{Sequential, Call, Reply, respond, replies_of, state_after}
+use Rattle.council_core.specs.Sheets.{front_of}
+use Rattle.majority_rule.specs.declared.majorities.Majority.{Majority}
+use Rattle.two_copy_steps.specs.Lawful.{last_front}
+use Rattle.board_share.specs.Analysts.{Asking}
+use Rattle.board_share.specs.Readers.{IsLegalSheet, last_front_of}
+use Rattle.board_share.proofs.WholeReadings.{front_is}
+use Rattle.board_share.specs.Writers.{Publisher}
+use Rattle.board_text.specs.Replies.{reply_of}
+use Rattle.board_serve.specs.Parts.{call_of_order}
+use Rattle.board_serve.specs.Work.{IsRead, IsReadFrom, IsRising, IsWritten, cuts_of, cuts_of_reply, omega_at, omegas, register_of}
+use Rattle.board_serve.specs.declared.orders.Order.{Order}
+use Rattle.board_serve.specs.declared.readings.Readings.{Readings}
+use Rattle.board_text.specs.declared.replies.Answer.{Answer}
+use Rattle.board_serve.specs.declared.written.Written.{Written}
+use Rattle.board_text.proofs.PlaceFacts.{StandsAt, first-more}
+
+-- the replies to one call more
+replies-more : (s : Sequential) (calls : List Call) (call : Call) → replies_of s (calls ++ call ∷ []) ≡ replies_of s calls ++ (respond (state_after s calls) call).1 ∷ []
+replies-more s [] call = refl
+replies-more s (c ∷ cs) call = ap (λ (rs : List Reply). (respond s c).1 ∷ rs) (replies-more (respond s c).0 cs call)
+
+state-more : (s : Sequential) (calls : List Call) (call : Call) → state_after s (calls ++ call ∷ []) ≡ (respond (state_after s calls) call).0
+state-more s [] call = refl
+state-more s (c ∷ cs) call = state-more (respond s c).0 cs call
+
+-- the order at this place was carried out, and its answer kept
+pub record CarriedOut (orders : List Order) (i : ℕ) (order : Order) (after next : Publisher) (w v : Written) : Type 0 where
+  pub answer : Answer
+  pub stands : StandsAt orders i order
+  pub replied : reply_of answer ≡ (respond (register_of after) (call_of_order order)).1
+  pub register : register_of next ≡ (respond (register_of after) (call_of_order order)).0
+  pub answers : v.answers.items ≡ w.answers.items ++ answer ∷ []
+  pub cuts : v.cuts.items ≡ w.cuts.items ++ cuts_of_reply (reply_of answer)
+
+-- one order more was carried out
+pub written-more : (before after next : Publisher) (orders : List Order) (i : ℕ) (o : Order) (w v : Written)
+    → IsWritten before (take i orders) after w → CarriedOut orders i o after next w v → IsWritten before (take (i + 1) orders) next v
+written-more before after next orders i o w v done one =
+    let a = one.answer in
+    let s = register_of before in
+    let calls = map call_of_order (take i orders) in
+    let call = call_of_order o in
+    let more = first-more call_of_order orders i o one.stands in
+    let now : reply_of a ≡ (respond (state_after s calls) call).1 = one.replied ∙ ap (λ (t : Sequential). (respond t call).1) done.register in
+    let all : replies_of s (map call_of_order (take (i + 1) orders)) ≡ replies_of s calls ++ reply_of a ∷ [] =
+    ap (replies_of s) more ∙ replies-more s calls call ∙ ap (λ (r : Reply). replies_of s calls ++ r ∷ []) (sym now) in
+    let kept : map reply_of v.answers.items ≡ map reply_of w.answers.items ++ reply_of a ∷ [] = ap (map reply_of) one.answers ∙ map-append reply_of w.answers.items (a ∷ []) in
+    record {
+      answers = kept ∙ ap (λ (rs : List Reply). rs ++ reply_of a ∷ []) done.answers ∙ sym all;
+      register = one.register ∙ ap (λ (t : Sequential). (respond t call).0) done.register ∙ sym (state-more s calls call) ∙ ap (state_after s) (sym more);
+      cuts = one.cuts ∙ ap (λ (ns : List ℕ). ns ++ cuts_of_reply (reply_of a)) done.cuts ∙ sym (ap cuts_of all ∙ flat_map-append cuts_of_reply (replies_of s calls) (reply_of a ∷ []) ∙ ap (λ (ns : List ℕ). cuts_of (replies_of s calls) ++ ns) (append-nil (cuts_of_reply (reply_of a))));
+    }
+
+pub last-more : (low : ℕ) (xs ys : List (List ℕ)) → last_front low (xs ++ ys) ≡ last_front (last_front low xs) ys
+last-more low [] ys = refl
+last-more low (x ∷ xs) ys = last-more (front_of x) xs ys
+
+rising-more : (low : ℕ) (xs : List (List ℕ)) (w : List ℕ) → IsRising low xs → last_front low xs ≤ front_of w → IsRising low (xs ++ w ∷ [])
+rising-more low [] w r above = (above, tt)
+rising-more low (x ∷ xs) w r above = (r.0, rising-more (front_of x) xs w r.1 above)
+
+-- one sheet more was read: it is of some legal list, and not older than the one before
+pub record SheetRead (after next : Asking) : Type 0 where
+  pub opening : next.reader.opening ≡ after.reader.opening
+  pub grown : next.reader.readings ≡ after.reader.readings ++ next.sheet ∷ []
+  pub legal : IsLegalSheet after.reader.opening next.sheet
+  pub not_older : last_front_of after.reader ≤ front_of next.sheet
+
+-- one sheet more was read and kept
+pub read-more : (before after next : Asking) (r v : Readings) → IsReadFrom before after r → SheetRead after next → v.sheets.items ≡ r.sheets.items ++ next.sheet ∷ [] → IsReadFrom before next v
+read-more before after next r v done one sheets =
+    let above : last_front 0 after.reader.readings ≤ front_of next.sheet = subst (λ (n : ℕ). n ≤ front_of next.sheet) (sym (front_is 0 after.reader.readings)) one.not_older in
+    let low : last_front (last_front 0 before.reader.readings) r.sheets.items ≡ last_front 0 after.reader.readings =
+    sym (last-more 0 before.reader.readings r.sheets.items) ∙ ap (last_front 0) (sym done.grown) in
+    record {
+      opening = one.opening ∙ done.opening;
+      grown = one.grown ∙ ap (λ (l : List (List ℕ)). l ++ next.sheet ∷ []) done.grown ∙ append_assoc before.reader.readings r.sheets.items (next.sheet ∷ []) ∙ ap (λ (l : List (List ℕ)). before.reader.readings ++ l) (sym sheets);
+      legal = rw sheets (All-append (IsLegalSheet before.reader.opening) r.sheets.items (next.sheet ∷ []) done.legal (All-cons (IsLegalSheet before.reader.opening) next.sheet [] (rw done.opening at one.legal) (All-nil (IsLegalSheet before.reader.opening))));
+      rising = rw sheets (rising-more (last_front 0 before.reader.readings) r.sheets.items next.sheet done.rising (rw low above));
+    }
+
+omegas-more : (ms : List Majority) (sheets : List (List ℕ)) (m : Majority) (words : List ℕ) → length sheets ≡ length ms → omegas (ms ++ m ∷ []) (sheets ++ words ∷ []) ≡ omegas ms sheets ++ omega_at m words ∷ []
+omegas-more [] [] m words e = refl
+omegas-more [] (w ∷ ws) m words e = cc
+omegas-more (k ∷ ms) [] m words e = cc
+omegas-more (k ∷ ms) (w ∷ ws) m words e = ap (λ (l : List ℕ). omega_at k w ∷ l) (omegas-more ms ws m words (omega (arith, e)))
+
+-- the record at this place was answered, and the sheet and the number kept
+pub record Answered (asked : List Majority) (i : ℕ) (majority : Majority) (r v : Readings) : Type 0 where
+  pub words : List ℕ
+  pub number : ℕ
+  pub stands : StandsAt asked i majority
+  pub counted : number ≡ omega_at majority words
+  pub sheets : v.sheets.items ≡ r.sheets.items ++ words ∷ []
+  pub winning : v.winning.items ≡ r.winning.items ++ number ∷ []
+
+-- one record more was answered
+pub answered-more : (asked : List Majority) (i : ℕ) (m : Majority) (r v : Readings) → IsRead (take i asked) r → Answered asked i m r v → IsRead (take (i + 1) asked) v
+answered-more asked i m r v done one =
+    let words = one.words in
+    let sheets = one.sheets in
+    let at = one.stands in
+    let more : take (i + 1) asked ≡ take i asked ++ m ∷ [] = take_more asked i m at.within ∙ ap (λ y. take i asked ++ (y ∷ [])) (sym at.here) in
+    let old = done.count in
+    record {
+      count = rw (sheets, more) (omega (arith, old, length-append r.sheets.items (words ∷ []), length-append (take i asked) (m ∷ [])));
+      winning = rw (sheets, more) (one.winning ∙ ap (λ (ns : List ℕ). ns ++ one.number ∷ []) done.winning ∙ ap (λ k. omegas (take i asked) r.sheets.items ++ k ∷ []) one.counted ∙ sym (omegas-more (take i asked) r.sheets.items m words old));
+    }

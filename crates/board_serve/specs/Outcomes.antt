@@ -1,0 +1,61 @@
+-- What comes of the work of all threads.
+use Rattle.std.specs.Prelude.{◌≡◌, ℕ, List, [], ◌∷◌, length, map, All}
+use Rattle.council_core.specs.Rolls.{IsLegal}
+use Rattle.council_core.specs.Sequential.{AreLegalRecords, state_after}
+use Rattle.majority_rule.specs.declared.majorities.Majority.{Majority}
+use Rattle.board_share.specs.Readers.{IsLegalSheet}
+use Rattle.board_text.specs.Replies.{reply_of}
+use Rattle.board_serve.specs.Plans.{Planned, calls_of, told_by}
+use Rattle.board_serve.specs.Work.{IsRising, cuts_of, omegas}
+use Rattle.board_serve.specs.declared.outcomes.Outcome.{Outcome}
+use Rattle.board_serve.specs.declared.served.Served.{Served}
+use Rattle.board_serve.specs.declared.threads.Asked.{Asked}
+use Rattle.board_serve.specs.declared.threads.Wrote.{Wrote}
+
+-- the sheets that each reader read
+abbrev pub sheets_of : Served → List (List (List ℕ))
+sheets_of s = map (λ v. v.items) s.readings.items
+
+-- the numbers that each reader answered
+abbrev pub winning_of : Served → List (List ℕ)
+winning_of s = map (λ v. v.items) s.winning.items
+
+-- what the threads brought back, put together
+pub record IsBrought (wrote : Wrote) (first second : Asked) (o : Outcome) : Type 0 where
+  pub answers : o.answers.items ≡ wrote.written.answers.items
+  pub journal : o.served.journal.items ≡ wrote.writer.ledger.journal
+  pub legal : IsLegal wrote.writer.ledger.opening o.served.journal.items
+  pub cuts : o.served.cuts.items ≡ wrote.written.cuts.items
+  pub readings : sheets_of o.served ≡ first.readings.sheets.items ∷ second.readings.sheets.items ∷ []
+  pub winning : winning_of o.served ≡ first.readings.winning.items ∷ second.readings.winning.items ∷ []
+
+-- by reader, omega of each sheet at its record's majority
+abbrev pub omegas_by : List (List Majority) → List (List (List ℕ)) → List (List ℕ)
+omegas_by [] sheets = []
+omegas_by (ms ∷ mss) [] = []
+omegas_by (ms ∷ mss) (words ∷ sheets) = omegas ms words ∷ omegas_by mss sheets
+
+-- the majorities at which each reader asks
+abbrev pub asked_by : Planned → List (List Majority)
+asked_by p = p.1.first ∷ p.1.second ∷ []
+
+-- the journal and the cuts are those that the sequential register gives for the writer's records; each reader has one
+-- sheet
+-- for each of its records, of some legal list, with fronts that do not fall, and omega of it at the record's majority
+pub record IsServed (p : Planned) (s : Served) : Type 0 where
+  pub journal : s.journal.items ≡ (state_after p.0 (calls_of p)).ledger.journal
+  pub legal_journal : IsLegal p.0.ledger.opening s.journal.items
+  pub cuts : s.cuts.items ≡ cuts_of (told_by p)
+  pub counts : map length (sheets_of s) ≡ map length (asked_by p)
+  pub legal : All (λ sheets. All (IsLegalSheet p.0.ledger.opening) sheets) (sheets_of s)
+  pub rising : All (IsRising 0) (sheets_of s)
+  pub winning : winning_of s ≡ omegas_by (asked_by p) (sheets_of s)
+
+-- the same, and the answers are the replies
+pub record IsOutcome (p : Planned) (o : Outcome) : Type 0 where
+  pub answers : map reply_of o.answers.items ≡ told_by p
+  pub served : IsServed p o.served
+
+-- the journal, the cuts, the start's with them, and the readings are legal records
+abbrev pub HasRecords : Planned → Served → Type 0
+HasRecords p s = AreLegalRecords p.0.ledger.opening s.journal.items (0 ∷ s.cuts.items) (sheets_of s)

@@ -1,0 +1,66 @@
+-- The script's records, by who carries them out.
+use Rattle.std.specs.Prelude.{ℕ, ◌+◌, ◌==◌, ◌++◌, List, [], ◌∷◌, length, Option, Some, None, Result}
+use Rattle.std.specs.Prelude.{Ok, Err, if◌then◌else◌}
+use Rattle.council_core.specs.Sequential.{Call, submit, publish}
+use Rattle.council_core.specs.declared.refusals.Refusal.{Refusal}
+use Rattle.council_core.specs.declared.refusals.Refusal.TheVariants.{BadReader, BadRecord}
+use Rattle.majority_rule.specs.declared.majorities.Majority.{Majority}
+use Rattle.board_text.specs.Requests.{Row, request_of}
+use Rattle.board_text.specs.Text.{fault_at, is_served}
+use Rattle.board_text.specs.declared.bounds.Limits.{Limits}
+use Rattle.board_text.specs.declared.faults.Fault.{Fault}
+use Rattle.board_serve.specs.declared.orders.Order.{Order}
+use Rattle.board_serve.specs.declared.orders.Order.TheVariants as order
+use Rattle.board_serve.specs.declared.parts.Parts.{Parts}
+use Rattle.board_text.specs.declared.requests.Request.{Request}
+use Rattle.board_text.specs.declared.requests.Request.TheVariants as ask
+
+-- the writer's orders, and the majorities at which each reader asks
+pub record Shares : Type 0 where
+  pub writer : List Order
+  pub first : List Majority
+  pub second : List Majority
+
+abbrev pub no_parts : Shares
+no_parts = record { writer = []; first = []; second = [] }
+
+abbrev pub shares_of : Parts → Shares
+shares_of p = record { writer = p.writer.items; first = p.first.items; second = p.second.items }
+
+-- how many records they are
+abbrev pub size_of : Shares → ℕ
+size_of s = length s.writer + length s.first + length s.second
+
+-- one more order
+abbrev pub with_order : Shares → Order → Shares
+with_order s o = record s { writer = s.writer ++ o ∷ [] }
+
+-- one more request, given to whoever carries it out
+abbrev pub with_request : Shares → Request → Shares
+with_request s (ask.Submit c) = with_order s (order.Submit c)
+with_request s ask.Publish = with_order s order.Publish
+with_request s (ask.Read reader m) =
+    if reader == 1 then record s { first = s.first ++ m ∷ [] } else record s { second = s.second ++ m ∷ [] }
+
+-- the call of the sequential register that an order is
+abbrev pub call_of_order : Order → Call
+call_of_order (order.Submit c) = submit c
+call_of_order order.Publish = publish
+
+abbrev pub served_or_refused : Limits → Option Request → Result Request Refusal
+served_or_refused lim None = Err BadRecord
+served_or_refused lim (Some q) = if is_served lim q then Ok q else Err BadReader
+
+-- what a record asks for, where it is well formed and of a reader that there is
+abbrev pub asked : Limits → Row → Result Request Refusal
+asked lim row = served_or_refused lim (request_of row)
+
+-- a record that is refused ends it, with its number
+abbrev pub asked_then : ℕ → Result Request Refusal → (Request → Result Shares Fault) → Result Shares Fault
+asked_then k (Err why) more = Err (fault_at why k)
+asked_then k (Ok q) more = more q
+
+-- the script's records, given out in order after these; k is the number of the first
+unfoldable pub parts_of : Limits → Shares → ℕ → List Row → Result Shares Fault
+parts_of lim s k [] = Ok s
+parts_of lim s k (r ∷ rs) = asked_then k (asked lim r) (λ q. parts_of lim (with_request s q) (k + 1) rs)

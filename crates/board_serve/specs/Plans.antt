@@ -1,0 +1,77 @@
+-- What a run of the threads is asked, and what it writes, as functions of the bytes that it reads.
+use Rattle.std.specs.Prelude.{◌≡◌, ℕ, ◌<◌, ◌^◌, ◌++◌, List, [], ◌∷◌, length, map, Option}
+use Rattle.std.specs.Prelude.{IfSome, Result, Ok, Err}
+use Rattle.council_core.specs.Ledgers.{start_verdict}
+use Rattle.council_core.specs.Sequential.{Call, Reply, Sequential, replies_of}
+use Rattle.board_text.specs.Lines.{Line, reply_line}
+use Rattle.board_text.specs.Output.{Fails}
+use Rattle.board_serve.specs.Parts.{Shares, call_of_order, no_parts, parts_of, shares_of, size_of}
+use Rattle.board_text.specs.Text.{Begun, Run, begun_of, fresh, prints, stops}
+use Rattle.board_text.specs.declared.bounds.Limits.{Limits}
+use Rattle.board_text.specs.declared.faults.Fault.{Fault}
+use Rattle.board_serve.specs.declared.plans.Plan.{Plan}
+use Rattle.board_text.specs.declared.stops.Stop.{Stop}
+use Rattle.board_text.specs.Lines.{audit_line, reader_line}
+
+-- the register at its start, and the script's records by who carries them out
+abbrev pub Planned : Type 0
+Planned = Sequential × Shares
+
+abbrev pub plan_shown : Plan → Planned
+plan_shown p = (fresh p.begun.register, shares_of p.parts)
+
+-- a register starts with the members, under any limit; they are those of the register, which has accepted nothing,
+-- and the records can be counted
+pub record IsSound (p : Plan) : Type 0 where
+  pub starts : start_verdict p.begun.members.items 1000000 ≡ Ok tt
+  pub members : p.begun.register.opening ≡ p.begun.members.items
+  pub none : p.begun.register.journal ≡ []
+  pub few : size_of (shares_of p.parts) < 2 ^ 32
+
+-- two readers, and a journal of so many commands
+abbrev pub two_readers : ℕ → Limits
+two_readers journal = record { readers = 2; journal = journal }
+
+abbrev pub planned_with : Sequential → Result Shares Fault → Result Planned Fault
+planned_with s (Err f) = Err f
+planned_with s (Ok p) = Ok (s, p)
+
+-- all of the script's records are looked at before any is carried out
+abbrev pub plan_from : Limits → Result Begun Fault → Result Planned Fault
+plan_from lim (Err f) = Err f
+plan_from lim (Ok b) = planned_with (fresh b.0) (parts_of lim no_parts b.1 b.2)
+
+-- what these bytes ask, or the fault that they have
+abbrev pub plan_of : ℕ → List ℕ → Result Planned Fault
+plan_of journal bytes = plan_from (two_readers journal) (begun_of (two_readers journal) bytes)
+
+-- these are the bytes that a reader still gives, where it tells them
+abbrev pub AreOf : Option (List ℕ) → List ℕ → Type 0
+AreOf remaining bytes = IfSome remaining (λ known. bytes ≡ known)
+
+-- what the input asks was found, or why nothing came of it
+abbrev pub Finds : Result Plan Stop → Result Planned Fault → Type 0
+Finds (Ok p) spec = spec ≡ Ok (plan_shown p)
+Finds (Err e) spec = Fails e spec
+
+-- the lines of the writer's replies, and how many readings each reader took
+abbrev pub lines_of_work : List Reply → ℕ → ℕ → List Line
+lines_of_work replies first second = map reply_line replies ++ reader_line 1 first ∷ reader_line 2 second ∷ []
+
+-- the calls that the writer's records are
+abbrev pub calls_of : Planned → List Call
+calls_of p = map call_of_order p.1.writer
+
+-- the replies of the sequential register to the writer's records
+abbrev pub told_by : Planned → List Reply
+told_by p = replies_of p.0 (calls_of p)
+
+-- what is written before what the audit found
+abbrev pub work_lines : Planned → List Line
+work_lines p = lines_of_work (told_by p) (length p.1.first) (length p.1.second)
+
+-- what `serve` writes, and how it ends, where memory is found, the devices work, each gate opens and the audit finds
+-- nothing
+abbrev pub serve_run : Result Planned Fault → Run
+serve_run (Err f) = stops f
+serve_run (Ok p) = prints (work_lines p ++ audit_line ∷ [])

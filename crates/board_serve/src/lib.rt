@@ -1,0 +1,20 @@
+//! A script carried out by one writer thread and two reader threads, and the audit of what they read.
+#![tactic(auto)]
+
+mod audits;
+mod gates;
+mod orders;
+mod outcomes;
+mod parts;
+mod plans;
+mod readings;
+mod seats;
+mod served;
+mod serving;
+mod telling;
+mod threads;
+mod written;
+
+pub use gates::{FreeGate, Gate, GateClosed, Place};
+pub use served::Served;
+pub use serving::serve;

@@ -1,0 +1,55 @@
+//! What a run of the threads is asked.
+ghost use Rattle.std.specs.Prelude.{◌≡◌, ◌≤◌, ℕ, List, Ok, length, IfOk, IfErr};
+ghost use Rattle.csv.specs.Reading.{default_config, records, strip_bom};
+ghost use Rattle.board_text.specs.Output.{Fails};
+ghost use Rattle.board_serve.specs.Plans.{AreOf, Finds, IsSound, plan_from, plan_of, plan_shown};
+ghost use Rattle.board_text.specs.Text.{begun_with, opened_of};
+
+use crate::parts::{Parts, read_parts};
+use board_text::{Beginning, INPUT_LIMIT, Limits, Script, Stop, begin, read_within};
+use csv::ByteRecord;
+use std::alloc::Global;
+use std::io::Read;
+
+/// A register at its start, and the script's records by who carries them out.
+#[derive(Drop)]
+pub(crate) struct Plan {
+    pub(crate) begun: Beginning,
+    pub(crate) parts: Parts,
+}
+
+// Looks at all records of a text.
+fn plan_text(alloc: Global, text: &[u8], limits: Limits) -> Result<Plan, Stop>
+    requires short { length text.now ≤ INPUT_LIMIT }
+    ensures planned { IfOk result
+        (λ p. plan_from limits (begun_with limits (opened_of (records default_config (strip_bom text.now))))
+        ≡ Ok (plan_shown p)) }
+    ensures fault { IfErr result
+        (λ e. Fails e (plan_from limits
+        (begun_with limits (opened_of (records default_config (strip_bom text.now)))))) }
+    ensures sound { IfOk result IsSound }
+{
+    let mut script = Script::new(alloc, text);
+    let mut row = ByteRecord::new(alloc);
+    let begun = begin(alloc, &mut script, &mut row, limits)?;
+    let parts = read_parts(alloc, &mut script, &mut row, limits, begun.place)?;
+    Ok(Plan { begun, parts })
+}
+
+// Reads the input, and looks at all of its records.
+pub(crate) fn read_plan<R: Read>(
+    alloc: Global,
+    input: &mut R,
+    journal_limit: u32,
+) -> Result<Plan, Stop>
+    ensures found { (bytes : List ℕ) × AreOf (R.remaining input.old) bytes
+        × Finds result (plan_of journal_limit bytes) }
+    ensures sound { IfOk result IsSound }
+{
+    let limits = Limits {
+        readers: 2,
+        journal: journal_limit,
+    };
+    let text = read_within(alloc, input, limits)?;
+    plan_text(alloc, text.as_slice(), limits)
+}

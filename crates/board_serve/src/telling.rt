@@ -1,0 +1,72 @@
+//! Writing what came of the work of all threads.
+ghost use Rattle.std.specs.Prelude.{◌∷◌, [], map, IsOkUnless};
+ghost use Rattle.board_text.specs.Replies.{reply_of};
+ghost use Rattle.board_text.specs.Lines.{reply_line};
+ghost use Rattle.board_text.specs.Output.{Plays};
+ghost use Rattle.board_text.specs.Pens.{GoesOn};
+ghost use Rattle.board_serve.specs.Plans.{lines_of_work};
+ghost use Rattle.board_text.specs.Lines.{reader_line};
+ghost use Rattle.board_serve.specs.Serving.{Tells};
+ghost use Rattle.board_text.specs.Text.{prints};
+ghost use Rattle.board_text.specs.declared.stops.Stop.TheVariants as stop;
+
+use board_text::{Answer, Output, Stop, line_of_answer, line_of_audit, line_of_count};
+use council_core::Refusal;
+use std::io::Write;
+
+// Writes the lines of some answers.
+fn write_answers<W: Write>(out: &mut Output<'_, W>, answers: &[Answer]) -> Result<(), Stop>
+    ensures wrote { Plays out.old.held out.new.held result (prints (map (λ a. reply_line (reply_of a)) answers.now)) }
+    ensures on { GoesOn out.old out.new }
+    ensures only { IsOkUnless result stop.WriteFault }
+{
+    for answer in answers {
+        out.write_line(line_of_answer(*answer))?;
+    }
+    Ok(())
+}
+
+// Writes how many readings a reader took.
+fn write_count<W: Write>(out: &mut Output<'_, W>, reader: u64, count: u64) -> Result<(), Stop>
+    ensures wrote { Plays out.old.held out.new.held result (prints (reader_line reader count ∷ [])) }
+    ensures on { GoesOn out.old out.new }
+    ensures only { IsOkUnless result stop.WriteFault }
+{
+    out.write_line(line_of_count(reader, count))
+}
+
+// Writes the answers, and how many readings each reader took.
+fn write_work<W: Write>(
+    out: &mut Output<'_, W>,
+    answers: &[Answer],
+    first: u64,
+    second: u64,
+) -> Result<(), Stop>
+    ensures wrote { Plays out.old.held out.new.held result
+        (prints (lines_of_work (map reply_of answers.now) first second)) }
+    ensures on { GoesOn out.old out.new }
+    ensures only { IsOkUnless result stop.WriteFault }
+{
+    write_answers(out, answers)?;
+    write_count(out, 1, first)?;
+    write_count(out, 2, second)
+}
+
+// The same, and then what the audit found.
+pub(crate) fn tell<W: Write>(
+    out: &mut Output<'_, W>,
+    answers: &[Answer],
+    first: u64,
+    second: u64,
+    legal: bool,
+) -> Result<(), Stop>
+    ensures wrote { Tells out.old.held out.new.held legal result
+        (lines_of_work (map reply_of answers.now) first second) }
+    ensures on { GoesOn out.old out.new }
+{
+    write_work(out, answers, first, second)?;
+    if !legal {
+        return Err(Stop::told(Refusal::Mismatch, 0));
+    }
+    out.write_line(line_of_audit())
+}

@@ -1,0 +1,142 @@
+//! The work of the writer's thread.
+ghost use Rattle.std.specs.Prelude.{◌≡◌, ◌≤◌, ◌<◌, ◌+◌, ◌^◌, ◌++◌, ◌∷◌, [], length};
+ghost use Rattle.std.specs.Prelude.{vec_len, IfOk, IfErr, OnOk, IsOkUnless};
+ghost use Rattle.std.specs.Vec.{vec_capacity};
+ghost use Rattle.council_core.specs.Sequential.{respond, submit};
+ghost use Rattle.board_text.specs.Replies.{reply_of};
+ghost use Rattle.board_serve.specs.Parts.{call_of_order};
+ghost use Rattle.board_serve.specs.Work.{HasRoomToWrite, IsClosed, IsHeldUp, IsWritten, cuts_of_reply, register_of};
+ghost use Rattle.board_text.specs.declared.stops.Stop.TheVariants as stop;
+
+use crate::gates::{Gate, Place};
+use crate::orders::Order;
+use board_share::Writer;
+use board_text::{Answer, Stop};
+use council_core::{Command, Refusal};
+use std::alloc::{AllocError, Global};
+use std::sync::Wait;
+
+/// The answers to the writer's records, and the numbers that its publications answered.
+#[derive(Drop)]
+pub(crate) struct Written {
+    pub(crate) answers: Vec<Answer>,
+    pub(crate) cuts: Vec<u32>,
+}
+
+impl Written {
+    // Room for so many records.
+    pub(crate) fn with_room(alloc: Global, orders: usize) -> Result<Written, AllocError>
+        ensures answers { IfOk result (λ w. w.answers.items ≡ []) }
+        ensures cuts { IfOk result (λ w. w.cuts.items ≡ []) }
+        ensures room { IfOk result (λ w. HasRoomToWrite w orders) }
+    {
+        Ok(Written {
+            answers: Vec::with_capacity(alloc, orders)?,
+            cuts: Vec::with_capacity(alloc, orders)?,
+        })
+    }
+
+    // Keeps an answer.
+    fn add(&mut self, answer: Answer)
+        requires answers_fit { vec_len self.old.answers < vec_capacity self.old.answers }
+        requires cuts_fit { vec_len self.old.cuts < vec_capacity self.old.cuts }
+        ensures answers { self.new.answers.items ≡ self.old.answers.items ++ answer ∷ [] }
+        ensures cuts { self.new.cuts.items ≡ self.old.cuts.items ++ cuts_of_reply (reply_of answer) }
+        ensures answers_count { vec_len self.new.answers ≡ vec_len self.old.answers + 1 }
+        ensures cuts_count { vec_len self.new.cuts ≤ vec_len self.old.cuts + 1 }
+        ensures answers_room { vec_capacity self.new.answers ≡ vec_capacity self.old.answers }
+        ensures cuts_room { vec_capacity self.new.cuts ≡ vec_capacity self.old.cuts }
+    {
+        self.answers.push_reserved(answer);
+        if let Answer::Published(front) = answer {
+            self.cuts.push_reserved(front);
+        }
+    }
+}
+
+// Hands a command to the writer.
+fn submit(writer: &mut Writer, command: Command) -> Result<Answer, Stop>
+    ensures replied { IfOk result (λ a. reply_of a ≡ (respond (register_of writer.old) (submit command)).1) }
+    ensures after { OnOk result (register_of writer.new ≡ (respond (register_of writer.old) (submit command)).0) }
+    ensures memory { IsOkUnless result stop.OutOfMemory }
+{
+    match writer.submit(command) {
+        Ok(accepted) => Ok(Answer::Accepted(accepted)),
+        Err(Refusal::OutOfMemory) => Err(Stop::OutOfMemory),
+        Err(why) => Ok(Answer::Refused(why)),
+    }
+}
+
+// Hands a command to the writer, or publishes.
+fn obey<R: Wait>(rt: &R, writer: &mut Writer, order: Order) -> Result<Answer, Stop>
+    ensures replied { IfOk result (λ a. reply_of a ≡ (respond (register_of writer.old) (call_of_order order)).1) }
+    ensures after { OnOk result
+        (register_of writer.new ≡ (respond (register_of writer.old) (call_of_order order)).0) }
+    ensures memory { IsOkUnless result stop.OutOfMemory }
+{
+    match order {
+        Order::Submit(command) => return submit(writer, command),
+        Order::Publish => return Ok(Answer::Published(writer.publish(rt))),
+    }
+}
+
+// The same, past a gate before and after a publication. `publications` counts these.
+fn obey_past<G: Gate, R: Wait>(
+    rt: &R,
+    gate: &G,
+    writer: &mut Writer,
+    order: Order,
+    publications: &mut u32,
+) -> Result<Answer, Stop>
+    requires few { publications.old + 1 < 2 ^ 32 }
+    ensures replied { IfOk result (λ a. reply_of a ≡ (respond (register_of writer.old) (call_of_order order)).1) }
+    ensures after { OnOk result
+        (register_of writer.new ≡ (respond (register_of writer.old) (call_of_order order)).0) }
+    ensures causes { IfErr result IsHeldUp }
+    ensures counted { publications.new ≤ publications.old + 1 }
+{
+    match order {
+        Order::Submit(_) => return obey(rt, writer, order),
+        Order::Publish => {
+            *publications += 1;
+            pass(gate, Place::BeforePublish(*publications))?;
+            let answer = obey(rt, writer, order)?;
+            pass(gate, Place::AfterPublish(*publications))?;
+            return Ok(answer);
+        }
+    }
+}
+
+// Passes a gate.
+pub(crate) fn pass<G: Gate>(gate: &G, at: Place) -> Result<(), Stop>
+    ensures closed { IfErr result IsClosed }
+{
+    match gate.pass(at) {
+        Ok(()) => return Ok(()),
+        Err(_) => return Err(Stop::told(Refusal::GateClosed, 0)),
+    }
+}
+
+// Carries out the writer's records in order.
+pub(crate) fn write_all<G: Gate, R: Wait>(
+    rt: &R,
+    gate: &G,
+    mut writer: Writer,
+    orders: &[Order],
+    mut written: Written,
+) -> (Writer, Written, Result<(), Stop>)
+    requires few { length orders.now < 2 ^ 32 }
+    requires none { (written.answers.items ≡ []) × (written.cuts.items ≡ []) }
+    requires room { HasRoomToWrite written (length orders.now) }
+    ensures done { OnOk result.2 (IsWritten writer orders.now result.0 result.1) }
+    ensures causes { IfErr result.2 IsHeldUp }
+{
+    let mut publications: u32 = 0;
+    for order in orders {
+        match obey_past(rt, gate, &mut writer, *order, &mut publications) {
+            Ok(answer) => written.add(answer),
+            Err(stop) => return (writer, written, Err(stop)),
+        }
+    }
+    (writer, written, Ok(()))
+}

@@ -1,0 +1,97 @@
+-- What an input begins with, and why nothing comes of it.
+use Rattle.std.proofs.Common.{◌≡◌, ◌<◌, ◌≤◌, ◌⊎◌, inl, inr, ℕ, true, false, List, [], ◌∷◌, length, replicate, Option, Some, None, IfSome, IfErr, Result, Ok, Err, refl, sym, ap, ◌∙◌, arith}
+use Rattle.std.proofs.lemmas.Bool.{le-leb, lt-leb}
+use Rattle.std.proofs.lemmas.List.{length-replicate}
+use Rattle.csv.specs.Reading.{default_config, records, strip_bom}
+use Rattle.council_core.specs.Ledgers.{Ledger, start_verdict}
+use Rattle.council_core.specs.declared.refusals.Refusal.TheVariants as why
+use Rattle.board_text.specs.Requests.{Row, is_header}
+use Rattle.board_text.specs.Text.{Opened, begun_of, begun_with, fault_at, in_range, opened_of, opening_of, started_with}
+use Rattle.board_text.specs.Output.{Fails, Starts}
+use Rattle.board_text.specs.declared.bounds.Limits.{Limits}
+use Rattle.board_text.specs.declared.faults.Fault.{Fault}
+use Rattle.board_text.specs.declared.stops.Stop.{Stop}
+use Rattle.board_text.specs.declared.stops.Stop.TheVariants as stop
+
+begun-out_of_range : (lim : Limits) (bytes : List ℕ) → in_range lim ≡ false → begun_of lim bytes ≡ Err (fault_at why.BadLimit 0)
+unfolding begun_of
+begun-out_of_range lim bytes e = rw e refl
+
+begun-too_long : (lim : Limits) (bytes : List ℕ) → in_range lim ≡ true → 4194304 < length bytes → begun_of lim bytes ≡ Err (fault_at why.TooLong 0)
+unfolding begun_of
+begun-too_long lim bytes e h = rw (e, lt-leb _ _ h) refl
+
+pub begun-records : (lim : Limits) (bytes : List ℕ) → in_range lim ≡ true → length bytes ≤ 4194304 → begun_of lim bytes ≡ begun_with lim (opened_of (records default_config (strip_bom bytes)))
+unfolding begun_of
+begun-records lim bytes e h = rw (e, le-leb _ _ h) refl
+
+-- limits out of range
+pub fails-by_limits : (o : Option (List ℕ)) (d : Stop) (lim : Limits) → in_range lim ≡ false → d ≡ stop.Told (fault_at why.BadLimit 0) → IfSome o (λ bytes. Fails d (begun_of lim bytes))
+fails-by_limits None d lim e s = tt
+fails-by_limits (Some bytes) d lim e s = rw s (begun-out_of_range lim bytes e)
+
+read-fails : (bytes : List ℕ) (e : Stop) (lim : Limits) → in_range lim ≡ true
+    → (e ≡ stop.OutOfMemory) ⊎ (e ≡ stop.ReadFault) ⊎ (e ≡ stop.Told (fault_at why.TooLong 0))
+    → (e ≡ stop.Told (fault_at why.TooLong 0) → 4194304 < length bytes) → Fails e (begun_of lim bytes)
+read-fails bytes e lim fits (inl m) long = rw m tt
+read-fails bytes e lim fits (inr (inl d)) long = rw d tt
+read-fails bytes e lim fits (inr (inr t)) long = rw t (begun-too_long lim bytes fits (long t))
+
+-- the input could not be read
+pub fails-reading : (o : Option (List ℕ)) (e : Stop) (lim : Limits) → in_range lim ≡ true
+    → (e ≡ stop.OutOfMemory) ⊎ (e ≡ stop.ReadFault) ⊎ (e ≡ stop.Told (fault_at why.TooLong 0))
+    → (e ≡ stop.Told (fault_at why.TooLong 0) → IfSome o (λ bytes. 4194304 < length bytes))
+    → IfSome o (λ bytes. Fails e (begun_of lim bytes))
+fails-reading None e lim fits causes long = tt
+fails-reading (Some bytes) e lim fits causes long = read-fails bytes e lim fits causes long
+
+-- some bytes have the fault, or it is one that may come with any
+pub some-limits : (d : Stop) (lim : Limits) → in_range lim ≡ false → d ≡ stop.Told (fault_at why.BadLimit 0) → (bytes : List ℕ) × Fails d (begun_of lim bytes)
+some-limits d lim e s = ([], rw s (begun-out_of_range lim [] e))
+
+-- a text of any length
+some-text : (n : ℕ) → (bytes : List ℕ) × (length bytes ≡ n)
+some-text n = (replicate n 0, length-replicate n 0)
+
+some-long : (n : ℕ) → 4194304 < n → (bytes : List ℕ) × (4194304 < length bytes)
+some-long n h = let b = some-text n in (b.0, omega (arith, b.1, h))
+
+from-long : (e : Stop) (lim : Limits) → in_range lim ≡ true → e ≡ stop.Told (fault_at why.TooLong 0) → (bytes : List ℕ) × (4194304 < length bytes) → (bytes : List ℕ) × Fails e (begun_of lim bytes)
+from-long e lim fits t b = (b.0, rw t (begun-too_long lim b.0 fits b.1))
+
+some-reading : (e : Stop) (lim : Limits) → in_range lim ≡ true → (e ≡ stop.OutOfMemory) ⊎ (e ≡ stop.ReadFault) ⊎ (e ≡ stop.Told (fault_at why.TooLong 0)) → (bytes : List ℕ) × Fails e (begun_of lim bytes)
+some-reading e lim fits (inl m) = ([], rw m tt)
+some-reading e lim fits (inr (inl d)) = ([], rw d tt)
+some-reading e lim fits (inr (inr t)) = from-long e lim fits t (some-long 4194305 (omega arith))
+
+pub some-input : {A : Type 0} (r : Result A Stop) (lim : Limits) → in_range lim ≡ true → IfErr r (λ e. (e ≡ stop.OutOfMemory) ⊎ (e ≡ stop.ReadFault) ⊎ (e ≡ stop.Told (fault_at why.TooLong 0)))
+    → IfErr r (λ e. (bytes : List ℕ) × Fails e (begun_of lim bytes))
+some-input (Ok a) lim fits causes = tt
+some-input (Err e) lim fits causes = some-reading e lim fits causes
+
+-- the same of an answer
+pub fails-input : {A : Type 0} (o : Option (List ℕ)) (r : Result A Stop) (lim : Limits) → in_range lim ≡ true
+    → IfErr r (λ e. (e ≡ stop.OutOfMemory) ⊎ (e ≡ stop.ReadFault) ⊎ (e ≡ stop.Told (fault_at why.TooLong 0)))
+    → (r ≡ Err (stop.Told (fault_at why.TooLong 0)) → IfSome o (λ bytes. 4194304 < length bytes))
+    → IfErr r (λ e. IfSome o (λ bytes. Fails e (begun_of lim bytes)))
+fails-input o (Ok a) lim fits causes long = tt
+fails-input o (Err e) lim fits causes long = fails-reading o e lim fits causes (λ same. long (ap Err same))
+
+-- the opening of records, the first of which is the header
+pub opened-header : (rs ss : List Row) (r : Row) → rs ≡ r ∷ ss → is_header r ≡ true → opened_of rs ≡ opening_of [] 2 ss
+opened-header rs ss r e h = rw (e, h) refl
+
+pub fails-opening : (e : Stop) (lim : Limits) (spec : Result Opened Fault) → Fails e spec → Fails e (begun_with lim spec)
+fails-opening stop.OutOfMemory lim spec p = tt
+fails-opening stop.ReadFault lim spec p = tt
+fails-opening stop.WriteFault lim spec p = absurd p
+fails-opening (stop.Told f) lim spec p = rw p refl
+
+pub fails-starting : (e : Stop) (lim : Limits) (p : Opened) → Starts lim p.0 (Err e) → Fails e (started_with lim (start_verdict p.0 lim.journal) p)
+fails-starting stop.OutOfMemory lim p s = tt
+fails-starting stop.ReadFault lim p s = absurd s
+fails-starting stop.WriteFault lim p s = absurd s
+fails-starting (stop.Told f) lim p s = rw (s.1, s.2) refl
+
+pub starts-begun : (ledger : Ledger) (lim : Limits) (p : Opened) → Starts lim p.0 (Ok ledger) → started_with lim (start_verdict p.0 lim.journal) p ≡ Ok (ledger, p.1, p.2)
+starts-begun ledger lim p s = ap (λ v. started_with lim v p) s.0 ∙ ap (λ (t : Ledger). Ok (t, p.1, p.2)) (sym s.1)

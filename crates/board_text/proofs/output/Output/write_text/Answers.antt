@@ -1,0 +1,22 @@
+use Rattle.std.proofs.Common.{◌≤◌, length, drop, arith, ◌∙◌}
+use Rattle.std.proofs.lemmas.List.{length-drop}
+use Rattle.std.proofs.lemmas.Result.{err_from_is_err_and}
+use Rattle.board_text.proofs.WriteFacts.{appends-on, front-and-front, rest-of}
+use Rattle.board_text.proofs.output.Output.write_text.Goals as goal
+
+pub returns-in_err-at-clause-written : goal.returns-in_err-at-clause-written
+returns-in_err-at-clause-written g c =
+    let p = err_from_is_err_and c.from_residual.result c.from_residual.ensures.1 in
+    let stopped = c.in_err-at.ensures.taken in
+    rw p.1 (p.2 ∙ stopped.0, front-and-front _ _ _ c.loop-turn.at c.args.text.now c.loop-turn.invariant.front stopped.1)
+
+pub loop-turn-preserved : goal.loop-turn-preserved
+loop-turn-preserved g c =
+    let took : c.in_ok-at.field-0 ≤ length (drop c.loop-turn.at c.args.text.now) = rw rest-of at c.in_ok-at.ensures.taken.0 in
+    record {
+      front = appends-on _ _ _ c.loop-turn.at c.in_ok-at.field-0 c.args.text.now c.loop-turn.invariant.front c.in_ok-at.ensures.taken.1;
+      within = omega (arith, took, length-drop c.loop-turn.at c.args.text.now, c.loop-turn.invariant.within);
+      few = c.in_ok-at.ensures.few;
+      on = (c.in_ok-at.ensures.on.0 ∙ c.loop-turn.invariant.on.0, omega (arith, c.loop-turn.invariant.on.1, c.in_ok-at.ensures.on.1));
+      turns = omega (arith, c.loop-turn.invariant.turns, c.in_ok-at.ensures.turn);
+    }

@@ -1,0 +1,11 @@
+pub mod Numbers
+pub mod Fields
+pub mod Words
+pub mod Requests
+pub mod Lines
+pub mod Text
+pub mod Schedules
+pub mod Script
+pub mod Replies
+pub mod Pens
+pub mod Output

@@ -1,0 +1,113 @@
+-- The lines of the output, each without its end.
+use Rattle.std.specs.Prelude.{ℕ, List, [], ◌∷◌, ◌++◌, Option, Some, None, map, codes, decimal}
+use Rattle.std.specs.Option.{option_map_or}
+use Rattle.council_core.specs.Refusals.{code_of, name_of, refusal_of}
+use Rattle.council_core.specs.Sequential.{Reply, accepted, refused, published, reading}
+use Rattle.council_core.specs.declared.refusals.Refusal.{Refusal}
+use Rattle.council_core.specs.Sheets.{cast_of, front_of, total_of}
+use Rattle.two_copy_steps.specs.declared.events.Note.{Note}
+use Rattle.two_copy_steps.specs.declared.events.Note.TheVariants as note
+use Rattle.majority_rule.specs.declared.majorities.Majority.{Majority}
+use Rattle.power_index.specs.Indices.{indices_of}
+use Rattle.power_index.specs.declared.indices.Fraction.{Fraction}
+use Rattle.power_index.specs.declared.indices.ChairPower.{ChairPower}
+use Rattle.power_index.specs.declared.indices.Indices.{Indices}
+use Rattle.board_text.specs.Words.{word_of_majority}
+use Rattle.board_text.specs.declared.faults.Fault.{Fault}
+use Rattle.board_text.specs.declared.requests.Request.{Request}
+use Rattle.board_text.specs.declared.requests.Request.TheVariants as ask
+
+-- a line, in ASCII
+abbrev pub Line : Type 0
+Line = List ℕ
+
+-- a word, and then fields, each after a comma
+abbrev pub line_of : List ℕ → List (List ℕ) → Line
+line_of word [] = word
+line_of word (field ∷ fields) = line_of (word ++ 44 ∷ field) fields
+
+abbrev pub accepted_line : ℕ → Line
+accepted_line n = line_of (codes "accepted") (decimal n ∷ [])
+
+abbrev pub refused_line : Refusal → Line
+refused_line why = line_of (codes "refused") (decimal (code_of why) ∷ name_of why ∷ [])
+
+abbrev pub published_line : ℕ → Line
+published_line n = line_of (codes "published") (decimal n ∷ [])
+
+-- `NUM/DEN`, not reduced
+abbrev pub fraction : Fraction → List ℕ
+fraction f = decimal f.num ++ 47 ∷ decimal f.den
+
+-- the same, or `-` where it is absent
+abbrev pub fraction_if_any : Option Fraction → List ℕ
+fraction_if_any None = codes "-"
+fraction_if_any (Some f) = fraction f
+
+abbrev pub reading_line : ℕ → Indices → Line
+reading_line reader i =
+    line_of (codes "reading")
+    (decimal reader ∷ decimal i.front ∷ word_of_majority i.majority ∷ decimal i.chairs ∷ decimal i.quota
+    ∷ decimal i.cast ∷ decimal i.total ∷ decimal i.winning ∷ decimal i.coalitions ∷ [])
+
+abbrev pub chair_line : ChairPower → Line
+chair_line c =
+    line_of (codes "chair")
+    (decimal c.chair ∷ decimal c.weight ∷ decimal c.swings ∷ fraction c.banzhaf ∷ fraction_if_any c.share
+    ∷ fraction_if_any c.prevent ∷ fraction c.initiate ∷ [])
+
+-- a reader that is in the way of a publication
+abbrev pub busy_line : ℕ → Line
+busy_line reader = line_of (codes "busy") (decimal reader ∷ [])
+
+-- what a reader of the machine read
+abbrev pub sheet_line : ℕ → List ℕ → Line
+sheet_line reader words =
+    line_of (codes "sheet")
+    (decimal reader ∷ decimal (front_of words) ∷ decimal (cast_of words) ∷ decimal (total_of words) ∷ [])
+
+-- what is printed of a note of the machine
+abbrev pub note_lines : Note → List Line
+note_lines (note.Accepted n) = accepted_line n ∷ []
+note_lines (note.Refused why) = refused_line why ∷ []
+note_lines note.Began = codes "began" ∷ []
+note_lines note.Moved = []
+note_lines (note.Published n) = published_line n ∷ []
+note_lines (note.Busy reader) = busy_line reader ∷ []
+note_lines (note.Read reader words) = sheet_line reader words ∷ []
+note_lines note.Skipped = codes "skipped" ∷ []
+
+-- a reading's lines: the sheet's indices, and a line for each open chair by number
+abbrev pub reading_lines : ℕ → Majority → List ℕ → List Line
+reading_lines reader m words = let i = indices_of m words in reading_line reader i ∷ map chair_line i.rows.items
+
+-- the name of a fault; none where no refusal has its number
+abbrev pub fault_name : ℕ → List ℕ
+fault_name code = option_map_or name_of (refusal_of code) []
+
+-- the last line of a run that a fault ends
+abbrev pub fault_line : Fault → Line
+fault_line f = line_of (codes "fault") (decimal f.place ∷ fault_name f.code ∷ [])
+
+-- the line of a reply to a command or to a publication
+abbrev pub reply_line : Reply → Line
+reply_line (accepted n) = accepted_line n
+reply_line (refused why) = refused_line why
+reply_line (published n) = published_line n
+reply_line (reading words) = []
+
+-- what is printed of a reply of the sequential register to a request
+abbrev pub reply_lines : Request → Reply → List Line
+reply_lines (ask.Submit c) r = reply_line r ∷ []
+reply_lines ask.Publish r = reply_line r ∷ []
+reply_lines (ask.Read reader m) (reading words) = reading_lines reader m words
+reply_lines (ask.Read reader m) (accepted n) = []
+reply_lines (ask.Read reader m) (refused why) = []
+reply_lines (ask.Read reader m) (published n) = []
+
+-- how many readings a reader took
+abbrev pub reader_line : ℕ → ℕ → Line
+reader_line reader count = line_of (codes "reader") (decimal reader ∷ decimal count ∷ [])
+
+abbrev pub audit_line : Line
+audit_line = line_of (codes "audit") (codes "ok" ∷ [])

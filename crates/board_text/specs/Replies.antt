@@ -1,0 +1,10 @@
+-- An answer as the sequential register's reply.
+use Rattle.council_core.specs.Sequential.{Reply, accepted, refused, published}
+use Rattle.board_text.specs.declared.replies.Answer.{Answer}
+use Rattle.board_text.specs.declared.replies.Answer.TheVariants as answer
+
+-- an answer as the sequential register's reply
+abbrev pub reply_of : Answer → Reply
+reply_of (answer.Accepted n) = accepted n
+reply_of (answer.Refused why) = refused why
+reply_of (answer.Published n) = published n

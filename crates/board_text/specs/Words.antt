@@ -1,0 +1,51 @@
+-- What the fields of a record say.
+use Rattle.std.specs.Prelude.{ℕ, List, Option, Some, None, nat_le, ◌&&◌, ◌^◌, if◌then◌else◌, option_map}
+use Rattle.std.specs.Prelude.{codes}
+use Rattle.std.specs.Option.{option_and_then}
+use Rattle.std.specs.Str.{bytes_eq}
+use Rattle.council_core.specs.Codes.{is_code}
+use Rattle.majority_rule.specs.declared.majorities.Majority.{Majority}
+use Rattle.majority_rule.specs.declared.majorities.Majority.TheVariants.{Half, Seventy, EightyFive, Quorum}
+use Rattle.board_text.specs.Numbers.{number_of}
+
+-- a number, where it lies between two others
+abbrev pub within : ℕ → ℕ → ℕ → Option ℕ
+within low high n = if nat_le low n && nat_le n high then Some n else None
+
+-- a chair: a number from 1 to 32
+abbrev pub chair_of : List ℕ → Option ℕ
+chair_of field = option_and_then (within 1 32) (number_of field)
+
+-- a member's votes: a number of at most 2^40
+abbrev pub votes_of : List ℕ → Option ℕ
+votes_of field = option_and_then (within 0 (2 ^ 40)) (number_of field)
+
+-- a member's code: three ASCII capitals
+abbrev pub code_of_member : List ℕ → Option (List ℕ)
+code_of_member field = if is_code field then Some field else None
+
+-- where a member is moved: to a chair, or to none
+abbrev pub seat_of : List ℕ → Option (Option ℕ)
+seat_of field = if bytes_eq field (codes "none") then Some None else option_map Some (chair_of field)
+
+-- a majority
+abbrev pub majority_of : List ℕ → Option Majority
+majority_of field =
+    if bytes_eq field (codes "half") then Some Half
+    else if bytes_eq field (codes "70") then Some Seventy
+    else if bytes_eq field (codes "85") then Some EightyFive
+    else if bytes_eq field (codes "quorum") then Some Quorum
+    else None
+
+-- the word of a majority
+abbrev pub word_of_majority : Majority → List ℕ
+word_of_majority Half = codes "half"
+word_of_majority Seventy = codes "70"
+word_of_majority EightyFive = codes "85"
+word_of_majority Quorum = codes "quorum"
+
+-- two things that are both there, joined
+abbrev pub both : {A B C : Type 0} → (A → B → C) → Option A → Option B → Option C
+both f None other = None
+both f (Some a) None = None
+both f (Some a) (Some b) = Some (f a b)

@@ -1,0 +1,86 @@
+//! The beginning of a run: its input read whole, and the records before the script.
+ghost use Rattle.std.specs.Prelude.{◌≡◌, ◌≤◌, ◌<◌, ◌+◌, ◌^◌, ℕ, List, [], Ok, true, length};
+ghost use Rattle.std.specs.Prelude.{IfOk, IfErr, IfSome, OnOk};
+ghost use Rattle.council_core.specs.Ledgers.{start_verdict};
+ghost use Rattle.board_text.specs.Output.{Fails, Starts};
+ghost use Rattle.board_text.specs.Text.{begun_of, begun_with, in_range, opened_of};
+
+use crate::bounds::Limits;
+use crate::input::{INPUT_LIMIT, read_input};
+use crate::opening::read_opening;
+use crate::requests::is_header_row;
+use crate::script::Script;
+use crate::stops::Stop;
+use council_core::{MAX_COMMANDS, MemberCode, Refusal, Register, Votes};
+use csv::ByteRecord;
+use std::alloc::Global;
+use std::io::Read;
+
+/// A register of an opening's members, with the number of the script's first record.
+#[derive(Drop)]
+pub struct Beginning {
+    pub register: Register,
+    pub members: Vec<(MemberCode, Votes)>,
+    pub place: u32,
+}
+
+/// Reads the input whole, where the limits are in range.
+pub fn read_within<R: Read>(alloc: Global, input: &mut R, limits: Limits) -> Result<Vec<u8>, Stop>
+    ensures whole { IfOk result (λ text. IfSome (R.remaining input.old) (λ bytes. text.items ≡ bytes)) }
+    ensures fits { IfOk result (λ text. length text.items ≤ INPUT_LIMIT) }
+    ensures in_range { OnOk result (in_range limits ≡ true) }
+    ensures fault { IfErr result (λ e. IfSome (R.remaining input.old) (λ bytes. Fails e (begun_of limits bytes))) }
+    ensures some_fault { IfErr result (λ e. (bytes : List ℕ) × Fails e (begun_of limits bytes)) }
+{
+    if !limits.is_in_range() {
+        return Err(Stop::told(Refusal::BadLimit, 0));
+    }
+    read_input(alloc, input)
+}
+
+// A register of these members.
+fn start_register(
+    alloc: Global,
+    members: &[(MemberCode, Votes)],
+    limits: Limits,
+) -> Result<Register, Stop>
+    ensures started { Starts limits members.now result }
+    ensures starts { OnOk result (start_verdict members.now MAX_COMMANDS ≡ Ok tt) }
+{
+    match Register::start(alloc, members, limits.journal) {
+        Ok(register) => Ok(register),
+        Err(Refusal::OutOfMemory) => Err(Stop::OutOfMemory),
+        Err(why) => Err(Stop::told(why, 0)),
+    }
+}
+
+/// Reads the records before the script, and starts the register.
+pub fn begin(
+    alloc: Global,
+    script: &mut Script<'_>,
+    row: &mut ByteRecord,
+    limits: Limits,
+) -> Result<Beginning, Stop>
+    requires { length script.old < 2 ^ 31 }
+    ensures begun { IfOk result
+        (λ b. begun_with limits (opened_of script.old) ≡ Ok (b.register, b.place, script.new)) }
+    ensures fault { IfErr result (λ e. Fails e (begun_with limits (opened_of script.old))) }
+    ensures members { IfOk result (λ b. b.register.opening ≡ b.members.items) }
+    ensures starts { IfOk result (λ b. start_verdict b.members.items MAX_COMMANDS ≡ Ok tt) }
+    ensures none { IfOk result (λ b. b.register.journal ≡ []) }
+    ensures places { IfOk result (λ b. b.place + length script.new < 2 ^ 32) }
+{
+    if !script.next(row)? {
+        return Err(Stop::told(Refusal::BadHeader, 0));
+    }
+    if !is_header_row(row) {
+        return Err(Stop::told(Refusal::BadHeader, 0));
+    }
+    let opening = read_opening(alloc, script, row)?;
+    let register = start_register(alloc, opening.members.as_slice(), limits)?;
+    Ok(Beginning {
+        register,
+        members: opening.members,
+        place: opening.place,
+    })
+}

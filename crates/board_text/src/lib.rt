@@ -1,0 +1,37 @@
+//! The text of a run: from the bytes of an input to its records and what they ask for, and from
+//! replies to lines and the bytes of an output.
+#![tactic(auto)]
+
+mod beginning;
+mod bounds;
+mod endings;
+mod faults;
+mod fields;
+mod input;
+mod line;
+mod lines;
+mod numbers;
+mod opening;
+mod output;
+mod replies;
+mod requests;
+mod schedules;
+mod script;
+mod stops;
+
+pub use beginning::{Beginning, begin, read_within};
+pub use bounds::Limits;
+pub use endings::end_with;
+pub use faults::Fault;
+pub use input::INPUT_LIMIT;
+pub use line::{LINE, Line};
+pub use lines::{
+    line_of_answer, line_of_audit, line_of_chair, line_of_count, line_of_fault, line_of_note,
+    line_of_reading,
+};
+pub use output::{Output, say};
+pub use replies::Answer;
+pub use requests::{Request, is_served, request_in};
+pub use schedules::{Act, act_in, is_scheduled};
+pub use script::Script;
+pub use stops::Stop;

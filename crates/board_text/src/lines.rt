@@ -1,0 +1,173 @@
+//! The lines of the output.
+ghost use Rattle.std.specs.Prelude.{◌≡◌, ◌≤◌, ◌+◌, ◌∷◌, [], length, IfSome, IfNone};
+ghost use Rattle.board_text.specs.Replies.{reply_of};
+ghost use Rattle.board_text.specs.Lines.{accepted_line, busy_line, chair_line, fault_line, published_line};
+ghost use Rattle.board_text.specs.Lines.{reading_line, refused_line, reply_line, note_lines, sheet_line};
+ghost use Rattle.board_text.specs.Lines.{audit_line, reader_line};
+ghost use Rattle.board_text.specs.Words.{word_of_majority};
+
+use crate::faults::Fault;
+use crate::line::{LINE, Line};
+use crate::replies::Answer;
+use council_core::{Refusal, Sheet};
+use majority_rule::Majority;
+use power_index::{ChairPower, Indices};
+use two_copy_steps::Note;
+
+fn accepted_line(accepted: u32) -> Line
+    ensures text { result ≡ accepted_line accepted }
+    ensures fits { length result + 1 ≤ LINE }
+{
+    let mut line = Line::new("accepted");
+    line.number(u64::from(accepted));
+    line
+}
+
+fn refused_line(why: Refusal) -> Line
+    ensures text { result ≡ refused_line why }
+    ensures fits { length result + 1 ≤ LINE }
+{
+    let mut line = Line::new("refused");
+    line.number(u64::from(why.code()));
+    line.word(why.name());
+    line
+}
+
+fn published_line(front: u32) -> Line
+    ensures text { result ≡ published_line front }
+    ensures fits { length result + 1 ≤ LINE }
+{
+    let mut line = Line::new("published");
+    line.number(u64::from(front));
+    line
+}
+
+/// The line of an answer to a command or to a publication.
+pub fn line_of_answer(answer: Answer) -> Line
+    ensures text { result ≡ reply_line (reply_of answer) }
+    ensures fits { length result + 1 ≤ LINE }
+{
+    match answer {
+        Answer::Accepted(accepted) => accepted_line(accepted),
+        Answer::Refused(why) => refused_line(why),
+        Answer::Published(front) => published_line(front),
+    }
+}
+
+/// The line of a note of the machine, where it has one.
+pub fn line_of_note(note: Note) -> Option<Line>
+    ensures text { IfSome result (λ line. note_lines note ≡ line ∷ []) }
+    ensures none { IfNone result (note_lines note ≡ []) }
+    ensures fits { IfSome result (λ line. length line + 1 ≤ LINE) }
+{
+    match note {
+        Note::Accepted(accepted) => Some(accepted_line(accepted)),
+        Note::Refused(why) => Some(refused_line(why)),
+        Note::Began => Some(Line::new("began")),
+        Note::Moved => None,
+        Note::Published(front) => Some(published_line(front)),
+        Note::Busy(reader) => Some(busy_line(reader)),
+        Note::Read(reader, sheet) => Some(sheet_line(reader, &sheet)),
+        Note::Skipped => Some(Line::new("skipped")),
+    }
+}
+
+fn busy_line(reader: u8) -> Line
+    ensures text { result ≡ busy_line reader }
+    ensures fits { length result + 1 ≤ LINE }
+{
+    let mut line = Line::new("busy");
+    line.number(u64::from(reader));
+    line
+}
+
+// What a reader of the machine read.
+fn sheet_line(reader: u8, sheet: &Sheet) -> Line
+    ensures text { result ≡ sheet_line reader sheet.now }
+    ensures fits { length result + 1 ≤ LINE }
+{
+    let mut line = Line::new("sheet");
+    line.number(u64::from(reader));
+    line.number(u64::from(sheet.front()));
+    line.number(sheet.cast());
+    line.number(sheet.total());
+    line
+}
+
+fn word_of_majority(majority: Majority) -> &'static str
+    ensures word { result.now ≡ word_of_majority majority }
+    ensures short { length result.now ≤ 6 }
+{
+    match majority {
+        Majority::Half => "half",
+        Majority::Seventy => "70",
+        Majority::EightyFive => "85",
+        Majority::Quorum => "quorum",
+    }
+}
+
+/// What a reader reads of the board as a whole.
+pub fn line_of_reading(reader: u64, indices: &Indices) -> Line
+    ensures text { result ≡ reading_line reader indices.now }
+    ensures fits { length result + 1 ≤ LINE }
+{
+    let mut line = Line::new("reading");
+    line.number(reader);
+    line.number(u64::from(indices.front));
+    line.word(word_of_majority(indices.majority));
+    line.number(u64::from(indices.chairs));
+    line.number(indices.quota);
+    line.number(indices.cast);
+    line.number(indices.total);
+    line.number(indices.winning);
+    line.number(indices.coalitions);
+    line
+}
+
+/// What a reader reads of one chair.
+pub fn line_of_chair(row: &ChairPower) -> Line
+    ensures text { result ≡ chair_line row.now }
+    ensures fits { length result + 1 ≤ LINE }
+{
+    let mut line = Line::new("chair");
+    line.number(u64::from(row.chair.number()));
+    line.number(row.weight);
+    line.number(row.swings);
+    line.fraction(row.banzhaf);
+    line.fraction_if_any(row.share);
+    line.fraction_if_any(row.prevent);
+    line.fraction(row.initiate);
+    line
+}
+
+/// How many readings a reader took.
+pub fn line_of_count(reader: u64, count: u64) -> Line
+    ensures text { result ≡ reader_line reader count }
+    ensures fits { length result + 1 ≤ LINE }
+{
+    let mut line = Line::new("reader");
+    line.number(reader);
+    line.number(count);
+    line
+}
+
+/// The audit found nothing.
+pub fn line_of_audit() -> Line
+    ensures text { result ≡ audit_line }
+    ensures fits { length result + 1 ≤ LINE }
+{
+    let mut line = Line::new("audit");
+    line.word("ok");
+    line
+}
+
+/// The last line of a run that a fault ends.
+pub fn line_of_fault(fault: Fault) -> Line
+    ensures text { result ≡ fault_line fault }
+    ensures fits { length result + 1 ≤ LINE }
+{
+    let mut line = Line::new("fault");
+    line.number(u64::from(fault.place));
+    line.word(fault.name());
+    line
+}

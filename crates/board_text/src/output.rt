@@ -1,0 +1,114 @@
+//! Writing a text whole.
+ghost use Rattle.std.specs.Prelude.{◌≡◌, ◌≤◌, ◌+◌, length, IfOk};
+ghost use Rattle.board_text.specs.Output.{AppendsFront, Writes, WritesSome};
+ghost use Rattle.board_text.specs.Pens.{GoesOn};
+ghost use Rattle.board_text.specs.Text.{line_text};
+
+use crate::input::INTERRUPTIONS;
+use crate::line::{LINE, Line};
+use crate::stops::Stop;
+use std::io::{ErrorKind, Write};
+use std::marker::Model;
+
+/// A writer, with how many of its interruptions were asked again so far. At most 1,000 are, in a
+/// whole run.
+#[derive(Drop)]
+pub struct Output<'a, W: Write> {
+    out: &'a mut W,
+    interrupted: u32,
+}
+
+impl<'a, W: Write> Model for Output<'a, W> {
+    ghost use Rattle.std.specs.Prelude.{◌≤◌};
+    ghost use Rattle.board_text.specs.Pens.{Pen};
+
+    ghost Value = { Pen };
+
+    ghost view = { λ o. record {
+      lender = o.out.ghost_name;
+      held = W.contents o.out.now;
+      interrupted = o.interrupted;
+    } };
+
+    ghost invariant = { λ o. o.interrupted ≤ 1000 };
+}
+
+impl<'a, W: Write> Output<'a, W> {
+    pub fn new(out: &'a mut W) -> Output<'a, W>
+        ensures lender { result.lender ≡ out.entry.ghost_name }
+        ensures held { result.held ≡ W.contents out.entry.now }
+    {
+        Output {
+            out,
+            interrupted: 0,
+        }
+    }
+
+    /// The writer alone.
+    pub fn finish(self) -> &'a mut W
+        ensures lender { result.ghost_name ≡ self.entry.lender }
+        ensures held { W.contents result.now ≡ self.entry.held }
+    {
+        self.out
+    }
+
+    // One write: how many bytes of a text it took, which is none where it was interrupted.
+    fn write_some(&mut self, text: &[u8]) -> Result<usize, Stop>
+        ensures taken { WritesSome self.old.held self.new.held result text.now }
+        ensures turn { IfOk result (λ n. self.old.interrupted + 1 ≤ n + self.new.interrupted) }
+        ensures few { self.new.interrupted ≤ INTERRUPTIONS }
+        ensures on { GoesOn self.old self.new }
+    {
+        match self.out.write(text) {
+            Ok(n) if n > 0 => return Ok(n),
+            Err(e) if e.kind() == ErrorKind::Interrupted && self.interrupted < INTERRUPTIONS => {
+                self.interrupted += 1;
+                return Ok(0);
+            }
+            _ => return Err(Stop::WriteFault),
+        }
+    }
+
+    // Writes all of a text. Each turn takes a byte or is an interruption that is asked again.
+    pub(crate) fn write_text(&mut self, text: &[u8]) -> Result<(), Stop>
+        ensures written { Writes self.old.held self.new.held result text.now }
+        ensures on { GoesOn self.old self.new }
+    {
+        let mut at = 0;
+        let turns = text.len() + (INTERRUPTIONS - self.interrupted) as usize + 1;
+        for _turn in 0..turns {
+            if at == text.len() {
+                return Ok(());
+            }
+            at += self.write_some(&text[at..])?;
+        }
+        unreachable!()
+    }
+
+    // Writes a text, or a front of it where the writer fails.
+    fn write_front(&mut self, text: &[u8])
+        ensures front { AppendsFront self.old.held self.new.held text.now }
+        ensures on { GoesOn self.old self.new }
+    {
+        let _ = self.write_text(text);
+    }
+
+    /// Writes a line with its end.
+    pub fn write_line(&mut self, mut line: Line) -> Result<(), Stop>
+        requires room { length line + 1 ≤ LINE }
+        ensures written { Writes self.old.held self.new.held result (line_text line) }
+        ensures on { GoesOn self.old self.new }
+    {
+        line.end();
+        self.write_text(line.as_bytes())
+    }
+}
+
+/// Writes a text that is no part of a run, or a front of it where the writer fails.
+pub fn say<W: Write>(out: &mut W, text: &[u8])
+    ensures said { AppendsFront (W.contents out.old) (W.contents out.new) text.now }
+{
+    let mut output = Output::new(out);
+    output.write_front(text);
+    let _out = output.finish();
+}

@@ -1,0 +1,179 @@
+//! What the records of an input ask for.
+ghost use Rattle.std.specs.Prelude.{◌≡◌};
+ghost use Rattle.csv.specs.Records.{fields_of};
+ghost use Rattle.board_text.specs.Requests.{command_of_one, command_of_two, is_header, is_mark, member_of};
+ghost use Rattle.board_text.specs.Requests.{request_of};
+ghost use Rattle.board_text.specs.Numbers.{number_of};
+ghost use Rattle.board_text.specs.declared.requests.Request.TheVariants.{Read};
+ghost use Rattle.board_text.specs.Text.{is_served};
+ghost use Rattle.board_text.specs.Words.{both, chair_of, code_of_member, majority_of, seat_of, votes_of};
+
+use crate::bounds::Limits;
+use crate::fields::{Fields, fields_in, is_word};
+use crate::numbers::number_of_field;
+use council_core::{ChairId, Command, MemberCode, Votes};
+use csv::ByteRecord;
+use majority_rule::Majority;
+
+/// What a record of the script asks for.
+#[derive(Clone, Copy)]
+pub enum Request {
+    Submit(Command),
+    Publish,
+    Read(u64, Majority),
+}
+
+fn chair_in(field: &[u8]) -> Option<ChairId>
+    ensures { result ≡ chair_of field.now }
+{
+    let number = number_of_field(field)?;
+    let number = u8::try_from(number).ok()?;
+    ChairId::new(number).ok()
+}
+
+fn votes_in(field: &[u8]) -> Option<Votes>
+    ensures { result ≡ votes_of field.now }
+{
+    let number = number_of_field(field)?;
+    Votes::new(number).ok()
+}
+
+fn code_in(field: &[u8]) -> Option<MemberCode>
+    ensures { result ≡ code_of_member field.now }
+{
+    MemberCode::new(field).ok()
+}
+
+fn seat_in(field: &[u8]) -> Option<Option<ChairId>>
+    ensures { result ≡ seat_of field.now }
+{
+    if is_word(field, "none") {
+        return Some(None);
+    }
+    let chair = chair_in(field)?;
+    Some(Some(chair))
+}
+
+fn majority_in(field: &[u8]) -> Option<Majority>
+    ensures { result ≡ majority_of field.now }
+{
+    if is_word(field, "half") {
+        Some(Majority::Half)
+    } else if is_word(field, "70") {
+        Some(Majority::Seventy)
+    } else if is_word(field, "85") {
+        Some(Majority::EightyFive)
+    } else if is_word(field, "quorum") {
+        Some(Majority::Quorum)
+    } else {
+        None
+    }
+}
+
+pub(crate) fn command_of_one(word: &[u8], argument: &[u8]) -> Option<Command>
+    ensures { result ≡ command_of_one word.now argument.now }
+{
+    if is_word(word, "open") {
+        return Some(Command::Open(chair_in(argument)?));
+    }
+    if is_word(word, "close") {
+        return Some(Command::Close(chair_in(argument)?));
+    }
+    if is_word(word, "suspend") {
+        return Some(Command::Suspend(code_in(argument)?));
+    }
+    if is_word(word, "restore") {
+        return Some(Command::Restore(code_in(argument)?));
+    }
+    if is_word(word, "withdraw") {
+        return Some(Command::Withdraw(code_in(argument)?));
+    }
+    None
+}
+
+pub(crate) fn command_of_two(word: &[u8], first: &[u8], second: &[u8]) -> Option<Command>
+    ensures { result ≡ command_of_two word.now first.now second.now }
+{
+    if is_word(word, "move") {
+        let code = code_in(first)?;
+        return Some(Command::Move(code, seat_in(second)?));
+    }
+    if is_word(word, "votes") {
+        let code = code_in(first)?;
+        return Some(Command::SetVotes(code, votes_in(second)?));
+    }
+    if is_word(word, "admit") {
+        let code = code_in(first)?;
+        return Some(Command::Admit(code, votes_in(second)?));
+    }
+    None
+}
+
+fn reading_in(reader: &[u8], majority: &[u8]) -> Option<Request>
+    ensures { result ≡ both Read (number_of reader.now) (majority_of majority.now) }
+{
+    let reader = number_of_field(reader)?;
+    let majority = majority_in(majority)?;
+    Some(Request::Read(reader, majority))
+}
+
+/// The request of a record, if it is well formed.
+pub fn request_in(row: &ByteRecord) -> Option<Request>
+    ensures { result ≡ request_of (fields_of row.now) }
+{
+    match fields_in(row) {
+        Fields::One(word) if is_word(word, "publish") => Some(Request::Publish),
+        Fields::Two(word, argument) => Some(Request::Submit(command_of_one(word, argument)?)),
+        Fields::Three(word, reader, majority) if is_word(word, "read") => {
+            reading_in(reader, majority)
+        }
+        Fields::Three(word, first, second) => {
+            Some(Request::Submit(command_of_two(word, first, second)?))
+        }
+        _ => None,
+    }
+}
+
+// Whether a record is the first of an input.
+pub(crate) fn is_header_row(row: &ByteRecord) -> bool
+    ensures { result ≡ is_header (fields_of row.now) }
+{
+    match fields_in(row) {
+        Fields::Two(a, b) => is_word(a, "member") && is_word(b, "votes"),
+        _ => false,
+    }
+}
+
+// Whether a record stands between the members and the script.
+pub(crate) fn is_mark_row(row: &ByteRecord) -> bool
+    ensures { result ≡ is_mark (fields_of row.now) }
+{
+    match fields_in(row) {
+        Fields::One(a) => is_word(a, "script"),
+        _ => false,
+    }
+}
+
+// The member of a record, if it is well formed.
+pub(crate) fn member_in(row: &ByteRecord) -> Option<(MemberCode, Votes)>
+    ensures { result ≡ member_of (fields_of row.now) }
+{
+    match fields_in(row) {
+        Fields::Two(first, second) => {
+            let code = code_in(first)?;
+            let votes = votes_in(second)?;
+            Some((code, votes))
+        }
+        _ => None,
+    }
+}
+
+/// Whether a request is of a reader that there is.
+pub fn is_served(limits: Limits, request: &Request) -> bool
+    ensures known { result ≡ is_served limits request.now }
+{
+    match request {
+        Request::Read(reader, _) => limits.has_reader(*reader),
+        _ => true,
+    }
+}

@@ -1,0 +1,71 @@
+//! What the records of a schedule ask of the two-copy machine.
+ghost use Rattle.std.specs.Prelude.{◌≡◌};
+ghost use Rattle.csv.specs.Records.{fields_of};
+ghost use Rattle.board_text.specs.Numbers.{number_of};
+ghost use Rattle.board_text.specs.Schedules.{act_of, count_of, is_scheduled};
+ghost use Rattle.board_text.specs.Words.{both};
+ghost use Rattle.board_text.specs.declared.schedules.Act.TheVariants.{Reader};
+
+use crate::bounds::Limits;
+use crate::fields::{Fields, fields_in, is_word};
+use crate::numbers::number_of_field;
+use crate::requests::{command_of_one, command_of_two};
+use council_core::Command;
+use csv::ByteRecord;
+
+/// What a record of a schedule asks for: a command handed to the writer, the beginning of a
+/// publication, or so many steps of the writer or of the reader of a number.
+#[derive(Clone, Copy)]
+pub enum Act {
+    Submit(Command),
+    Publish,
+    Writer(u32),
+    Reader(u64, u32),
+}
+
+// How many steps: a number from 1 to 1,000.
+fn count_in(field: &[u8]) -> Option<u32>
+    ensures { result ≡ count_of field.now }
+{
+    let number = number_of_field(field)?;
+    if number == 0 || 1000 < number {
+        return None;
+    }
+    Some(number as u32)
+}
+
+fn steps_in(reader: &[u8], count: &[u8]) -> Option<Act>
+    ensures { result ≡ both Reader (number_of reader.now) (count_of count.now) }
+{
+    let reader = number_of_field(reader)?;
+    let count = count_in(count)?;
+    Some(Act::Reader(reader, count))
+}
+
+/// What a record asks for, if it is well formed.
+pub fn act_in(row: &ByteRecord) -> Option<Act>
+    ensures { result ≡ act_of (fields_of row.now) }
+{
+    match fields_in(row) {
+        Fields::One(word) if is_word(word, "publish") => Some(Act::Publish),
+        Fields::Two(word, count) if is_word(word, "writer") => Some(Act::Writer(count_in(count)?)),
+        Fields::Three(word, reader, count) if is_word(word, "reader") => steps_in(reader, count),
+        Fields::Three(word, command, argument) if is_word(word, "submit") => {
+            Some(Act::Submit(command_of_one(command, argument)?))
+        }
+        Fields::Four(word, command, first, second) if is_word(word, "submit") => {
+            Some(Act::Submit(command_of_two(command, first, second)?))
+        }
+        _ => None,
+    }
+}
+
+/// Whether it is of a reader that there is.
+pub fn is_scheduled(limits: Limits, act: &Act) -> bool
+    ensures known { result ≡ is_scheduled limits act.now }
+{
+    match act {
+        Act::Reader(reader, _) => limits.has_reader(*reader),
+        _ => true,
+    }
+}

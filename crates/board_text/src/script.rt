@@ -1,0 +1,70 @@
+//! The records of a text, one at a time.
+ghost use Rattle.std.specs.Prelude.{◌≡◌, ◌∷◌, [], true, false, List, ℕ, IfOk, IfErr, MatchBool, length};
+ghost use Rattle.std.specs.Prelude.{◌+◌, ◌≤◌, ◌⊎◌, ◌↔◌};
+ghost use Rattle.csv.specs.Reading.{default_config, error_kind, has_failed, is_flexible, reader_config, reader_trim};
+ghost use Rattle.csv.specs.Reading.{records, Ready, strip_bom};
+ghost use Rattle.csv.specs.Records.{fields_of};
+ghost use Rattle.csv.specs.declared.reader.Trim.TheVariants as trim;
+ghost use Rattle.csv.specs.declared.error.ErrorKind.TheVariants as kind;
+ghost use Rattle.board_text.specs.Script.{IsMemoryOrRead, records_left};
+
+use crate::stops::Stop;
+use csv::{ByteRecord, Error, ErrorKind, Reader, ReaderBuilder};
+use std::alloc::Global;
+use std::marker::Model;
+
+/// A text, seen as the list of the records that it has left.
+#[derive(Drop)]
+pub struct Script<'a> {
+    reader: Reader<&'a [u8]>,
+}
+
+impl<'a> Model for Script<'a> {
+    ghost Value = { List (List (List ℕ)) };
+
+    ghost view = { λ s. records_left s.reader };
+
+    ghost invariant = { λ s. has_failed s.reader ≡ false
+        → (reader_trim s.reader ≡ trim.None) × (reader_config s.reader ≡ default_config)
+        × (is_flexible s.reader ≡ true) × Ready s.reader };
+}
+
+impl<'a> Script<'a> {
+    /// The records of a text, with no header row.
+    pub fn new(alloc: Global, text: &'a [u8]) -> Script<'a>
+        ensures records { result ≡ records default_config (strip_bom text.entry.now) }
+        ensures count { length result ≤ length text.entry.now + 1 }
+    {
+        let reader = ReaderBuilder::new()
+            .has_headers(false)
+            .flexible(true)
+            .from_reader(alloc, text);
+        Script { reader }
+    }
+
+    /// Takes the next record, where there is one.
+    pub fn next(&mut self, row: &mut ByteRecord) -> Result<bool, Stop>
+        ensures causes { IfErr result (λ e. (e ≡ Stop.OutOfMemory) ⊎ (e ≡ Stop.ReadFault)) }
+        ensures taken { IfOk result
+            (λ found. MatchBool found (self.old ≡ fields_of row.new ∷ self.new) (self.old ≡ [])) }
+    {
+        match self.reader.read_byte_record(row) {
+            Ok(found) => return Ok(found),
+            Err(e) => return Err(cause_of(&e)),
+        }
+    }
+}
+
+// The cause of an error of csv: of all its kinds only these two can come of a reader of bytes that
+// takes records of any length.
+fn cause_of(e: &Error) -> Stop
+    requires { IsMemoryOrRead (error_kind e.now) }
+    ensures causes { (result ≡ Stop.OutOfMemory) ⊎ (result ≡ Stop.ReadFault) }
+    ensures memory { (result ≡ Stop.OutOfMemory) ↔ (error_kind e.now ≡ kind.OutOfMemory) }
+{
+    match e.kind() {
+        ErrorKind::OutOfMemory => Stop::OutOfMemory,
+        ErrorKind::Io(_) => Stop::ReadFault,
+        _ => unreachable!(),
+    }
+}

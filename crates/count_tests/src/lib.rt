@@ -1,0 +1,16 @@
+//! Tests of the register, of the counts and of the indices, by their public names; and the indices against a plain
+//! recursion over all coalitions.
+#![tactic(auto)]
+
+#[cfg(test)]
+mod indices;
+#[cfg(test)]
+mod plain;
+#[cfg(test)]
+mod registers;
+#[cfg(test)]
+mod sheets;
+#[cfg(test)]
+mod sums;
+#[cfg(test)]
+mod walks;

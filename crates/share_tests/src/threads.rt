@@ -1,0 +1,175 @@
+//! The running board in threads.
+use crate::boards::{begin, begin_two, steps, submit_open, submit_votes};
+use board_share::{AuditFault, Reader, Writer, audit};
+use council_core::{Command, MemberCode, Refusal, Sheet, Votes};
+use std::alloc::{AllocError, Global};
+use std::sync::Wait;
+use std::test::Fail;
+use std::thread;
+use std::thread::join;
+
+// Opens chairs 1 to 5, and publishes after each.
+fn publish_five<R: Wait>(rt: &R, writer: &mut Writer) -> Result<u32, Refusal> {
+    for chair in 1..6u8 {
+        submit_open(writer, chair)?;
+        let _front = writer.publish(rt);
+    }
+    Ok(writer.published())
+}
+
+// Whether the words are those of AAA's 10 votes with the first chairs open, as many as the front says,
+// and nobody in them.
+fn is_prefix_sheet(words: &[u64; 34]) -> bool {
+    for place in 0..32 {
+        let open = (place as u64) < words[33];
+        if words[place] != u64::from(open) {
+            return false;
+        }
+    }
+    words[32] == 10
+}
+
+// Whether each of a hundred readings is the sheet of its prefix, and no front falls.
+fn read_often(reader: &mut Reader) -> bool {
+    let mut low = 0;
+    for _ in 0..100u32 {
+        if !reader.at_rest() {
+            return false;
+        }
+        let sheet = reader.read().sheet;
+        if sheet.front() < low || !is_prefix_sheet(&sheet.words()) {
+            return false;
+        }
+        low = sheet.front();
+    }
+    true
+}
+
+fn last_front(mut reader: Reader) -> Option<u32> {
+    if !reader.at_rest() {
+        return None;
+    }
+    Some(reader.read().sheet.front())
+}
+
+#[test]
+fn reads_from_threads(rt: HostRuntime) -> Result<(), Fail> {
+    let (mut writer, mut first, mut second) = begin_two(rt.alloc())?;
+    let (front, fine) = join(
+        &rt,
+        || publish_five(&rt, &mut writer),
+        || join(&rt, || read_often(&mut first), || read_often(&mut second)),
+    );
+    assert_eq!(rt; front, Ok(5));
+    assert_eq!(rt; fine, (true, true));
+    assert_eq!(rt; (last_front(first), last_front(second)), (Some(5), Some(5)));
+    Ok(())
+}
+
+// Whether a hundred readings, step by step, are each of the sheet with nothing accepted.
+fn step_often(reader: &mut Reader) -> bool {
+    for _ in 0..100u32 {
+        match steps(reader, 37) {
+            Some(sheet) if sheet.front() == 0 && is_prefix_sheet(&sheet.words()) => {}
+            _ => return false,
+        }
+    }
+    true
+}
+
+#[test]
+fn steps_from_threads(rt: HostRuntime) -> Result<(), Fail> {
+    let (_writer, mut first, mut second) = begin_two(rt.alloc())?;
+    let fine = join(&rt, || step_often(&mut first), || step_often(&mut second));
+    assert_eq!(rt; fine, (true, true));
+    Ok(())
+}
+
+const READINGS: usize = 1000;
+
+const PUBLICATIONS: u32 = 1000;
+
+// What one reader reads.
+fn read_all(alloc: Global, mut reader: Reader) -> Result<Vec<Sheet>, AllocError> {
+    let mut sheets = Vec::new(alloc);
+    for _ in 0..READINGS {
+        if reader.at_rest() {
+            sheets.push(reader.read().sheet)?;
+        }
+    }
+    Ok(sheets)
+}
+
+// Tries until all is published.
+fn publish_by_tries<R: Wait>(rt: &R, writer: &mut Writer) -> u32 {
+    for _ in rt.forever() {
+        if let Ok(front) = writer.try_publish() {
+            return front;
+        }
+        thread::yield_now();
+    }
+    unreachable!()
+}
+
+// Hands over as many commands as there are to be publications, and publishes each: the cuts.
+fn publish_each<R: Wait>(rt: &R, alloc: Global, writer: &mut Writer) -> Result<Vec<u32>, Refusal> {
+    let mut cuts = Vec::new(alloc);
+    for count in 0..PUBLICATIONS {
+        submit_votes(writer, u64::from(count))?;
+        if cuts.push(publish_by_tries(rt, writer)).is_err() {
+            return Err(Refusal::OutOfMemory);
+        }
+    }
+    Ok(cuts)
+}
+
+fn opening() -> Result<[(MemberCode, Votes); 1], Refusal> {
+    Ok([(MemberCode::new(b"AAA")?, Votes::new(10)?)])
+}
+
+fn audit_of(
+    alloc: Global,
+    journal: &[Command],
+    cuts: &[u32],
+    readings: &[Vec<Sheet>],
+) -> Result<(), AuditFault> {
+    match opening() {
+        Ok(members) => audit(alloc, &members, journal, cuts, readings),
+        Err(why) => Err(AuditFault::Start(why)),
+    }
+}
+
+#[test]
+fn four_readers_audited(rt: HostRuntime) -> Result<(), Fail> {
+    let alloc = rt.alloc();
+    let (mut writer, mut readers) = begin(alloc, 4)?;
+    let (Some(d), Some(c), Some(b), Some(a)) = (
+        readers.pop(),
+        readers.pop(),
+        readers.pop(),
+        readers.pop(),
+    ) else {
+        assert!(rt; false);
+        return Ok(());
+    };
+    let (cuts, (left, right)) = join(
+        &rt,
+        || publish_each(&rt, alloc, &mut writer),
+        || {
+            join(
+                &rt,
+                move || join(&rt, move || read_all(alloc, a), move || read_all(alloc, b)),
+                move || join(&rt, move || read_all(alloc, c), move || read_all(alloc, d)),
+            )
+        },
+    );
+    let cuts = cuts?;
+    let mut readings = Vec::new(alloc);
+    for sheets in [left.0, left.1, right.0, right.1] {
+        readings.push(sheets?)?;
+    }
+    assert_eq!(rt; cuts.len(), PUBLICATIONS as usize);
+    assert!(rt; readings.iter().all(|sheets| sheets.len() == READINGS));
+    assert_eq!(rt; audit_of(alloc, writer.journal(), &cuts, &readings), Ok(()));
+    Ok(())
+}
