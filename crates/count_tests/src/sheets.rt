@@ -106,19 +106,78 @@ fn agrees<R: Abort>(rt: &R, indices: &Indices, sheet: &Sheet) {
     assert!(rt; rows_agree(indices, &chairs, all));
 }
 
+fn agrees_by_each<R: Abort>(rt: &R, evaluator: &Evaluator, sheet: &Sheet) {
+    for majority in [
+        Majority::Half,
+        Majority::Seventy,
+        Majority::EightyFive,
+        Majority::Quorum,
+    ] {
+        agrees(rt, &evaluator.evaluate(majority), sheet);
+    }
+}
+
 #[test]
 fn evaluator_agrees_with_a_plain_recursion(rt: HostRuntime) -> Result<(), Fail> {
     let mut evaluator = Evaluator::new(rt.alloc())?;
     for (weights, outside) in SHEETS {
         let sheet = sheet_of(weights, outside)?;
         evaluator.set(&sheet);
-        for majority in [
-            Majority::Half,
-            Majority::Seventy,
-            Majority::EightyFive,
-            Majority::Quorum,
-        ] {
-            agrees(&rt, &evaluator.evaluate(majority), &sheet);
+        agrees_by_each(&rt, &evaluator, &sheet);
+    }
+    Ok(())
+}
+
+// Numbers by xorshift (Marsaglia 2003).
+#[derive(Drop)]
+struct Numbers {
+    seed: u64,
+}
+
+impl Numbers {
+    fn below(&mut self, bound: u64) -> u64 {
+        self.seed ^= self.seed << 13;
+        self.seed ^= self.seed >> 7;
+        self.seed ^= self.seed << 17;
+        self.seed % bound.max(1)
+    }
+}
+
+// The least votes of a chair, and how many numbers from there on are drawn from: no votes, equal
+// votes, few votes, and votes of any size.
+const VOTES: [(u64, u64); 5] = [(0, 1), (7, 1), (0, 3), (1, 1000), (0, 1 << 40)];
+
+// So many open chairs the recursion goes through in time.
+const MOST_OPEN: u8 = 12;
+
+// A sheet in which a third of the chairs are open.
+fn drawn_sheet(numbers: &mut Numbers, least: u64, span: u64) -> Result<Sheet, Refusal> {
+    let mut words = [0; SHEET_WORDS];
+    let mut total = numbers.below(span);
+    let mut open = 0u8;
+    for place in 0..CHAIRS {
+        if open < MOST_OPEN && numbers.below(3) == 0 {
+            let weight = numbers.below(span).saturating_add(least);
+            words[place] = weight.saturating_add(1);
+            total = total.saturating_add(weight);
+            open += 1;
+        }
+    }
+    words[TOTAL] = total;
+    Sheet::from_words(&words)
+}
+
+#[test]
+fn evaluator_agrees_on_drawn_boards(rt: HostRuntime) -> Result<(), Fail> {
+    let mut numbers = Numbers {
+        seed: 0x9E37_79B9_7F4A_7C15,
+    };
+    let mut evaluator = Evaluator::new(rt.alloc())?;
+    for _ in 0..6 {
+        for (least, span) in VOTES {
+            let sheet = drawn_sheet(&mut numbers, least, span)?;
+            evaluator.set(&sheet);
+            agrees_by_each(&rt, &evaluator, &sheet);
         }
     }
     Ok(())

@@ -1,5 +1,5 @@
 //! Subset sums of a half.
-use half_sums::{Entry, HalfSums, repeats};
+use half_sums::{Entry, HalfSums, OrderedSums, repeats};
 use std::test::Fail;
 
 #[test]
@@ -25,6 +25,23 @@ fn sums_of_three(rt: HostRuntime) -> Result<(), Fail> {
     assert_eq!(rt; sums.len(), 8);
     assert_eq!(rt; sums[2], Entry { sum: 49, mask: 2 });
     assert!(rt; !repeats(sums));
+    Ok(())
+}
+
+#[test]
+fn ordered_sums_of_three(rt: HostRuntime) -> Result<(), Fail> {
+    let mut half = OrderedSums::new(rt.alloc())?;
+    assert_eq!(rt; half.ascending().len(), 1);
+    half.rebuild(&[(0, 50), (1, 49), (2, 1)]);
+    let sums = half.ascending();
+    assert_eq!(rt; sums.len(), 8);
+    assert_eq!(rt; sums[0], Entry { sum: 0, mask: 0 });
+    assert_eq!(rt; sums[2], Entry { sum: 49, mask: 2 });
+    assert_eq!(rt; sums[7], Entry { sum: 100, mask: 7 });
+    half.rebuild(&[(3, 5)]);
+    let sums = half.ascending();
+    assert_eq!(rt; sums.len(), 2);
+    assert_eq!(rt; sums[1], Entry { sum: 5, mask: 8 });
     Ok(())
 }
 

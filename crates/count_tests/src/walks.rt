@@ -4,10 +4,10 @@ ghost use Rattle.half_sums.specs.Entries.{AreSubsets};
 ghost use Rattle.swing_walk.specs.Laws.{ones};
 
 use council_core::Refusal;
-use half_sums::HalfSums;
+use half_sums::{HalfSums, OrderedSums};
 use std::alloc::Global;
 use std::test::Fail;
-use swing_walk::{Counts, count, swings};
+use swing_walk::{Counts, count, count_lists, swings};
 
 #[test]
 fn sums_of_three(rt: HostRuntime) -> Result<(), Fail> {
@@ -28,6 +28,22 @@ fn sums_of_three(rt: HostRuntime) -> Result<(), Fail> {
     assert_eq!(rt; counts.winning, 3);
     assert_eq!(rt; counts.with_chair, with_chair);
     assert_eq!(rt; swings, expected);
+    Ok(())
+}
+
+#[test]
+fn ordered_sums_of_three(rt: HostRuntime) -> Result<(), Fail> {
+    let mut left = OrderedSums::new(rt.alloc())?;
+    let mut right = OrderedSums::new(rt.alloc())?;
+    left.rebuild(&[(0, 50), (1, 49)]);
+    right.rebuild(&[(4, 1)]);
+    let counts = count_lists(&left, &right, 51, 0);
+    let mut with_chair = [0; 32];
+    with_chair[0] = 3;
+    with_chair[1] = 2;
+    with_chair[20] = 2;
+    assert_eq!(rt; counts.winning, 3);
+    assert_eq!(rt; counts.with_chair, with_chair);
     Ok(())
 }
 

@@ -4,5 +4,4 @@ pub mod SubsetFacts
 pub mod GroupFacts
 pub mod SetSums
 pub mod MaskLemmas
-pub mod LevelLists
 pub mod WorkedCases

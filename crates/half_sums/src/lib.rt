@@ -6,10 +6,12 @@ mod groups;
 mod laws;
 mod lists;
 mod merge;
+mod ordered;
 mod sums;
 
 pub use entry::{Entry, repeats};
 pub use groups::{SIZES, SLOTS};
 pub use laws::mask_law;
 pub use lists::ROOM;
+pub use ordered::OrderedSums;
 pub use sums::HalfSums;

@@ -76,15 +76,6 @@ impl SumList {
         self.count = 2 * list.len();
     }
 
-    /// Becomes another list.
-    pub(crate) fn copy(&mut self, list: &[Entry])
-        requires few { length list.now ≤ ROOM }
-        ensures same { self.new ≡ list.now }
-    {
-        copy(list, &mut self.room);
-        self.count = list.len();
-    }
-
     /// Becomes another list's entries by size, those of one size in their order there. Behind the starts of the 17
     /// groups stands where the last one ends.
     pub(crate) fn regroup(&mut self, list: &[Entry], starts: &[usize; STARTS])
@@ -108,15 +99,6 @@ fn double(list: &[Entry], weight: u64, bit: u16, room: &mut [Entry])
     ensures long { length room.new ≡ length room.old }
 {
     merge(list, weight, bit, &mut room[..2 * list.len()]);
-}
-
-/// Writes a list's entries to the front of the room.
-fn copy(list: &[Entry], room: &mut [Entry])
-    requires few { length list.now ≤ length room.old }
-    ensures same { take (length list.now) room.new ≡ list.now }
-    ensures long { length room.new ≡ length room.old }
-{
-    room[..list.len()].copy_from_slice(list);
 }
 
 /// Writes a list's entries by size to the front of the room.

@@ -1,22 +1,21 @@
-//! The lists of a half, and their rebuild in the room that they have.
-ghost use Rattle.std.specs.Prelude.{◌≡◌, ◌==◌, ℕ, ◌+◌, ◌-◌, ◌*◌, ◌^◌, ◌<◌, ◌≤◌};
-ghost use Rattle.std.specs.Prelude.{List, [], ◌∷◌, ◌++◌, length, map, take, drop, slice_index, true, IfOk};
-ghost use Rattle.std.specs.Prelude.{IsOkUnless};
+//! The ascending list of a half, and the same by size.
+ghost use Rattle.std.specs.Prelude.{◌≡◌, ◌==◌, ◌-◌, ◌^◌, ◌<◌, ◌≤◌};
+ghost use Rattle.std.specs.Prelude.{List, [], ◌∷◌, length, map, take, drop, IfOk, IsOkUnless};
 ghost use Rattle.std.specs.List.{All, IsDistinct};
 ghost use Rattle.std.specs.List.Sorted.{IsPermutation};
 ghost use Rattle.council_core.specs.declared.refusals.Refusal.TheVariants.{OutOfMemory};
 ghost use Rattle.council_core.specs.Sheets.{weight_of};
 ghost use Rattle.half_sums.specs.declared.entry.Entry.{Entry};
-ghost use Rattle.half_sums.specs.Entries.{joined, AreSubsets, IsHalf};
-ghost use Rattle.half_sums.specs.Groups.{group_of, grouped, fewer_than, AreGroups, AreLevel};
+ghost use Rattle.half_sums.specs.Entries.{AreSubsets, IsHalf};
+ghost use Rattle.half_sums.specs.Groups.{group_of, grouped, AreGroups};
 
 use crate::Entry;
-use crate::groups::{ONE_SET, SIZES, SLOTS, STARTS, with_one_more};
-use crate::lists::{ROOM, SumList};
+use crate::groups::{SIZES, SLOTS, STARTS, starts_of};
+use crate::lists::SumList;
+use crate::ordered::list;
 use council_core::Refusal;
 use std::alloc::Global;
 use std::marker::Model;
-use std::mem;
 
 /// The subset sums of a half of up to sixteen chairs, ascending, and the same by size (Horowitz and Sahni 1974).
 #[derive(Drop)]
@@ -43,11 +42,12 @@ impl HalfSums {
     {
         let ascending = SumList::new(alloc)?;
         let mut groups = SumList::new(alloc)?;
-        groups.regroup(ascending.as_slice(), &ONE_SET);
+        let starts = starts_of(ascending.as_slice());
+        groups.regroup(ascending.as_slice(), &starts);
         Ok(HalfSums {
             ascending,
             groups,
-            starts: ONE_SET,
+            starts,
         })
     }
 
@@ -88,47 +88,10 @@ impl HalfSums {
         requires small { weight_of chairs.now ≤ 2 ^ 48 }
         ensures subsets { AreSubsets chairs.now self.new }
     {
-        self.starts = list(chairs, &mut self.ascending, &mut self.groups);
-        let ascending = self.ascending.as_slice();
-        regroup(chairs, ascending, &self.starts, &mut self.groups);
+        list(chairs, &mut self.ascending, &mut self.groups);
+        self.starts = starts_of(self.ascending.as_slice());
+        self.groups.regroup(self.ascending.as_slice(), &self.starts);
     }
-}
-
-/// Lists the sets of these chairs by size. Where all chairs have the same votes, sets of more chairs have more votes,
-/// so that the ascending list is by size as it stands.
-fn regroup(
-    chairs: &[(u8, u64)],
-    ascending: &[Entry],
-    starts: &[usize; STARTS],
-    groups: &mut SumList,
-)
-    requires distinct { IsDistinct (λ a b. a == b) (map (λ chair. chair.0) chairs.now) }
-    requires subsets { AreSubsets chairs.now ascending.now }
-    requires half { IsHalf ascending.now }
-    requires starts { (size : ℕ) → size ≤ SIZES
-        → slice_index starts.now size ≡ fewer_than size ascending.now }
-    ensures groups { AreGroups ascending.now groups.new starts.now }
-{
-    if are_level(chairs) {
-        groups.copy(ascending);
-        return;
-    }
-    groups.regroup(ascending, starts);
-}
-
-/// Whether each chair has the same votes, and not none.
-fn are_level(chairs: &[(u8, u64)]) -> bool
-    ensures level { result ≡ true → AreLevel chairs.now }
-{
-    if chairs.is_empty() || chairs[0].1 == 0 {
-        return false;
-    }
-    for at in 1..chairs.len() {
-        if chairs[at].1 != chairs[0].1 {
-            return false;
-        }
-    }
-    true
 }
 
 /// The entries from a place on, up to another.
@@ -138,36 +101,4 @@ fn part(entries: &[Entry], from: usize, to: usize) -> &[Entry]
     ensures part { result.now ≡ take (to - from) (drop from entries.now) }
 {
     &entries[from..to]
-}
-
-/// Lists the sets of these chairs, ascending by sum, and answers where the groups of each size start. What stands in
-/// either list before is lost.
-fn list(chairs: &[(u8, u64)], ascending: &mut SumList, scratch: &mut SumList) -> [usize; STARTS]
-    requires slots { All (λ chair. chair.0 < SLOTS) chairs.now }
-    requires distinct { IsDistinct (λ a b. a == b) (map (λ chair. chair.0) chairs.now) }
-    requires small { weight_of chairs.now ≤ 2 ^ 48 }
-    ensures subsets { AreSubsets chairs.now ascending.new }
-    ensures half { IsHalf ascending.new }
-    ensures starts { (size : ℕ) → size ≤ SIZES → slice_index result size ≡ fewer_than size ascending.new }
-{
-    ascending.clear();
-    let mut starts = ONE_SET;
-    for at in (0..chairs.len()).rev() {
-        let (slot, weight) = chairs[at];
-        add(ascending, scratch, weight, 1u16 << slot);
-        with_one_more(&mut starts);
-    }
-    starts
-}
-
-/// Adds a chair: each set as it was, and each set with the chair.
-fn add(ascending: &mut SumList, scratch: &mut SumList, weight: u64, bit: u16)
-    requires half { IsHalf ascending.old }
-    requires few { 2 * length ascending.old ≤ ROOM }
-    requires small { All (λ e. e.sum + weight ≤ 2 ^ 48) ascending.old }
-    ensures each_once { IsPermutation (ascending.old ++ map (joined weight bit) ascending.old) ascending.new }
-    ensures half { IsHalf ascending.new }
-{
-    scratch.double(ascending.as_slice(), weight, bit);
-    mem::swap(ascending, scratch);
 }

@@ -6,11 +6,13 @@ use board_share::{Analyst, Reader, Writer, start};
 use council_core::{
     ChairId, FRONT, MemberCode, Refusal, Register, SHEET_WORDS, Sheet, TOTAL, Votes,
 };
+use half_sums::HalfSums;
 use majority_rule::{Majority, least_size, quota, wins};
 use power_index::Evaluator;
 use std::alloc::Global;
 use std::sync::Wait;
 use std::thread::Threads;
+use swing_walk::count;
 use two_copy_steps::{Event, Machine};
 
 fn numbers(alloc: Global, numbers: &[u64]) -> Option<Vec<u64>> {
@@ -192,6 +194,52 @@ impl Call for Evaluating {
         let mut seen = numbers(alloc, &state.seen)?;
         add_sheet(&mut seen, &state.evaluator.sheet())?;
         Some(seen)
+    }
+}
+
+/// `rebuild`, `ascending`, `entries` and `group` of a half, and the count of its pairs with itself.
+#[derive(Clone, Copy)]
+pub(crate) struct Listing;
+
+#[derive(Drop)]
+pub(crate) struct Listed {
+    half: HalfSums,
+    seen: [u64; 4],
+}
+
+// Lists the sets of a chair of two votes and one of one: how many sets there are, how many of one chair, the greatest
+// sum, and how many pairs of sets have three votes.
+fn listed(half: &mut HalfSums) -> [u64; 4] {
+    half.rebuild(&[(0, 2), (1, 1)]);
+    let greatest = match half.ascending().last() {
+        Some(entry) => entry.sum,
+        None => 0,
+    };
+    [
+        half.entries().len() as u64,
+        half.group(1).len() as u64,
+        greatest,
+        count(half, half, 3, 0).winning,
+    ]
+}
+
+impl Call for Listing {
+    type State = Listed;
+
+    fn prepare(&self, alloc: Global) -> Option<Listed> {
+        Some(Listed {
+            half: HalfSums::new(alloc).ok()?,
+            seen: [0; 4],
+        })
+    }
+
+    fn call<R: Threads + Wait + Sync>(&self, _rt: &R, _alloc: Global, state: &mut Listed) -> u8 {
+        state.seen = listed(&mut state.half);
+        if state.seen == [4, 2, 3, 10] { 0 } else { NONE }
+    }
+
+    fn shown(&self, alloc: Global, state: &Listed) -> Option<Vec<u64>> {
+        numbers(alloc, &state.seen)
     }
 }
 

@@ -4,7 +4,7 @@ ghost use Rattle.std.specs.Thread.{IsSync};
 
 use crate::board_calls::{Analysing, Auditing, Opening, Submitting};
 use crate::calls_without_memory::{
-    Asking, Evaluating, Publishing, ReadingWords, Turning, Valuing, Viewing,
+    Asking, Evaluating, Listing, Publishing, ReadingWords, Turning, Valuing, Viewing,
 };
 use crate::growth_calls::{Applying, Counting, Halving, Starting, Stepping};
 use crate::run_calls::{Programming, Replaying, Running, Serving, Tracing};
@@ -265,6 +265,7 @@ fn calls_without_memory(rt: HostRuntime) -> Result<(), Fail> {
     assert!(rt; asks_for_none(&rt, rt.alloc(), &Valuing));
     assert!(rt; asks_for_none(&rt, rt.alloc(), &Viewing));
     assert!(rt; asks_for_none(&rt, rt.alloc(), &Evaluating));
+    assert!(rt; asks_for_none(&rt, rt.alloc(), &Listing));
     assert!(rt; asks_for_none(&rt, rt.alloc(), &Turning));
     assert!(rt; asks_for_none(&rt, rt.alloc(), &Publishing));
     assert!(rt; asks_for_none(&rt, rt.alloc(), &ReadingWords));

@@ -12,11 +12,11 @@ use crate::halves::refresh;
 use crate::indices::{Fraction, Indices};
 use crate::rows::{SwingTally, coalition_count, rows};
 use council_core::{Refusal, SHEET_WORDS, Sheet};
-use half_sums::{HalfSums, SLOTS};
+use half_sums::{OrderedSums, SLOTS};
 use majority_rule::{Majority, least_size, quota};
 use std::alloc::Global;
 use std::marker::Model;
-use swing_walk::{Counts, count, swings};
+use swing_walk::{Counts, count_lists, swings};
 
 /// A sheet, and what its indices are counted from.
 ///
@@ -25,8 +25,8 @@ use swing_walk::{Counts, count, swings};
 #[derive(Drop)]
 pub struct Evaluator {
     sheet: Sheet,
-    left: HalfSums,
-    right: HalfSums,
+    left: OrderedSums,
+    right: OrderedSums,
 }
 
 impl Model for Evaluator {
@@ -50,8 +50,8 @@ impl Evaluator {
         ensures memory { IsOkUnless result OutOfMemory }
     {
         let sheet = blank();
-        let left = HalfSums::new(alloc)?;
-        let right = HalfSums::new(alloc)?;
+        let left = OrderedSums::new(alloc)?;
+        let right = OrderedSums::new(alloc)?;
         Ok(Evaluator { sheet, left, right })
     }
 
@@ -121,7 +121,7 @@ impl Evaluator {
         ensures counts { AreCounts quota least_size self.now result.winning
             (λ place. slice_index result.with_chair place) }
     {
-        count(&self.left, &self.right, quota, least_size)
+        count_lists(&self.left, &self.right, quota, least_size)
     }
 
     /// The sheet held: the last one that was set, or the sheet of zeros.

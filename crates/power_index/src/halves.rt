@@ -6,7 +6,7 @@ ghost use Rattle.power_index.specs.Halves.{half_chairs, same_half, one_if};
 
 use arrayvec::ArrayVec;
 use council_core::SHEET_WORDS;
-use half_sums::{HalfSums, SLOTS};
+use half_sums::{OrderedSums, SLOTS};
 
 /// The open chairs of the half from a place on, each by its slot, 0 to 15, and its weight.
 fn chairs_of(words: &[u64; SHEET_WORDS], from: usize) -> ArrayVec<(u8, u64), SLOTS>
@@ -33,7 +33,7 @@ fn is_same(old: &[u64; SHEET_WORDS], new: &[u64; SHEET_WORDS], from: usize) -> b
 
 /// Rebuilds a half where its words differ, and answers how many were rebuilt, 0 or 1.
 pub(crate) fn refresh(
-    half: &mut HalfSums,
+    half: &mut OrderedSums,
     old: &[u64; SHEET_WORDS],
     new: &[u64; SHEET_WORDS],
     from: usize,

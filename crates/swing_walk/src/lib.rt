@@ -11,4 +11,4 @@ mod tally;
 mod walking;
 
 pub use laws::{count_law, pair_law, swing_law, two_halves_law};
-pub use pairs::{Counts, count, swings};
+pub use pairs::{Counts, count, count_lists, swings};

@@ -8,7 +8,7 @@ use crate::by_size::walk_by_size;
 use crate::tally::MaskTally;
 use crate::walking::walk;
 use council_core::CHAIRS;
-use half_sums::{Entry, HalfSums, SLOTS};
+use half_sums::{Entry, HalfSums, OrderedSums, SLOTS};
 
 /// The winning pairs of the sets of a left and a right half. Where these are the halves of a board, the pairs are its
 /// coalitions.
@@ -30,15 +30,28 @@ pub fn count(left: &HalfSums, right: &HalfSums, quota: u64, least_size: u8) -> C
     ensures with_chair { (place : ℕ) → place < CHAIRS
         → slice_index result.with_chair place ≡ large_with quota least_size place left.now right.now }
 {
+    count_entries(left.ascending(), right.ascending(), quota, least_size)
+}
+
+/// The same as `count`, for halves that are listed by weight alone.
+pub fn count_lists(left: &OrderedSums, right: &OrderedSums, quota: u64, least_size: u8) -> Counts
+    ensures winning { result.winning ≡ large_pairs quota least_size left.now right.now }
+    ensures with_chair { (place : ℕ) → place < CHAIRS
+        → slice_index result.with_chair place ≡ large_with quota least_size place left.now right.now }
+{
+    count_entries(left.ascending(), right.ascending(), quota, least_size)
+}
+
+/// Counts the pairs of two ascending lists.
+fn count_entries(left: &[Entry], right: &[Entry], quota: u64, least_size: u8) -> Counts
+    requires left { IsHalf left.now }
+    requires right { IsHalf right.now }
+    ensures winning { result.winning ≡ large_pairs quota least_size left.now right.now }
+    ensures with_chair { (place : ℕ) → place < CHAIRS
+        → slice_index result.with_chair place ≡ large_with quota least_size place left.now right.now }
+{
     let (mut lefts, mut rights) = (MaskTally::new(), MaskTally::new());
-    let winning = credit_pairs(
-        left.ascending(),
-        right.ascending(),
-        quota,
-        least_size,
-        &mut lefts,
-        &mut rights,
-    );
+    let winning = credit_pairs(left, right, quota, least_size, &mut lefts, &mut rights);
     Counts {
         winning,
         with_chair: both(&lefts.by_slot(), &rights.by_slot()),

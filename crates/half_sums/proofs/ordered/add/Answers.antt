@@ -2,7 +2,7 @@ use Rattle.std.proofs.Common.{rules, ◌++◌, map, ◌^◌, ◌<◌}
 use Rattle.std.specs.List.Sorted.{IsPermutation}
 use Rattle.half_sums.specs.Entries.{joined}
 use Rattle.half_sums.proofs.SubsetFacts.{IsHalf-more}
-use Rattle.half_sums.proofs.sums.add.Goals as goal
+use Rattle.half_sums.proofs.ordered.add.Goals as goal
 
 pub returns-clause-half : goal.returns-clause-half
 returns-clause-half c =

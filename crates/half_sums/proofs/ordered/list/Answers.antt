@@ -1,11 +1,7 @@
 use Rattle.std.proofs.Common.{◌≡◌, ◌-◌, ◌<◌, [], ◌∷◌, arith, length, drop, get_or}
-use Rattle.std.specs.List.{All}
 use Rattle.std.proofs.lemmas.List.{drop_all}
-use Rattle.std.specs.Int.{bit_at}
-use Rattle.half_sums.proofs.GroupFacts.{fewer_within, AreStarts-one, AreStarts-more}
-use Rattle.half_sums.proofs.MaskLemmas.{slot_free}
-use Rattle.half_sums.proofs.SubsetFacts.{AreSubsets-none, AreSubsets-more, IsHalf-one, few, room_left, small_left, drop_back, distinct_left, slot_bit}
-use Rattle.half_sums.proofs.sums.list.Goals as goal
+use Rattle.half_sums.proofs.SubsetFacts.{AreSubsets-none, AreSubsets-more, IsHalf-one, few, room_left, small_left, drop_back, slot_bit}
+use Rattle.half_sums.proofs.ordered.list.Goals as goal
 
 pub add-requires-clause-few : goal.add-requires-clause-few
 add-requires-clause-few c =
@@ -15,11 +11,6 @@ pub add-requires-clause-small : goal.add-requires-clause-small
 add-requires-clause-small c =
     small_left c.args.chairs.now c.loop-at.at _ c.loop-at.invariant.subsets c.requires.small (omega arith) (omega arith)
 
-pub with_one_more-requires : goal.with_one_more-requires
-with_one_more-requires c = record {
-  few = λ k h. omega (arith, c.loop-at.invariant.starts k h, fewer_within k c.loop-at.ascending, c.loop-at.invariant.half.few);
-}
-
 pub loop-at-init : goal.loop-at-init
 loop-at-init c =
     let one : c.clear.new.self ≡ record { sum = 0; mask = 0 } ∷ [] = c.clear.ensures.empty in
@@ -27,20 +18,16 @@ loop-at-init c =
     record {
       subsets = rw (one, none) AreSubsets-none;
       half = rw one IsHalf-one;
-      starts = rw one AreStarts-one;
     }
 
 pub loop-at-preserved : goal.loop-at-preserved
 loop-at-preserved c =
     let chairs = c.args.chairs.now in
     let at = c.loop-at.at in
-    let old = c.loop-at.ascending in
     let within : at - 1 < length chairs = omega arith in
     let bit_is = slot_bit (get_or chairs (at - 1) (0, 0)).0 (c.requires.slots (at - 1) (0, 0) within) in
-    let free : All (λ e. bit_at e.mask (get_or chairs (at - 1) (0, 0)).0 ≡ 0) old = slot_free (get_or chairs (at - 1) (0, 0)) (drop at chairs) old (distinct_left chairs at c.requires.distinct (omega arith) (omega arith)) c.loop-at.invariant.subsets in
     record {
       subsets = rw (drop_back chairs at (omega arith) (omega arith))
           (AreSubsets-more _ _ _ _ _ c.loop-at.invariant.subsets bit_is c.add.ensures.each_once c.add.ensures.half.ascending);
       half = c.add.ensures.half;
-      starts = AreStarts-more old _ _ _ c.loop-at.invariant.starts record { weight = _; slot = _; bit = _; free = free; bit_is = bit_is; moves = c.add.ensures.each_once } c.with_one_more.ensures.first c.with_one_more.ensures.next;
     }

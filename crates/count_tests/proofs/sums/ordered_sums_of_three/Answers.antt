@@ -1,0 +1,7 @@
+use Rattle.std.proofs.Common.{rules}
+use Rattle.std.specs.List.{IsDistinct}
+use Rattle.count_tests.proofs.sums.ordered_sums_of_three.Goals as goal
+
+pub rebuild-requires-clause-distinct : goal.rebuild-requires-clause-distinct
+unfolding IsDistinct
+rebuild-requires-clause-distinct g c = search rules
