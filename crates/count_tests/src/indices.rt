@@ -5,7 +5,7 @@ use power_index::{ChairPower, Evaluator, Fraction, Indices};
 use std::alloc::Global;
 use std::test::Fail;
 
-/// AAA with 10 votes in chair 16, the last of the left half, and BBB with 20 in chair 17, the first of the right.
+/// AAA with 10 votes in chair 16 and BBB with 20 in chair 17.
 fn two_members(alloc: Global) -> Result<Register, Refusal> {
     let first = MemberCode::new(b"AAA")?;
     let second = MemberCode::new(b"BBB")?;
@@ -52,7 +52,7 @@ fn partial_rebuild(rt: HostRuntime) -> Result<(), Fail> {
     Ok(())
 }
 
-/// Two open chairs of the left half.
+/// Two open chairs among chairs 1 to 16.
 fn left_chairs(first: u64, second: u64) -> Result<Sheet, Refusal> {
     let mut words = [0; 34];
     words[0] = first;

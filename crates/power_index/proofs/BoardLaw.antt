@@ -1,171 +1,215 @@
--- The chairs of the two halves are the open chairs of the sheet, numbered from 0, and so are their sets.
-use Rattle.std.proofs.Common.{◌≡◌, ℕ, ◌+◌, ◌-◌, ◌<◌, Bool, false, cond, List, [], ◌∷◌, ◌++◌, map, length, take, drop, get_or, arith, refl, sym, ap, ◌∙◌, eqb, leb, inl, inr, subst, ◌≢◌}
+-- The chairs of the two halves have the weights of the open chairs of the sheet, in their order, so that their sets win
+-- alike, and the counts at a seat are those of the chair that stands there.
+use Rattle.std.proofs.Common.{◌≡◌, ℕ, ◌+◌, ◌-◌, ◌<◌, Bool, true, false, cond, List, [], ◌∷◌, ◌++◌, map, length, take, drop, get_or, arith, refl, sym, ap, ◌∙◌, eqb, leb, inl, inr, ◌≢◌, zero, suc}
 use Rattle.std.specs.Prelude.{◌&&◌, not}
-use Rattle.std.proofs.lemmas.Bool.{or_from, eq-eqb, ne_eqb, cases_eq}
-use Rattle.std.proofs.lemmas.List.{length-map, take-append-drop, take-take, drop-take, length-take, drop_more, get_or-take}
-use Rattle.std.proofs.lemmas.List.Folds.{list_any-append}
-use Rattle.council_core.specs.Sheets.{Chair, open_from, open_chairs, weight_of}
+use Rattle.std.specs.List.{sum_by, list_any, IsDistinct}
+use Rattle.std.proofs.lemmas.Bool.{eq-eqb, ne_eqb, cases_lt, lt-ltb, le-ltb}
+use Rattle.std.proofs.lemmas.List.{length-map, map-append, take-append-drop, length-take, length-drop, get_or-map, get_or-append_right, get_or_append_left}
+use Rattle.std.proofs.lemmas.Map.Keys.{IsDistinct-tail}
+use Rattle.std.proofs.lemmas.Simd.{map-map}
+use Rattle.std.proofs.Math.Seq.{split_at}
+use Rattle.council_core.specs.Sheets.{Chair, open_chairs}
 use Rattle.council_core.specs.Coalitions.{has_chair, omega_of, eta_of, reaching, subsets}
-use Rattle.council_core.proofs.OpenChairs.{chair_of, open_from-append, open_from-cons, open_from-up, up, absent_above, absent_below, chair_of-open, chair_of-shut}
+use Rattle.council_core.proofs.OpenChairs.{numbers_distinct}
 use Rattle.half_sums.specs.declared.entry.Entry.{Entry}
 use Rattle.swing_walk.specs.Pairs.{large_pairs, large_with, swings_of}
 use Rattle.swing_walk.specs.Laws as laws
 use Rattle.swing_walk.specs.Laws.{board_of, AreHalf}
 use Rattle.swing_walk.proofs.BoardSets as sets
-use Rattle.half_sums.proofs.SetSums.{sum_by-map, sum_agree}
-use Rattle.swing_walk.proofs.PairLaws.{over-map, pair_law}
-use Rattle.power_index.specs.Halves.{half_words, half_chairs, AreHalves}
+use Rattle.half_sums.proofs.SetSums.{sum_by-map, sum_agree, over, or_left, or_right}
+use Rattle.half_sums.proofs.MaskLemmas.{first_apart}
+use Rattle.swing_walk.proofs.PairLaws.{over-map, pair_law, shifted}
+use Rattle.power_index.specs.Halves.{weights, slotted, left_count, left_weights, right_weights, seat, seat_of, AreHalves}
 use Rattle.power_index.specs.Counts.{eta_at, EvaluationLaw}
-use Rattle.power_index.proofs.HalfLemmas.{half_slots, half_distinct}
+use Rattle.power_index.proofs.HalfLemmas.{slotted_slots, slotted_distinct, slotted_weights, slotted_length, slotted_at, left_few, right_few}
+use Rattle.power_index.proofs.RowLemmas.{front_chairs, open_split, eta_open, front_before}
 
--- the words of the chairs are those of the two halves
-words_split : (words : List ℕ) → take 32 words ≡ half_words 0 words ++ half_words 16 words
-words_split words =
-    sym (take-append-drop 16 (take 32 words))
-    ∙ ap (λ l. l ++ drop 16 (take 32 words)) (take-take 16 32 words (omega arith))
-    ∙ ap (λ l. take 16 words ++ l) (drop-take 16 16 words)
+-- a set of these weights wins
+abbrev enough : ℕ → ℕ → List ℕ → Bool
+enough quota least_size ws = leb quota (sum_by (λ n. n) ws) && leb least_size (length ws)
 
--- the open chairs, numbered from 0
-abbrev from_zero : List ℕ → List Chair
-from_zero words = open_from 0 (take 32 words)
+abbrev weight : Chair → ℕ
+weight chair = chair.1
 
-board_is : (words : List ℕ) → length words ≡ 34 → board_of (half_chairs 0 words) (half_chairs 16 words) ≡ from_zero words
-board_is words long =
-    let a : List ℕ = half_words 0 words in
-    let b : List ℕ = half_words 16 words in
-    let here : 0 + length a ≡ 0 + 16 = omega (arith, length-take 16 words) in
-    sym
-    (ap (open_from 0) (words_split words)
-    ∙ open_from-append 0 a b
-    ∙ ap (λ n. open_from 0 a ++ open_from n b) here
-    ∙ ap (λ l. open_from 0 a ++ l) (open_from-up 0 16 b))
+by_weights : (quota least_size : ℕ) (s : List Chair) → reaching quota least_size s ≡ enough quota least_size (map weight s)
+by_weights quota least_size s =
+    ap (λ n. leb quota n && leb least_size (length s)) (sym (sum_by-map (λ n. n) weight s))
+    ∙ ap (λ n. leb quota (sum_by (λ n. n) (map weight s)) && leb least_size n) (sym (length-map s weight))
 
-open_is : (words : List ℕ) → open_chairs words ≡ map (up 1) (from_zero words)
-open_is words = open_from-up 0 1 (take 32 words)
+-- omega hangs on the weights alone
+abbrev omega_by : ℕ → ℕ → List ℕ → ℕ
+omega_by quota least_size ws = over (λ s. cond (enough quota least_size s) 1 0) ws
 
--- what is counted doesn't hang on where the numbers begin
-weight_up : (k : ℕ) (s : List Chair) → weight_of (map (up k) s) ≡ weight_of s
-weight_up k s = sum_by-map (λ c. c.1) (up k) s
+omega_weights : (quota least_size : ℕ) (chairs : List Chair) → omega_of (reaching quota least_size) chairs ≡ omega_by quota least_size (map weight chairs)
+omega_weights quota least_size chairs =
+    sum_agree (λ s. cond (reaching quota least_size s) 1 0) (λ s. cond (enough quota least_size (map weight s)) 1 0) (subsets chairs) (λ s. ap (λ b. cond b 1 0) (by_weights quota least_size s))
+    ∙ sym (over-map (λ s. cond (enough quota least_size s) 1 0) weight chairs)
 
-same_number : (k m n : ℕ) → eqb (m + k) (n + k) ≡ eqb m n
-same_number k m n = elim (cases_eq m n) as (λ _. eqb (m + k) (n + k) ≡ eqb m n) [
-  | inl same ↦ eq-eqb (m + k) (n + k) (omega arith) ∙ sym (eq-eqb m n same)
-  | inr other ↦ ne_eqb (m + k) (n + k) (λ e. other (omega arith)) ∙ sym (ne_eqb m n other)
-]
+-- a chair by whether it has a number, and its weight
+abbrev Marked : Type 0
+Marked = Bool × ℕ
 
-has_up : (k n : ℕ) (s : List Chair) → has_chair (n + k) (map (up k) s) ≡ has_chair n s
-has_up k n [] = refl
-has_up k n (c ∷ s) = let here : eqb (c.0 + k) (n + k) ≡ eqb c.0 n = same_number k c.0 n in cc (here, has_up k n s)
+abbrev mark : ℕ → Chair → Marked
+mark n chair = (eqb chair.0 n, chair.1)
 
-length_up : (k : ℕ) (s : List Chair) → length (map (up k) s) ≡ length s
-length_up k s = length-map s (up k)
+has_marks : (n : ℕ) (s : List Chair) → has_chair n s ≡ list_any (λ m. m.0) (map (mark n) s)
+has_marks n [] = refl
+has_marks n (c ∷ s) = cc (has_marks n s)
 
--- a set and the same with other numbers win alike
-reaching_up : (quota least_size k : ℕ) (s : List Chair) → reaching quota least_size (map (up k) s) ≡ reaching quota least_size s
-reaching_up quota least_size k s = ap (λ n. leb quota n && leb least_size (length (map (up k) s))) (weight_up k s) ∙ ap (λ n. leb quota (weight_of s) && leb least_size n) (length_up k s)
+weights_marks : (n : ℕ) (s : List Chair) → map weight s ≡ map (λ m. m.1) (map (mark n) s)
+weights_marks n [] = refl
+weights_marks n (c ∷ s) = ap (λ l. c.1 ∷ l) (weights_marks n s)
 
-omega_up : (quota least_size k : ℕ) (chairs : List Chair) → omega_of (reaching quota least_size) (map (up k) chairs) ≡ omega_of (reaching quota least_size) chairs
-omega_up quota least_size k chairs =
-    over-map (λ s. cond (reaching quota least_size s) 1 0) (up k) chairs
-    ∙ sum_agree _ _ (subsets chairs) (λ s. ap (λ b. cond b 1 0) (reaching_up quota least_size k s))
+-- a set of marked chairs without the marked one loses, and wins once it is added
+abbrev turned : ℕ → ℕ → ℕ → List Marked → ℕ
+turned quota least_size w s = cond (not (list_any (λ m. m.0) s) && (not (enough quota least_size (map (λ m. m.1) s)) && enough quota least_size (w ∷ map (λ m. m.1) s))) 1 0
 
-eta_up : (quota least_size k n w : ℕ) (chairs : List Chair) → eta_of (reaching quota least_size) (n + k, w) (map (up k) chairs) ≡ eta_of (reaching quota least_size) (n, w) chairs
-eta_up quota least_size k n w chairs =
-    over-map (λ s. cond (not (has_chair (n + k) s) && (not (reaching quota least_size s) && reaching quota least_size ((n + k, w) ∷ s))) 1 0) (up k) chairs
-    ∙ sum_agree _ _ (subsets chairs) (λ s.
-    (let g : Bool → Bool → Bool → ℕ = λ b m o. cond (not b && (not m && o)) 1 0 in
-    ap (λ b. g b (reaching quota least_size (map (up k) s)) (reaching quota least_size (map (up k) ((n, w) ∷ s)))) (has_up k n s)
-    ∙ ap (λ m. g (has_chair n s) m (reaching quota least_size (map (up k) ((n, w) ∷ s)))) (reaching_up quota least_size k s)
-    ∙ ap (g (has_chair n s) (reaching quota least_size s)) (reaching_up quota least_size k ((n, w) ∷ s))))
+eta_marks : (quota least_size : ℕ) (chair : Chair) (chairs : List Chair) → eta_of (reaching quota least_size) chair chairs ≡ over (turned quota least_size chair.1) (map (mark chair.0) chairs)
+eta_marks quota least_size chair chairs =
+    let n : ℕ = chair.0 in
+    let g : Bool → Bool → Bool → ℕ = λ h m o. cond (not h && (not m && o)) 1 0 in
+    sum_agree (λ s. g (has_chair n s) (reaching quota least_size s) (reaching quota least_size (chair ∷ s))) (λ s. turned quota least_size chair.1 (map (mark n) s)) (subsets chairs)
+    (λ s. ap (λ h. g h (reaching quota least_size s) (reaching quota least_size (chair ∷ s))) (has_marks n s)
+    ∙ ap (λ m. g (list_any (λ m. m.0) (map (mark n) s)) m (reaching quota least_size (chair ∷ s))) (by_weights quota least_size s)
+    ∙ ap (λ o. g (list_any (λ m. m.0) (map (mark n) s)) (enough quota least_size (map weight s)) o) (by_weights quota least_size (chair ∷ s))
+    ∙ ap (λ ws. g (list_any (λ m. m.0) (map (mark n) s)) (enough quota least_size ws) (enough quota least_size (chair.1 ∷ ws))) (weights_marks n s))
+    ∙ sym (over-map (turned quota least_size chair.1) (mark n) chairs)
 
--- the chair of a word in the middle, if it is open
-split_at : (c : ℕ) (words : List ℕ) (i : ℕ) → i < length words →
-    open_from c words ≡ open_from c (take i words) ++ (chair_of (c + i) (get_or words i 0) ++ open_from (c + i + 1) (drop (i + 1) words))
-split_at c words i h =
-    let at : c + length (take i words) ≡ c + i = omega (arith, length-take i words) in
-    ap (open_from c) (sym (take-append-drop i words))
-    ∙ open_from-append c (take i words) (drop i words)
-    ∙ ap (λ n. open_from c (take i words) ++ open_from n (drop i words)) at
-    ∙ ap (λ l. open_from c (take i words) ++ open_from (c + i) l) (drop_more words i 0 h)
-    ∙ ap (λ l. open_from c (take i words) ++ l) (open_from-cons (c + i) (get_or words i 0) (drop (i + 1) words))
+-- weights, with the one of a place marked
+abbrev plain : ℕ → Marked
+plain w = (false, w)
 
-split_open : (c : ℕ) (words : List ℕ) (i : ℕ) → i < length words → get_or words i 0 ≢ 0 →
-    open_from c words ≡ open_from c (take i words) ++ (c + i, get_or words i 0 - 1) ∷ open_from (c + i + 1) (drop (i + 1) words)
-split_open c words i h some = split_at c words i h ∙ ap (λ l. open_from c (take i words) ++ (l ++ open_from (c + i + 1) (drop (i + 1) words))) (chair_of-open (c + i) (get_or words i 0) some)
+abbrev marks : ℕ → List ℕ → List Marked
+marks i [] = []
+marks zero (w ∷ ws) = (true, w) ∷ map plain ws
+marks (suc i) (w ∷ ws) = plain w ∷ marks i ws
 
-split_shut : (c : ℕ) (words : List ℕ) (i : ℕ) → i < length words → get_or words i 0 ≡ 0 →
-    open_from c words ≡ open_from c (take i words) ++ open_from (c + i + 1) (drop (i + 1) words)
-split_shut c words i h shut = split_at c words i h ∙ ap (λ l. open_from c (take i words) ++ (l ++ open_from (c + i + 1) (drop (i + 1) words))) (chair_of-shut (c + i) (get_or words i 0) shut)
+none_marked : (n : ℕ) (chairs : List Chair) → has_chair n chairs ≡ false → map (mark n) chairs ≡ map plain (map weight chairs)
+none_marked n [] h = refl
+none_marked n (c ∷ chairs) h =
+    let first : eqb c.0 n ≡ false = or_left (eqb c.0 n) (has_chair n chairs) h in
+    let rest : map (mark n) chairs ≡ map plain (map weight chairs) = none_marked n chairs (or_right (eqb c.0 n) (has_chair n chairs) h) in
+    ap (λ b. (b, c.1) ∷ map (mark n) chairs) first ∙ ap (λ l. (false, c.1) ∷ l) rest
 
--- no chair before or after has its number
-absent_around : (c : ℕ) (words : List ℕ) (i : ℕ) → has_chair (c + i) (open_from c (take i words) ++ open_from (c + i + 1) (drop (i + 1) words)) ≡ false
-absent_around c words i =
-    list_any-append (λ ch. eqb ch.0 (c + i)) (open_from c (take i words)) (open_from (c + i + 1) (drop (i + 1) words))
-    ∙ or_from _ _ (absent_above (c + i) c (take i words) (omega (arith, length-take i words))) (absent_below (c + i) (c + i + 1) (drop (i + 1) words) (omega arith))
+not_there : (n : ℕ) (chairs : List Chair) (i : ℕ) (d : Chair) → has_chair n chairs ≡ false → i < length chairs → eqb (get_or chairs i d).0 n ≡ false
+not_there n [] i d h below = absurd (omega arith)
+not_there n (c ∷ chairs) zero d h below = or_left (eqb c.0 n) (has_chair n chairs) h
+not_there n (c ∷ chairs) (suc i) d h below = not_there n chairs i d (or_right (eqb c.0 n) (has_chair n chairs) h) (omega arith)
 
-are_half : (from : ℕ) (words : List ℕ) → AreHalf (half_chairs from words)
-are_half from words = record {
-  slots = half_slots from words;
-  distinct = half_distinct from words;
-}
+-- the number of the chair of a place marks that place alone
+one_marked : (chairs : List Chair) (i : ℕ) (d : Chair) → IsDistinct eqb (map (λ c. c.0) chairs) → i < length chairs → map (mark (get_or chairs i d).0) chairs ≡ marks i (map weight chairs)
+one_marked [] i d distinct h = absurd (omega arith)
+one_marked (c ∷ chairs) zero d distinct h =
+    ap (λ b. (b, c.1) ∷ map (mark c.0) chairs) (eq-eqb c.0 c.0 refl) ∙ ap (λ l. (true, c.1) ∷ l) (none_marked c.0 chairs (first_apart c chairs distinct))
+one_marked (c ∷ chairs) (suc i) d distinct h =
+    let n : ℕ = (get_or chairs i d).0 in
+    let off : eqb n c.0 ≡ false = not_there c.0 chairs i d (first_apart c chairs distinct) (omega arith) in
+    let away : c.0 ≢ n = λ e. absurd (let bad : true ≡ false = sym (eq-eqb n c.0 (sym e)) ∙ off in cc) in
+    ap (λ b. (b, c.1) ∷ map (mark n) chairs) (ne_eqb c.0 n away) ∙ ap (λ l. (false, c.1) ∷ l) (one_marked chairs i d (IsDistinct-tail eqb c.0 (map (λ c. c.0) chairs) distinct) (omega arith))
+
+-- eta of the chair of a place hangs on the weights and the place alone
+abbrev none : Chair
+none = (0, 0)
+
+abbrev eta_by : ℕ → ℕ → ℕ → List ℕ → ℕ
+eta_by quota least_size i ws = over (turned quota least_size (get_or ws i 0)) (marks i ws)
+
+eta_weights : (quota least_size : ℕ) (chairs : List Chair) (i : ℕ) → IsDistinct eqb (map (λ c. c.0) chairs) → i < length chairs → eta_of (reaching quota least_size) (get_or chairs i none) chairs ≡ eta_by quota least_size i (map weight chairs)
+eta_weights quota least_size chairs i distinct h =
+    let chair : Chair = get_or chairs i none in
+    let same : chair.1 ≡ get_or (map weight chairs) i 0 = sym (get_or-map weight chairs i none 0 h) in
+    eta_marks quota least_size chair chairs
+    ∙ ap (λ w. over (turned quota least_size w) (map (mark chair.0) chairs)) same
+    ∙ ap (over (turned quota least_size (get_or (map weight chairs) i 0))) (one_marked chairs i none distinct h)
+
+-- the board of a sheet
+abbrev left_of : List ℕ → List Chair
+left_of words = slotted 0 (left_weights words)
+
+abbrev right_of : List ℕ → List Chair
+right_of words = slotted 0 (right_weights words)
+
+abbrev board : List ℕ → List Chair
+board words = board_of (left_of words) (right_of words)
+
+board_weights : (words : List ℕ) → map weight (board words) ≡ weights words
+board_weights words =
+    let h : ℕ = left_count (length (open_chairs words)) in
+    map-append weight (left_of words) (map shifted (right_of words))
+    ∙ ap (λ l. map weight (left_of words) ++ l) (map-map weight shifted (right_of words))
+    ∙ ap (λ l. l ++ map weight (right_of words)) (slotted_weights 0 (left_weights words))
+    ∙ ap (λ l. left_weights words ++ l) (slotted_weights 0 (right_weights words))
+    ∙ take-append-drop h (weights words)
+
+board_length : (words : List ℕ) → length (board words) ≡ length (open_chairs words)
+board_length words = sym (length-map (board words) weight) ∙ ap length (board_weights words) ∙ length-map (open_chairs words) weight
+
+left_half : (words : List ℕ) → AreHalf (left_of words)
+left_half words = record { slots = slotted_slots (left_weights words) (left_few words); distinct = slotted_distinct 0 (left_weights words) }
+
+right_half : (words : List ℕ) → AreHalf (right_of words)
+right_half words = record { slots = slotted_slots (right_weights words) (right_few words); distinct = slotted_distinct 0 (right_weights words) }
+
+board_distinct : (words : List ℕ) → IsDistinct eqb (map (λ c. c.0) (board words))
+board_distinct words =
+    sets.board_distinct (left_of words) (right_of words) (left_half words).slots (left_half words).distinct (right_half words).distinct
+
+-- the open chair with so many before it stands at its seat
+seated : (words : List ℕ) (i : ℕ) → i < length (open_chairs words) → (get_or (board words) i none).0 ≡ seat (left_count (length (open_chairs words))) i
+seated words i inside =
+    let n : ℕ = length (open_chairs words) in
+    let h : ℕ = left_count n in
+    let all : length (weights words) ≡ n = length-map (open_chairs words) weight in
+    let lefts : length (left_of words) ≡ h = slotted_length 0 (left_weights words) ∙ omega (arith, length-take h (weights words), all) in
+    let rights : length (right_weights words) ≡ n - h = omega (arith, length-drop h (weights words), all) in
+    elim (cases_lt i h) as (λ _. (get_or (board words) i none).0 ≡ seat h i) [
+      | inl below ↦
+          ap (λ c. c.0) (get_or_append_left (left_of words) (map shifted (right_of words)) none i (omega (arith, lefts)) ∙ slotted_at 0 (left_weights words) i none (omega (arith, lefts, slotted_length 0 (left_weights words))))
+          ∙ (let number : 0 + i ≡ i = omega arith in number)
+          ∙ sym (ap (λ b. cond b i (16 + (i - h))) (lt-ltb i h below))
+      | inr above ↦
+          ap (λ c. c.0)
+          (get_or-append_right (left_of words) (map shifted (right_of words)) h i none lefts above
+          ∙ get_or-map shifted (right_of words) (i - h) none none (omega (arith, rights, slotted_length 0 (right_weights words)))
+          ∙ ap shifted (slotted_at 0 (right_weights words) (i - h) none (omega (arith, rights))))
+          ∙ (let number : 0 + (i - h) + 16 ≡ 16 + (i - h) = omega arith in number)
+          ∙ sym (ap (λ b. cond b i (16 + (i - h))) (le-ltb i h above))
+    ]
 
 -- what the law of two halves says, of the halves of a sheet
 abbrev Meet : ℕ → ℕ → List ℕ → List Entry → List Entry → Type 0
-Meet quota least_size words from to = laws.CountsMeet quota least_size (half_chairs 0 words) (half_chairs 16 words) from to
+Meet quota least_size words from to = laws.CountsMeet quota least_size (left_of words) (right_of words) from to
 
--- the swings that the counts give at a place are those of its chair
-open_place : (quota least_size : ℕ) (words : List ℕ) (from to : List Entry) (place : ℕ) → length words ≡ 34 → place < 32 → get_or words place 0 ≢ 0 → Meet quota least_size words from to →
-    swings_of (large_pairs quota least_size from to) (large_with quota least_size place from to) ≡ eta_of (reaching quota least_size) (place + 1, get_or words place 0 - 1) (open_chairs words)
-open_place quota least_size words from to place long within some law =
-    let all : List ℕ = take 32 words in
-    let w : ℕ = get_or words place 0 in
-    let size : length all ≡ 32 = omega (arith, length-take 32 words) in
-    let same : get_or all place 0 ≡ w = get_or-take 32 words place 0 within in
-    let split = split_open 0 all place (omega arith) (λ e. some (sym same ∙ e)) in
-    let number : 0 + place ≡ place = omega arith in
-    let given = law.swings (open_from 0 (take place all)) (open_from (0 + place + 1) (drop (place + 1) all)) (0 + place, get_or all place 0 - 1) (board_is words long ∙ split) in
-    ap (λ n. swings_of (large_pairs quota least_size from to) (large_with quota least_size n from to)) (sym number)
-    ∙ given
-    ∙ ap (eta_of (reaching quota least_size) (0 + place, get_or all place 0 - 1)) (board_is words long)
-    ∙ ap (λ n. eta_of (reaching quota least_size) (n, get_or all place 0 - 1) (from_zero words)) number
-    ∙ ap (λ v. eta_of (reaching quota least_size) (place, v - 1) (from_zero words)) same
-    ∙ sym (eta_up quota least_size 1 place (w - 1) (from_zero words))
-    ∙ sym (ap (eta_of (reaching quota least_size) (place + 1, w - 1)) (open_is words))
-
--- a closed place has none
-shut_place : (quota least_size : ℕ) (words : List ℕ) (from to : List Entry) (place : ℕ) → length words ≡ 34 → place < 32 → get_or words place 0 ≡ 0 → Meet quota least_size words from to →
-    swings_of (large_pairs quota least_size from to) (large_with quota least_size place from to) ≡ 0
-shut_place quota least_size words from to place long within shut law =
-    let all : List ℕ = take 32 words in
-    let size : length all ≡ 32 = omega (arith, length-take 32 words) in
-    let same : get_or all place 0 ≡ get_or words place 0 = get_or-take 32 words place 0 within in
-    let number : 0 + place ≡ place = omega arith in
-    let absent : has_chair (0 + place) (from_zero words) ≡ false = ap (has_chair (0 + place)) (split_shut 0 all place (omega arith) (same ∙ shut)) ∙ absent_around 0 all place in
-    law.vacant place (ap (has_chair place) (board_is words long) ∙ subst (λ n. has_chair n (from_zero words) ≡ false) number absent)
-
-swings_place : (quota least_size : ℕ) (words : List ℕ) (from to : List Entry) (place : ℕ) → length words ≡ 34 → place < 32 → Meet quota least_size words from to →
-    swings_of (large_pairs quota least_size from to) (large_with quota least_size place from to) ≡ eta_at (reaching quota least_size) words place
-swings_place quota least_size words from to place long within law =
-    let eta : ℕ = eta_of (reaching quota least_size) (place + 1, get_or words place 0 - 1) (open_chairs words) in
-    elim (cases_eq (get_or words place 0) 0) as (λ _. swings_of (large_pairs quota least_size from to) (large_with quota least_size place from to) ≡ eta_at (reaching quota least_size) words place) [
-      | inl shut ↦ shut_place quota least_size words from to place long within shut law ∙ sym (ap (λ b. cond b 0 eta) (eq-eqb (get_or words place 0) 0 shut))
-      | inr some ↦ open_place quota least_size words from to place long within some law ∙ sym (ap (λ b. cond b 0 eta) (ne_eqb (get_or words place 0) 0 some))
-    ]
+-- the swings that the counts give at a seat are those of its chair
+swings_place : (quota least_size : ℕ) (words : List ℕ) (from to : List Entry) (place : ℕ) → length words ≡ 34 → place < 32 → 0 < get_or words place 0 → Meet quota least_size words from to →
+    swings_of (large_pairs quota least_size from to) (large_with quota least_size (seat_of words place) from to) ≡ eta_at (reaching quota least_size) words place
+swings_place quota least_size words from to place long within some law =
+    let i : ℕ = length (front_chairs place words) in
+    let inside : i < length (open_chairs words) = front_before words place long within some in
+    let on_board : i < length (board words) = omega (arith, inside, board_length words) in
+    let chair : Chair = get_or (board words) i none in
+    ap (λ n. swings_of (large_pairs quota least_size from to) (large_with quota least_size n from to)) (sym (seated words i inside))
+    ∙ law.swings (take i (board words)) (drop (suc i) (board words)) chair (split_at (board words) i none on_board)
+    ∙ eta_weights quota least_size (board words) i (board_distinct words) on_board
+    ∙ ap (eta_by quota least_size i) (board_weights words)
+    ∙ sym (eta_weights quota least_size (open_chairs words) i (numbers_distinct 1 (take 32 words)) inside)
+    ∙ ap (λ c. eta_of (reaching quota least_size) c (open_chairs words)) (open_split words place none long within some)
+    ∙ sym (eta_open (reaching quota least_size) words place some)
 
 omega_law : (quota least_size : ℕ) (words : List ℕ) (from to : List Entry) → AreHalves words from to → large_pairs quota least_size from to ≡ omega_of (reaching quota least_size) (open_chairs words)
 omega_law quota least_size words from to halves =
-    (pair_law quota least_size (half_chairs 0 words) (half_chairs 16 words) from to (are_half 0 words) (are_half 16 words) halves.left_half halves.right_half).winning
-    ∙ ap (omega_of (reaching quota least_size)) (board_is words halves.long)
-    ∙ sym (omega_up quota least_size 1 (from_zero words))
-    ∙ sym (ap (omega_of (reaching quota least_size)) (open_is words))
+    (pair_law quota least_size (left_of words) (right_of words) from to (left_half words) (right_half words) halves.left_half halves.right_half).winning
+    ∙ omega_weights quota least_size (board words)
+    ∙ ap (omega_by quota least_size) (board_weights words)
+    ∙ sym (omega_weights quota least_size (open_chairs words))
 
 pub evaluation_law : EvaluationLaw
 evaluation_law quota least_size words from to halves =
-    let law : Meet quota least_size words from to = sets.two_halves_law quota least_size (half_chairs 0 words) (half_chairs 16 words) from to (are_half 0 words) (are_half 16 words) halves.left_half halves.right_half in
+    let law : Meet quota least_size words from to = sets.two_halves_law quota least_size (left_of words) (right_of words) from to (left_half words) (right_half words) halves.left_half halves.right_half in
     record {
       omega = omega_law quota least_size words from to halves;
       few = law.few;
       within = λ place h. law.within place;
       half = λ place h. law.half place;
-      swings = λ place h. swings_place quota least_size words from to place halves.long h law;
+      swings = λ place h some. swings_place quota least_size words from to place halves.long h some law;
     }

@@ -1,48 +1,103 @@
--- The chairs of a half, word by word, and what a rebuild asks of them.
-use Rattle.std.proofs.Common.{◌≡◌, ℕ, ◌+◌, ◌-◌, ◌^◌, ◌<◌, ◌≤◌, List, [], ◌∷◌, ◌++◌, map, length, take, drop, get_or, arith, sym, ap, ◌∙◌, eqb, subst, replicate}
+-- The chairs of a half, weight by weight, and what a rebuild asks of them.
+use Rattle.std.proofs.Common.{◌≡◌, ℕ, ◌+◌, ◌-◌, ◌^◌, ◌<◌, ◌≤◌, List, [], ◌∷◌, ◌++◌, map, length, take, get_or, arith, refl, sym, ap, ◌∙◌, eqb, subst, replicate, zero, suc, set, inl, inr, ◌≢◌}
 use Rattle.std.specs.List.{sum_by, All, IsDistinct}
-use Rattle.std.proofs.lemmas.List.{get_or-replicate, drop-take, length-take, length-drop, get_or-take, get_or-drop}
+use Rattle.std.proofs.lemmas.List.{get_or-replicate, take_more, length-take, length-map, length-drop, get_or-set_other}
+use Rattle.std.proofs.lemmas.Grind.{get_or-set_at}
+use Rattle.std.proofs.lemmas.Bool.{cases_eq}
 use Rattle.std.proofs.lemmas.List.Elements.{All-weaker}
 use Rattle.std.proofs.lemmas.List.Sums.{sum_by-take-drop}
-use Rattle.council_core.specs.Sheets.{Chair, open_from, weight_of, weight_in, IsSheet}
-use Rattle.council_core.proofs.OpenChairs.{open_more, closed_more, weight_of-open, numbers_within, numbers_distinct}
-use Rattle.council_core.proofs.SheetLemmas.{cast_below}
-use Rattle.power_index.specs.Halves.{half_words, half_chairs}
+use Rattle.half_sums.proofs.SetSums.{sum_by-map}
+use Rattle.council_core.specs.Sheets.{Chair, open_from, open_chairs, weight_of, IsSheet, cast_of}
+use Rattle.council_core.proofs.OpenChairs.{open_from-cons, chair_of-open, chair_of, weight_of-open, numbers_within, numbers_distinct}
+use Rattle.power_index.proofs.Bounds.{few_chairs}
+use Rattle.power_index.specs.Halves.{weights, slotted, left_count, left_weights, right_weights}
 
-half_word : (from i : ℕ) (words : List ℕ) → i < 16 → get_or (half_words from words) i 0 ≡ get_or words (from + i) 0
-half_word from i words h = get_or-take 16 (drop from words) i 0 h ∙ get_or-drop from words i 0
+-- chairs at slots are the open chairs of words of one more
+abbrev more : List ℕ → List ℕ
+more ws = map (λ w. w + 1) ws
 
-half_inside : (from i : ℕ) (words : List ℕ) → length words ≡ 34 → from ≤ 16 → i < 16 → i < length (half_words from words)
-half_inside from i words long low h = omega (arith, length-take 16 (drop from words), length-drop from words)
+slotted_is : (c : ℕ) (ws : List ℕ) → slotted c ws ≡ open_from c (more ws)
+slotted_is c [] = refl
+slotted_is c (w ∷ ws) =
+    let back : w + 1 - 1 ≡ w = omega arith in
+    let one : chair_of c (w + 1) ≡ (c, w) ∷ [] = chair_of-open c (w + 1) (λ e. absurd (omega arith)) ∙ ap (λ v. (c, v) ∷ []) back in
+    sym (open_from-cons c (w + 1) (more ws) ∙ ap (λ l. l ++ open_from (c + 1) (more ws)) one ∙ ap (λ l. (c, w) ∷ l) (sym (slotted_is (c + 1) ws)))
 
--- the chairs of the first words of a half
-abbrev pub half_front : ℕ → ℕ → List ℕ → List Chair
-half_front from i words = open_from 0 (take i (half_words from words))
+pub slotted_slots : (ws : List ℕ) → length ws ≤ 16 → All (λ chair. chair.0 < 16) (slotted 0 ws)
+slotted_slots ws few =
+    rw (slotted_is 0 ws)
+    (All-weaker (λ (ch : Chair). (0 ≤ ch.0) × (ch.0 < 0 + length (more ws))) (λ ch. ch.0 < 16)
+    (λ ch h. omega (arith, h.1, length-map ws (λ w. w + 1))) (open_from 0 (more ws)) (numbers_within 0 (more ws)))
 
-pub half_open : (from i : ℕ) (words : List ℕ) → length words ≡ 34 → from ≤ 16 → i < 16 → 0 < get_or words (from + i) 0 → half_front from (i + 1) words ≡ half_front from i words ++ (i, get_or words (from + i) 0 - 1) ∷ []
-half_open from i words long low h some =
-    let same : get_or (half_words from words) i 0 ≡ get_or words (from + i) 0 = half_word from i words h in
-    let number : 0 + i ≡ i = omega arith in
-    let more : half_front from (i + 1) words ≡ half_front from i words ++ (0 + i, get_or (half_words from words) i 0 - 1) ∷ [] =
-    open_more 0 (half_words from words) i (half_inside from i words long low h) (omega arith) in
-    more ∙ ap (λ n. half_front from i words ++ (n, get_or (half_words from words) i 0 - 1) ∷ []) number ∙ ap (λ w. half_front from i words ++ (i, w - 1) ∷ []) same
+pub slotted_distinct : (c : ℕ) (ws : List ℕ) → IsDistinct eqb (map (λ ch. ch.0) (slotted c ws))
+slotted_distinct c ws = rw (slotted_is c ws) (numbers_distinct c (more ws))
 
-pub half_closed : (from i : ℕ) (words : List ℕ) → length words ≡ 34 → from ≤ 16 → i < 16 → get_or words (from + i) 0 ≡ 0 → half_front from (i + 1) words ≡ half_front from i words
-half_closed from i words long low h shut = closed_more 0 (half_words from words) i (half_inside from i words long low h) (half_word from i words h ∙ shut)
+pub slotted_weights : (c : ℕ) (ws : List ℕ) → map (λ ch. ch.1) (slotted c ws) ≡ ws
+slotted_weights c [] = refl
+slotted_weights c (w ∷ ws) = ap (λ l. w ∷ l) (slotted_weights (c + 1) ws)
 
-pub half_slots : (from : ℕ) (words : List ℕ) → All (λ chair. chair.0 < 16) (half_chairs from words)
-half_slots from words =
-    All-weaker (λ (ch : Chair). (0 ≤ ch.0) × (ch.0 < 0 + length (half_words from words))) (λ ch. ch.0 < 16)
-    (λ ch h. omega (arith, h.1, length-take 16 (drop from words))) (half_chairs from words) (numbers_within 0 (half_words from words))
+pub slotted_length : (c : ℕ) (ws : List ℕ) → length (slotted c ws) ≡ length ws
+slotted_length c [] = refl
+slotted_length c (w ∷ ws) = ap suc (slotted_length (c + 1) ws)
 
-pub half_distinct : (from : ℕ) (words : List ℕ) → IsDistinct eqb (map (λ ch. ch.0) (half_chairs from words))
-half_distinct from words = numbers_distinct 0 (half_words from words)
+pub slotted_sum : (c : ℕ) (ws : List ℕ) → weight_of (slotted c ws) ≡ sum_by (λ n. n) ws
+slotted_sum c ws = sym (sum_by-map (λ n. n) (λ (ch : Chair). ch.1) (slotted c ws)) ∙ ap (sum_by (λ n. n)) (slotted_weights c ws)
 
-pub half_small : (from : ℕ) (words : List ℕ) → from ≤ 16 → IsSheet words → weight_of (half_chairs from words) ≤ 2 ^ 48
-half_small from words low lawful =
-    let cut : sum_by weight_in (drop from (take (from + 16) words)) ≡ sum_by weight_in (half_words from words) = ap (sum_by weight_in) (drop-take from 16 words) in
-    let part : sum_by weight_in (take from (take (from + 16) words)) + sum_by weight_in (drop from (take (from + 16) words)) ≡ sum_by weight_in (take (from + 16) words) = sum_by-take-drop weight_in (take (from + 16) words) from in
-    omega (arith, weight_of-open 0 (half_words from words), cut, part, cast_below words (from + 16) (omega arith), lawful.cast, lawful.total)
+pub slotted-append : (c : ℕ) (xs ys : List ℕ) → slotted c (xs ++ ys) ≡ slotted c xs ++ slotted (c + length xs) ys
+slotted-append c [] ys = ap (λ n. slotted n ys) (omega arith)
+slotted-append c (x ∷ xs) ys =
+    let turn : c + 1 + length xs ≡ c + length (x ∷ xs) = omega arith in
+    ap (λ l. (c, x) ∷ l) (slotted-append (c + 1) xs ys ∙ ap (λ n. slotted (c + 1) xs ++ slotted n ys) turn)
+
+pub slotted_more : (ws : List ℕ) (i : ℕ) → i < length ws → slotted 0 (take (i + 1) ws) ≡ slotted 0 (take i ws) ++ (i, get_or ws i 0) ∷ []
+slotted_more ws i h =
+    let at : 0 + length (take i ws) ≡ i = omega (arith, length-take i ws) in
+    ap (slotted 0) (take_more ws i 0 h)
+    ∙ slotted-append 0 (take i ws) (get_or ws i 0 ∷ [])
+    ∙ ap (λ n. slotted 0 (take i ws) ++ slotted n (get_or ws i 0 ∷ [])) at
+
+pub slotted_at : (c : ℕ) (ws : List ℕ) (i : ℕ) (d : Chair) → i < length ws → get_or (slotted c ws) i d ≡ (c + i, get_or ws i 0)
+slotted_at c [] i d h = absurd (omega arith)
+slotted_at c (w ∷ ws) zero d h = let same : c ≡ c + 0 = omega arith in ap (λ n. (n, w)) same
+slotted_at c (w ∷ ws) (suc i) d h =
+    let turn : c + 1 + i ≡ c + suc i = omega arith in
+    slotted_at (c + 1) ws i d (omega arith) ∙ ap (λ n. (n, get_or ws i 0)) turn
+
+-- the weights add up to the votes cast
+pub weights_sum : (words : List ℕ) → sum_by (λ n. n) (weights words) ≡ cast_of words
+weights_sum words = sum_by-map (λ n. n) (λ (ch : Chair). ch.1) (open_chairs words) ∙ weight_of-open 1 (take 32 words)
+
+pub left_small : (words : List ℕ) → IsSheet words → sum_by (λ n. n) (left_weights words) ≤ 2 ^ 48
+left_small words lawful =
+    omega (arith, sum_by-take-drop (λ n. n) (weights words) (left_count (length (open_chairs words))), weights_sum words, lawful.cast, lawful.total)
+
+pub right_small : (words : List ℕ) → IsSheet words → sum_by (λ n. n) (right_weights words) ≤ 2 ^ 48
+right_small words lawful =
+    omega (arith, sum_by-take-drop (λ n. n) (weights words) (left_count (length (open_chairs words))), weights_sum words, lawful.cast, lawful.total)
+
+-- a list that agrees with f on the first places, with one more written
+pub set_agrees : (xs : List ℕ) (i v : ℕ) (f : ℕ → ℕ) → i < length xs → ((p : ℕ) → p < i → get_or xs p 0 ≡ f p) → v ≡ f i → (p : ℕ) → p < i + 1 → get_or (set xs i v) p 0 ≡ f p
+set_agrees xs i v f h done same p below = elim (cases_eq p i) as (λ _. get_or (set xs i v) p 0 ≡ f p) [
+  | inl e ↦ get_or-set_at xs i p v 0 e h ∙ same ∙ ap f (sym e)
+  | inr n ↦ get_or-set_other xs i p v 0 n ∙ done p (let apart : p ≢ i = n in omega arith)
+]
+
+-- one place later
+pub one_later : (xs : List ℕ) (i : ℕ) (f : ℕ → ℕ) → ((p : ℕ) → p < i → get_or xs p 0 ≡ f p) → get_or xs i 0 ≡ f i → (p : ℕ) → p < i + 1 → get_or xs p 0 ≡ f p
+one_later xs i f done same p below = elim (cases_eq p i) as (λ _. get_or xs p 0 ≡ f p) [
+  | inl e ↦ ap (λ k. get_or xs k 0) e ∙ same ∙ ap f (sym e)
+  | inr n ↦ done p (let apart : p ≢ i = n in omega arith)
+]
+
+pub left_few : (words : List ℕ) → length (left_weights words) ≤ 16
+left_few words =
+    let h : ℕ = left_count (length (open_chairs words)) in
+    omega (arith, length-take h (weights words), length-map (open_chairs words) (λ ch. ch.1), few_chairs words)
+
+pub right_few : (words : List ℕ) → length (right_weights words) ≤ 16
+right_few words =
+    let h : ℕ = left_count (length (open_chairs words)) in
+    omega (arith, length-drop h (weights words), length-map (open_chairs words) (λ ch. ch.1), few_chairs words)
 
 pub blank_lawful : IsSheet (replicate 34 0)
 blank_lawful = record {

@@ -1,31 +1,56 @@
--- The two halves of a sheet: chairs 1 to 16 and chairs 17 to 32, each at slots from 0 (Horowitz and Sahni 1974).
-use Rattle.std.specs.Prelude.{◌≡◌, ℕ, ◌+◌, Bool, not, if◌then◌else◌, List, length, take, drop, nat_eq}
+-- The two halves of a sheet (Horowitz and Sahni 1974): the first half of its open chairs, by number, stand on the left,
+-- with the odd one, and the others on the right, each at slots from 0.
+use Rattle.std.specs.Prelude.{◌≡◌, ℕ, ◌+◌, ◌-◌, ◌/◌, Bool, not, if◌then◌else◌, List, [], ◌∷◌, map, length, take, drop, nat_eq, nat_lt}
 use Rattle.std.specs.Cmp.Lexicographic.{pointwise}
-use Rattle.council_core.specs.Sheets.{Chair, open_from}
+use Rattle.council_core.specs.Sheets.{Chair, open_from, open_chairs}
 use Rattle.half_sums.specs.declared.entry.Entry.{Entry}
 use Rattle.half_sums.specs.Entries.{AreSubsets}
 
--- the sixteen words of the half from a place on
-abbrev pub half_words : ℕ → List ℕ → List ℕ
-half_words from words = take 16 (drop from words)
+-- the weights of the open chairs, by number
+abbrev pub weights : List ℕ → List ℕ
+weights words = map (λ chair. chair.1) (open_chairs words)
 
--- the open chairs of the half from a place on, by slot
-abbrev pub half_chairs : ℕ → List ℕ → List Chair
-half_chairs from words = open_from 0 (half_words from words)
+-- how many of so many open chairs stand on the left
+abbrev pub left_count : ℕ → ℕ
+left_count chairs = (chairs + 1) / 2
+
+abbrev pub left_weights : List ℕ → List ℕ
+left_weights words = take (left_count (length (open_chairs words))) (weights words)
+
+abbrev pub right_weights : List ℕ → List ℕ
+right_weights words = drop (left_count (length (open_chairs words))) (weights words)
+
+-- chairs of these weights, at the slots from one on
+abbrev pub slotted : ℕ → List ℕ → List Chair
+slotted slot [] = []
+slotted slot (weight ∷ rest) = (slot, weight) ∷ slotted (slot + 1) rest
 
 -- two lists of entries are those of the two halves of a sheet
 pub record AreHalves (words : List ℕ) (left right : List Entry) : Type 0 where
   pub long : length words ≡ 34
-  pub left_half : AreSubsets (half_chairs 0 words) left
-  pub right_half : AreSubsets (half_chairs 16 words) right
+  pub left_half : AreSubsets (slotted 0 (left_weights words)) left
+  pub right_half : AreSubsets (slotted 0 (right_weights words)) right
 
--- whether the half from a place on has the same sixteen words on two sheets
+-- where an open chair stands with so many open chairs before it and so many on the left: its slot on the left, or 16
+-- and its slot on the right
+abbrev pub seat : ℕ → ℕ → ℕ
+seat on_left before = if nat_lt before on_left then before else 16 + (before - on_left)
+
+-- where the open chair of a place of a sheet stands
+abbrev pub seat_of : List ℕ → ℕ → ℕ
+seat_of words place = seat (left_count (length (open_chairs words))) (length (open_from 1 (take place words)))
+
+-- the sixteen words of the chairs from a place on
+abbrev pub half_words : ℕ → List ℕ → List ℕ
+half_words from words = take 16 (drop from words)
+
+-- whether the sixteen chairs from a place on have the same words on two sheets
 abbrev pub same_half : ℕ → List ℕ → List ℕ → Bool
 same_half from old new = pointwise nat_eq (half_words from old) (half_words from new)
 
 abbrev pub one_if : Bool → ℕ
 one_if b = if b then 1 else 0
 
--- in how many halves two sheets differ
+-- in how many of chairs 1 to 16 and chairs 17 to 32 two sheets differ
 abbrev pub changed_halves : List ℕ → List ℕ → ℕ
 changed_halves old new = one_if (not (same_half 0 old new)) + one_if (not (same_half 16 old new))

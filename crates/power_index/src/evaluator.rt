@@ -8,7 +8,7 @@ ghost use Rattle.power_index.specs.Counts.{AreCounts};
 ghost use Rattle.power_index.specs.Tallies.{IsSwingTally};
 ghost use Rattle.power_index.specs.Indices.{AreIndices, indices_of};
 
-use crate::halves::refresh;
+use crate::halves::{by_place, differ, on_left, refresh, weights_of};
 use crate::indices::{Fraction, Indices};
 use crate::rows::{SwingTally, coalition_count, rows};
 use council_core::{Refusal, SHEET_WORDS, Sheet};
@@ -55,18 +55,24 @@ impl Evaluator {
         Ok(Evaluator { sheet, left, right })
     }
 
-    /// Holds another sheet, and answers in how many halves it differs from the one before: chairs 1 to 16, and
-    /// chairs 17 to 32. Only those halves are rebuilt. The total and the front belong to neither.
+    /// Holds another sheet, and answers in how many of chairs 1 to 16 and chairs 17 to 32 it differs from the one before.
+    /// The total and the front belong to neither.
+    ///
+    /// Whatever their numbers, the first half of the open chairs make the one list, with the odd chair, and the others
+    /// the other. A list is rebuilt where its weights differ from those before.
     pub fn set(&mut self, sheet: &Sheet) -> u8
         ensures changed { result ≡ changed_halves self.old sheet.now }
         ensures held { self.new ≡ sheet.now }
     {
         let old = self.sheet.words();
         let new = sheet.words();
-        let left = refresh(&mut self.left, &old, &new, 0);
-        let right = refresh(&mut self.right, &old, &new, SLOTS);
+        let (before, after) = (weights_of(&old), weights_of(&new));
+        let (old_left, old_right) = before.as_slice().split_at(on_left(before.len()));
+        let (new_left, new_right) = after.as_slice().split_at(on_left(after.len()));
+        refresh(&mut self.left, old_left, new_left);
+        refresh(&mut self.right, old_right, new_right);
         self.sheet = *sheet;
-        left + right
+        differ(&old, &new, 0) + differ(&old, &new, SLOTS)
     }
 
     /// The indices of the sheet held, under a majority.
@@ -109,10 +115,11 @@ impl Evaluator {
         ensures majority { result.majority ≡ majority }
     {
         let counts = self.counts(quota, least_size);
+        let seated = swings(&counts);
         SwingTally {
             majority,
             winning: counts.winning,
-            swings: swings(&counts),
+            swings: by_place(&self.sheet.words(), self.sheet.chairs(), &seated),
         }
     }
 

@@ -1,53 +1,106 @@
-//! The halves of a sheet: chairs 1 to 16, from place 0 on, and chairs 17 to 32, from place 16 on.
-ghost use Rattle.std.specs.Prelude.{◌≡◌, ◌≤◌, not};
-ghost use Rattle.council_core.specs.Sheets.{IsSheet};
+//! The halves of a sheet: of its open chairs, by number, the first half stand on the left, and the others on the right.
+ghost use Rattle.std.specs.Prelude.{◌≡◌, ◌+◌, ◌<◌, ◌≤◌, ◌^◌, ◌==◌, ℕ, not, length, if◌then◌else◌, sum_by, slice_index};
+ghost use Rattle.council_core.specs.Sheets.{open_chairs};
 ghost use Rattle.half_sums.specs.Entries.{AreSubsets};
-ghost use Rattle.power_index.specs.Halves.{half_chairs, same_half, one_if};
+ghost use Rattle.power_index.specs.Halves.{weights, slotted, left_count, seat, seat_of, same_half, one_if};
 
 use arrayvec::ArrayVec;
-use council_core::SHEET_WORDS;
+use council_core::{CHAIRS, SHEET_WORDS};
 use half_sums::{OrderedSums, SLOTS};
 
-/// The open chairs of the half from a place on, each by its slot, 0 to 15, and its weight.
-fn chairs_of(words: &[u64; SHEET_WORDS], from: usize) -> ArrayVec<(u8, u64), SLOTS>
-    requires place { from ≤ SLOTS }
-    ensures chairs { result.items ≡ half_chairs from words.now }
+/// The weights of the open chairs, by number.
+pub(crate) fn weights_of(words: &[u64; SHEET_WORDS]) -> ArrayVec<u64, CHAIRS>
+    ensures weights { result.items ≡ weights words.now }
+    ensures count { length result.items ≡ length (open_chairs words.now) }
+{
+    let mut weights = ArrayVec::new();
+    for place in 0..CHAIRS {
+        let word = words[place];
+        if word > 0 {
+            weights.push(word - 1);
+        }
+    }
+    weights
+}
+
+/// How many of so many open chairs stand on the left.
+pub(crate) fn on_left(chairs: usize) -> usize
+    requires few { chairs ≤ CHAIRS }
+    ensures half { result ≡ left_count chairs }
+{
+    chairs.div_ceil(2)
+}
+
+/// The chairs of these weights, by slot.
+fn chairs_of(weights: &[u64]) -> ArrayVec<(u8, u64), SLOTS>
+    requires few { length weights.now ≤ SLOTS }
+    ensures chairs { result.items ≡ slotted 0 weights.now }
 {
     let mut chairs = ArrayVec::new();
-    for slot in 0..SLOTS as u8 {
-        let word = words[from + slot as usize];
-        if word > 0 {
-            chairs.push((slot, word - 1));
-        }
+    for slot in 0..weights.len() {
+        chairs.push((slot as u8, weights[slot]));
     }
     chairs
 }
 
-/// Whether the half from a place on has the same words.
-fn is_same(old: &[u64; SHEET_WORDS], new: &[u64; SHEET_WORDS], from: usize) -> bool
+/// 1 where the sixteen chairs from a place on have other words, else 0.
+pub(crate) fn differ(old: &[u64; SHEET_WORDS], new: &[u64; SHEET_WORDS], from: usize) -> u8
     requires place { from ≤ SLOTS }
-    ensures same { result ≡ same_half from old.now new.now }
-{
-    old[from..from + SLOTS] == new[from..from + SLOTS]
-}
-
-/// Rebuilds a half where its words differ, and answers how many were rebuilt, 0 or 1.
-pub(crate) fn refresh(
-    half: &mut OrderedSums,
-    old: &[u64; SHEET_WORDS],
-    new: &[u64; SHEET_WORDS],
-    from: usize,
-) -> u8
-    requires place { from ≤ SLOTS }
-    requires lawful { IsSheet new.now }
-    requires before { AreSubsets (half_chairs from old.now) half.old }
-    ensures after { AreSubsets (half_chairs from new.now) half.new }
     ensures few { result ≤ 1 }
     ensures changed { result ≡ one_if (not (same_half from old.now new.now)) }
 {
-    if is_same(old, new, from) {
-        return 0;
+    if old[from..from + SLOTS] == new[from..from + SLOTS] {
+        0
+    } else {
+        1
     }
-    half.rebuild(chairs_of(new, from).as_slice());
-    1
+}
+
+/// Rebuilds a half where its weights differ.
+pub(crate) fn refresh(half: &mut OrderedSums, old: &[u64], new: &[u64])
+    requires few { length new.now ≤ SLOTS }
+    requires small { sum_by (λ n. n) new.now ≤ 2 ^ 48 }
+    requires before { AreSubsets (slotted 0 old.now) half.old }
+    ensures after { AreSubsets (slotted 0 new.now) half.new }
+{
+    if old == new {
+        return;
+    }
+    half.rebuild(chairs_of(new).as_slice());
+}
+
+/// What stands at the seats of the open chairs, by place; 0 where a chair is closed.
+pub(crate) fn by_place(
+    words: &[u64; SHEET_WORDS],
+    chairs: u8,
+    seated: &[u64; CHAIRS],
+) -> [u64; CHAIRS]
+    requires chairs { chairs ≡ length (open_chairs words.now) }
+    ensures each { (place : ℕ) → place < CHAIRS → slice_index result place
+        ≡ (if slice_index words.now place == 0 then 0 else slice_index seated.now (seat_of words.now place)) }
+{
+    let half = on_left(usize::from(chairs));
+    let mut each = [0; CHAIRS];
+    let mut before = 0;
+    for place in 0..CHAIRS {
+        if words[place] > 0 {
+            each[place] = seated[seat_at(half, before)];
+            before += 1;
+        }
+    }
+    each
+}
+
+/// The seat of an open chair with so many before it.
+fn seat_at(half: usize, before: usize) -> usize
+    requires half { half ≤ SLOTS }
+    requires before { before < half + SLOTS }
+    ensures seat { result ≡ seat half before }
+    ensures within { result < CHAIRS }
+{
+    if before < half {
+        before
+    } else {
+        SLOTS + (before - half)
+    }
 }

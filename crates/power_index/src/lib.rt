@@ -1,8 +1,8 @@
 //! The exact voting power indices of a sheet, counted over all coalitions of its open chairs.
 //!
-//! An [`Evaluator`] holds one sheet and the ordered subset sums of its two halves. A new sheet rebuilds only the
-//! halves whose words differ, and an evaluation is one walk over the two lists (Horowitz and Sahni 1974), so that
-//! 32 chairs cost two lists of 65,536 sums in place of 2^32 coalitions.
+//! An [`Evaluator`] holds one sheet and the ordered subset sums of the two halves of its open chairs. A new sheet
+//! rebuilds only the halves whose weights differ, and an evaluation is one walk over the two lists (Horowitz and Sahni
+//! 1974), so that 32 chairs cost two lists of 65,536 sums in place of 2^32 coalitions, and 24 chairs two of 4,096.
 #![tactic(auto)]
 
 ghost use Rattle.power_index.specs.Counts.{EvaluationLaw};

@@ -81,7 +81,7 @@ shifted_distinct (chair ∷ chairs) distinct =
     distinct_more (shifted chair) (map shifted chairs) absent (shifted_distinct chairs (tail_of chair chairs distinct))
 
 -- the places of a board are distinct
-board_distinct : (left right : List Chair) → All (λ c. c.0 < 16) left → IsDistinct eqb (map (λ c. c.0) left) → IsDistinct eqb (map (λ c. c.0) right) → IsDistinct eqb (map (λ c. c.0) (board_of left right))
+pub board_distinct : (left right : List Chair) → All (λ c. c.0 < 16) left → IsDistinct eqb (map (λ c. c.0) left) → IsDistinct eqb (map (λ c. c.0) right) → IsDistinct eqb (map (λ c. c.0) (board_of left right))
 board_distinct [] right slots distinct_left distinct_right = shifted_distinct right distinct_right
 board_distinct (chair ∷ left) right slots distinct_left distinct_right =
     let P : Chair → Type 0 = λ c. c.0 < 16 in

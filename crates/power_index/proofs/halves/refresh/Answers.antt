@@ -1,21 +1,21 @@
-use Rattle.std.proofs.Common.{◌≡◌, ◌≤◌, sym, subst, List, eqb, map, ◌<◌, ◌^◌}
+use Rattle.std.proofs.Common.{◌≡◌, ◌≤◌, sym, subst, List, eqb, map, ◌<◌, ◌^◌, arith}
 use Rattle.std.specs.List.{All, IsDistinct}
 use Rattle.council_core.specs.Sheets.{Chair, weight_of}
-use Rattle.power_index.specs.Halves.{half_chairs}
-use Rattle.power_index.proofs.HalfLemmas.{half_slots, half_distinct, half_small}
+use Rattle.power_index.specs.Halves.{slotted}
+use Rattle.power_index.proofs.HalfLemmas.{slotted_slots, slotted_distinct, slotted_sum}
 use Rattle.power_index.proofs.halves.refresh.Goals as goal
 
 pub rebuild-requires-clause-slots : goal.rebuild-requires-clause-slots
 rebuild-requires-clause-slots c =
-    let same : c.as_slice.result.now ≡ half_chairs c.args.from c.args.new.now = cc in
-    subst (λ (l : List Chair). All (λ (ch : Chair). ch.0 < 16) l) (sym same) (half_slots c.args.from c.args.new.now)
+    let same : c.as_slice.result.now ≡ slotted 0 c.args.new.now = cc in
+    subst (λ (l : List Chair). All (λ (ch : Chair). ch.0 < 16) l) (sym same) (slotted_slots c.args.new.now c.requires.few)
 
 pub rebuild-requires-clause-distinct : goal.rebuild-requires-clause-distinct
 rebuild-requires-clause-distinct c =
-    let same : c.as_slice.result.now ≡ half_chairs c.args.from c.args.new.now = cc in
-    subst (λ (l : List Chair). IsDistinct eqb (map (λ (ch : Chair). ch.0) l)) (sym same) (half_distinct c.args.from c.args.new.now)
+    let same : c.as_slice.result.now ≡ slotted 0 c.args.new.now = cc in
+    subst (λ (l : List Chair). IsDistinct eqb (map (λ (ch : Chair). ch.0) l)) (sym same) (slotted_distinct 0 c.args.new.now)
 
 pub rebuild-requires-clause-small : goal.rebuild-requires-clause-small
 rebuild-requires-clause-small c =
-    let same : c.as_slice.result.now ≡ half_chairs c.args.from c.args.new.now = cc in
-    subst (λ (l : List Chair). weight_of l ≤ 2 ^ 48) (sym same) (half_small c.args.from c.args.new.now c.requires.place c.requires.lawful)
+    let same : c.as_slice.result.now ≡ slotted 0 c.args.new.now = cc in
+    subst (λ (l : List Chair). weight_of l ≤ 2 ^ 48) (sym same) (omega (arith, slotted_sum 0 c.args.new.now, c.requires.small))
