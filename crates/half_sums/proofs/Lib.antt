@@ -1,5 +1,5 @@
 pub mod Merging
-pub mod BothEnds
+pub mod Mirrors
 pub mod SubsetFacts
 pub mod GroupFacts
 pub mod SetSums

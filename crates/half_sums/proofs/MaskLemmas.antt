@@ -1,10 +1,10 @@
 -- Which sets of chairs have a mask: each mask over the slots is that of exactly one.
-use Rattle.std.proofs.Common.{◌≡◌, ◌≢◌, ℕ, ◌+◌, ◌^◌, ◌<◌, ◌≤◌, Bool, true, false, cond, List, [], ◌∷◌, length, map, arith, refl, sym, ap, ◌∙◌, eqb, inl, inr, max, zero, suc}
-use Rattle.std.specs.Prelude.{◌||◌, bit_or, bit_xor}
+use Rattle.std.proofs.Common.{◌≡◌, ◌≢◌, ℕ, ◌+◌, ◌*◌, ◌^◌, ◌<◌, ◌≤◌, Bool, true, false, cond, List, [], ◌∷◌, length, map, arith, refl, sym, ap, ◌∙◌, eqb, inl, inr, max, zero, suc}
+use Rattle.std.specs.Prelude.{◌||◌, bit_and, bit_or, bit_xor}
 use Rattle.std.specs.List.{All, AllByRecursion, IsDistinct}
 use Rattle.std.specs.Int.{bit_at}
 use Rattle.std.proofs.lemmas.Bool.{eq-eqb, ne_eqb, cases_eq}
-use Rattle.std.proofs.lemmas.Nat.Bits.{bit_at_or, bit_at_xor, bit_at-pow_same, bit_at-pow_other, bit_at-zero, bit_at-lt, same_from_bits}
+use Rattle.std.proofs.lemmas.Nat.Bits.{and_pow, bit_at_or, bit_at_xor, bit_at-pow_same, bit_at-pow_other, bit_at-zero, bit_at-lt, same_from_bits}
 use Rattle.std.proofs.lemmas.List.Elements.{All-map, All-weaker, All-cons, All-nil, All-append}
 use Rattle.std.proofs.lemmas.List.Sorted.{sum_by-IsPermutation, All-permutation}
 use Rattle.std.proofs.lemmas.Map.Keys.{IsDistinct-head, IsDistinct-tail}
@@ -177,6 +177,12 @@ slot_free chair chairs entries distinct are =
     let A : List Chair → Type 0 = λ s. has_chair chair.0 s ≡ false in
     let free : All A (subsets chairs) = subsets_avoid (λ (c : Chair). eqb c.0 chair.0) chairs (first_apart chair chairs distinct) in
     All-permutation P _ _ are.each_once (All-map P entry_of (subsets chairs) (All-weaker A (λ s. P (entry_of s)) (λ s h. lacks_slot chair.0 s h) (subsets chairs) free))
+
+-- masks without a slot have no bit in common with it
+pub bit_free : (slot : ℕ) (entries : List Entry) → All (λ e. bit_at e.mask slot ≡ 0) entries → All (λ e. bit_and e.mask (2 ^ slot) ≡ 0) entries
+bit_free slot entries free =
+    let none : 0 * 2 ^ slot ≡ 0 = omega arith in
+    All-weaker (λ (e : Entry). bit_at e.mask slot ≡ 0) (λ e. bit_and e.mask (2 ^ slot) ≡ 0) (λ e h. and_pow e.mask slot ∙ ap (λ b. b * 2 ^ slot) h ∙ none) entries free
 
 -- a set has as many chairs as its mask has bits
 pub sets_sized : (chairs : List Chair) → IsDistinct eqb (map (λ c. c.0) chairs) → All (λ s. size_of (entry_of s) ≡ length s) (subsets chairs)

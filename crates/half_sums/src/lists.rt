@@ -1,6 +1,6 @@
 //! Lists of entries in the room of the longest half's.
 ghost use Rattle.std.specs.Prelude.{◌≡◌, ℕ, ◌+◌, ◌*◌, ◌^◌, ◌<◌, ◌≤◌, List, [], ◌∷◌};
-ghost use Rattle.std.specs.Prelude.{◌++◌, length, map, take, slice_index, IfOk, IsOkUnless};
+ghost use Rattle.std.specs.Prelude.{◌++◌, length, map, take, slice_index, bit_and, IfOk, IsOkUnless};
 ghost use Rattle.std.specs.List.{All};
 ghost use Rattle.std.specs.List.Sorted.{IsPermutation, IsNonDecreasingBy};
 ghost use Rattle.council_core.specs.declared.refusals.Refusal.TheVariants.{OutOfMemory};
@@ -8,6 +8,7 @@ ghost use Rattle.half_sums.specs.declared.entry.Entry.{Entry};
 ghost use Rattle.half_sums.specs.declared.lists.TheConstants.{ROOM};
 ghost use Rattle.half_sums.specs.Entries.{joined};
 ghost use Rattle.half_sums.specs.Groups.{AreGroups, fewer_than};
+ghost use Rattle.half_sums.specs.Merges.{IsMirror};
 
 use crate::Entry;
 use crate::groups::{SIZES, STARTS, spread};
@@ -68,9 +69,12 @@ impl SumList {
     pub(crate) fn double(&mut self, list: &[Entry], weight: u64, bit: u16)
         requires few { 2 * length list.now ≤ ROOM }
         requires small { All (λ e. e.sum + weight < 2 ^ 64) list.now }
+        requires free { All (λ e. bit_and e.mask bit ≡ 0) list.now }
         requires ascends { IsNonDecreasingBy (λ e. e.sum) list.now }
+        requires mirror { IsMirror list.now }
         ensures each_once { IsPermutation (list.now ++ map (joined weight bit) list.now) self.new }
         ensures ascending { IsNonDecreasingBy (λ e. e.sum) self.new }
+        ensures mirror { IsMirror self.new }
     {
         double(list, weight, bit, &mut self.room);
         self.count = 2 * list.len();
@@ -92,10 +96,13 @@ impl SumList {
 fn double(list: &[Entry], weight: u64, bit: u16, room: &mut [Entry])
     requires few { 2 * length list.now ≤ length room.old }
     requires small { All (λ e. e.sum + weight < 2 ^ 64) list.now }
+    requires free { All (λ e. bit_and e.mask bit ≡ 0) list.now }
     requires ascends { IsNonDecreasingBy (λ e. e.sum) list.now }
+    requires mirror { IsMirror list.now }
     ensures each_once { IsPermutation (list.now ++ map (joined weight bit) list.now)
         (take (2 * length list.now) room.new) }
     ensures ascending { IsNonDecreasingBy (λ e. e.sum) (take (2 * length list.now) room.new) }
+    ensures mirror { IsMirror (take (2 * length list.now) room.new) }
     ensures long { length room.new ≡ length room.old }
 {
     merge(list, weight, bit, &mut room[..2 * list.len()]);

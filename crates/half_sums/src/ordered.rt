@@ -1,12 +1,13 @@
 //! The ascending list of a half, and its rebuild in the room that it has.
 ghost use Rattle.std.specs.Prelude.{◌≡◌, ◌==◌, ◌+◌, ◌*◌, ◌^◌, ◌<◌, ◌≤◌};
-ghost use Rattle.std.specs.Prelude.{List, [], ◌∷◌, ◌++◌, length, map, IfOk, IsOkUnless};
+ghost use Rattle.std.specs.Prelude.{List, [], ◌∷◌, ◌++◌, length, map, bit_and, IfOk, IsOkUnless};
 ghost use Rattle.std.specs.List.{All, IsDistinct};
 ghost use Rattle.std.specs.List.Sorted.{IsPermutation};
 ghost use Rattle.council_core.specs.declared.refusals.Refusal.TheVariants.{OutOfMemory};
 ghost use Rattle.council_core.specs.Sheets.{weight_of};
 ghost use Rattle.half_sums.specs.declared.entry.Entry.{Entry};
 ghost use Rattle.half_sums.specs.Entries.{joined, AreSubsets, IsHalf};
+ghost use Rattle.half_sums.specs.Merges.{IsMirror};
 
 use crate::Entry;
 use crate::groups::SLOTS;
@@ -82,10 +83,13 @@ pub(crate) fn list(chairs: &[(u8, u64)], ascending: &mut SumList, scratch: &mut 
 /// Adds a chair: each set as it was, and each set with the chair.
 fn add(ascending: &mut SumList, scratch: &mut SumList, weight: u64, bit: u16)
     requires half { IsHalf ascending.old }
+    requires mirror { IsMirror ascending.old }
+    requires free { All (λ e. bit_and e.mask bit ≡ 0) ascending.old }
     requires few { 2 * length ascending.old ≤ ROOM }
     requires small { All (λ e. e.sum + weight ≤ 2 ^ 48) ascending.old }
     ensures each_once { IsPermutation (ascending.old ++ map (joined weight bit) ascending.old) ascending.new }
     ensures half { IsHalf ascending.new }
+    ensures mirror { IsMirror ascending.new }
 {
     scratch.double(ascending.as_slice(), weight, bit);
     mem::swap(ascending, scratch);

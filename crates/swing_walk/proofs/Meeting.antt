@@ -8,12 +8,16 @@ use Rattle.std.proofs.lemmas.Bool.{cases_lt, leb-true, leb-false}
 use Rattle.std.proofs.lemmas.List.{take_all, length-take, length-drop, get_or-take, get_or-drop}
 use Rattle.std.proofs.lemmas.List.Sums.{sum_by-drop_more}
 use Rattle.half_sums.specs.declared.entry.Entry.{Entry}
-use Rattle.half_sums.proofs.BothEnds.{Ascend}
 use Rattle.swing_walk.specs.Pairs.{pairs_where, reaches, has}
 use Rattle.half_sums.specs.Entries.{zero_entry}
 use Rattle.swing_walk.specs.Walks.{NoneReach}
 use Rattle.swing_walk.proofs.Counting.{Splits, count_partners, count_marked, pairs_more}
 use Rattle.half_sums.proofs.Merging.{sum_default}
+
+-- two lists that both ascend
+pub record Ascend (first second : List Entry) : Type 0 where
+  pub first_up : IsNonDecreasingBy (λ e. e.sum) first
+  pub second_up : IsNonDecreasingBy (λ e. e.sum) second
 
 -- the first `i` left entries reach with none of the first `a` right ones, and all left ones from there on with all right ones from there on
 pub record Stands (quota i a : ℕ) (left right : List Entry) : Type 0 where

@@ -4,9 +4,8 @@ use Rattle.std.proofs.Math.Facts.{Fits-of_lt}
 use Rattle.swing_walk.specs.Pairs.{reaches, has}
 use Rattle.swing_walk.proofs.Counting.{pairs_room}
 use Rattle.swing_walk.proofs.Steps.{back_room, right_total, right_marked}
-use Rattle.half_sums.proofs.BothEnds.{Ascend}
 use Rattle.half_sums.proofs.SetSums.{at_most_one}
-use Rattle.swing_walk.proofs.Meeting.{Up, Down, cond_most, step_up, step_down, meet, met_left, met_right, none_before}
+use Rattle.swing_walk.proofs.Meeting.{Ascend, Up, Down, cond_most, step_up, step_down, meet, met_left, met_right, none_before}
 use Rattle.swing_walk.proofs.walking.walk_from_both_ends.Goals as goal
 
 pub credit-winning-requires-clause-left_room : goal.credit-winning-requires-clause-left_room
