@@ -1,5 +1,5 @@
 //! Subset sums of a half.
-use half_sums::{Entry, HalfSums, OrderedSums, repeats};
+use half_sums::{Entry, HalfSums, OrderedSums};
 use std::test::Fail;
 
 #[test]
@@ -24,7 +24,6 @@ fn sums_of_three(rt: HostRuntime) -> Result<(), Fail> {
     let sums = half.ascending();
     assert_eq!(rt; sums.len(), 8);
     assert_eq!(rt; sums[2], Entry { sum: 49, mask: 2 });
-    assert!(rt; !repeats(sums));
     Ok(())
 }
 

@@ -1,6 +1,6 @@
 -- Entries: the sets of a half's chairs by weight and slots, as lists of subset sums (Horowitz and Sahni 1974).
-use Rattle.std.specs.Prelude.{ℕ, ◌≡◌, ◌+◌, ◌/◌, ◌^◌, ◌<◌, ◌≤◌, List, [], ◌∷◌, map}
-use Rattle.std.specs.Prelude.{length, slice_index_or, bit_or}
+use Rattle.std.specs.Prelude.{ℕ, ◌≡◌, ◌+◌, ◌^◌, ◌<◌, ◌≤◌, List, [], ◌∷◌, map}
+use Rattle.std.specs.Prelude.{length, bit_or}
 use Rattle.std.specs.List.{All}
 use Rattle.std.specs.List.Sorted.{IsPermutation, IsNonDecreasingBy}
 use Rattle.half_sums.specs.declared.entry.Entry.{Entry}
@@ -35,13 +35,6 @@ pub record IsHalf (entries : List Entry) : Type 0 where
 -- what is read where there is no entry
 abbrev pub zero_entry : Entry
 zero_entry = record { sum = 0; mask = 0 }
-
--- the entry in the upper middle and the next have the same sum
-abbrev pub RepeatsInMiddle : List Entry → Type 0
-RepeatsInMiddle entries =
-    let middle = length entries / 2 in
-    (middle + 1 < length entries)
-    × ((slice_index_or entries middle zero_entry).sum ≡ (slice_index_or entries (middle + 1) zero_entry).sum)
 
 -- worked example: chairs of 50, 49 and 1 votes
 abbrev pub three : List (ℕ × ℕ)

@@ -9,7 +9,7 @@ mod merge;
 mod ordered;
 mod sums;
 
-pub use entry::{Entry, repeats};
+pub use entry::Entry;
 pub use groups::{SIZES, SLOTS};
 pub use laws::mask_law;
 pub use lists::ROOM;

@@ -1,237 +1,284 @@
--- Two walks that meet: one up the left list and down the right one, and one the other way.
-use Rattle.std.proofs.Common.{◌≡◌, ℕ, ◌+◌, ◌-◌, ◌*◌, ◌<◌, ◌≤◌, Bool, true, false, cond, not, List, length, take, drop, get_or, arith, sym, ap, inl, inr}
-use Rattle.std.specs.Prelude.{◌&&◌, nat_le}
+-- A walk's steps, and that two walks from its ends meet.
+use Rattle.std.proofs.Common.{◌≡◌, ℕ, ◌+◌, ◌-◌, ◌*◌, ◌<◌, ◌≤◌, ◌≢◌, Bool, true, false, cond, not, List, length, take, drop, get_or, arith, refl, sym, ap, inl, inr, ◌∙◌, eqb, ltb}
+use Rattle.std.specs.Prelude.{◌&&◌, ◌||◌, nat_le}
 use Rattle.std.specs.List.{count_by}
 use Rattle.std.specs.List.Sorted.{IsNonDecreasingBy}
 use Rattle.std.specs.Int.{bit_at}
-use Rattle.std.proofs.lemmas.Bool.{cases_lt, leb-true, leb-false}
-use Rattle.std.proofs.lemmas.List.{take_all, length-take, length-drop, get_or-take, get_or-drop}
-use Rattle.std.proofs.lemmas.List.Sums.{sum_by-drop_more}
+use Rattle.std.proofs.lemmas.Bool.{cases_lt, cases_eq, eq-eqb, ne_eqb, lt-ltb, ltb-true, leb-true, leb-false, and_parts, or_parts}
+use Rattle.std.proofs.lemmas.List.{length-take, length-drop, get_or-take, get_or-drop}
+use Rattle.std.proofs.lemmas.List.Sums.{sum_by-drop_more, sum_by-take-drop}
 use Rattle.half_sums.specs.declared.entry.Entry.{Entry}
-use Rattle.swing_walk.specs.Pairs.{pairs_where, reaches, has}
 use Rattle.half_sums.specs.Entries.{zero_entry}
-use Rattle.swing_walk.specs.Walks.{NoneReach}
-use Rattle.swing_walk.proofs.Counting.{Splits, count_partners, count_marked, pairs_more}
 use Rattle.half_sums.proofs.Merging.{sum_default}
+use Rattle.swing_walk.specs.Pairs.{pairs_where, winning_pairs, reaches, has}
+use Rattle.swing_walk.specs.Walks.{IsBetween, HasCredited}
+use Rattle.swing_walk.specs.Tallies.{marked, total, IsEven, CreditsEach}
+use Rattle.swing_walk.specs.Sides.{side}
+use Rattle.swing_walk.specs.declared.tally.MaskTally.{MaskTally}
+use Rattle.swing_walk.proofs.Counting.{Splits, count_partners, count_marked, pairs_more}
+use Rattle.swing_walk.proofs.Steps.{pairs_swap, pairs_agree, turned}
 
--- two lists that both ascend
-pub record Ascend (first second : List Entry) : Type 0 where
-  pub first_up : IsNonDecreasingBy (λ e. e.sum) first
-  pub second_up : IsNonDecreasingBy (λ e. e.sum) second
+-- where a walk stands, over two lists that ascend
+pub record At (quota up down : ℕ) (rising falling : List Entry) : Type 0 where
+  pub rising_up : IsNonDecreasingBy (λ e. e.sum) rising
+  pub falling_up : IsNonDecreasingBy (λ e. e.sum) falling
+  pub between : IsBetween quota up down rising falling
 
--- the first `i` left entries reach with none of the first `a` right ones, and all left ones from there on with all right ones from there on
-pub record Stands (quota i a : ℕ) (left right : List Entry) : Type 0 where
-  pub left_in : i ≤ length left
-  pub right_in : a ≤ length right
-  pub apart : NoneReach quota i a left right
-  pub reached : (k m : ℕ) → i ≤ k → k < length left → a ≤ m → m < length right → quota ≤ (get_or left k zero_entry).sum + (get_or right m zero_entry).sum
+-- the next rising entry is passed
+pub record Rises (quota up down : ℕ) (rising falling : List Entry) : Type 0 where
+  pub between : IsBetween quota (up + 1) down rising falling
+  pub total : pairs_where (reaches quota) (take (up + 1) rising) falling ≡ pairs_where (reaches quota) (take up rising) falling + down
+  pub marks : (slot : ℕ) → pairs_where (λ a b. reaches quota a b && has slot a) (take (up + 1) rising) falling
+      ≡ pairs_where (λ a b. reaches quota a b && has slot a) (take up rising) falling + bit_at (get_or rising up zero_entry).mask slot * down
 
-not_before : (quota i a j b : ℕ) (left right : List Entry) → Stands quota i a left right → Stands quota j b left right → i + b ≡ j + a → j ≤ i
-not_before quota i a j b left right s t same = elim (cases_lt i j) as (λ _. j ≤ i) [
-  | inl before ↦ absurd (omega (arith, t.apart i a before (omega arith), s.reached i a (omega arith) (omega (arith, t.left_in)) (omega arith) (omega (arith, t.right_in))))
-  | inr after ↦ after
-]
+-- the next falling entry is passed
+pub record Falls (quota up down : ℕ) (rising falling : List Entry) : Type 0 where
+  pub between : IsBetween quota up (down + 1) rising falling
+  pub total : pairs_where (reaches quota) (drop (length falling - (down + 1)) falling) rising ≡ pairs_where (reaches quota) (drop (length falling - down) falling) rising + (length rising - up)
+  pub marks : (slot : ℕ) → pairs_where (λ a b. reaches quota a b && has slot a) (drop (length falling - (down + 1)) falling) rising
+      ≡ pairs_where (λ a b. reaches quota a b && has slot a) (drop (length falling - down) falling) rising + bit_at (get_or falling (length falling - 1 - down) zero_entry).mask slot * (length rising - up)
 
--- two walks that have passed all entries between them meet
-pub meet : (quota i a j b : ℕ) (left right : List Entry) → Stands quota i a left right → Stands quota j b left right → i + b ≡ j + a → i ≡ j
-meet quota i a j b left right s t same =
-    omega (arith, not_before quota i a j b left right s t same, not_before quota j b i a left right t s (omega arith))
-
--- where the pair across falls short, where it reaches
-low_left : (quota i a : ℕ) (left right : List Entry) → IsNonDecreasingBy (λ e. e.sum) right → Stands quota i a left right → i < length left → 0 < a → (get_or left i zero_entry).sum + (get_or right (a - 1) zero_entry).sum < quota → Splits quota (get_or left i zero_entry).sum a right
-low_left quota i a left right up s inside some low = record {
-  within = s.right_in;
-  short = λ k d h.
-      let below : k < a = omega (arith, length-take a right, s.right_in) in
-      rw (get_or-take a right k d below) (omega (arith, low, up k (a - 1) zero_entry (omega arith) (omega (arith, s.right_in)), sum_default right k d zero_entry (omega (arith, s.right_in))));
-  reached = λ k d h.
-      let within : a + k < length right = omega (arith, length-drop a right) in
-      rw (get_or-drop a right k d) (omega (arith, s.reached i (a + k) (omega arith) inside (omega arith) within, sum_default right (a + k) d zero_entry within));
-}
-
-high_right : (quota i a : ℕ) (left right : List Entry) → IsNonDecreasingBy (λ e. e.sum) left → Stands quota i a left right → i < length left → 0 < a → quota ≤ (get_or left i zero_entry).sum + (get_or right (a - 1) zero_entry).sum → Splits quota (get_or right (a - 1) zero_entry).sum i left
-high_right quota i a left right up s inside some high = record {
-  within = s.left_in;
-  short = λ k d h.
-      let before : k < i = omega (arith, length-take i left, s.left_in) in
-      rw (get_or-take i left k d before) (omega (arith, s.apart k (a - 1) before (omega arith), sum_default left k d zero_entry (omega arith)));
-  reached = λ k d h.
-      let within : i + k < length left = omega (arith, length-drop i left) in
-      rw (get_or-drop i left k d) (omega (arith, high, up i (i + k) zero_entry (omega arith) within, sum_default left (i + k) d zero_entry within));
-}
-
-high_left : (quota j b : ℕ) (left right : List Entry) → IsNonDecreasingBy (λ e. e.sum) right → Stands quota j b left right → 0 < j → b < length right → quota ≤ (get_or left (j - 1) zero_entry).sum + (get_or right b zero_entry).sum → Splits quota (get_or left (j - 1) zero_entry).sum b right
-high_left quota j b left right up s some inside high = record {
-  within = s.right_in;
-  short = λ k d h.
-      let below : k < b = omega (arith, length-take b right, s.right_in) in
-      rw (get_or-take b right k d below) (omega (arith, s.apart (j - 1) k (omega arith) below, sum_default right k d zero_entry (omega arith)));
-  reached = λ k d h.
-      let within : b + k < length right = omega (arith, length-drop b right) in
-      rw (get_or-drop b right k d) (omega (arith, high, up b (b + k) zero_entry (omega arith) within, sum_default right (b + k) d zero_entry within));
-}
-
-low_right : (quota j b : ℕ) (left right : List Entry) → IsNonDecreasingBy (λ e. e.sum) left → Stands quota j b left right → 0 < j → b < length right → (get_or left (j - 1) zero_entry).sum + (get_or right b zero_entry).sum < quota → Splits quota (get_or right b zero_entry).sum j left
-low_right quota j b left right up s some inside low = record {
-  within = s.left_in;
-  short = λ k d h.
-      let before : k < j = omega (arith, length-take j left, s.left_in) in
-      rw (get_or-take j left k d before) (omega (arith, low, up k (j - 1) zero_entry (omega arith) (omega (arith, s.left_in)), sum_default left k d zero_entry (omega (arith, s.left_in))));
-  reached = λ k d h.
-      let within : j + k < length left = omega (arith, length-drop j left) in
-      rw (get_or-drop j left k d) (omega (arith, s.reached (j + k) b (omega arith) within (omega arith) inside, sum_default left (j + k) d zero_entry within));
-}
-
--- what the left entries before a place come to, and the right ones from a place on
-abbrev pub LeftOf : (Entry → Entry → Bool) → List Entry → List Entry → ℕ → ℕ
-LeftOf test left right i = pairs_where test (take i left) right
-
-abbrev pub RightOf : (Entry → Entry → Bool) → List Entry → List Entry → ℕ → ℕ
-RightOf test left right a = pairs_where test (drop a right) left
-
--- one step between two places: the left entry and the right one that it credits, each with how much
-pub record Step (quota i a p q : ℕ) (left right : List Entry) (to_left to_right : Entry × ℕ) : Type 0 where
-  pub lefts : LeftOf (reaches quota) left right p ≡ LeftOf (reaches quota) left right i + to_left.1
-  pub left_marked : (slot : ℕ) → LeftOf (λ a b. reaches quota a b && has slot a) left right p ≡ LeftOf (λ a b. reaches quota a b && has slot a) left right i + bit_at to_left.0.mask slot * to_left.1
-  pub rights : RightOf (λ b a. reaches quota b a) left right a ≡ RightOf (λ b a. reaches quota b a) left right q + to_right.1
-  pub right_marked : (slot : ℕ) → RightOf (λ b a. reaches quota b a && has slot b) left right a ≡ RightOf (λ b a. reaches quota b a && has slot b) left right q + bit_at to_right.0.mask slot * to_right.1
-
-times-zero : (m : ℕ) → m * 0 ≡ 0
-times-zero m = omega arith
-
--- a left entry is passed
-step_left : (quota i a : ℕ) (left right : List Entry) (r : Entry) → i < length left → Splits quota (get_or left i zero_entry).sum a right → Step quota i a (i + 1) a left right (get_or left i zero_entry, length right - a) (r, 0)
-step_left quota i a left right r inside s =
-    let l : Entry = get_or left i zero_entry in
+-- the rising entry falls short with all falling ones but those that are passed
+rising_splits : (quota up down : ℕ) (rising falling : List Entry) → At quota up down rising falling → up < length rising →
+    (down < length falling → (get_or rising up zero_entry).sum + (get_or falling (length falling - 1 - down) zero_entry).sum < quota) →
+    Splits quota (get_or rising up zero_entry).sum (length falling - down) falling
+rising_splits quota up down rising falling s inside low =
+    let n : ℕ = length falling in
     record {
-      lefts = omega (arith, pairs_more (reaches quota) left right i zero_entry inside, count_partners quota a l right s);
-      left_marked = λ slot. omega (arith, pairs_more (λ a b. reaches quota a b && has slot a) left right i zero_entry inside, count_marked quota a slot l right s);
-      rights = omega arith;
-      right_marked = λ slot. omega (arith, times-zero (bit_at r.mask slot));
+      within = omega arith;
+      short = λ k d h.
+          let below : k < n - down = omega (arith, length-take (n - down) falling) in
+          rw (get_or-take (n - down) falling k d below) (omega (arith, low (omega arith), s.falling_up k (n - 1 - down) zero_entry (omega arith) (omega arith), sum_default falling k d zero_entry (omega arith)));
+      reached = λ k d h.
+          let within : n - down + k < n = omega (arith, length-drop (n - down) falling) in
+          rw (get_or-drop (n - down) falling k d) (omega (arith, s.between.reached up (n - down + k) (omega arith) inside (omega arith) within, sum_default falling (n - down + k) d zero_entry within));
     }
 
--- a right entry is passed
-step_right : (quota i a : ℕ) (left right : List Entry) (l : Entry) → a < length right → Splits quota (get_or right a zero_entry).sum i left → Step quota i a i (a + 1) left right (l, 0) (get_or right a zero_entry, length left - i)
-step_right quota i a left right l inside s =
-    let r : Entry = get_or right a zero_entry in
+-- the falling entry reaches with all rising ones but those that are passed
+falling_splits : (quota up down : ℕ) (rising falling : List Entry) → At quota up down rising falling → down < length falling →
+    (up < length rising → quota ≤ (get_or rising up zero_entry).sum + (get_or falling (length falling - 1 - down) zero_entry).sum) →
+    Splits quota (get_or falling (length falling - 1 - down) zero_entry).sum up rising
+falling_splits quota up down rising falling s inside high =
+    let n : ℕ = length falling in
+    let up_in : up ≤ length rising = s.between.up_in in
     record {
-      lefts = omega arith;
-      left_marked = λ slot. omega (arith, times-zero (bit_at l.mask slot));
-      rights = omega (arith, sum_by-drop_more (λ b. count_by (λ a. reaches quota b a) left) right a zero_entry inside, count_partners quota i r left s);
-      right_marked = λ slot. omega (arith, sum_by-drop_more (λ b. count_by (λ a. reaches quota b a && has slot b) left) right a zero_entry inside, count_marked quota i slot r left s);
+      within = up_in;
+      short = λ k d h.
+          let before : k < up = omega (arith, length-take up rising) in
+          rw (get_or-take up rising k d before) (omega (arith, s.between.apart k (n - 1 - down) before (omega arith), sum_default rising k d zero_entry (omega arith)));
+      reached = λ k d h.
+          let within : up + k < length rising = omega (arith, length-drop up rising) in
+          rw (get_or-drop up rising k d) (omega (arith, high (omega arith), s.rising_up up (up + k) zero_entry (omega arith) within, sum_default rising (up + k) d zero_entry within));
     }
+
+pub rises : (quota up down : ℕ) (rising falling : List Entry) → At quota up down rising falling → up < length rising →
+    (down < length falling → (get_or rising up zero_entry).sum + (get_or falling (length falling - 1 - down) zero_entry).sum < quota) →
+    Rises quota up down rising falling
+rises quota up down rising falling s inside low =
+    let n : ℕ = length falling in
+    let r : Entry = get_or rising up zero_entry in
+    let b : IsBetween quota up down rising falling = s.between in
+    let split : Splits quota r.sum (n - down) falling = rising_splits quota up down rising falling s inside low in
+    let partners : n - (n - down) ≡ down = omega (arith, b.down_in) in
+    record {
+      between = record {
+        up_in = omega arith;
+        down_in = b.down_in;
+        apart = λ k m before below. omega (arith, low (omega arith), s.rising_up k up zero_entry (omega arith) inside, s.falling_up m (n - 1 - down) zero_entry (omega arith) (omega arith));
+        reached = λ k m from within above below. b.reached k m (omega arith) within above below;
+      };
+      total = pairs_more (reaches quota) rising falling up zero_entry inside
+          ∙ ap (λ c. pairs_where (reaches quota) (take up rising) falling + c) (count_partners quota (n - down) r falling split ∙ partners);
+      marks = λ slot. pairs_more (λ a b. reaches quota a b && has slot a) rising falling up zero_entry inside
+          ∙ ap (λ c. pairs_where (λ a b. reaches quota a b && has slot a) (take up rising) falling + c) (count_marked quota (n - down) slot r falling split ∙ ap (λ c. bit_at r.mask slot * c) partners);
+    }
+
+pub falls_at : (quota up down : ℕ) (rising falling : List Entry) → At quota up down rising falling → down < length falling →
+    (up < length rising → quota ≤ (get_or rising up zero_entry).sum + (get_or falling (length falling - 1 - down) zero_entry).sum) →
+    Falls quota up down rising falling
+falls_at quota up down rising falling s inside high =
+    let n : ℕ = length falling in
+    let at : ℕ = n - 1 - down in
+    let f : Entry = get_or falling at zero_entry in
+    let b : IsBetween quota up down rising falling = s.between in
+    let split : Splits quota f.sum up rising = falling_splits quota up down rising falling s inside high in
+    let here : n - (down + 1) ≡ at = omega arith in
+    let behind : at + 1 ≡ n - down = omega arith in
+    let test : ℕ → Entry → Entry → Bool = λ slot a b. reaches quota a b && has slot a in
+    record {
+      between = record {
+        up_in = b.up_in;
+        down_in = omega arith;
+        apart = λ k m before below. b.apart k m before (omega arith);
+        reached = λ k m from within above below. elim (cases_lt m (n - down)) as (λ _. quota ≤ (get_or rising k zero_entry).sum + (get_or falling m zero_entry).sum) [
+          | inl fresh ↦ (let same : at ≡ m = omega arith in omega (arith, ap (λ i. (get_or falling i zero_entry).sum) same, high (omega arith), s.rising_up up k zero_entry from within))
+          | inr passed ↦ b.reached k m from within passed below
+        ];
+      };
+      total = rw here (omega (arith, sum_by-drop_more (λ b. count_by (λ a. reaches quota b a) rising) falling at zero_entry (omega arith), ap (λ i. pairs_where (reaches quota) (drop i falling) rising) behind, count_partners quota up f rising split));
+      marks = λ slot. rw here (omega (arith, sum_by-drop_more (λ b. count_by (λ a. reaches quota b a && has slot b) rising) falling at zero_entry (omega arith), ap (λ i. pairs_where (test slot) (drop i falling) rising) behind, count_marked quota up slot f rising split));
+    }
+
+-- two walks from both ends, which have passed all entries between them
+pub record Ends (quota up down back_up back_down : ℕ) (left right : List Entry) : Type 0 where
+  pub front : IsBetween quota up down left right
+  pub back : IsBetween quota back_up back_down right left
+  pub all : up + down + (back_up + back_down) ≡ length left + length right
+
+-- they meet: the back walk has passed just the left entries that the front one has not
+pub meet : (quota up down back_up back_down : ℕ) (left right : List Entry) → Ends quota up down back_up back_down left right → (up + back_down ≡ length left) × (down + back_up ≡ length right)
+meet quota up down back_up back_down left right e =
+    let up_in : up ≤ length left = e.front.up_in in
+    let down_in : down ≤ length right = e.front.down_in in
+    let back_up_in : back_up ≤ length right = e.back.up_in in
+    let back_down_in : back_down ≤ length left = e.back.down_in in
+    let all : up + down + (back_up + back_down) ≡ length left + length right = e.all in
+    let lefts : up + back_down ≡ length left = elim (cases_lt (up + back_down) (length left)) as (λ _. up + back_down ≡ length left) [
+      | inl fewer ↦ (let k : ℕ = up in let m : ℕ = length right - down in
+          -- a pair that reaches by the front walk, and falls short by the back one
+          absurd (omega (arith, e.front.reached k m (omega arith) (omega arith) (omega arith) (omega arith), e.back.apart m k (omega arith) (omega arith))))
+      | inr most ↦ elim (cases_lt (length left) (up + back_down)) as (λ _. up + back_down ≡ length left) [
+        | inl more ↦ (let k : ℕ = up - 1 in let m : ℕ = length right - down - 1 in
+            absurd (omega (arith, e.front.apart k m (omega arith) (omega arith), e.back.reached m k (omega arith) (omega arith) (omega arith) (omega arith))))
+        | inr least ↦ omega arith
+      ]
+    ] in
+    (lefts, omega arith)
+
+-- what the first entries and those from there on come to is what all do
+pub both_parts : (test : Entry → Entry → Bool) (entries others : List Entry) (up down : ℕ) → up + down ≡ length entries →
+    pairs_where test (take up entries) others + pairs_where test (drop (length entries - down) entries) others ≡ pairs_where test entries others
+both_parts test entries others up down all =
+    let at : length entries - down ≡ up = omega arith in
+    rw at (sum_by-take-drop (λ l. count_by (test l) others) entries up)
 
 pub cond_most : (t : Bool) (m n most : ℕ) → m ≤ most → n ≤ most → cond t m n ≤ most
 cond_most true m n most first second = first
 cond_most false m n most first second = second
 
--- a step up: a place, the pair across it, whether the pair reaches, and where the walk stands then
-pub record StepUp (quota i a p q : ℕ) (left right : List Entry) (reached : Bool) : Type 0 where
-  pub walked : ℕ
-  pub stands : Stands quota i a left right
-  pub place : i + length right ≡ walked + a
-  pub some_left : i < length left
-  pub some_right : 0 < a
-  pub test : reached ≡ nat_le quota ((get_or left i zero_entry).sum + (get_or right (a - 1) zero_entry).sum)
-  pub to_right : q ≡ a - cond reached 1 0
-  pub to_left : p ≡ walked + 1 + q - length right
+pub one_of : (t : Bool) → cond (not t) 1 0 + cond t 1 0 ≡ 1
+one_of true = refl
+one_of false = refl
 
--- what a step up the left list or down the right one comes to
-pub record Up (quota i a p q : ℕ) (left right : List Entry) (reached : Bool) : Type 0 where
-  pub stands : Stands quota p q left right
-  pub step : Step quota i q p a left right (get_or left i zero_entry, cond reached 0 (length right - a)) (get_or right (a - 1) zero_entry, cond reached (length left - i) 0)
+-- a step: which entry is passed, and what the tallies of the two lists have then
+pub record Pass (quota up down p q : ℕ) (rising falling : List Entry) (low high : Entry) (old new : List MaskTally) (falls : Bool) : Type 0 where
+  pub at : At quota up down rising falling
+  pub some : up + down < length rising + length falling
+  pub credited : HasCredited quota up down rising falling old
+  pub low_is : up < length rising → low ≡ get_or rising up zero_entry
+  pub high_is : down < length falling → high ≡ get_or falling (length falling - 1 - down) zero_entry
+  pub test : falls ≡ (eqb (length rising - up) 0 || (ltb 0 (length falling - down) && nat_le quota (low.sum + high.sum)))
+  pub rising_even : IsEven (side 0 new)
+  pub rising_total : total (side 0 new) ≡ total (side 0 old) + cond falls 0 (cond falls (length rising - up) down)
+  pub rising_marked : (slot : ℕ) → marked slot (side 0 new) ≡ marked slot (side 0 old) + bit_at (cond falls high.mask low.mask) slot * cond falls 0 (cond falls (length rising - up) down)
+  pub falling_even : IsEven (side 1 new)
+  pub falling_total : total (side 1 new) ≡ total (side 1 old) + cond falls (cond falls (length rising - up) down) 0
+  pub falling_marked : (slot : ℕ) → marked slot (side 1 new) ≡ marked slot (side 1 old) + bit_at (cond falls high.mask low.mask) slot * cond falls (cond falls (length rising - up) down) 0
+  pub next_up : p ≡ up + cond (not falls) 1 0
+  pub next_down : q ≡ down + cond falls 1 0
 
-pub step_up : (quota i a p q : ℕ) (left right : List Entry) (reached : Bool) → Ascend left right → StepUp quota i a p q left right reached → Up quota i a p q left right reached
-step_up quota i a p q left right true up t =
-    let s : Stands quota i a left right = t.stands in
-    let high : quota ≤ (get_or left i zero_entry).sum + (get_or right (a - 1) zero_entry).sum = leb-true _ _ (sym t.test) in
-    let q_is : q ≡ a - 1 = omega (arith, t.to_right) in
-    let p_is : p ≡ i = omega (arith, t.to_right, t.to_left, t.place, t.some_right, s.right_in) in
-    let back : a - 1 + 1 ≡ a = omega (arith, t.some_right) in
-    let stands : Stands quota i (a - 1) left right = record {
-      left_in = s.left_in;
-      right_in = omega (arith, s.right_in);
-      apart = λ k m before below. s.apart k m before (omega arith);
-      reached = λ k m from within above below. elim (cases_lt m a) as (λ _. quota ≤ (get_or left k zero_entry).sum + (get_or right m zero_entry).sum) [
-        | inl here ↦ (let same : a - 1 ≡ m = omega arith in
-            omega (arith, rw same at high, up.first_up i k zero_entry from within))
-        | inr there ↦ s.reached k m from within there below
-      ];
-    } in
-    let step : Step quota i (a - 1) i (a - 1 + 1) left right (get_or left i zero_entry, 0) (get_or right (a - 1) zero_entry, length left - i) =
-    step_right quota i (a - 1) left right (get_or left i zero_entry) (omega (arith, s.right_in, t.some_right)) (high_right quota i a left right up.first_up s t.some_left t.some_right high) in
-    record { stands = rw (p_is, q_is) stands; step = rw (p_is, q_is) (rw back at step) }
-step_up quota i a p q left right false up t =
-    let s : Stands quota i a left right = t.stands in
-    let low : (get_or left i zero_entry).sum + (get_or right (a - 1) zero_entry).sum < quota = leb-false _ _ (sym t.test) in
-    let q_is : q ≡ a = omega (arith, t.to_right) in
-    let p_is : p ≡ i + 1 = omega (arith, t.to_right, t.to_left, t.place, s.right_in) in
-    let stands : Stands quota (i + 1) a left right = record {
-      left_in = omega (arith, t.some_left);
-      right_in = s.right_in;
-      apart = λ k m before below. omega (arith, low, up.first_up k i zero_entry (omega arith) t.some_left, up.second_up m (a - 1) zero_entry (omega arith) (omega (arith, s.right_in, t.some_right)));
-      reached = λ k m from within above below. s.reached k m (omega arith) within above below;
-    } in
-    let step : Step quota i a (i + 1) a left right (get_or left i zero_entry, length right - a) (get_or right (a - 1) zero_entry, 0) =
-    step_left quota i a left right (get_or right (a - 1) zero_entry) t.some_left (low_left quota i a left right up.second_up s t.some_left t.some_right low) in
-    record { stands = rw (p_is, q_is) stands; step = rw (p_is, q_is) step }
+pub record Passed (quota p q : ℕ) (rising falling : List Entry) (new : List MaskTally) : Type 0 where
+  pub between : IsBetween quota p q rising falling
+  pub credited : HasCredited quota p q rising falling new
 
--- a step down: a place, the pair across it, whether the pair reaches, and where the walk stands then
-pub record StepDown (quota j b p q : ℕ) (left right : List Entry) (reached : Bool) : Type 0 where
-  pub walked : ℕ
-  pub stands : Stands quota j b left right
-  pub place : length left + b ≡ walked + j
-  pub some_left : 0 < j
-  pub some_right : b < length right
-  pub test : reached ≡ nat_le quota ((get_or left (j - 1) zero_entry).sum + (get_or right b zero_entry).sum)
-  pub to_left : p ≡ j - cond reached 1 0
-  pub to_right : q ≡ walked + 1 + p - length left
+-- there is a falling entry to pass, and it reaches with the next rising one
+falling_next : (quota up down : ℕ) (rising falling : List Entry) (low high : Entry) → up ≤ length rising → up + down < length rising + length falling → (eqb (length rising - up) 0 || (ltb 0 (length falling - down) && nat_le quota (low.sum + high.sum))) ≡ true →
+    (down < length falling) × (up < length rising → quota ≤ low.sum + high.sum)
+falling_next quota up down rising falling low high within some test = elim (cases_eq (length rising - up) 0) [
+  | inl end ↦ (omega (arith, end), λ h. absurd (omega (arith, end)))
+  | inr before ↦ (
+      let more : (ltb 0 (length falling - down) && nat_le quota (low.sum + high.sum)) ≡ true = sym (ap (λ b. b || (ltb 0 (length falling - down) && nat_le quota (low.sum + high.sum))) (ne_eqb (length rising - up) 0 before)) ∙ test in
+      (omega (arith, ltb-true 0 (length falling - down) (and_parts (ltb 0 (length falling - down)) (nat_le quota (low.sum + high.sum)) more).0), λ h. leb-true _ _ (and_parts _ _ more).1))
+]
 
--- what a step down the left list or up the right one comes to
-pub record Down (quota j b p q : ℕ) (left right : List Entry) (reached : Bool) : Type 0 where
-  pub stands : Stands quota p q left right
-  pub step : Step quota p b j q left right (get_or left (j - 1) zero_entry, cond (not reached) 0 (length right - b)) (get_or right b zero_entry, cond (not reached) (length left - j) 0)
+-- there is a rising entry to pass, and it falls short with the next falling one
+rising_next : (quota up down : ℕ) (rising falling : List Entry) (low high : Entry) → up ≤ length rising → (eqb (length rising - up) 0 || (ltb 0 (length falling - down) && nat_le quota (low.sum + high.sum))) ≡ false →
+    (up < length rising) × (down < length falling → low.sum + high.sum < quota)
+rising_next quota up down rising falling low high within test =
+    let rest : (ltb 0 (length falling - down) && nat_le quota (low.sum + high.sum)) ≡ false = (or_parts _ _ test).1 in (
+      elim (cases_eq (length rising - up) 0) as (λ _. up < length rising) [
+        | inl end ↦ absurd (let bad : true ≡ false = sym (eq-eqb (length rising - up) 0 end) ∙ (or_parts _ _ test).0 in cc)
+        | inr before ↦ (let away : length rising - up ≢ 0 = before in omega arith)
+      ],
+      λ h. leb-false _ _ (sym (ap (λ b. b && nat_le quota (low.sum + high.sum)) (lt-ltb 0 (length falling - down) (omega arith))) ∙ rest),
+    )
 
-pub step_down : (quota j b p q : ℕ) (left right : List Entry) (reached : Bool) → Ascend left right → StepDown quota j b p q left right reached → Down quota j b p q left right reached
-step_down quota j b p q left right true up t =
-    let s : Stands quota j b left right = t.stands in
-    let high : quota ≤ (get_or left (j - 1) zero_entry).sum + (get_or right b zero_entry).sum = leb-true _ _ (sym t.test) in
-    let p_is : p ≡ j - 1 = omega (arith, t.to_left) in
-    let q_is : q ≡ b = omega (arith, t.to_left, t.to_right, t.place, t.some_left, s.left_in) in
-    let back : j - 1 + 1 ≡ j = omega (arith, t.some_left) in
-    let stands : Stands quota (j - 1) b left right = record {
-      left_in = omega (arith, s.left_in);
-      right_in = s.right_in;
-      apart = λ k m before below. s.apart k m (omega arith) below;
-      reached = λ k m from within above below.
-          omega (arith, high, up.first_up (j - 1) k zero_entry from within, up.second_up b m zero_entry above below);
-    } in
-    let step : Step quota (j - 1) b (j - 1 + 1) b left right (get_or left (j - 1) zero_entry, length right - b) (get_or right b zero_entry, 0) =
-    step_left quota (j - 1) b left right (get_or right b zero_entry) (omega (arith, s.left_in, t.some_left)) (high_left quota j b left right up.second_up s t.some_left t.some_right high) in
-    record { stands = rw (p_is, q_is) stands; step = rw (p_is, q_is) (rw back at step) }
-step_down quota j b p q left right false up t =
-    let s : Stands quota j b left right = t.stands in
-    let low : (get_or left (j - 1) zero_entry).sum + (get_or right b zero_entry).sum < quota = leb-false _ _ (sym t.test) in
-    let p_is : p ≡ j = omega (arith, t.to_left) in
-    let q_is : q ≡ b + 1 = omega (arith, t.to_left, t.to_right, t.place, s.left_in) in
-    let stands : Stands quota j (b + 1) left right = record {
-      left_in = s.left_in;
-      right_in = omega (arith, t.some_right);
-      apart = λ k m before below. omega (arith, low, up.first_up k (j - 1) zero_entry (omega arith) (omega (arith, s.left_in, t.some_left)), up.second_up m b zero_entry (omega arith) t.some_right);
-      reached = λ k m from within above below. s.reached k m from within (omega arith) below;
-    } in
-    let step : Step quota j b j (b + 1) left right (get_or left (j - 1) zero_entry, 0) (get_or right b zero_entry, length left - j) =
-    step_right quota j b left right (get_or left (j - 1) zero_entry) t.some_right (low_right quota j b left right up.first_up s t.some_left t.some_right low) in
-    record { stands = rw (p_is, q_is) stands; step = rw (p_is, q_is) step }
+zero_times : (m : ℕ) → m * 0 ≡ 0
+zero_times m = omega arith
 
--- where both walks stand at one place, all is counted
-pub met_left : (test : Entry → Entry → Bool) (left right : List Entry) (old now i j : ℕ) → i ≡ j → now + LeftOf test left right j ≡ old + LeftOf test left right i + LeftOf test left right (length left) → now ≡ old + pairs_where test left right
-met_left test left right old now i j same h =
-    omega (arith, h, ap (LeftOf test left right) same, ap (λ xs. pairs_where test xs right) (take_all (length left) left (omega arith)))
+pub pass : (quota up down p q : ℕ) (rising falling : List Entry) (low high : Entry) (old new : List MaskTally) (falls : Bool) → Pass quota up down p q rising falling low high old new falls → Passed quota p q rising falling new
+pass quota up down p q rising falling low high old new true s =
+    let n : ℕ = length falling in
+    let at : At quota up down rising falling = s.at in
+    let next = falling_next quota up down rising falling low high at.between.up_in s.some (sym s.test) in
+    let inside : down < n = next.0 in
+    let high_is : high ≡ get_or falling (n - 1 - down) zero_entry = s.high_is inside in
+    let step : Falls quota up down rising falling = falls_at quota up down rising falling at inside (λ h. omega (arith, next.1 h, ap (λ (e : Entry). e.sum) (s.low_is h), ap (λ (e : Entry). e.sum) high_is)) in
+    let same_up : p ≡ up = omega (arith, s.next_up) in
+    let same_down : q ≡ down + 1 = omega (arith, s.next_down) in
+    rw (same_up, same_down) (record {
+      between = step.between;
+      credited = record {
+        rising_even = s.rising_even;
+        rising_total = omega (arith, s.rising_total, s.credited.rising_total);
+        rising_marked = λ slot. omega (arith, s.rising_marked slot, s.credited.rising_marked slot, zero_times (bit_at high.mask slot));
+        falling_even = s.falling_even;
+        falling_total = omega (arith, s.falling_total, s.credited.falling_total, step.total);
+        falling_marked = λ slot. omega (arith, s.falling_marked slot, s.credited.falling_marked slot, step.marks slot, ap (λ (e : Entry). bit_at e.mask slot * (length rising - up)) high_is);
+      };
+    })
+pass quota up down p q rising falling low high old new false s =
+    let n : ℕ = length falling in
+    let at : At quota up down rising falling = s.at in
+    let next = rising_next quota up down rising falling low high at.between.up_in (sym s.test) in
+    let inside : up < length rising = next.0 in
+    let low_is : low ≡ get_or rising up zero_entry = s.low_is inside in
+    let step : Rises quota up down rising falling = rises quota up down rising falling at inside (λ h. omega (arith, next.1 h, ap (λ (e : Entry). e.sum) low_is, ap (λ (e : Entry). e.sum) (s.high_is h))) in
+    let same_up : p ≡ up + 1 = omega (arith, s.next_up) in
+    let same_down : q ≡ down = omega (arith, s.next_down) in
+    rw (same_up, same_down) (record {
+      between = step.between;
+      credited = record {
+        rising_even = s.rising_even;
+        rising_total = omega (arith, s.rising_total, s.credited.rising_total, step.total);
+        rising_marked = λ slot. omega (arith, s.rising_marked slot, s.credited.rising_marked slot, step.marks slot, ap (λ (e : Entry). bit_at e.mask slot * down) low_is);
+        falling_even = s.falling_even;
+        falling_total = omega (arith, s.falling_total, s.credited.falling_total);
+        falling_marked = λ slot. omega (arith, s.falling_marked slot, s.credited.falling_marked slot, zero_times (bit_at low.mask slot));
+      };
+    })
 
-pub met_right : (test : Entry → Entry → Bool) (left right : List Entry) (old now a b : ℕ) → a ≡ b → now + RightOf test left right b ≡ old + RightOf test left right a + RightOf test left right 0 → now ≡ old + RightOf test left right 0
-met_right test left right old now a b same h = omega (arith, h, ap (RightOf test left right) same)
+-- both walks with what they have credited, once they have passed all entries between them
+pub record Walked (quota up down back_up back_down : ℕ) (left right : List Entry) (front back : List MaskTally) : Type 0 where
+  pub ends : Ends quota up down back_up back_down left right
+  pub front_credits : HasCredited quota up down left right front
+  pub back_credits : HasCredited quota back_up back_down right left back
 
--- before the first right entry there is none
-pub none_before : (quota : ℕ) (left right : List Entry) → NoneReach quota (length left) 0 left right
-none_before quota left right k m before below = absurd (omega arith)
+pub lefts_credited : (quota up down back_up back_down : ℕ) (left right : List Entry) (front back : List MaskTally) → Walked quota up down back_up back_down left right front back → CreditsEach (reaches quota) left right (side 0 front) (side 1 back)
+lefts_credited quota up down back_up back_down left right front back w =
+    let all : up + back_down ≡ length left = (meet quota up down back_up back_down left right w.ends).0 in
+    record {
+      one_even = w.front_credits.rising_even;
+      two_even = w.back_credits.falling_even;
+      totals = omega (arith, w.front_credits.rising_total, w.back_credits.falling_total, both_parts (reaches quota) left right up back_down all);
+      marks = λ slot. omega (arith, w.front_credits.rising_marked slot, w.back_credits.falling_marked slot, both_parts (λ a b. reaches quota a b && has slot a) left right up back_down all);
+    }
+
+pub rights_credited : (quota up down back_up back_down : ℕ) (left right : List Entry) (front back : List MaskTally) → Walked quota up down back_up back_down left right front back → CreditsEach (reaches quota) right left (side 0 back) (side 1 front)
+rights_credited quota up down back_up back_down left right front back w =
+    let all : back_up + down ≡ length right = omega (arith, (meet quota up down back_up back_down left right w.ends).1) in
+    record {
+      one_even = w.back_credits.rising_even;
+      two_even = w.front_credits.falling_even;
+      totals = omega (arith, w.back_credits.rising_total, w.front_credits.falling_total, both_parts (reaches quota) right left back_up down all);
+      marks = λ slot. omega (arith, w.back_credits.rising_marked slot, w.front_credits.falling_marked slot, both_parts (λ a b. reaches quota a b && has slot a) right left back_up down all);
+    }
+
+-- the pairs seen from the right entries
+pub turned_pairs : (quota : ℕ) (left right : List Entry) → pairs_where (reaches quota) right left ≡ winning_pairs quota left right
+turned_pairs quota left right = pairs_swap (reaches quota) right left ∙ pairs_agree (λ a b. reaches quota b a) (reaches quota) left right (turned quota)
+
+pub turned_marks : (quota slot : ℕ) (left right : List Entry) → pairs_where (λ a b. reaches quota a b && has slot a) right left ≡ pairs_where (λ l r. reaches quota l r && has slot r) left right
+turned_marks quota slot left right =
+    let test : Entry → Entry → Bool = λ a b. reaches quota a b && has slot a in
+    pairs_swap test right left ∙ pairs_agree (λ a b. test b a) (λ a b. reaches quota a b && has slot b) left right (λ a b. ap (λ t. t && has slot b) (turned quota a b))

@@ -44,3 +44,12 @@ pub record CreditsRights (test : Entry → Entry → Bool) (left right : List En
   pub total : total new ≡ total old + pairs_where test left right
   pub marked : (slot : ℕ)
       → marked slot new ≡ marked slot old + pairs_where (λ l r. test l r && has slot r) left right
+
+-- two tallies together have taken in 1 for each pair that passes a test, at the mask of its first entry, and no more
+pub record CreditsEach (test : Entry → Entry → Bool) (entries others : List Entry) (one two : MaskTally)
+    : Type 0 where
+  pub one_even : IsEven one
+  pub two_even : IsEven two
+  pub totals : total one + total two ≡ pairs_where test entries others
+  pub marks : (slot : ℕ)
+      → marked slot one + marked slot two ≡ pairs_where (λ a b. test a b && has slot a) entries others

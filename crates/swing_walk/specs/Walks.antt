@@ -1,9 +1,40 @@
--- Where a walk stands between the two lists.
-use Rattle.std.specs.Prelude.{ℕ, ◌+◌, ◌<◌, List, slice_index_or}
+-- Where a walk stands between a rising and a falling list, and what it has credited.
+use Rattle.std.specs.Prelude.{ℕ, ◌≡◌, ◌+◌, ◌-◌, ◌<◌, ◌≤◌, List, length, take, drop, slice_index_or, ◌&&◌}
 use Rattle.half_sums.specs.declared.entry.Entry.{Entry}
 use Rattle.half_sums.specs.Entries.{zero_entry}
+use Rattle.swing_walk.specs.Pairs.{pairs_where, reaches, has}
+use Rattle.swing_walk.specs.Tallies.{marked, total, IsEven}
+use Rattle.swing_walk.specs.Sides.{side}
+use Rattle.swing_walk.specs.declared.tally.MaskTally.{MaskTally}
 
 -- no pair of the first `i` left entries and the first `j` right ones reaches the quota
 abbrev pub NoneReach : ℕ → ℕ → ℕ → List Entry → List Entry → Type 0
 NoneReach quota i j left right = (k m : ℕ) → k < i → m < j
     → (slice_index_or left k zero_entry).sum + (slice_index_or right m zero_entry).sum < quota
+
+-- each pair of a left entry from `i` on and a right one from `j` on reaches the quota
+abbrev pub AllReach : ℕ → ℕ → ℕ → List Entry → List Entry → Type 0
+AllReach quota i j left right = (k m : ℕ) → i ≤ k → k < length left → j ≤ m → m < length right
+    → quota ≤ (slice_index_or left k zero_entry).sum + (slice_index_or right m zero_entry).sum
+
+-- a walk has passed the first `up` rising entries and the last `down` falling ones: the rising ones that it has passed
+-- fall short with the falling ones that are left, and the falling ones that it has passed reach with the rising ones
+-- that are left
+pub record IsBetween (quota up down : ℕ) (rising falling : List Entry) : Type 0 where
+  pub up_in : up ≤ length rising
+  pub down_in : down ≤ length falling
+  pub apart : NoneReach quota up (length falling - down) rising falling
+  pub reached : AllReach quota up (length falling - down) rising falling
+
+-- the first tally has what the passed rising entries come to, each as often as there are falling ones that reach the
+-- quota with it, and the second one likewise what the passed falling entries come to
+pub record HasCredited (quota up down : ℕ) (rising falling : List Entry) (tallies : List MaskTally) : Type 0 where
+  pub rising_even : IsEven (side 0 tallies)
+  pub rising_total : total (side 0 tallies) ≡ pairs_where (reaches quota) (take up rising) falling
+  pub rising_marked : (slot : ℕ) → marked slot (side 0 tallies)
+      ≡ pairs_where (λ a b. reaches quota a b && has slot a) (take up rising) falling
+  pub falling_even : IsEven (side 1 tallies)
+  pub falling_total : total (side 1 tallies)
+      ≡ pairs_where (reaches quota) (drop (length falling - down) falling) rising
+  pub falling_marked : (slot : ℕ) → marked slot (side 1 tallies)
+      ≡ pairs_where (λ a b. reaches quota a b && has slot a) (drop (length falling - down) falling) rising

@@ -40,6 +40,33 @@ impl MaskTally {
         self.high[usize::from(mask / BYTES)] += amount;
     }
 
+    /// Takes in all amounts of another tally.
+    pub(crate) fn join(&mut self, other: &MaskTally)
+        requires even { IsEven self.old }
+        requires other_even { IsEven other.now }
+        requires room { total self.old + total other.now < 2 ^ 64 }
+        ensures marked { (slot : ℕ) → marked slot self.new ≡ marked slot self.old + marked slot other.now }
+        ensures total { total self.new ≡ total self.old + total other.now }
+        ensures even { IsEven self.new }
+    {
+        for byte in 0..BYTES as usize {
+            self.low[byte] += other.low[byte];
+            self.high[byte] += other.high[byte];
+        }
+    }
+
+    /// All amounts.
+    pub(crate) fn total(&self) -> u64
+        requires room { total self.now < 2 ^ 64 }
+        ensures total { result ≡ total self.now }
+    {
+        let mut total = 0;
+        for byte in 0..BYTES as usize {
+            total += self.low[byte];
+        }
+        total
+    }
+
     /// Per slot the amounts whose masks have it.
     pub(crate) fn by_slot(&self) -> [u64; SLOTS]
         requires even { IsEven self.now }

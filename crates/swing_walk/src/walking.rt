@@ -1,60 +1,40 @@
-//! The walk up the left list and down the right one.
-ghost use Rattle.std.specs.Prelude.{◌≡◌, ℕ, ◌+◌, ◌-◌, ◌*◌, ◌^◌, ◌<◌, ◌≤◌, length};
-ghost use Rattle.std.specs.Prelude.{slice_index_or, drop, nat_le, ◌&&◌};
-ghost use Rattle.std.specs.List.{All};
+//! The walk over two lists from both of its ends at once.
+//!
+//! All sets of a rising and a falling list have one order. The next falling set comes next where it reaches the quota
+//! with the next rising one, and so with each rising one that is left. Else the rising set comes next, which reaches
+//! with just the falling ones that were passed. From its other end the order is that of the same lists exchanged.
+ghost use Rattle.std.specs.Prelude.{◌≡◌, ◌+◌, ◌-◌, ◌^◌, ◌<◌, ◌≤◌, ◌&&◌, ◌||◌, length, cond, nat_eq, nat_lt, nat_le};
+ghost use Rattle.std.specs.Prelude.{slice_index_or};
 ghost use Rattle.half_sums.specs.Entries.{IsHalf, zero_entry};
-ghost use Rattle.swing_walk.specs.Pairs.{pairs_where, winning_pairs, reaches, has};
-ghost use Rattle.swing_walk.specs.Walks.{NoneReach};
-ghost use Rattle.swing_walk.specs.Tallies.{marked, total, IsEven, CreditsLefts, CreditsRights};
+ghost use Rattle.swing_walk.specs.Pairs.{winning_pairs, reaches};
+ghost use Rattle.swing_walk.specs.Walks.{IsBetween, HasCredited};
+ghost use Rattle.swing_walk.specs.Sides.{side};
+ghost use Rattle.swing_walk.specs.Tallies.{total, IsEven, CreditsEach, CreditsLefts, CreditsRights};
 
-use crate::sides::credit;
+use crate::sides::{add_to, either_mask};
 use crate::tally::MaskTally;
-use half_sums::{Entry, repeats};
+use half_sums::Entry;
 
-/// From so many entries on it gains to walk from both ends.
-const MANY: usize = 256;
-
-/// The first right entry that reaches the quota with the next left entry, sought downwards. Each right entry that
-/// begins to reach is credited with all left entries from there on.
-fn lower(
-    left: &[Entry],
-    next: usize,
-    right: &[Entry],
-    from: usize,
-    quota: u64,
-    tally: &mut MaskTally,
-) -> usize
-    requires left { IsHalf left.now }
-    requires right { IsHalf right.now }
-    requires next { next < length left.now }
-    requires from { from ≤ length right.now }
-    requires apart { NoneReach quota next from left.now right.now }
-    requires reached { All (λ e. quota ≤ (slice_index_or left.now next zero_entry).sum + e.sum)
-        (drop from right.now) }
-    requires even { IsEven tally.old }
-    requires room { total tally.old ≤ 2 ^ 63 }
-    ensures within { result ≤ length right.now }
-    ensures apart { NoneReach quota (next + 1) result left.now right.now }
-    ensures reached { All (λ e. quota ≤ (slice_index_or left.now next zero_entry).sum + e.sum)
-        (drop result right.now) }
-    ensures even { IsEven tally.new }
-    ensures total { total tally.new + pairs_where (λ b a. reaches quota b a) (drop from right.now) left.now
-        ≡ total tally.old + pairs_where (λ b a. reaches quota b a) (drop result right.now) left.now }
-    ensures marked { (slot : ℕ)
-        → marked slot tally.new + pairs_where (λ b a. reaches quota b a && has slot b) (drop from right.now) left.now
-        ≡ marked slot tally.old + pairs_where (λ b a. reaches quota b a && has slot b) (drop result right.now)
-        left.now }
-{
-    let mut at = from;
-    while at > 0 && quota <= left[next].sum + right[at - 1].sum {
-        at -= 1;
-        tally.add(right[at].mask, (left.len() - next) as u64);
-    }
-    at
+/// How many entries of the rising list are passed, from the least on, and how many of the falling one, from the
+/// greatest on.
+#[derive(Clone, Copy)]
+pub(crate) struct Places {
+    pub(crate) up: usize,
+    pub(crate) down: usize,
 }
 
-/// Adds the pairs that reach the quota to the tallies, and answers how many there are. A left entry is credited with
-/// the right entries that reach the quota with it.
+/// No entry is passed.
+const NONE_PASSED: Places = Places { up: 0, down: 0 };
+
+/// The places of the tallies of a chain's rising and falling list.
+const RISING: usize = 0;
+
+const FALLING: usize = 1;
+
+/// What stands where there is no entry.
+const NO_ENTRY: Entry = Entry { sum: 0, mask: 0 };
+
+/// Adds the pairs that reach the quota to the tallies, and answers how many there are.
 pub(crate) fn walk(
     left: &[Entry],
     right: &[Entry],
@@ -72,107 +52,124 @@ pub(crate) fn walk(
     ensures lefts { CreditsLefts (reaches quota) left.now right.now lefts.old lefts.new }
     ensures rights { CreditsRights (reaches quota) left.now right.now rights.old rights.new }
 {
-    // A branch on the sums is learnt where they repeat, and is missed every other time where they don't.
-    if left.len() != right.len() || left.len() < MANY || repeats(left) {
-        walk_in_turn(left, right, quota, lefts, rights)
-    } else {
-        walk_from_both_ends(left, right, quota, lefts, rights)
-    }
+    let mut front = [MaskTally::new(); 2];
+    let mut back = [MaskTally::new(); 2];
+    walk_from_both_ends(left, right, quota, &mut front, &mut back);
+    lefts.join(&front[RISING]);
+    lefts.join(&back[FALLING]);
+    rights.join(&back[RISING]);
+    rights.join(&front[FALLING]);
+    front[RISING].total() + back[FALLING].total()
 }
 
-/// The walk from the first left entry on, by a branch on the sums.
+/// Walks up the left list and down the right one, and from the other end up the right list and down the left one, until
+/// all entries are passed. The two chains don't wait for one another: each has tallies of its own, and no branch on the
+/// sums.
 #[inline(never)]
-fn walk_in_turn(
-    left: &[Entry],
-    right: &[Entry],
-    quota: u64,
-    lefts: &mut MaskTally,
-    rights: &mut MaskTally,
-) -> u64
-    requires left { IsHalf left.now }
-    requires right { IsHalf right.now }
-    requires left_even { IsEven lefts.old }
-    requires left_room { total lefts.old ≤ 2 ^ 62 }
-    requires right_even { IsEven rights.old }
-    requires right_room { total rights.old ≤ 2 ^ 62 }
-    ensures winning { result ≡ winning_pairs quota left.now right.now }
-    ensures lefts { CreditsLefts (reaches quota) left.now right.now lefts.old lefts.new }
-    ensures rights { CreditsRights (reaches quota) left.now right.now rights.old rights.new }
-{
-    let mut at = right.len();
-    let mut winning = 0;
-    for next in 0..left.len() {
-        at = lower(left, next, right, at, quota, rights);
-        let partners = (right.len() - at) as u64;
-        winning += partners;
-        lefts.add(left[next].mask, partners);
-    }
-    winning
-}
-
-/// The walk of two lists of one length, up from the first left entry and down from the last one at once, until they
-/// meet: the two don't wait for one another, and neither has a branch on the sums. Each step passes a left entry or a
-/// right one.
 fn walk_from_both_ends(
     left: &[Entry],
     right: &[Entry],
     quota: u64,
-    lefts: &mut MaskTally,
-    rights: &mut MaskTally,
-) -> u64
+    front: &mut [MaskTally; 2],
+    back: &mut [MaskTally; 2],
+)
     requires left { IsHalf left.now }
     requires right { IsHalf right.now }
-    requires same { length left.now ≡ length right.now }
-    requires left_even { IsEven lefts.old }
-    requires left_room { total lefts.old ≤ 2 ^ 62 }
-    requires right_even { IsEven rights.old }
-    requires right_room { total rights.old ≤ 2 ^ 62 }
-    ensures winning { result ≡ winning_pairs quota left.now right.now }
-    ensures lefts { CreditsLefts (reaches quota) left.now right.now lefts.old lefts.new }
-    ensures rights { CreditsRights (reaches quota) left.now right.now rights.old rights.new }
+    requires front { HasCredited quota 0 0 left.now right.now front.old }
+    requires back { HasCredited quota 0 0 right.now left.now back.old }
+    ensures lefts { CreditsEach (reaches quota) left.now right.now (side 0 front.new) (side 1 back.new) }
+    ensures rights { CreditsEach (reaches quota) right.now left.now (side 0 back.new) (side 1 front.new) }
 {
-    let mut sides = [*lefts, *rights];
-    let mut next = 0;
-    let mut at = right.len();
-    let mut next_end = left.len();
-    let mut at_end = 0;
-    let mut winning = 0;
-    for walked in 0..left.len() {
-        let (others, rest) = (right.len() - at, left.len() - next);
-        let reached = is_winning(&left[next], &right[at - 1], quota);
-        winning += credit(
-            &mut sides,
-            reached,
-            &left[next],
-            &right[at - 1],
-            others,
-            rest,
-        );
-        at -= usize::from(reached);
-        next = walked + 1 + at - right.len();
-
-        let (others, rest) = (right.len() - at_end, left.len() - next_end);
-        let reached = is_winning(&left[next_end - 1], &right[at_end], quota);
-        winning += credit(
-            &mut sides,
-            !reached,
-            &left[next_end - 1],
-            &right[at_end],
-            others,
-            rest,
-        );
-        next_end -= usize::from(reached);
-        at_end = walked + 1 + next_end - left.len();
+    let steps = left.len() + right.len();
+    let mut from_front = NONE_PASSED;
+    let mut from_back = NONE_PASSED;
+    for walked in 0..steps / 2 {
+        from_front = pass(from_front, left, right, quota, front);
+        from_back = pass(from_back, right, left, quota, back);
     }
-    *lefts = sides[0];
-    *rights = sides[1];
-    winning
+    if steps % 2 == 1 {
+        pass(from_front, left, right, quota, front);
+    }
 }
 
-/// Whether the sums of a pair reach the quota.
-fn is_winning(left: &Entry, right: &Entry, quota: u64) -> bool
-    requires small { left.now.sum + right.now.sum < 2 ^ 64 }
-    ensures reaches { result ≡ nat_le quota (left.now.sum + right.now.sum) }
+/// Passes the next entry, and credits it with its partners. Values and a place are chosen, and not a way to go on.
+#[inline(always)]
+fn pass(
+    places: Places,
+    rising: &[Entry],
+    falling: &[Entry],
+    quota: u64,
+    tallies: &mut [MaskTally; 2],
+) -> Places
+    requires rising { IsHalf rising.now }
+    requires falling { IsHalf falling.now }
+    requires some { places.up + places.down < length rising.now + length falling.now }
+    requires between { IsBetween quota places.up places.down rising.now falling.now }
+    requires credited { HasCredited quota places.up places.down rising.now falling.now tallies.old }
+    ensures next { result.up + result.down ≡ places.up + places.down + 1 }
+    ensures between { IsBetween quota result.up result.down rising.now falling.now }
+    ensures credited { HasCredited quota result.up result.down rising.now falling.now tallies.new }
 {
-    quota <= left.sum + right.sum
+    let low = next_up(rising, places.up);
+    let high = next_down(falling, places.down);
+    let rising_left = rising.len() - places.up;
+    let falling_left = falling.len() - places.down;
+    let falls = falls_next(&low, &high, rising_left, falling_left, quota);
+    let partners = either(falls, rising_left, places.down);
+    let mask = either_mask(falls, high.mask, low.mask);
+    add_to(tallies, falls, mask, partners as u64);
+    Places {
+        up: places.up + usize::from(!falls),
+        down: places.down + usize::from(falls),
+    }
+}
+
+/// Whether the falling entry comes before the rising one: there is one, and it reaches the quota with the rising one, or
+/// no rising one is left.
+fn falls_next(
+    low: &Entry,
+    high: &Entry,
+    rising_left: usize,
+    falling_left: usize,
+    quota: u64,
+) -> bool
+    requires small { low.now.sum + high.now.sum < 2 ^ 64 }
+    ensures next { result ≡ (nat_eq rising_left 0
+        || (nat_lt 0 falling_left && nat_le quota (low.now.sum + high.now.sum))) }
+{
+    rising_left == 0 || (falling_left > 0 && quota <= low.sum + high.sum)
+}
+
+/// The next entry from the least on, once so many are passed; none where all are.
+fn next_up(entries: &[Entry], passed: usize) -> Entry
+    requires half { IsHalf entries.now }
+    ensures entry { passed < length entries.now → result ≡ slice_index_or entries.now passed zero_entry }
+    ensures small { result.sum ≤ 2 ^ 48 }
+{
+    if passed < entries.len() {
+        entries[passed]
+    } else {
+        NO_ENTRY
+    }
+}
+
+/// The next entry from the greatest on, once so many are passed; none where all are.
+fn next_down(entries: &[Entry], passed: usize) -> Entry
+    requires half { IsHalf entries.now }
+    ensures entry { passed < length entries.now
+        → result ≡ slice_index_or entries.now (length entries.now - 1 - passed) zero_entry }
+    ensures small { result.sum ≤ 2 ^ 48 }
+{
+    if passed < entries.len() {
+        entries[entries.len() - 1 - passed]
+    } else {
+        NO_ENTRY
+    }
+}
+
+/// The first number or the second.
+fn either(first: bool, a: usize, b: usize) -> usize
+    ensures chosen { result ≡ cond first a b }
+{
+    if first { a } else { b }
 }
