@@ -1,254 +1,15 @@
 //! The same work as the library and the program, in plain Rust with no proof, to measure against.
 //!
-//!     plain indices              times the indices of three sheets, and the table over vote totals
+//!     plain indices              times the indices of four boards, and the table over vote totals
 //!     plain records COUNT EVERY  prints the input of a long replay, COUNT records in all, one in EVERY a reading
 //!     plain replay READERS LIMIT the replay of the input, each line written as it is made
+mod counting;
+
+use counting::Board;
 use std::collections::HashMap;
 use std::fmt::Write as _;
 use std::io::{self, Read, Write};
 use std::time::Instant;
-
-// ---------------------------------------------------------------- counting
-
-/// The subsets of one half's chairs at most.
-const SUBSETS: usize = 65_536;
-
-/// A set of chairs of one half, by its weight and its slots.
-#[derive(Clone, Copy, Default)]
-struct Entry {
-    sum: u64,
-    mask: u16,
-}
-
-#[inline(always)]
-fn pick(first: bool, a: u64, b: u64) -> u64 {
-    b ^ ((a ^ b) & 0u64.wrapping_sub(u64::from(first)))
-}
-
-#[inline(always)]
-fn pick_mask(first: bool, a: u16, b: u16) -> u16 {
-    b ^ ((a ^ b) & 0u16.wrapping_sub(u16::from(first)))
-}
-
-/// Puts the sets with one more chair among the sets without it, ascending.
-type Merge = fn(&[Entry], u64, u16, &mut [Entry]);
-
-/// One chain, with a branch on the weights: the fastest where weights repeat.
-fn merge_by_branch(list: &[Entry], weight: u64, bit: u16, into: &mut [Entry]) {
-    let joined = |e: &Entry| Entry {
-        sum: e.sum + weight,
-        mask: e.mask | bit,
-    };
-    let (mut next, mut place) = (0, 0);
-    for entry in list {
-        while list[next].sum + weight < entry.sum {
-            into[place] = joined(&list[next]);
-            next += 1;
-            place += 1;
-        }
-        into[place] = *entry;
-        place += 1;
-    }
-    for (rest, put) in list[next..].iter().zip(&mut into[place..]) {
-        *put = joined(rest);
-    }
-}
-
-/// A chain from each end, with no branch on the weights: the fastest where they don't repeat.
-fn merge_from_both_ends(list: &[Entry], weight: u64, bit: u16, into: &mut [Entry]) {
-    let n = list.len();
-    let (mut plain, mut joined, mut last_plain, mut last_joined) = (0, 0, n, n);
-    let (front, back) = into[..2 * n].split_at_mut(n);
-    for k in 0..n {
-        let (a, b) = (list[plain], list[joined]);
-        let sum = b.sum + weight;
-        let other = sum < a.sum;
-        front[k] = Entry {
-            sum: pick(other, sum, a.sum),
-            mask: pick_mask(other, b.mask | bit, a.mask),
-        };
-        joined += usize::from(other);
-        plain += usize::from(!other);
-        let (a, b) = (list[last_plain - 1], list[last_joined - 1]);
-        let sum = b.sum + weight;
-        let other = sum >= a.sum;
-        back[n - 1 - k] = Entry {
-            sum: pick(other, sum, a.sum),
-            mask: pick_mask(other, b.mask | bit, a.mask),
-        };
-        last_joined -= usize::from(other);
-        last_plain -= usize::from(!other);
-    }
-}
-
-/// The subset sums of up to sixteen chairs, ascending (Horowitz and Sahni 1974).
-struct Half {
-    entries: Vec<Entry>,
-    scratch: Vec<Entry>,
-    count: usize,
-}
-
-impl Half {
-    fn new() -> Half {
-        Half {
-            entries: vec![Entry::default(); SUBSETS],
-            scratch: vec![Entry::default(); SUBSETS],
-            count: 1,
-        }
-    }
-
-    fn entries(&self) -> &[Entry] {
-        &self.entries[..self.count]
-    }
-
-    fn rebuild(&mut self, words: &[u64], merge: Merge) {
-        self.entries[0] = Entry::default();
-        self.count = 1;
-        for (slot, &word) in words.iter().enumerate() {
-            if word > 0 {
-                let into = &mut self.scratch[..2 * self.count];
-                merge(&self.entries[..self.count], word - 1, 1 << slot, into);
-                self.count *= 2;
-                std::mem::swap(&mut self.entries, &mut self.scratch);
-            }
-        }
-    }
-}
-
-/// Amounts credited to the chairs of sets, kept by the two bytes of a set's slots.
-struct Credits {
-    low: [u64; 256],
-    high: [u64; 256],
-}
-
-impl Credits {
-    fn new() -> Credits {
-        Credits {
-            low: [0; 256],
-            high: [0; 256],
-        }
-    }
-
-    #[inline(always)]
-    fn add(&mut self, mask: u16, amount: u64) {
-        self.low[usize::from(mask & 255)] += amount;
-        self.high[usize::from(mask >> 8)] += amount;
-    }
-
-    fn add_to(&self, totals: &mut [u64]) {
-        for byte in 0..256 {
-            for slot in 0..8 {
-                if byte >> slot & 1 == 1 {
-                    totals[slot] += self.low[byte];
-                    totals[8 + slot] += self.high[byte];
-                }
-            }
-        }
-    }
-}
-
-/// The winning pairs, and for each place those that have its chair.
-type Walk = fn(&[Entry], &[Entry], u64) -> (u64, [u64; 32]);
-
-fn by_place(left: &[Credits], right: &[Credits]) -> [u64; 32] {
-    let mut totals = [0; 32];
-    left.iter().for_each(|credits| credits.add_to(&mut totals[..16]));
-    right.iter().for_each(|credits| credits.add_to(&mut totals[16..]));
-    totals
-}
-
-/// One walk, up the left list and down the right one, with a branch on the weights.
-fn walk_by_branch(left: &[Entry], right: &[Entry], quota: u64) -> (u64, [u64; 32]) {
-    let (mut lefts, mut rights) = (Credits::new(), Credits::new());
-    let (mut at, mut winning) = (right.len(), 0);
-    for (next, entry) in left.iter().enumerate() {
-        while at > 0 && quota <= entry.sum + right[at - 1].sum {
-            at -= 1;
-            rights.add(right[at].mask, (left.len() - next) as u64);
-        }
-        let partners = (right.len() - at) as u64;
-        winning += partners;
-        lefts.add(entry.mask, partners);
-    }
-    (winning, by_place(&[lefts], &[rights]))
-}
-
-/// Two such walks at once, from the first and from the middle left set, with no branch on the weights.
-fn walk_two_at_once(left: &[Entry], right: &[Entry], quota: u64) -> (u64, [u64; 32]) {
-    let (lefts, rights) = (left.len(), right.len());
-    let half = lefts / 2;
-    let middle = right.partition_point(|e| e.sum + left[half].sum < quota);
-    let mut one = [Credits::new(), Credits::new()];
-    let mut two = [Credits::new(), Credits::new()];
-    let mut winning = 0;
-    let (mut i, mut a, mut j, mut b) = (0, rights, half, middle);
-    while i < half && a > middle && j < lefts && b > 0 {
-        let (x, y) = (left[i], right[a - 1]);
-        let reach = x.sum + y.sum >= quota;
-        let amount = pick(reach, (lefts - i) as u64, (rights - a) as u64);
-        one[usize::from(reach)].add(pick_mask(reach, y.mask, x.mask), amount);
-        winning += pick(reach, 0, amount);
-        a -= usize::from(reach);
-        i += usize::from(!reach);
-        let (x, y) = (left[j], right[b - 1]);
-        let reach = x.sum + y.sum >= quota;
-        let amount = pick(reach, (lefts - j) as u64, (rights - b) as u64);
-        two[usize::from(reach)].add(pick_mask(reach, y.mask, x.mask), amount);
-        winning += pick(reach, 0, amount);
-        b -= usize::from(reach);
-        j += usize::from(!reach);
-    }
-    while i < half {
-        if a > middle && left[i].sum + right[a - 1].sum >= quota {
-            a -= 1;
-            one[1].add(right[a].mask, (lefts - i) as u64);
-        } else {
-            let partners = (rights - a) as u64;
-            winning += partners;
-            one[0].add(left[i].mask, partners);
-            i += 1;
-        }
-    }
-    while a > middle {
-        a -= 1;
-        one[1].add(right[a].mask, (lefts - half) as u64);
-    }
-    while j < lefts {
-        if b > 0 && left[j].sum + right[b - 1].sum >= quota {
-            b -= 1;
-            two[1].add(right[b].mask, (lefts - j) as u64);
-        } else {
-            let partners = (rights - b) as u64;
-            winning += partners;
-            two[0].add(left[j].mask, partners);
-            j += 1;
-        }
-    }
-    let ([one_left, one_right], [two_left, two_right]) = (one, two);
-    (winning, by_place(&[one_left, two_left], &[one_right, two_right]))
-}
-
-/// A way to merge and a way to walk. Which is the fastest depends on the sheet, so all are timed.
-#[derive(Clone, Copy)]
-struct Method {
-    name: &'static str,
-    merge: Merge,
-    walk: Walk,
-}
-
-const fn method(name: &'static str, merge: Merge, walk: Walk) -> Method {
-    Method { name, merge, walk }
-}
-
-const METHODS: [Method; 4] = [
-    method("branch,branch", merge_by_branch, walk_by_branch),
-    method("branch,two", merge_by_branch, walk_two_at_once),
-    method("ends,branch", merge_from_both_ends, walk_by_branch),
-    method("ends,two", merge_from_both_ends, walk_two_at_once),
-];
-
-/// The fastest on sheets of unequal chairs, which real boards have.
-const BEST: Method = METHODS[3];
 
 // ---------------------------------------------------------------- indices
 
@@ -260,7 +21,10 @@ enum Majority {
     Half,
     Seventy,
     EightyFive,
+    Quorum,
 }
+
+const ALL: [Majority; 4] = [Majority::Half, Majority::Seventy, Majority::EightyFive, Majority::Quorum];
 
 struct ChairPower {
     chair: usize,
@@ -289,41 +53,40 @@ fn quota_of(majority: Majority, words: &Words) -> u64 {
         Majority::Half => cast_of(words) / 2 + 1,
         Majority::Seventy => (7 * words[32]).div_ceil(10).max(1),
         Majority::EightyFive => (17 * words[32]).div_ceil(20).max(1),
+        Majority::Quorum => words[32].div_ceil(2),
     }
 }
 
-/// A sheet, and the sums of its halves.
+fn least_size_of(majority: Majority, chairs: usize) -> usize {
+    match majority {
+        Majority::Quorum => chairs / 2 + 1,
+        _ => 0,
+    }
+}
+
+/// A sheet, and the lists of its halves.
 struct Evaluator {
-    method: Method,
     words: Words,
-    left: Half,
-    right: Half,
+    board: Board,
 }
 
 impl Evaluator {
-    fn new(method: Method) -> Evaluator {
+    fn new() -> Evaluator {
         Evaluator {
-            method,
             words: [0; 34],
-            left: Half::new(),
-            right: Half::new(),
+            board: Board::new(),
         }
     }
 
     fn set(&mut self, words: &Words) {
-        if self.words[..16] != words[..16] {
-            self.left.rebuild(&words[..16], self.method.merge);
-        }
-        if self.words[16..32] != words[16..32] {
-            self.right.rebuild(&words[16..32], self.method.merge);
-        }
+        self.board.set(&std::array::from_fn(|place| words[place].checked_sub(1)));
         self.words = *words;
     }
 
     fn evaluate(&self, majority: Majority) -> Indices {
         let quota = quota_of(majority, &self.words);
-        let (winning, with_chair) = (self.method.walk)(self.left.entries(), self.right.entries(), quota);
         let open: Vec<usize> = (0..32).filter(|&place| self.words[place] > 0).collect();
+        let (winning, with_chair) = self.board.count(quota, least_size_of(majority, open.len()));
         let swings = |place: usize| match with_chair[place] {
             0 => 0,
             with => 2 * with - winning,
@@ -367,13 +130,11 @@ impl Numbers {
         self.0
     }
 
-    /// Words of so many chairs in each half, with weights from `base` on, `span` of them.
+    /// Words of so many chairs, numbered from 1, with weights from `base` on, `span` of them.
     fn words(&mut self, chairs: usize, base: u64, span: u64) -> Words {
         let mut words = [0; 34];
-        for place in 0..32 {
-            if place % 16 < chairs {
-                words[place] = 1 + base + self.next() % span;
-            }
+        for word in &mut words[..chairs] {
+            *word = 1 + base + self.next() % span;
         }
         totalled(words)
     }
@@ -389,9 +150,10 @@ fn digest(indices: &Indices) -> u64 {
     indices.rows.iter().fold(indices.winning, step)
 }
 
-/// The least nanoseconds of one sheet's recount, over rounds through all sheets, and what was counted. Before each the
-/// evaluator is given another sheet, which isn't timed, where there is one.
-fn least(evaluator: &mut Evaluator, sheets: &[Words], before: impl Fn(usize) -> Option<Words>) -> (u128, u64) {
+/// The least nanoseconds of one sheet's recount by some majorities, over rounds through all sheets, and what was counted.
+/// Before each the evaluator is given another sheet, which isn't timed, where there is one.
+fn least(sheets: &[Words], by: &[Majority], before: impl Fn(usize) -> Option<Words>) -> (u128, u64) {
+    let mut evaluator = Evaluator::new();
     let (mut least, mut sum) = (u128::MAX, 0u64);
     for _ in 0..ROUNDS {
         let mut nanos = 0;
@@ -401,7 +163,9 @@ fn least(evaluator: &mut Evaluator, sheets: &[Words], before: impl Fn(usize) -> 
             }
             let start = Instant::now();
             evaluator.set(sheet);
-            sum = sum.wrapping_add(digest(&evaluator.evaluate(Majority::Half)));
+            for &majority in by {
+                sum = sum.wrapping_add(digest(&evaluator.evaluate(majority)));
+            }
             nanos += start.elapsed().as_nanos();
         }
         least = least.min(nanos / SHEETS as u128);
@@ -409,52 +173,66 @@ fn least(evaluator: &mut Evaluator, sheets: &[Words], before: impl Fn(usize) -> 
     (least, sum)
 }
 
-/// The swings of every chair by a table over all vote totals, as other voting power programs count them (Mann and
-/// Shapley 1962; Brams and Affuso 1976).
-fn by_table(words: &Words, quota: u64) -> Vec<u64> {
-    let weights = || {
-        words[..32]
-            .iter()
-            .filter(|&&word| word > 0)
-            .map(|word| (word - 1) as usize)
-    };
+/// Omega and the swings of every chair by a table over all vote totals below the quota, as other voting power programs count
+/// them (Mann and Shapley 1962; Brams and Affuso 1976): for each total the sets that have it, modulo 2^32, which they don't
+/// reach. Sets without a chair of w votes are all sets of t votes, less those of t - w, plus those of t - 2w, and so on, so
+/// that a chair's swings are an alternating sum of sums over w totals each.
+fn by_table(words: &Words, quota: u64) -> (u64, Vec<u64>) {
     let quota = quota as usize;
-    let mut sets = vec![0u64; weights().sum::<usize>() + 1];
+    let open = words[..32].iter().filter(|&&word| word > 0);
+    let weights: Vec<usize> = open.map(|word| (word - 1) as usize).collect();
+    let mut sorted = weights.clone();
+    sorted.sort();
+    let (mut sets, mut next) = (vec![0u32; quota], vec![0u32; quota]);
     sets[0] = 1;
-    let mut top = 0;
-    for weight in weights() {
-        top += weight;
-        for total in (weight..=top).rev() {
-            sets[total] += sets[total - weight];
+    let mut top = 1;
+    for weight in sorted {
+        let end = (top + weight).min(quota);
+        if weight < end {
+            next[..weight].copy_from_slice(&sets[..weight]);
+            let (without, with) = (&sets[weight..end], &sets[..end - weight]);
+            for ((next, a), b) in next[weight..end].iter_mut().zip(without).zip(with) {
+                *next = a.wrapping_add(*b);
+            }
+            top = end;
+            std::mem::swap(&mut sets, &mut next);
         }
     }
-    let swings = |weight: usize| {
-        let mut without = sets.clone();
-        for total in weight..without.len() {
-            without[total] -= without[total - weight];
+    let mut below = vec![0u64; quota + 1];
+    for (place, &sets) in sets.iter().enumerate() {
+        below[place + 1] = below[place] + u64::from(sets);
+    }
+    let swings = |&weight: &usize| {
+        let (mut end, mut swings, mut adds) = (quota, 0u64, true);
+        while weight > 0 && end > 0 {
+            let start = end.saturating_sub(weight);
+            let part = below[end] - below[start];
+            swings = if adds { swings.wrapping_add(part) } else { swings.wrapping_sub(part) };
+            adds = !adds;
+            end = start;
         }
-        let end = quota.min(without.len());
-        without[quota.saturating_sub(weight).min(end)..end]
-            .iter()
-            .sum()
+        swings
     };
-    weights().map(swings).collect()
+    ((1 << weights.len()) - below[quota], weights.iter().map(swings).collect())
 }
 
 fn time_table(name: &str, words: &Words) {
-    let mut evaluator = Evaluator::new(BEST);
+    let mut evaluator = Evaluator::new();
     evaluator.set(words);
     let indices = evaluator.evaluate(Majority::Half);
-    let start = Instant::now();
-    let swings = by_table(words, indices.quota);
-    let nanos = start.elapsed().as_nanos();
-    let same = swings.iter().eq(indices.rows.iter().map(|row| &row.swings));
-    assert!(same, "the table and the walk differ");
-    println!("{name} table totals {nanos} 0");
+    let mut nanos = u128::MAX;
+    for _ in 0..3 {
+        let start = Instant::now();
+        let (winning, swings) = by_table(words, indices.quota);
+        nanos = nanos.min(start.elapsed().as_nanos());
+        let same = swings.iter().eq(indices.rows.iter().map(|row| &row.swings));
+        assert!(same && winning == indices.winning, "the table and the walk differ");
+    }
+    println!("{name} table {nanos} 0");
 }
 
 fn print_counts(name: &str, words: &Words) {
-    let mut evaluator = Evaluator::new(BEST);
+    let mut evaluator = Evaluator::new();
     evaluator.set(words);
     let indices = evaluator.evaluate(Majority::Half);
     print!("{name} counts {} {}", indices.quota, indices.winning);
@@ -463,35 +241,37 @@ fn print_counts(name: &str, words: &Words) {
     println!();
 }
 
-fn time_method(name: &str, method: Method, sheets: &[Words], halves: &[Words]) {
-    let mut evaluator = Evaluator::new(method);
-    let print = |part: &str, (nanos, sum): (u128, u64)| println!("{name} {part} {} {nanos} {sum}", method.name);
-    print("full", least(&mut evaluator, sheets, |_| None));
-    print("half", least(&mut evaluator, halves, |_| None));
-    print("none", least(&mut evaluator, sheets, |place| Some(sheets[place])));
-}
-
+/// Times the recounts of sheets of so many chairs, numbered from 1: all new; with the left half of the first sheet; held;
+/// held, by the quorum; and with one chair's votes changed, by all four majorities.
 fn time_sheets(name: &str, chairs: usize, base: u64, span: u64) {
     let mut numbers = Numbers(0x9E37_79B9_7F4A_7C15);
     let sheets: Vec<Words> = (0..SHEETS).map(|turn| numbers.words(chairs, base + turn as u64, span)).collect();
-    let mut halves = sheets.clone();
-    for half in &mut halves {
-        half[..16].copy_from_slice(&sheets[0][..16]);
+    let (mut halves, mut moved) = (sheets.clone(), sheets.clone());
+    let left = chairs.div_ceil(2);
+    for (turn, (half, moved)) in halves.iter_mut().zip(&mut moved).enumerate() {
+        half[..left].copy_from_slice(&sheets[0][..left]);
         *half = totalled(*half);
+        moved[turn * 5 % chairs] += 1;
+        *moved = totalled(*moved);
     }
     print_counts(name, &sheets[0]);
-    for method in METHODS {
-        time_method(name, method, &sheets, &halves);
-    }
-    if chairs < 16 {
+    let print = |part: &str, (nanos, sum): (u128, u64)| println!("{name} {part} {nanos} {sum}");
+    let half = [Majority::Half];
+    print("full", least(&sheets, &half, |_| None));
+    print("half", least(&halves, &half, |_| None));
+    print("none", least(&sheets, &half, |place| Some(sheets[place])));
+    print("quorum", least(&sheets, &[Majority::Quorum], |place| Some(sheets[place])));
+    print("one", least(&moved, &ALL, |place| Some(sheets[place])));
+    if span < 1 << 20 && chairs < 32 {
         time_table(name, &sheets[0]);
     }
 }
 
 fn indices() {
-    time_sheets("equal32", 16, 1, 1);
-    time_sheets("random32", 16, 1, (1 << 40) - 1);
-    time_sheets("votes24", 12, 1, 408_000);
+    time_sheets("equal32", 32, 1, 1);
+    time_sheets("random32", 32, 1, (1 << 40) - 1);
+    time_sheets("votes24", 24, 1, 408_000);
+    time_sheets("votes25", 25, 1, 408_000);
 }
 
 // ---------------------------------------------------------------- the input of a long replay
@@ -903,7 +683,7 @@ fn run<W: Write>(
     let members = opening(&mut cutter, &mut row)?;
     let mut register = started(&members, limit)?;
     let mut published = register.words;
-    let mut evaluator = Evaluator::new(BEST);
+    let mut evaluator = Evaluator::new();
     while cutter.next(&mut row) {
         let mut room = [&[][..]; FIELDS + 1];
         match record(row.fields(&mut room)).ok_or(Fault::Told(cutter.number, "BadRecord"))? {
