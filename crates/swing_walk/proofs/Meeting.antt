@@ -1,10 +1,10 @@
 -- A walk's steps, and that two walks from its ends meet.
-use Rattle.std.proofs.Common.{◌≡◌, ℕ, ◌+◌, ◌-◌, ◌*◌, ◌<◌, ◌≤◌, ◌≢◌, Bool, true, false, cond, not, List, length, take, drop, get_or, arith, refl, sym, ap, inl, inr, ◌∙◌, eqb, ltb}
+use Rattle.std.proofs.Common.{◌≡◌, ℕ, ◌+◌, ◌-◌, ◌*◌, ◌<◌, ◌≤◌, Bool, true, false, cond, not, List, length, take, drop, get_or, arith, refl, sym, ap, inl, inr, ◌∙◌, ltb}
 use Rattle.std.specs.Prelude.{◌&&◌, ◌||◌, nat_le}
 use Rattle.std.specs.List.{count_by}
 use Rattle.std.specs.List.Sorted.{IsNonDecreasingBy}
 use Rattle.std.specs.Int.{bit_at}
-use Rattle.std.proofs.lemmas.Bool.{cases_lt, cases_eq, eq-eqb, ne_eqb, lt-ltb, ltb-true, leb-true, leb-false, and_parts, or_parts}
+use Rattle.std.proofs.lemmas.Bool.{cases_lt, lt-ltb, le-ltb, ltb-true, leb-true, leb-false, and_parts, or_parts}
 use Rattle.std.proofs.lemmas.List.{length-take, length-drop, get_or-take, get_or-drop}
 use Rattle.std.proofs.lemmas.List.Sums.{sum_by-drop_more, sum_by-take-drop}
 use Rattle.half_sums.specs.declared.entry.Entry.{Entry}
@@ -167,7 +167,7 @@ pub record Pass (quota up down p q : ℕ) (rising falling : List Entry) (low hig
   pub credited : HasCredited quota up down rising falling old
   pub low_is : up < length rising → low ≡ get_or rising up zero_entry
   pub high_is : down < length falling → high ≡ get_or falling (length falling - 1 - down) zero_entry
-  pub test : falls ≡ (eqb (length rising - up) 0 || (ltb 0 (length falling - down) && nat_le quota (low.sum + high.sum)))
+  pub test : falls ≡ (not (ltb up (length rising)) || (ltb down (length falling) && nat_le quota (low.sum + high.sum)))
   pub rising_even : IsEven (side 0 new)
   pub rising_total : total (side 0 new) ≡ total (side 0 old) + cond falls 0 (cond falls (length rising - up) down)
   pub rising_marked : (slot : ℕ) → marked slot (side 0 new) ≡ marked slot (side 0 old) + bit_at (cond falls high.mask low.mask) slot * cond falls 0 (cond falls (length rising - up) down)
@@ -182,25 +182,25 @@ pub record Passed (quota p q : ℕ) (rising falling : List Entry) (new : List Ma
   pub credited : HasCredited quota p q rising falling new
 
 -- there is a falling entry to pass, and it reaches with the next rising one
-falling_next : (quota up down : ℕ) (rising falling : List Entry) (low high : Entry) → up ≤ length rising → up + down < length rising + length falling → (eqb (length rising - up) 0 || (ltb 0 (length falling - down) && nat_le quota (low.sum + high.sum))) ≡ true →
+falling_next : (quota up down : ℕ) (rising falling : List Entry) (low high : Entry) → up ≤ length rising → up + down < length rising + length falling → (not (ltb up (length rising)) || (ltb down (length falling) && nat_le quota (low.sum + high.sum))) ≡ true →
     (down < length falling) × (up < length rising → quota ≤ low.sum + high.sum)
-falling_next quota up down rising falling low high within some test = elim (cases_eq (length rising - up) 0) [
-  | inl end ↦ (omega (arith, end), λ h. absurd (omega (arith, end)))
-  | inr before ↦ (
-      let more : (ltb 0 (length falling - down) && nat_le quota (low.sum + high.sum)) ≡ true = sym (ap (λ b. b || (ltb 0 (length falling - down) && nat_le quota (low.sum + high.sum))) (ne_eqb (length rising - up) 0 before)) ∙ test in
-      (omega (arith, ltb-true 0 (length falling - down) (and_parts (ltb 0 (length falling - down)) (nat_le quota (low.sum + high.sum)) more).0), λ h. leb-true _ _ (and_parts _ _ more).1))
+falling_next quota up down rising falling low high within some test = elim (cases_lt up (length rising)) [
+  | inl before ↦ (
+      let more : (ltb down (length falling) && nat_le quota (low.sum + high.sum)) ≡ true = sym (ap (λ b. not b || (ltb down (length falling) && nat_le quota (low.sum + high.sum))) (lt-ltb up (length rising) before)) ∙ test in
+      (ltb-true down (length falling) (and_parts (ltb down (length falling)) (nat_le quota (low.sum + high.sum)) more).0, λ h. leb-true _ _ (and_parts _ _ more).1))
+  | inr end ↦ (omega arith, λ h. absurd (omega arith))
 ]
 
 -- there is a rising entry to pass, and it falls short with the next falling one
-rising_next : (quota up down : ℕ) (rising falling : List Entry) (low high : Entry) → up ≤ length rising → (eqb (length rising - up) 0 || (ltb 0 (length falling - down) && nat_le quota (low.sum + high.sum))) ≡ false →
+rising_next : (quota up down : ℕ) (rising falling : List Entry) (low high : Entry) → up ≤ length rising → (not (ltb up (length rising)) || (ltb down (length falling) && nat_le quota (low.sum + high.sum))) ≡ false →
     (up < length rising) × (down < length falling → low.sum + high.sum < quota)
 rising_next quota up down rising falling low high within test =
-    let rest : (ltb 0 (length falling - down) && nat_le quota (low.sum + high.sum)) ≡ false = (or_parts _ _ test).1 in (
-      elim (cases_eq (length rising - up) 0) as (λ _. up < length rising) [
-        | inl end ↦ absurd (let bad : true ≡ false = sym (eq-eqb (length rising - up) 0 end) ∙ (or_parts _ _ test).0 in cc)
-        | inr before ↦ (let away : length rising - up ≢ 0 = before in omega arith)
+    let rest : (ltb down (length falling) && nat_le quota (low.sum + high.sum)) ≡ false = (or_parts _ _ test).1 in (
+      elim (cases_lt up (length rising)) as (λ _. up < length rising) [
+        | inl before ↦ before
+        | inr end ↦ absurd (let bad : true ≡ false = sym (ap not (le-ltb up (length rising) end)) ∙ (or_parts _ _ test).0 in cc)
       ],
-      λ h. leb-false _ _ (sym (ap (λ b. b && nat_le quota (low.sum + high.sum)) (lt-ltb 0 (length falling - down) (omega arith))) ∙ rest),
+      λ h. leb-false _ _ (sym (ap (λ b. b && nat_le quota (low.sum + high.sum)) (lt-ltb down (length falling) h)) ∙ rest),
     )
 
 zero_times : (m : ℕ) → m * 0 ≡ 0

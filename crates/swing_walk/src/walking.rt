@@ -3,7 +3,7 @@
 //! All sets of a rising and a falling list have one order. The next falling set comes next where it reaches the quota
 //! with the next rising one, and so with each rising one that is left. Else the rising set comes next, which reaches
 //! with just the falling ones that were passed. From its other end the order is that of the same lists exchanged.
-ghost use Rattle.std.specs.Prelude.{◌≡◌, ◌+◌, ◌-◌, ◌^◌, ◌<◌, ◌≤◌, ◌&&◌, ◌||◌, length, cond, nat_eq, nat_lt, nat_le};
+ghost use Rattle.std.specs.Prelude.{◌≡◌, ◌+◌, ◌-◌, ◌^◌, ◌<◌, ◌≤◌, ◌&&◌, ◌||◌, length, cond, not, nat_le};
 ghost use Rattle.std.specs.Prelude.{slice_index_or};
 ghost use Rattle.half_sums.specs.Entries.{IsHalf, zero_entry};
 ghost use Rattle.swing_walk.specs.Pairs.{winning_pairs, reaches};
@@ -112,10 +112,10 @@ fn pass(
 {
     let low = next_up(rising, places.up);
     let high = next_down(falling, places.down);
-    let rising_left = rising.len() - places.up;
-    let falling_left = falling.len() - places.down;
-    let falls = falls_next(&low, &high, rising_left, falling_left, quota);
-    let partners = either(falls, rising_left, places.down);
+    let some_rising = places.up < rising.len();
+    let some_falling = places.down < falling.len();
+    let falls = falls_next(&low, &high, some_rising, some_falling, quota);
+    let partners = either(falls, rising.len() - places.up, places.down);
     let mask = either_mask(falls, high.mask, low.mask);
     add_to(tallies, falls, mask, partners as u64);
     Places {
@@ -126,18 +126,11 @@ fn pass(
 
 /// Whether the falling entry comes before the rising one: there is one, and it reaches the quota with the rising one, or
 /// no rising one is left.
-fn falls_next(
-    low: &Entry,
-    high: &Entry,
-    rising_left: usize,
-    falling_left: usize,
-    quota: u64,
-) -> bool
+fn falls_next(low: &Entry, high: &Entry, some_rising: bool, some_falling: bool, quota: u64) -> bool
     requires small { low.now.sum + high.now.sum < 2 ^ 64 }
-    ensures next { result ≡ (nat_eq rising_left 0
-        || (nat_lt 0 falling_left && nat_le quota (low.now.sum + high.now.sum))) }
+    ensures next { result ≡ (not some_rising || (some_falling && nat_le quota (low.now.sum + high.now.sum))) }
 {
-    rising_left == 0 || (falling_left > 0 && quota <= low.sum + high.sum)
+    !some_rising || (some_falling && quota <= low.sum + high.sum)
 }
 
 /// The next entry from the least on, once so many are passed; none where all are.
