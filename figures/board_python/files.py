@@ -1,0 +1,31 @@
+"""Files that are put in their places once all are whole, and only over files of the same kind."""
+from __future__ import annotations
+
+import os
+from pathlib import Path
+
+from .errors import BadInput
+
+
+def check_replaceable(path: Path, start: str) -> None:
+    """Sees that a file can be put there: that there is the folder, and no file that begins in another way."""
+    if not path.parent.is_dir():
+        raise BadInput(f"there is no folder {path.parent}")
+    if path.exists():
+        with open(path, "rb") as there:
+            if there.read(len(start.encode())) != start.encode():
+                raise BadInput(f"{path} is there already and isn't a file of this script: choose another name")
+
+
+def write_files(texts: dict[Path, str]) -> None:
+    """Writes each text to a new file beside its place, and puts them there once all are whole."""
+    parts = {path: path.with_name(f".{path.name}.{os.getpid()}.part") for path in texts}
+    try:
+        for path, text in texts.items():
+            with open(parts[path], "x", encoding="utf-8", newline="") as file:
+                file.write(text)
+        for path, part in parts.items():
+            os.replace(part, path)
+    finally:
+        for part in parts.values():
+            part.unlink(missing_ok=True)
