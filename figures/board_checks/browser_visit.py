@@ -1,0 +1,97 @@
+#!/usr/bin/env python3
+"""Opens a page in Chromium, uses it as a reader would, and prints as JSON what was seen: browser_visit.py PAGE [PICTURE..]
+
+A PICTURE is FILE:WIDTHxHEIGHT:THING, a picture of the page, that wide, from a thing of a CSS selector on.
+"""
+from __future__ import annotations
+
+import base64
+import json
+import sys
+from pathlib import Path
+
+from selenium import webdriver
+from selenium.webdriver.chrome.service import Service
+from selenium.webdriver.common.by import By
+
+ORDER = "return [...arguments[0].tBodies[0].rows].map((row) => row.cells[2].textContent)"
+SIZES = "return [...document.images].map((it) => [it.naturalWidth, it.clientWidth])"
+BACK = "return getComputedStyle(document.body).backgroundColor"
+# What is wider than the page, but for what scrolls within a box of its own.
+WIDE = (
+    "return [document.scrollingElement.scrollWidth, ...[...document.querySelectorAll('body *:not(.scroll *)')]"
+    ".map((it) => it.getBoundingClientRect().right)].reduce((one, other) => Math.max(one, other))"
+)
+
+
+def started() -> webdriver.Chrome:
+    """A browser without a window and without a network."""
+    options = webdriver.ChromeOptions()
+    options.binary_location = "/usr/bin/chromium"
+    for word in ["--headless=new", "--no-sandbox", "--hide-scrollbars", "--disable-dev-shm-usage"]:
+        options.add_argument(word)
+    options.set_capability("goog:loggingPrefs", {"browser": "ALL"})
+    browser = webdriver.Chrome(service=Service("/usr/bin/chromedriver"), options=options)
+    browser.execute_cdp_cmd("Network.enable", {})
+    offline = {"offline": True, "latency": 0, "downloadThroughput": 0, "uploadThroughput": 0}
+    browser.execute_cdp_cmd("Network.emulateNetworkConditions", offline)
+    return browser
+
+
+def set_width(browser: webdriver.Chrome, width: int, height: int = 844) -> None:
+    """Makes the page so wide."""
+    metrics = {"width": width, "height": height, "deviceScaleFactor": 1, "mobile": False}
+    browser.execute_cdp_cmd("Emulation.setDeviceMetricsOverride", metrics)
+
+
+def sorted_by_click(browser: webdriver.Chrome) -> dict[str, list[str]]:
+    """The votes in the page's first table of chairs, before and after a click on their heading, and after a second one."""
+    table = browser.find_elements(By.CSS_SELECTOR, "table.sortable")[1]
+    button = table.find_elements(By.CSS_SELECTOR, "thead button")[2]
+    seen = {"before": browser.execute_script(ORDER, table)}
+    for name in ["up", "down"]:
+        browser.execute_script("arguments[0].scrollIntoView({block: 'center'})", button)
+        button.click()
+        seen[name] = browser.execute_script(ORDER, table)
+    seen["says"] = table.find_element(By.CSS_SELECTOR, "th[aria-sort]").get_attribute("aria-sort")
+    return seen
+
+
+def take(browser: webdriver.Chrome, text: str) -> None:
+    """Takes a picture."""
+    file, size, selector = text.split(":", 2)
+    width, height = map(int, size.split("x"))
+    set_width(browser, width)
+    top = browser.execute_script("return document.querySelector(arguments[0]).getBoundingClientRect().top + scrollY", selector)
+    clip = {"x": 0, "y": max(0, top - 8), "width": width, "height": height, "scale": 1}
+    shot = browser.execute_cdp_cmd("Page.captureScreenshot", {"clip": clip, "captureBeyondViewport": True})
+    Path(file).write_bytes(base64.b64decode(shot["data"]))
+
+
+def visit(browser: webdriver.Chrome, page: str, pictures: list[str]) -> dict[str, object]:
+    """Opens the page, and looks."""
+    set_width(browser, 390)
+    browser.get(Path(page).resolve().as_uri())
+    seen = {"narrow": browser.execute_script(WIDE), "pictures": browser.execute_script(SIZES)}
+    seen["light"] = browser.execute_script(BACK)
+    if not pictures:
+        seen["order"] = sorted_by_click(browser)
+        seen["print"] = len(base64.b64decode(browser.print_page()))
+    for picture in pictures:
+        take(browser, picture)
+    dark = {"features": [{"name": "prefers-color-scheme", "value": "dark"}]}
+    browser.execute_cdp_cmd("Emulation.setEmulatedMedia", dark)
+    seen["dark"] = browser.execute_script(BACK)
+    seen["console"] = [entry["message"] for entry in browser.get_log("browser")]
+    return seen
+
+
+def main() -> None:
+    browser = started()
+    try:
+        print(json.dumps(visit(browser, sys.argv[1], sys.argv[2:])))
+    finally:
+        browser.quit()
+
+
+main()

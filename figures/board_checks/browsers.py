@@ -1,0 +1,82 @@
+"""The pages in Chromium: console, sorting by a click, a telephone's width, dark mode, and the size of a PDF."""
+from __future__ import annotations
+
+import base64
+import json
+import re
+from pathlib import Path
+
+from .place import TOP, Case, Place, expect, expect_good, has
+
+MEGABYTE = 1_000_000
+SMALLEST_LETTERS = 9.0
+
+
+def smallest_letters(picture: str, natural: float, shown: float) -> float:
+    """How high a chart's smallest letters are on the screen, in pixels."""
+    sizes = [float(size) for size in re.findall(r"font: (?:[a-z]+ )?([0-9.]+)px", picture)]
+    units = float(re.search(r'viewBox="0 0 ([0-9.]+) ', picture)[1])
+    return min(sizes) * shown / units
+
+
+def check_page(place: Place, path: Path, megabytes: float) -> None:
+    """Opens a page and looks."""
+    done = place.run(place.python, "figures/board_checks/browser_visit.py", str(path))
+    expect_good(done)
+    seen = json.loads(done.stdout)
+    expect(not seen["console"], f"on the console: {seen['console']}")
+    expect(seen["narrow"] <= 390, f"{seen['narrow']} px wide on a screen of 390")
+    numbers = [float(text) for text in seen["order"]["before"]]
+    expect(numbers != sorted(numbers), "the table is sorted before a click")
+    expect([float(text) for text in seen["order"]["up"]] == sorted(numbers), f"a click doesn't sort: {seen['order']}")
+    down = [float(text) for text in seen["order"]["down"]]
+    expect(down == sorted(numbers)[::-1] and seen["order"]["says"] == "descending", f"a second click: {seen['order']}")
+    expect(seen["light"] == "rgb(255, 255, 255)" and seen["dark"] == "rgb(22, 24, 28)", f"{seen['light']} {seen['dark']}")
+    expect(seen["print"] < megabytes * MEGABYTE, f"a PDF of {seen['print']} bytes")
+    text = path.read_text()
+    expect(text.count("<figure>") == len(seen["pictures"]) > 0, f"pictures: {seen['pictures']}")
+    for address, (natural, shown) in zip(re.findall('svg[+]xml;base64,([^"]*)"', text), seen["pictures"]):
+        letters = smallest_letters(base64.b64decode(address).decode(), natural, shown)
+        expect(natural > 0 and letters >= SMALLEST_LETTERS, f"letters of {letters} px in a chart {shown} px wide")
+    check_kept(text)
+
+
+def check_kept(text: str) -> None:
+    """Each heading above a chart is in one box with it, which isn't parted between printed pages."""
+    expect(re.search(r"\.kept, [^{]*\{ break-inside: avoid; \}", text) is not None, "the style doesn't keep boxes whole")
+    for before in text.split("<figure>")[:-1]:
+        heading = max(before.rfind("<h2"), before.rfind("<h3"))
+        between = before[heading:]
+        if "</figure>" not in between:
+            box = before.rfind('class="kept"')
+            expect(box > before.rfind("</section>") and box < heading, f"a heading that is parted: {between[:80]}")
+
+
+def check_figures(place: Place) -> None:
+    """The page of an output with four readings of 24 chairs."""
+    source = (TOP / "examples" / "twenty-four-chairs.csv").read_bytes() + b"read,1,quorum\n"
+    with place.folder() as folder:
+        expect_good(place.script("board_figures", f"{folder}/it", given=place.board(source)))
+        check_page(place, Path(folder, "it.html"), 1)
+
+
+def check_study(place: Place) -> None:
+    """The page of a study with a scenario and a sweep, and that of four readings, which is small as a PDF."""
+    words = ["--scenario", "XAB +30 %: votes,XAB,+30%", "--sweep", "XAA 10..20 by 5 %"]
+    with place.folder() as folder:
+        expect_good(place.script("board_study", "examples/members.csv", *words, f"{folder}/it"))
+        check_page(place, Path(folder, "it.html"), 3)
+        expect_good(place.script("board_study", "examples/members.csv", f"{folder}/four"))
+        check_page(place, Path(folder, "four.html"), 1)
+
+
+def cases(place: Place) -> list[Case]:
+    """Each case by a name; none where Chromium isn't there, or what drives it."""
+    drivers = all(Path("/usr/bin", name).exists() for name in ["chromium", "chromedriver"])
+    if not drivers or not has(place.python, "selenium"):
+        print("figures/check: Chromium, its driver or selenium is not there, so no page was opened (figures/install)")
+        return []
+    return [
+        ("Chromium: the page of board_figures", lambda: check_figures(place)),
+        ("Chromium: the pages of board_study", lambda: check_study(place)),
+    ]

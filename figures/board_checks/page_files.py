@@ -1,0 +1,84 @@
+"""What every page must be: whole, in need of nothing from elsewhere, and readable without its pictures."""
+from __future__ import annotations
+
+import base64
+import re
+from html.parser import HTMLParser
+from xml.etree import ElementTree
+
+from .place import expect
+
+SOURCES = ["Banzhaf", "Coleman", "Felsenthal", "Penrose", "Articles of Agreement", "rounded once, half to even"]
+ARTICLES = {
+    "half": "Article XII, Section 5(c)",
+    "70": "Article XXVI, Section 2(b)",
+    "85": "Article III, Section 2(c)",
+    "quorum": "Article XII, Section 3(h)",
+}
+
+
+class Page(HTMLParser):
+    """Looks at a page: its elements are closed; keeps their attributes, and the cells of its tables."""
+
+    EMPTY = {"meta", "img", "br"}
+
+    def __init__(self, text: str):
+        super().__init__()
+        self.open: list[str] = []
+        self.seen: list[tuple[str, dict[str, str | None]]] = []
+        self.tables: list[list[list[str]]] = []
+        self.feed(text)
+        expect(not self.open, f"elements that aren't closed: {self.open}")
+
+    def handle_starttag(self, tag, attrs):
+        self.seen.append((tag, dict(attrs)))
+        if tag not in self.EMPTY:
+            self.open.append(tag)
+        if tag == "table":
+            self.tables.append([])
+        elif tag == "tr":
+            self.tables[-1].append([])
+        elif tag in ("td", "th"):
+            self.tables[-1][-1].append("")
+
+    def handle_endtag(self, tag):
+        expect(bool(self.open) and self.open.pop() == tag, f"</{tag}> closes another element")
+
+    def handle_data(self, data):
+        if {"td", "th"} & set(self.open):
+            self.tables[-1][-1][-1] += data
+
+    def all(self, tag: str) -> list[dict[str, str | None]]:
+        """The attributes of each element of a kind."""
+        return [attributes for name, attributes in self.seen if name == tag]
+
+
+def pictures_of(page: Page) -> list[str]:
+    """The charts, each an SVG picture in the page itself, with a text that stands for it."""
+    start, found = "data:image/svg+xml;base64,", []
+    for attributes in page.all("img"):
+        expect((attributes["src"] or "").startswith(start), "a picture that isn't in the page")
+        expect(len(attributes["alt"] or "") > 80, "a picture without a text in its place")
+        found.append(base64.b64decode(attributes["src"][len(start) :]).decode())
+        ElementTree.fromstring(found[-1])
+    return found
+
+
+def check_frame(text: str, majorities: set[str]) -> Page:
+    """Looks at what all pages share: language, title, headers, sources, and that nothing comes from elsewhere."""
+    page = Page(text)
+    expect(page.all("html") == [{"lang": "en"}], "the page doesn't say its language")
+    expect(len(page.all("title")) == 1 and len(page.all("h1")) == 1, "a page has one title and one h1")
+    expect(all("scope" in it for it in page.all("th")), "a header cell without its scope")
+    expect(len(page.all("caption")) == len(page.all("table")), "a table without a caption")
+    links = [value for _, it in page.seen for name, value in it.items() if name in ("href", "src", "srcset", "action")]
+    expect(all(it.startswith(("#", "data:")) for it in links), "the page needs something from elsewhere")
+    bare = re.sub('base64,[^"]*', "", text)
+    expect(not re.search("https?:|@import|url\\(|<link", bare), "the page names a place in a network")
+    words = " ".join(text.split())
+    for source in [*SOURCES, *(ARTICLES[majority] for majority in majorities)]:
+        expect(source in words, f"{source!r} isn't on the page")
+    for picture in pictures_of(page):
+        expect("swings of all chairs" in picture, "an axis doesn't say of what the per cent are")
+        expect("pattern" not in picture, "a chart has hatches, which make a large PDF")
+    return page

@@ -1,0 +1,109 @@
+"""Where cases run: a folder with the program, and a Python that has the libraries."""
+from __future__ import annotations
+
+import csv
+import os
+import shutil
+import subprocess
+import sys
+import tempfile
+from collections.abc import Callable, Iterator
+from contextlib import contextmanager
+from pathlib import Path
+
+TOP = Path(__file__).resolve().parents[2]
+SECONDS = 300
+Case = tuple[str, Callable[[], None]]
+
+
+class Failed(Exception):
+    """What is wrong, for people."""
+
+
+def expect(holds: bool, what: str) -> None:
+    """Fails with a sentence where something doesn't hold."""
+    if not holds:
+        raise Failed(what)
+
+
+def expect_text(got: str, wanted: str) -> None:
+    """Fails where a text isn't as it must be, and shows both."""
+    expect(got == wanted, f"what came:\n{got}\nand what must come:\n{wanted}")
+
+
+def program_path() -> str:
+    """The program that is checked: the first word, else $BOARD, else the built one, else ./board."""
+    if len(sys.argv) > 1:
+        return os.path.realpath(sys.argv[1])
+    built = TOP / "crates" / "board" / "out" / "board"
+    return os.path.realpath(os.environ.get("BOARD") or (built if built.exists() else TOP / "board"))
+
+
+def has(python: str, *libraries: str) -> bool:
+    """Whether a Python is there and has the libraries."""
+    look = "import importlib.util, sys; sys.exit(not all(map(importlib.util.find_spec, sys.argv[1:])))"
+    return Path(python).exists() and subprocess.run([python, "-c", look, *libraries]).returncode == 0
+
+
+def python_path() -> str | None:
+    """A Python that has the libraries: the one that runs this, or the system's."""
+    return next((it for it in [sys.executable, "/usr/bin/python3"] if has(it, "pandas", "matplotlib")), None)
+
+
+class Place:
+    """A folder that looks like the top of the repository to the recipes, with the program in it as ./board."""
+
+    def __init__(self, folder: str, program: str, python: str):
+        self.top = Path(folder)
+        self.program = program
+        self.python = python
+        (self.top / "bin").mkdir()
+        (self.top / "bin" / "python3").symlink_to(python)
+        (self.top / "board").write_text(f'#!/bin/sh\nexec "{program}" "$@"\n')
+        (self.top / "board").chmod(0o755)
+        for name in ["examples", "figures", "docs"]:
+            shutil.copytree(TOP / name, self.top / name)
+        self.environment = os.environ | {
+            "PATH": f"{self.top / 'bin'}:{os.environ['PATH']}",
+            "BOARD": program,
+            "MPLCONFIGDIR": str(self.top / "bin"),
+        }
+
+    def run(self, *words: str, given: bytes = b"") -> subprocess.CompletedProcess:
+        """Runs a command in the folder."""
+        places = {"cwd": self.top, "env": self.environment}
+        return subprocess.run(words, input=given, capture_output=True, timeout=SECONDS, **places)
+
+    def board(self, given: bytes) -> bytes:
+        """What `board replay` prints of an input."""
+        return self.run(self.program, "replay", given=given).stdout
+
+    def script(self, name: str, *words: str, given: bytes = b"") -> subprocess.CompletedProcess:
+        """Runs a script of figures."""
+        return self.run(f"figures/{name}", *words, given=given)
+
+    @contextmanager
+    def folder(self) -> Iterator[str]:
+        """A new folder, which goes at the end."""
+        with tempfile.TemporaryDirectory(dir=self.top) as folder:
+            yield folder
+
+
+def expect_good(done: subprocess.CompletedProcess) -> None:
+    """Fails where a script didn't end well."""
+    expect(done.returncode == 0, f"status {done.returncode}: {done.stderr.decode()}")
+
+
+def expect_refused(done: subprocess.CompletedProcess, script: str, message: str, folder: str) -> None:
+    """Fails where a script didn't answer with a message and status 1, or left a file."""
+    said = done.stderr.decode()
+    expect(done.returncode == 1 and not done.stdout, f"status {done.returncode}: {said}")
+    expect(said.startswith(f"{script}: {message}"), f"standard error: {said}")
+    expect(said.endswith(f"\n{script}: nothing was written\n"), f"standard error: {said}")
+    expect(not os.listdir(folder), f"files are left: {os.listdir(folder)}")
+
+
+def rows_of(path: Path) -> list[dict[str, str]]:
+    """The rows of a table."""
+    with open(path, newline="") as file:
+        return list(csv.DictReader(file))
