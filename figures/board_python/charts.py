@@ -86,11 +86,11 @@ def new_chart(title: str, series: int, height: float, left: float, bottom: float
 
 
 def add_names(axes: Axes, names: Sequence[str]) -> None:
-    """The chairs' names on the upright axis, the first on top."""
-    axes.set_yticks(range(len(names)), [short(name) for name in names])
+    """The chairs' names on the upright axis, the first on top: plain texts, since to draw ticks takes twice as long."""
+    axes.set_yticks([])
     axes.set_ylim(len(names) - 0.4, -0.6)
-    axes.tick_params(axis="y", length=0)
-    axes.grid(False, axis="y")
+    for place, name in enumerate(names):
+        axes.text(-0.015, place, short(name), ha="right", va="center", transform=axes.get_yaxis_transform())
 
 
 def names_width(names: Sequence[str]) -> float:
@@ -140,5 +140,5 @@ def sweep_lines(title: str, member: str, measure: str, percents: Sequence[float]
         look = {"color": one.colour, "linestyle": one.dashes, "marker": one.marker}
         chart.axes.plot(percents, one.values, **look, markersize=4.5, markevery=often, linewidth=1.4, label=one.label)
     chart.axes.set_xlabel(f"votes of {member}, per cent of the total voting power")
-    chart.axes.set_ylabel(measure, fontsize=9)
+    chart.axes.set_ylabel(measure, fontsize=9.5)
     return chart.svg()
