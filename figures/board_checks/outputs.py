@@ -176,7 +176,7 @@ def check_stale(place: Place) -> None:
     with place.folder() as folder:
         done = place.script("board_figures", f"{folder}/it", "--strict", given=output)
         expect_refused(done, "board_figures", "line 4: a command was refused, ChairOpen", folder)
-        expect(b"line 6: a stale reading: it sees 1 commands, and 2 more" in done.stderr, done.stderr.decode())
+        expect(b"line 6: a stale reading: it sees 1 commands; accepted and not published: 2 more" in done.stderr, done.stderr.decode())
     good = place.board((TOP / "examples" / "three-chairs.csv").read_bytes())
     expect("stale" not in made(place, good, "--strict")["it.html"].split("</style>")[1].split("<h2")[0], "a warning")
 

@@ -61,7 +61,7 @@ class Place:
         (self.top / "bin" / "python3").symlink_to(python)
         (self.top / "board").write_text(f'#!/bin/sh\nexec "{program}" "$@"\n')
         (self.top / "board").chmod(0o755)
-        for name in ["examples", "figures", "docs"]:
+        for name in ["examples", "figures", "docs", "tests"]:
             shutil.copytree(TOP / name, self.top / name)
         self.environment = os.environ | {
             "PATH": f"{self.top / 'bin'}:{os.environ['PATH']}",

@@ -1,4 +1,4 @@
-"""The recipes of docs/USING.md, and the lines of docs/FORMATS.md that are refused, run and compared with what they say."""
+"""The recipes of docs/USING.md and docs/VALIDATION.md, and the lines of docs/FORMATS.md that are refused, run and compared with what they say."""
 from __future__ import annotations
 
 import re
@@ -9,9 +9,9 @@ from .place import TOP, Case, Place, expect, expect_text
 BLOCK = re.compile(r"^```(\w+)\n(.*?)^```$", re.MULTILINE | re.DOTALL)
 
 
-def recipes() -> list[tuple[int, str, str, str]]:
-    """The blocks that can be pasted: the line, the language, the text, and the `text` block right below, or nothing."""
-    text = (TOP / "docs" / "USING.md").read_text()
+def recipes(document: str) -> list[tuple[int, str, str, str]]:
+    """The blocks of a document that can be pasted: the line, the language, the text, and the `text` block right below, or nothing."""
+    text = (TOP / "docs" / document).read_text()
     blocks = list(BLOCK.finditer(text))
     found = []
     for block, after in zip(blocks, [*blocks[1:], None]):
@@ -61,11 +61,12 @@ def check_refused(place: Place, heading: str, records: str, comes: str) -> None:
 def cases(place: Place) -> list[Case]:
     """A case for each recipe and each line."""
     found: list[Case] = []
-    for line, language, code, wanted in recipes():
+    blocks = [(document, *block) for document in ["USING.md", "VALIDATION.md"] for block in recipes(document)]
+    for document, line, language, code, wanted in blocks:
         if language == "r" and not shutil.which("Rscript"):
-            print(f"figures/check: R is not there, so the block on line {line} of docs/USING.md was not run")
+            print(f"figures/check: R is not there, so the block on line {line} of docs/{document} was not run")
             continue
-        found.append((f"docs/USING.md line {line}", lambda it=(language, code, wanted): check_recipe(place, *it)))
+        found.append((f"docs/{document} line {line}", lambda it=(language, code, wanted): check_recipe(place, *it)))
     for row in refused_lines():
         found.append((f"docs/FORMATS.md, {row[0]}: {row[1]!r}", lambda it=row: check_refused(place, *it)))
     return found

@@ -162,7 +162,7 @@ def check_bad_table(place: Place) -> None:
 def check_progress(place: Place) -> None:
     """Where the program is slow, standard error says how far a sweep is."""
     slow = Path(place.top, "slow")
-    slow.write_text(f'#!/bin/sh\nsleep 0.3\nexec "{place.program}" "$@"\n')
+    slow.write_text(f'#!/bin/sh\nsleep 0.6\nexec "{place.program}" "$@"\n')
     slow.chmod(0o755)
     with place.folder() as folder:
         done = study(place, folder, "--at", "half", "--sweep", "AAA 10..20 by 1 %", "--board", "./slow")

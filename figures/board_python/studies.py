@@ -12,7 +12,7 @@ from .programs import Program
 from .replay_output import Chair, Reading
 from .scenarios import BASE, Scenario, Sweep, commands_with_numbers
 
-SECONDS_BETWEEN = 2.0
+SECONDS_BETWEEN = 5.0
 
 
 @dataclass
