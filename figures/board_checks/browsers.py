@@ -46,10 +46,9 @@ def check_kept(text: str) -> None:
     expect(re.search(r"\.kept, [^{]*\{ break-inside: avoid; \}", text) is not None, "the style doesn't keep boxes whole")
     for before in text.split("<figure>")[:-1]:
         heading = max(before.rfind("<h2"), before.rfind("<h3"))
-        between = before[heading:]
-        if "</figure>" not in between:
-            box = before.rfind('class="kept"')
-            expect(box > before.rfind("</section>") and box < heading, f"a heading that is parted: {between[:80]}")
+        box = before.rfind('class="kept"')
+        is_kept = before.rfind("</section>") < box < heading or heading < 0
+        expect(is_kept, f"a heading that may be parted from its chart: {before[heading:][:80]}")
 
 
 def check_figures(place: Place) -> None:

@@ -16,16 +16,16 @@ FRACTIONS = ["banzhaf", "power_share", "prevent", "initiate"]
 PAGES = ["three-chairs", "twenty-four-chairs", "no-chair-open", "all-suspended", "three-chairs-quorum", "read-before-publish"]
 
 
-def made(place: Place, output: bytes, *words: str) -> dict[str, str]:
-    """The texts of the files that the script makes of an output, by their endings; a second run makes the same."""
+def made(place: Place, output: bytes, *words: str, times: int = 1) -> dict[str, str]:
+    """The texts of the files that the script makes of an output, by their endings; each time it makes the same."""
     with place.folder() as folder:
         texts = []
-        for _ in range(2):
+        for _ in range(times):
             done = place.script("board_figures", f"{folder}/it", *words, given=output)
             expect_good(done)
             expect(not done.stdout and not done.stderr, f"{done.stdout.decode()}{done.stderr.decode()}")
             texts.append({name: Path(folder, name).read_text() for name in sorted(os.listdir(folder))})
-        expect(texts[0] == texts[1], "a second run over the first one's files doesn't give the same")
+        expect(all(it == texts[0] for it in texts), "another run over the files doesn't give the same")
         return texts[0]
 
 
@@ -84,7 +84,7 @@ def check_page(text: str, output: bytes) -> None:
 def check_output(place: Place, name: str, output: bytes) -> None:
     """Makes the table of an output, and of some the page, and looks at both."""
     with_page = any(it in name for it in PAGES)
-    texts = made(place, output, *([] if with_page else ["--no-charts"]))
+    texts = made(place, output, times=2) if with_page else made(place, output, "--no-charts")
     expect(list(texts) == (["it.html"] if with_page else []) + ["it.readings.csv"], f"files: {list(texts)}")
     check_table(texts["it.readings.csv"], output)
     if with_page:
