@@ -1,5 +1,5 @@
 #!/usr/bin/env python3
-"""Opens a page in Chromium, uses it as a reader would, and prints as JSON what was seen: browser_visit.py PAGE [PICTURE..]
+"""Opens a page in Chromium, uses it as a reader would, prints what was seen: browser_visit.py PAGE [PICTURE..]
 
 A PICTURE is FILE:WIDTHxHEIGHT:THING, a picture of the page, that wide, from a thing of a CSS selector on.
 """
@@ -45,7 +45,7 @@ def set_width(browser: webdriver.Chrome, width: int, height: int = 844) -> None:
 
 
 def sorted_by_click(browser: webdriver.Chrome) -> dict[str, list[str]]:
-    """The votes in the page's first table of chairs, before and after a click on their heading, and after a second one."""
+    """The votes in the first table of chairs, before and after a click on their heading, and after another."""
     table = browser.find_elements(By.CSS_SELECTOR, "table.sortable")[1]
     button = table.find_elements(By.CSS_SELECTOR, "thead button")[2]
     seen = {"before": browser.execute_script(ORDER, table)}
@@ -62,7 +62,9 @@ def take(browser: webdriver.Chrome, text: str) -> None:
     file, size, selector = text.split(":", 2)
     width, height = map(int, size.split("x"))
     set_width(browser, width)
-    top = browser.execute_script("return document.querySelector(arguments[0]).getBoundingClientRect().top + scrollY", selector)
+    top = browser.execute_script(
+        "return document.querySelector(arguments[0]).getBoundingClientRect().top + scrollY", selector
+    )
     clip = {"x": 0, "y": max(0, top - 8), "width": width, "height": height, "scale": 1}
     shot = browser.execute_cdp_cmd("Page.captureScreenshot", {"clip": clip, "captureBeyondViewport": True})
     Path(file).write_bytes(base64.b64decode(shot["data"]))

@@ -31,7 +31,9 @@ def check_page(place: Place, path: Path, megabytes: float) -> None:
     expect([float(text) for text in seen["order"]["up"]] == sorted(numbers), f"a click doesn't sort: {seen['order']}")
     down = [float(text) for text in seen["order"]["down"]]
     expect(down == sorted(numbers)[::-1] and seen["order"]["says"] == "descending", f"a second click: {seen['order']}")
-    expect(seen["light"] == "rgb(255, 255, 255)" and seen["dark"] == "rgb(22, 24, 28)", f"{seen['light']} {seen['dark']}")
+    expect(
+        seen["light"] == "rgb(255, 255, 255)" and seen["dark"] == "rgb(22, 24, 28)", f"{seen['light']} {seen['dark']}"
+    )
     expect(seen["print"] < megabytes * MEGABYTE, f"a PDF of {seen['print']} bytes")
     text = path.read_text()
     expect(text.count("<figure>") == len(seen["pictures"]) > 0, f"pictures: {seen['pictures']}")
@@ -43,7 +45,9 @@ def check_page(place: Place, path: Path, megabytes: float) -> None:
 
 def check_kept(text: str) -> None:
     """Each heading above a chart is in one box with it, which isn't parted between printed pages."""
-    expect(re.search(r"\.kept, [^{]*\{ break-inside: avoid; \}", text) is not None, "the style doesn't keep boxes whole")
+    expect(
+        re.search(r"\.kept, [^{]*\{ break-inside: avoid; \}", text) is not None, "the style doesn't keep boxes whole"
+    )
     for before in text.split("<figure>")[:-1]:
         heading = max(before.rfind("<h2"), before.rfind("<h3"))
         box = before.rfind('class="kept"')

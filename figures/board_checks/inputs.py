@@ -50,12 +50,18 @@ BAD = {
     "a sign": (HEAD + "AAA,-5,1\n", ["line 2, votes: '-5' is no whole number"]),
     "more than 2^40 votes": (HEAD + "AAA,1099511627777,1\n", ["line 2, votes: '1099511627777' is more than 2^40"]),
     "a code twice": (HEAD + "AAA,1,1\nBBB,1,1\naaa,1,1\n", ["line 4: the code AAA stands on line 2 already"]),
-    "marks that differ": (HEAD + "AAA,\"1'000,000\",1\n", ["line 2, votes: \"1'000,000\" is no whole number"]),
+    "marks that differ": (HEAD + 'AAA,"1\'000,000",1\n', ['line 2, votes: "1\'000,000" is no whole number']),
     "a point between thousands, with commas": (HEAD + "AAA,40.000,1\n", ["line 2, votes: '40.000' is no whole"]),
     "a comma that cuts a number": (HEAD + "AAA,40,000,1\n", ["line 2: 4 cells under a header of 3"]),
     "a row cut short": (HEAD + "AAA\n", ["line 2, votes: '' is no whole number"]),
-    "a line's end in a cell": (HEAD + '"AAA",1,1\n"B\nB",2,1\n"CCC",x,1\n', ["line 3: 'B\\nB' is no", "line 5, votes: 'x'"]),
-    "a quote that isn't closed": (HEAD + 'AAA,1,1\n"BBB,2,1\n', ["line 3: a record that begins here isn't well formed"]),
+    "a line's end in a cell": (
+        HEAD + '"AAA",1,1\n"B\nB",2,1\n"CCC",x,1\n',
+        ["line 3: 'B\\nB' is no", "line 5, votes: 'x'"],
+    ),
+    "a quote that isn't closed": (
+        HEAD + 'AAA,1,1\n"BBB,2,1\n',
+        ["line 3: a record that begins here isn't well formed"],
+    ),
     "257 members": (
         HEAD + "".join(f"{chr(65 + k // 26)}{chr(65 + k % 26)}A,1,1\n" for k in range(257)),
         ["line 258: a member too many: there are 257, and 256 at most"],
@@ -89,7 +95,9 @@ def check_bad(place: Place, table: bytes, problems: list[str]) -> None:
 
 def check_names(place: Place) -> None:
     """Names are kept: the table's, and for a chair without one its member with the most votes. Other files stay."""
-    table = "code,name,votes,chair,chair_name\nAAA,Alland,5,1,Hills\nBBB,Belland,7,2,\nCCC,\"C, D\",9,2,\nDDD,Delland,1,,\n"
+    table = (
+        'code,name,votes,chair,chair_name\nAAA,Alland,5,1,Hills\nBBB,Belland,7,2,\nCCC,"C, D",9,2,\nDDD,Delland,1,,\n'
+    )
     with place.folder() as folder:
         members, chairs = Path(folder, "members.csv"), Path(folder, "chairs.csv")
         words = ["-", "--member-names", str(members), "--chair-names", str(chairs)]

@@ -13,7 +13,14 @@ from .place import TOP, Case, Place, expect, expect_good, expect_refused, has, r
 
 FRACTIONS = ["banzhaf", "power_share", "prevent", "initiate"]
 # Of which outputs the page is made, too: that takes longer than the table.
-PAGES = ["three-chairs", "twenty-four-chairs", "no-chair-open", "all-suspended", "three-chairs-quorum", "read-before-publish"]
+PAGES = [
+    "three-chairs",
+    "twenty-four-chairs",
+    "no-chair-open",
+    "all-suspended",
+    "three-chairs-quorum",
+    "read-before-publish",
+]
 
 
 def made(place: Place, output: bytes, *words: str, times: int = 1) -> dict[str, str]:
@@ -64,7 +71,7 @@ def check_table(text: str, output: bytes) -> None:
 
 
 def check_page(text: str, output: bytes) -> None:
-    """Looks at the page: a section, a chart and a table for each reading, and the exact numbers in cells of their own."""
+    """Looks at the page: section, chart and table of each reading, and exact numbers in cells of their own."""
     lines = [line.split(",") for line in output.decode().splitlines()]
     readings = [line for line in lines if line[0] == "reading"]
     page = check_frame(text, {line[3] for line in readings})
@@ -102,54 +109,56 @@ def good_outputs(place: Place) -> dict[str, bytes]:
     return found
 
 
+UNKNOWN, FAULT = "not a line of the output of `board replay`", "the run of board ended in a fault"
+FEWER = "the reading on line 8 has 3 open chairs, and the lines of only 2"
+# What is changed in the output of examples/three-chairs.csv: a name, the old bytes, the new ones, and the message.
+CHANGES = [
+    ("another line before a chair's", b"chair,3,", b"accepted,7\nchair,3,", f"line 11: {FEWER}"),
+    ("a chair twice", b"chair,2,", b"chair,1,", "line 10: chair 1 is out of order"),
+    ("chair 33", b"chair,3,", b"chair,33,", "line 11: chair 33 is out of order"),
+    ("a field too few", b",3/5,3/3,", b",3/3,", f"line 9: {UNKNOWN}"),
+    ("a field too many", b"chair,1,50,", b"chair,1,50,50,", f"line 9: {UNKNOWN}"),
+    ("a decimal in place of a fraction", b"3/4", b"0.75", f"line 9: {UNKNOWN}"),
+    ("a zero before a number", b"chair,1,50,", b"chair,1,050,", f"line 9: {UNKNOWN}"),
+    ("a very long number", b"chair,1,50,", b"chair,1," + b"5" * 5000 + b",", f"line 9: {UNKNOWN}"),
+    ("a fraction over 0", b"3/4", b"3/0", "line 9: BANZHAF doesn't fit the other numbers: 3/4"),
+    ("a reduced fraction", b"3/3", b"1/1", "line 9: PREVENT doesn't fit the other numbers: 3/3"),
+    ("another share", b",1/5,1/3,", b",2/5,1/3,", "line 10: SHARE doesn't fit the other numbers: 1/5"),
+    ("an absent share", b",1/5,1/3,", b",-,1/3,", "line 10: SHARE doesn't fit the other numbers: 1/5"),
+    ("another weight", b"chair,1,50,", b"chair,1,51,", "line 8: the chairs' votes don't add up"),
+    ("another number of coalitions", b",3,8\n", b",3,16\n", "line 8: the numbers of coalitions"),
+    ("a command's line missing", b"accepted,2\n", b"", "line 2: accepted,3 where accepted,2 comes"),
+    ("a reading of the future", b"reading,1,6,", b"reading,1,7,", "line 8: a reading of the register after 7"),
+    ("another majority", b",half,", b",50,", f"line 8: {UNKNOWN}"),
+]
+
+
 def bad_inputs(place: Place) -> list[tuple[str, bytes, str]]:
     """Inputs that are no whole output of `board replay`, and how the message must begin."""
     source = (TOP / "examples" / "three-chairs.csv").read_bytes()
     good = place.board(source)
     trace = place.run(place.program, "trace", given=(TOP / "examples" / "reader-in-the-way.csv").read_bytes()).stdout
     serve = place.run(place.program, "serve", given=(TOP / "examples" / "three-publications.csv").read_bytes()).stdout
-    unknown, fault = "not a line of the output of `board replay`", "the run of board ended in a fault"
-    fewer = "the reading on line 8 has 3 open chairs, and the lines of only 2"
     more = good + b"chair,4,1,1,1/4,1/5,1/3,1/5\n"
-
-    def changed(old: bytes, new: bytes) -> bytes:
-        expect(old in good, f"{old!r} isn't in the output")
-        return good.replace(old, new, 1)
-
-    return [
+    expect(all(old in good for _, old, _, _ in CHANGES), f"what is changed isn't in the output: {good!r}")
+    changed = [(name, good.replace(old, new, 1), message) for name, old, new, message in CHANGES]
+    return changed + [
         ("nothing", b"", "there is nothing on the input"),
-        ("an empty line", b"\n", f"line 1: {unknown}"),
-        ("the input in place of the output", source, f"line 1: {unknown}"),
-        ("a line of another program", b"hello\n", f"line 1: {unknown}"),
-        ("bytes that are no text", b"accepted,1\n\xff\xfe\x00\n", f"line 2: {unknown}"),
+        ("an empty line", b"\n", f"line 1: {UNKNOWN}"),
+        ("the input in place of the output", source, f"line 1: {UNKNOWN}"),
+        ("a line of another program", b"hello\n", f"line 1: {UNKNOWN}"),
+        ("bytes that are no text", b"accepted,1\n\xff\xfe\x00\n", f"line 2: {UNKNOWN}"),
         ("no reading", b"accepted,1\npublished,1\n", "there is no reading in it"),
-        ("a fault", place.board(source + b"open,33\n"), f"line 12: {fault}, BadRecord at record 14"),
-        ("a fault at once", place.board(b""), f"line 1: {fault}, BadHeader"),
+        ("a fault", place.board(source + b"open,33\n"), f"line 12: {FAULT}, BadRecord at record 14"),
+        ("a fault at once", place.board(b""), f"line 1: {FAULT}, BadHeader"),
         ("an output of trace", trace, "line 2: a line of `board trace` or `board serve`"),
         ("an output of serve", serve, "line 7: a line of `board trace` or `board serve`"),
         ("a last line without its end", good[:-1], "line 11: the last line has no end"),
         ("a line cut in the middle", good[:-10], "line 11: the last line has no end"),
-        ("a chair's line missing", good[: good.rindex(b"chair,")], f"line 11: {fewer}"),
-        ("another line before a chair's", changed(b"chair,3,", b"accepted,7\nchair,3,"), f"line 11: {fewer}"),
+        ("a chair's line missing", good[: good.rindex(b"chair,")], f"line 11: {FEWER}"),
         ("a chair's line too many", more, "line 12: a chair's line that belongs to no reading"),
-        ("a chair twice", changed(b"chair,2,", b"chair,1,"), "line 10: chair 1 is out of order"),
-        ("chair 33", changed(b"chair,3,", b"chair,33,"), "line 11: chair 33 is out of order"),
-        ("a field too few", changed(b",3/5,3/3,", b",3/3,"), f"line 9: {unknown}"),
-        ("a field too many", changed(b"chair,1,50,", b"chair,1,50,50,"), f"line 9: {unknown}"),
-        ("a decimal in place of a fraction", changed(b"3/4", b"0.75"), f"line 9: {unknown}"),
-        ("a zero before a number", changed(b"chair,1,50,", b"chair,1,050,"), f"line 9: {unknown}"),
-        ("a very long number", changed(b"chair,1,50,", b"chair,1," + b"5" * 5000 + b","), f"line 9: {unknown}"),
-        ("a fraction over 0", changed(b"3/4", b"3/0"), "line 9: BANZHAF doesn't fit the other numbers: 3/4"),
-        ("a reduced fraction", changed(b"3/3", b"1/1"), "line 9: PREVENT doesn't fit the other numbers: 3/3"),
-        ("another share", changed(b",1/5,1/3,", b",2/5,1/3,"), "line 10: SHARE doesn't fit the other numbers: 1/5"),
-        ("an absent share", changed(b",1/5,1/3,", b",-,1/3,"), "line 10: SHARE doesn't fit the other numbers: 1/5"),
-        ("another weight", changed(b"chair,1,50,", b"chair,1,51,"), "line 8: the chairs' votes don't add up"),
-        ("another number of coalitions", changed(b",3,8\n", b",3,16\n"), "line 8: the numbers of coalitions"),
-        ("a command's line missing", changed(b"accepted,2\n", b""), "line 2: accepted,3 where accepted,2 comes"),
-        ("a reading of the future", changed(b"reading,1,6,", b"reading,1,7,"), "line 8: a reading of the register after 7"),
-        ("another majority", changed(b",half,", b",50,"), f"line 8: {unknown}"),
-        ("CRLF", good.replace(b"\n", b"\r\n"), f"line 1: {unknown}"),
-        ("a byte order mark", b"\xef\xbb\xbf" + good, f"line 1: {unknown}"),
+        ("CRLF", good.replace(b"\n", b"\r\n"), f"line 1: {UNKNOWN}"),
+        ("a byte order mark", b"\xef\xbb\xbf" + good, f"line 1: {UNKNOWN}"),
     ]
 
 
@@ -171,12 +180,17 @@ def check_stale(place: Place) -> None:
     rows = list(csv.DictReader(io.StringIO(texts["it.readings.csv"])))
     expect([row["pending"] for row in rows] == ["2", "0", "0"], f"pending: {rows}")
     page = " ".join(texts["it.html"].split())
-    expect(page.count("A stale reading") == 1 and "2 commands pending" in page, "the page doesn't mark the stale reading")
+    expect(
+        page.count("A stale reading") == 1 and "2 commands pending" in page, "the page doesn't mark the stale reading"
+    )
     expect("1 command refused, the first by ChairOpen" in page, "the page doesn't tell of the refused command")
     with place.folder() as folder:
         done = place.script("board_figures", f"{folder}/it", "--strict", given=output)
         expect_refused(done, "board_figures", "line 4: a command was refused, ChairOpen", folder)
-        expect(b"line 6: a stale reading: it sees 1 commands; accepted and not published: 2 more" in done.stderr, done.stderr.decode())
+        expect(
+            b"line 6: a stale reading: it sees 1 commands; accepted and not published: 2 more" in done.stderr,
+            done.stderr.decode(),
+        )
     good = place.board((TOP / "examples" / "three-chairs.csv").read_bytes())
     expect("stale" not in made(place, good, "--strict")["it.html"].split("</style>")[1].split("<h2")[0], "a warning")
 
@@ -188,7 +202,9 @@ def check_interpreter(place: Place) -> None:
     expect(venv.returncode == 0, f"no environment without libraries: {venv.stderr}")
     good = place.board((TOP / "examples" / "three-chairs.csv").read_bytes())
     with place.folder() as folder:
-        done = place.run(str(lone / "bin" / "python"), "figures/board_figures", f"{folder}/it", "--no-charts", given=good)
+        done = place.run(
+            str(lone / "bin" / "python"), "figures/board_figures", f"{folder}/it", "--no-charts", given=good
+        )
         if has("/usr/bin/python3", "pandas"):
             expect_good(done)
             expect(os.listdir(folder) == ["it.readings.csv"], f"files: {os.listdir(folder)}")
@@ -231,7 +247,9 @@ def check_words(place: Place, good: bytes) -> None:
     expect(shown.returncode == 0 and b"For example:" in shown.stdout, "no help")
     with place.folder() as folder:
         Path(folder, "output.txt").write_bytes(good)
-        done = place.script("board_figures", f"{folder}/it", "--from", f"{folder}/output.txt", "--title", "Votes & <power>")
+        done = place.script(
+            "board_figures", f"{folder}/it", "--from", f"{folder}/output.txt", "--title", "Votes & <power>"
+        )
         expect(done.returncode == 0, done.stderr.decode())
         expect("<title>Votes &amp; &lt;power&gt;</title>" in Path(folder, "it.html").read_text(), "the title")
     done = place.script("board_figures", "it", "--from", "not-there.txt")
@@ -251,7 +269,9 @@ def check_names(place: Place, good: bytes) -> None:
             Path(folder, "names.csv").write_text(wrong)
             done = place.script("board_figures", f"{folder}/more", "--chair-names", f"{folder}/names.csv", given=good)
             line = wrong.count("\n")
-            expect(done.returncode == 1 and f"line {line}: ".encode() in done.stderr, f"{wrong!r}: {done.stderr.decode()}")
+            expect(
+                done.returncode == 1 and f"line {line}: ".encode() in done.stderr, f"{wrong!r}: {done.stderr.decode()}"
+            )
 
 
 def cases(place: Place) -> list[Case]:

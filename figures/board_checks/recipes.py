@@ -1,4 +1,4 @@
-"""The recipes of docs/USING.md and docs/VALIDATION.md, and the lines of docs/FORMATS.md that are refused, run and compared with what they say."""
+"""The recipes of documents, and the lines of docs/FORMATS.md that are refused: run, compared with what they say."""
 from __future__ import annotations
 
 import re
@@ -10,7 +10,7 @@ BLOCK = re.compile(r"^```(\w+)\n(.*?)^```$", re.MULTILINE | re.DOTALL)
 
 
 def recipes(document: str) -> list[tuple[int, str, str, str]]:
-    """The blocks of a document that can be pasted: the line, the language, the text, and the `text` block right below, or nothing."""
+    """The blocks of a document that can be pasted: line, language, text, and the `text` block right below, if any."""
     text = (TOP / "docs" / document).read_text()
     blocks = list(BLOCK.finditer(text))
     found = []

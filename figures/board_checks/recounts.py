@@ -12,7 +12,9 @@ def check_drawn(place: Place, seed: int, chairs: int) -> None:
     done = place.script("board_recount", given=output)
     lines = done.stdout.decode().splitlines()
     expect(done.returncode == 0 and len(lines) == 4, f"{done.stdout.decode()}{done.stderr.decode()}")
-    expect(all(f"{chairs} chairs, {2**chairs:,} coalitions" in line and " agree " in line for line in lines), f"{lines}")
+    expect(
+        all(f"{chairs} chairs, {2**chairs:,} coalitions" in line and " agree " in line for line in lines), f"{lines}"
+    )
 
 
 def check_games(place: Place) -> None:
@@ -33,7 +35,9 @@ def check_changed(place: Place) -> None:
         expect(done.returncode == 1 and message in done.stdout, done.stdout.decode())
     shifted = b"chair,1,50,2,2/4,2/4,2/3,2/5\nchair,2,49,1,1/4,1/4,1/3,1/5\nchair,3,1,1,1/4,1/4,1/3,1/5\n"
     done = place.script("board_recount", given=good[: good.index(b"chair,")] + shifted)
-    expect(done.returncode == 1 and b"the swings of chair 1 are 2 in the output and 3" in done.stdout, done.stdout.decode())
+    expect(
+        done.returncode == 1 and b"the swings of chair 1 are 2 in the output and 3" in done.stdout, done.stdout.decode()
+    )
     done = place.script("board_recount", given=good[:-1])
     expect(done.returncode == 1 and b"line 11: the last line has no end" in done.stderr, done.stderr.decode())
 

@@ -102,7 +102,12 @@ def check_good(place: Place) -> None:
         page, again = check_frame(text, set(AT)), study(place, folder, *all_words(), "--title", "Alland & others")
         expect(again.returncode == 0 and Path(folder, "it.html").read_text() == text, "a second run gives another page")
     titles = " ".join(" ".join(pictures_of(page)).split())
-    for label in ["Base: shares of power", "AAA +30%: what is added", f"{SWEEP}: chair 1 Alland", "other chairs' power at 85"]:
+    for label in [
+        "Base: shares of power",
+        "AAA +30%: what is added",
+        f"{SWEEP}: chair 1 Alland",
+        "other chairs' power at 85",
+    ]:
         expect(label in titles.replace("&amp;", "&"), f"no chart is titled {label!r}")
     expect("2 Hills" in titles and "votes of AAA, per cent of the total voting power" in titles, "no names on the axes")
     expect("<code>votes,AAA,52</code>" in text and "Alland &amp; others" in text, "the page doesn't say the commands")
@@ -114,21 +119,39 @@ def check_good(place: Place) -> None:
 
 # What goes wrong, the words, and how the message begins.
 BAD = [
-    ("a refused command", ["--scenario", "Mexico: move,AAA,9"], "scenario 'Mexico': the command move,AAA,9 was refused: "
-     "ChairNotOpen, the chair is not open (docs/FORMATS.md)"),
-    ("an unknown member", ["--scenario", "x: votes,ZZZ,5"], "scenario 'x': the command votes,ZZZ,5 was refused: "
-     "UnknownMember, no member has this code"),
-    ("a fault", ["--scenario", "good: suspend,AAA", "--scenario", "bad: suspend,AAA,2"], "scenario 'bad': the command "
-     "suspend,AAA,2 is a fault: BadRecord, a record is not well formed (docs/FORMATS.md)"),
-    ("the second command", ["--scenario", "two: suspend,AAA; move,AAA,2"], "scenario 'two': the command move,AAA,2 was "
-     "refused: MemberSuspended, the member's voting rights are suspended"),
+    (
+        "a refused command",
+        ["--scenario", "Mexico: move,AAA,9"],
+        "scenario 'Mexico': the command move,AAA,9 was refused: "
+        "ChairNotOpen, the chair is not open (docs/FORMATS.md)",
+    ),
+    (
+        "an unknown member",
+        ["--scenario", "x: votes,ZZZ,5"],
+        "scenario 'x': the command votes,ZZZ,5 was refused: " "UnknownMember, no member has this code",
+    ),
+    (
+        "a fault",
+        ["--scenario", "good: suspend,AAA", "--scenario", "bad: suspend,AAA,2"],
+        "scenario 'bad': the command "
+        "suspend,AAA,2 is a fault: BadRecord, a record is not well formed (docs/FORMATS.md)",
+    ),
+    (
+        "the second command",
+        ["--scenario", "two: suspend,AAA; move,AAA,2"],
+        "scenario 'two': the command move,AAA,2 was "
+        "refused: MemberSuspended, the member's voting rights are suspended",
+    ),
     ("no label", ["--scenario", "votes,AAA,5"], "--scenario 'votes,AAA,5' isn't of the form"),
     ("no command", ["--scenario", "label:"], "--scenario 'label:' isn't of the form"),
     ("no command of a scenario", ["--scenario", "x: publish"], "--scenario 'x: publish': 'publish' is no command"),
     ("a label twice", ["--scenario", "x: open,4", "--scenario", "x: open,5"], "two scenarios have the label 'x'"),
     ("the base's label", ["--scenario", "base: open,4"], "two scenarios have the label 'base'"),
-    ("per cent of an unknown member", ["--scenario", "x: votes,ZZZ,+5%"], "scenario 'x': the command votes,ZZZ,+5%: no "
-     "member has the code ZZZ"),
+    (
+        "per cent of an unknown member",
+        ["--scenario", "x: votes,ZZZ,+5%"],
+        "scenario 'x': the command votes,ZZZ,+5%: no " "member has the code ZZZ",
+    ),
     ("all of the total", ["--scenario", "x: votes,AAA,100%"], "scenario 'x': the command votes,AAA,100%: no number"),
     ("less than nothing", ["--scenario", "x: votes,AAA,-200%"], "scenario 'x': the command votes,AAA,-200%: -40 votes"),
     ("no sweep", ["--sweep", "AAA 10-20"], "--sweep 'AAA 10-20' isn't of the form"),

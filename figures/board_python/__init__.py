@@ -1,1 +1,1 @@
-"""What stands beside `board`, over Debian's Python: inputs from tables of members, studies, tables, charts and pages."""
+"""What stands beside `board`, over Debian's Python: inputs, studies, tables, charts and pages."""

@@ -13,7 +13,13 @@ from matplotlib.figure import Figure
 from matplotlib.lines import Line2D
 
 matplotlib.rcParams.update(
-    {"svg.hashsalt": "board", "svg.fonttype": "none", "font.family": "sans-serif", "font.size": 10, "text.color": "#222222"}
+    {
+        "svg.hashsalt": "board",
+        "svg.fonttype": "none",
+        "font.family": "sans-serif",
+        "font.size": 10,
+        "text.color": "#222222",
+    }
     | {"axes.labelcolor": "#222222", "xtick.color": "#222222", "ytick.color": "#222222", "axes.edgecolor": "#222222"}
     | {"axes.spines.top": False, "axes.spines.right": False, "axes.grid": True, "grid.color": "#d8d8d8"}
     | {"grid.linewidth": 0.6, "axes.axisbelow": True}
@@ -66,7 +72,9 @@ class Chart:
         handles, labels = self.axes.get_legend_handles_labels()
         sizes = {"fontsize": 9.5, "handlelength": 1.5, "handletextpad": 0.4, "columnspacing": 1.0, "labelspacing": 0.25}
         place = {"loc": "upper left", "bbox_to_anchor": (0, self.legend_top), "borderaxespad": 0}
-        legend = self.figure.legend(handles, [short(label) for label in labels], ncol=3, frameon=False, **sizes, **place)
+        legend = self.figure.legend(
+            handles, [short(label) for label in labels], ncol=3, frameon=False, **sizes, **place
+        )
         for handle in legend.legendHandles:
             handle.set_linewidth(min(handle.get_linewidth(), 6) if isinstance(handle, Line2D) else 6)
         picture = io.BytesIO()
@@ -125,10 +133,14 @@ def difference_bars(title: str, names: Sequence[str], series: Sequence[Series]) 
     places = range(len(names))
     for one, offset in zip(series, offsets(len(series), 0.8 / len(series))):
         heights = [place + offset for place in places]
-        chart.axes.hlines(heights, 0, one.values, colors=one.colour, linewidth=row * 0.8 / len(series) - 0.4, label=one.label)
+        chart.axes.hlines(
+            heights, 0, one.values, colors=one.colour, linewidth=row * 0.8 / len(series) - 0.4, label=one.label
+        )
     chart.axes.axvline(0, color="#222222", linewidth=0.8)
     add_names(chart.axes, names)
-    chart.axes.set_xlabel("percentage points added to the base: votes of the\nvotes cast, power of the swings of all chairs")
+    chart.axes.set_xlabel(
+        "percentage points added to the base: votes of the\nvotes cast, power of the swings of all chairs"
+    )
     return chart.svg()
 
 

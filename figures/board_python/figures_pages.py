@@ -60,7 +60,8 @@ def chart_of(number: int, reading: Reading, names: Mapping[int, str]) -> str:
     title = f"{capital(MAJORITIES[reading.majority])}, after {commands(reading.front)}{stale}: quota {reading.quota:,}"
     picture = dot_plot(title, labels, vote_shares(reading, order), [power_shares(reading, order)])
     absent = "" if reading.swings() else " No chair has a swing, so none has a share of power."
-    caption = f"Reading {number}: share of power (dots) on the share of votes (bars).{absent} Power: normalised Banzhaf index (Banzhaf 1965)."
+    caption = f"Reading {number}: share of power (dots) on the share of votes (bars).{absent}"
+    caption += " Power: normalised Banzhaf index (Banzhaf 1965)."
     return figure_of(picture, alternative(reading), caption)
 
 

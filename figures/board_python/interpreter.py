@@ -19,7 +19,7 @@ def system_has(libraries: list[str]) -> bool:
 
 
 def need(*libraries: str) -> None:
-    """Goes on where this Python has the libraries; else lets the system's run the script; else ends it, with status 1."""
+    """Goes on where this Python has the libraries; else the system's runs the script; else it ends with status 1."""
     missing = [name for name in libraries if importlib.util.find_spec(name) is None]
     if not missing:
         return

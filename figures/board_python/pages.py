@@ -1,4 +1,4 @@
-"""Pages of HTML that need no other file: their frame, tables that can be sorted, figures, and what they say of sources."""
+"""Pages of HTML that need no other file: their frame, sortable tables, figures, and what they say of sources."""
 from __future__ import annotations
 
 import html
@@ -18,24 +18,35 @@ MAJORITIES = {
 ARTICLES = {
     "half": "Article XII, Section 5(c): the rule, unless otherwise specifically provided",
     "70": "Article XXVI, Section 2(b): an example of a decision that asks for it",
-    "85": "Article III, Section 2(c): an example of a decision that asks for it. Changes of quotas are decided by the Board "
-    "of Governors, so the figures say what blocks of votes would be worth under this majority",
+    "85": "Article III, Section 2(c): an example of a decision that asks for it. Changes of quotas are decided by the "
+    "Board of Governors, so the figures say what blocks of votes would be worth under this majority",
     "quorum": "Article XII, Section 3(h): the quorum of a meeting",
 }
 ROUNDING = f"""
 <h2 id="rounding">Exact and rounded</h2>
-<p>Whole numbers are those that <code>board replay</code> printed. Each fraction is exact and not reduced: the numerator of
-a share of votes is the chair's votes, that of each power its swings, and the denominators have columns of their own. The
-decimals are this page's: each is its exact fraction, rounded once, half to even: percentages and percentage points to
-{PERCENT_PLACES} places, other decimals to {PAGE_PLACES}, those of the table beside this page to {TABLE_PLACES}. So
+<p>Whole numbers are those that <code>board replay</code> printed. Each fraction is exact and not reduced: the numerator
+of a share of votes is the chair's votes, that of each power its swings, and the denominators have columns of their own.
+The decimals are this page's: each is its exact fraction, rounded once, half to even: percentages and percentage points
+to {PERCENT_PLACES} places, other decimals to {PAGE_PLACES}, those of the table beside this page to {TABLE_PLACES}. So
 rounded numbers needn't add up to just 100. A cell is empty where a number is missing.</p>
 """
 POWER_HEADERS = ["Votes", "Share of votes, %", "Share of power, %", "Banzhaf measure", "To prevent", "To initiate"]
 POWER_HEADERS += ["Swings: the numerator of each power", "Denominator of the share of votes: the votes cast"]
 POWER_HEADERS += ["Denominator of the share of power: the swings of all chairs"]
 POWER_HEADERS += ["Denominator of the Banzhaf measure: the sets of other chairs"]
-POWER_HEADERS += ["Denominator of to prevent: the winning coalitions", "Denominator of to initiate: the losing coalitions"]
-BOARD_HEADERS = ["Open chairs", "Quota", "Votes cast", "Total voting power", "Winning coalitions", "Coalitions", "Power to act"]
+POWER_HEADERS += [
+    "Denominator of to prevent: the winning coalitions",
+    "Denominator of to initiate: the losing coalitions",
+]
+BOARD_HEADERS = [
+    "Open chairs",
+    "Quota",
+    "Votes cast",
+    "Total voting power",
+    "Winning coalitions",
+    "Coalitions",
+    "Power to act",
+]
 
 
 def capital(text: str) -> str:
@@ -56,7 +67,8 @@ def page_of(script: str, title: str, body: str) -> str:
     title = html.escape(title)
     style, code, text = ((HERE / name).read_text() for name in ["page.css", "page.js", "page_text.html"])
     return (
-        f'{page_start(script)}<meta name="viewport" content="width=device-width, initial-scale=1">\n<title>{title}</title>\n'
+        f'{page_start(script)}<meta name="viewport" content="width=device-width, initial-scale=1">\n'
+        f"<title>{title}</title>\n"
         f"<style>\n{style}</style>\n</head>\n<body>\n<main>\n<h1>{title}</h1>\n{body}{ROUNDING}{text}</main>\n"
         f"<script>\n{code}</script>\n</body>\n</html>\n"
     )
@@ -76,7 +88,8 @@ def table_of(caption: str, headers: Sequence[str], rows: Iterable[Sequence[objec
     caption = html.escape(caption)
     return (
         f'<div class="scroll" tabindex="0" role="region" aria-label="{caption}">\n<table class="sortable">\n'
-        f"<caption>{caption}</caption>\n<thead><tr>{heads}</tr></thead>\n<tbody>\n{''.join(lines)}</tbody>\n</table>\n</div>\n"
+        f"<caption>{caption}</caption>\n<thead><tr>{heads}</tr></thead>\n"
+        f"<tbody>\n{''.join(lines)}</tbody>\n</table>\n</div>\n"
     )
 
 

@@ -56,7 +56,7 @@ class Program:
             raise BadInput(f"{what}: {self.why(found[2])}")
 
     def check_refusals(self, records: list[str], lines: list[str]) -> None:
-        """Looks for the first refused command: each record of the script has one line, readings have their chairs' too."""
+        """Looks for the first refused command: each record of the script has one line, beside chairs' lines."""
         script = records[records.index("script") + 1 :]
         answers = [line for line in lines if not line.startswith("chair,")]
         for command, answer in zip(script, answers):

@@ -104,7 +104,9 @@ def add_reading(output: Output, found: re.Match[str], line: int) -> None:
     reader, front, majority, *counts = found.groups()
     reading = Reading(line, int(reader), int(front), majority, *map(int, counts))
     if reading.front != output.published:
-        raise BadInput(f"a reading of the register after {front} commands, where {output.published} are published", line)
+        raise BadInput(
+            f"a reading of the register after {front} commands, where {output.published} are published", line
+        )
     reading.pending = output.accepted - reading.front
     output.readings.append(reading)
 

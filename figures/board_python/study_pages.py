@@ -38,7 +38,9 @@ def base_section(study: Study) -> str:
     title = f"Base: shares of power at {', '.join(study.majorities)} beside the share of the votes"
     names = [axis_name(study, number) for number in order]
     picture = dot_plot(title, names, vote_shares(readings[0], order), powers)
-    text = f"Dot plot of {len(order)} chairs, the one with the most votes on top. The tables below have all its numbers."
+    text = (
+        f"Dot plot of {len(order)} chairs, the one with the most votes on top. The tables below have all its numbers."
+    )
     caption = "The register of the table. Power: normalised Banzhaf index (Banzhaf 1965), at each majority."
     return f'<section class="kept">\n<h2>The base</h2>\n{figure_of(picture, text, caption)}</section>\n'
 

@@ -35,7 +35,7 @@ def add_table_words(parser: argparse.ArgumentParser) -> None:
         "--thousands",
         metavar="MARK",
         type=thousands_mark,
-        help="the mark between thousands, beside apostrophe and blank (default: a comma; in a table with semicolons, a point)",
+        help="what parts thousands, beside apostrophe and blank (default: a comma; with semicolons, a point)",
     )
 
 
@@ -56,4 +56,3 @@ def out_name(text: str) -> str:
     if Path(text).suffix in (".csv", ".html") or not Path(text).name or text.endswith("/"):
         raise argparse.ArgumentTypeError(f"{text!r}: OUT is a name without .csv and .html, such as out/power")
     return text
-
