@@ -10,7 +10,7 @@ use Rattle.council_core.specs.Sequential.{AreCuts, Call, Sequential, publish, re
 use Rattle.majority_rule.specs.declared.majorities.Majority.{Majority}
 use Rattle.two_copy_steps.specs.Lawful.{last_front}
 use Rattle.board_share.specs.Analysts.{Asking}
-use Rattle.board_share.specs.Openings.{new_publisher}
+use Rattle.board_share.specs.Openings.{beginning_of, new_publisher}
 use Rattle.board_share.specs.Readers.{IsLegalSheet, Pass, new_pass}
 use Rattle.board_share.specs.Writers.{Publisher}
 use Rattle.board_text.specs.Replies.{reply_of}
@@ -61,7 +61,7 @@ opening-kept s (call ∷ calls) = opening-kept (respond s call).0 calls ∙ kept
 -- what a reader that has read nothing read, and what it was asked
 pub record Answers (p : Planned) (place : ℕ) (asked : List Majority) (a : Asked) : Type 0 where
   pub before : Asking
-  pub is_new : before.reader ≡ new_pass p.0.ledger.opening place
+  pub is_new : before.reader ≡ new_pass (beginning_of p.0.ledger 2) place
   pub so_far : IsReadFrom before a.analyst a.readings
   pub done : IsRead asked a.readings
 

@@ -1,7 +1,7 @@
 //! A board with its writer and two readers, each with its work.
 ghost use Rattle.std.specs.Prelude.{◌≡◌, ◌<◌, ◌^◌, ◌∷◌, [], length, vec_len, IfOk, IsOkUnless};
 ghost use Rattle.two_copy_steps.specs.declared.views.Stage.TheVariants.{AtRest};
-ghost use Rattle.board_share.specs.Openings.{new_publisher};
+ghost use Rattle.board_share.specs.Openings.{beginning_of, new_publisher};
 ghost use Rattle.board_share.specs.Readers.{new_pass};
 ghost use Rattle.board_serve.specs.Parts.{shares_of, size_of};
 ghost use Rattle.board_serve.specs.Threads.{CanAsk, CanWrite};
@@ -72,8 +72,8 @@ pub(crate) fn seat_all(alloc: Global, register: Register, parts: Parts) -> Resul
     ensures ready { IfOk result (λ s. CanWrite s.writing × CanAsk s.first × CanAsk s.second) }
     ensures writer { IfOk result (λ s. s.writing.writer ≡ new_publisher register 2) }
     ensures orders { IfOk result (λ s. s.writing.orders ≡ parts.writer) }
-    ensures reader_1 { IfOk result (λ s. s.first.analyst.reader ≡ new_pass register.opening 0) }
-    ensures reader_2 { IfOk result (λ s. s.second.analyst.reader ≡ new_pass register.opening 1) }
+    ensures reader_1 { IfOk result (λ s. s.first.analyst.reader ≡ new_pass (beginning_of register 2) 0) }
+    ensures reader_2 { IfOk result (λ s. s.second.analyst.reader ≡ new_pass (beginning_of register 2) 1) }
     ensures asked { IfOk result (λ s. (s.first.asked ≡ parts.first) × (s.second.asked ≡ parts.second)) }
     ensures memory { IsOkUnless result stop.OutOfMemory }
 {

@@ -1,16 +1,21 @@
 -- The words of a sheet stored one behind the other.
-use Rattle.std.proofs.Common.{◌≡◌, ℕ, ◌+◌, ◌<◌, Bool, cond, None, Some, get_or, refl, sym, ap, ◌∙◌, subst, arith, ne_eqb}
+use Rattle.std.proofs.Common.{◌≡◌, ℕ, ◌+◌, ◌<◌, Bool, cond, List, None, Some, get_or, refl, sym, ap, ◌∙◌, subst, arith, ne_eqb}
+use Rattle.std.proofs.lemmas.List.{replicate-append-replicate}
 use Rattle.atomic_table.specs.Table.{Me}
 use Rattle.atomic_table.specs.Seated.{TableId}
 use Rattle.council_core.specs.Rolls.{Opening, sheet}
 use Rattle.council_core.specs.Ledgers.{Ledger, sheet_of}
+use Rattle.two_copy_steps.specs.declared.events.Event.{Event}
+use Rattle.two_copy_steps.specs.declared.events.Event.TheVariants.{Writer}
 use Rattle.two_copy_steps.specs.declared.views.WriterView.{WriterView}
 use Rattle.two_copy_steps.specs.declared.views.Phase.TheVariants.{Filling, Swapping}
 use Rattle.two_copy_steps.specs.Deeds.{Deed, place, writer_deed}
 use Rattle.two_copy_steps.proofs.ReaderSteps.{place_low}
 use Rattle.board_share.specs.declared.views.View.{View}
-use Rattle.board_share.specs.Steps.{with_writer}
-use Rattle.board_share.specs.Writers.{MayFill, MayWrite, at_word, next_deed, next_me, writer_or}
+use Rattle.board_share.specs.Histories.{Adds, KnowsAfter, is_writers}
+use Rattle.board_share.specs.Steps.{WriterActed, with_writer}
+use Rattle.board_share.specs.Writers.{FilledTo, MayFill, MayWrite, at_word, next_deed, next_me, writer_or}
+use Rattle.board_share.proofs.Fronts.{adds_none, adds_then}
 
 module _ (table seat : TableId) (me : Me Unit View) (l : Ledger) (copy k : ℕ) (h : MayFill table seat me l copy k) (short : k < 34) where
   abbrev w : Opening × WriterView
@@ -20,10 +25,10 @@ module _ (table seat : TableId) (me : Me Unit View) (l : Ledger) (copy k : ℕ) 
   abbrev filling : WriterView
   filling = record w.1 { state = record w.1.state { phase = Filling k } }
 
-  at : me ≡ (with_writer me.0 w.0 filling, me.1)
+  at : me ≡ (with_writer me.0 w.0 filling me.0.history, me.1)
   at =
       h.next
-      ∙ ap (λ (b : Bool). let m : Me Unit View = (with_writer me.0 w.0 (record w.1 { state = record w.1.state { phase = cond b Swapping (Filling k) } }), me.1) in m)
+      ∙ ap (λ (b : Bool). let m : Me Unit View = (with_writer me.0 w.0 (record w.1 { state = record w.1.state { phase = cond b Swapping (Filling k) } }) me.0.history, me.1) in m)
       (ne_eqb k 34 (λ e. absurd (omega arith)))
 
   deed_is : next_deed None me ≡ writer_deed 34 (sheet w.0) filling
@@ -46,24 +51,34 @@ module _ (table seat : TableId) (me : Me Unit View) (l : Ledger) (copy k : ℕ) 
   pub same_after : (x n : ℕ) → (next_deed None me).after x ≡ (next_deed None me).after n
   same_after x n = subst (λ (d : Deed WriterView). d.after x ≡ d.after n) (sym deed_is) refl
 
-  pub word_stored : (me' : Me Unit View) (x : ℕ) → me' ≡ next_me None me x → me' ≡ at_word me (k + 1)
-  word_stored me' x e = e ∙ ap (λ (d : Deed WriterView). let m : Me Unit View = (with_writer me.0 w.0 (d.after x), me.1) in m) deed_is
+  pub word_stored : (me' : Me Unit View) (x : ℕ) → me' ≡ next_me None me x me'.0.history → WriterActed None x me.0.history me'.0.history (writer_or me.0.writer).1 (writer_or me'.0.writer).1 → FilledTo 1 (k + 1) me me'
+  word_stored me' x e acted =
+      record { next = e ∙ ap (λ (d : Deed WriterView). let m : Me Unit View = (with_writer me.0 w.0 (d.after x) me'.0.history, me.1) in m) deed_is; adds = acted.adds; knows = acted.knows }
 
--- words were stored from a seat, up to this one
-pub record StoredTo (seat seat' : TableId) (me me' : Me Unit View) (j : ℕ) : Type 0 where
-  pub same : seat' ≡ seat
-  pub next : me' ≡ at_word me j
+-- no word was stored yet
+pub filled_none : (table seat : TableId) (me : Me Unit View) (l : Ledger) (copy k : ℕ) → MayFill table seat me l copy k → FilledTo 0 k me me
+filled_none table seat me l copy k h = record { next = h.next; adds = adds_none is_writers me.0.history; knows = h.knows }
+
+-- some words, and then more
+pub filled_then : (m n j k : ℕ) (a b c : Me Unit View) → FilledTo m j a b → FilledTo n k b c → FilledTo (m + n) k a c
+filled_then m n j k a b c x y =
+    record {
+      next = y.next ∙ ap (λ (s : Me Unit View). at_word s k c.0.history) x.next;
+      adds = subst (λ (l : List Event). Adds is_writers l a.0.history c.0.history) (replicate-append-replicate m n Writer) (adds_then is_writers a.0.history b.0.history c.0.history _ _ x.adds y.adds);
+      knows = y.knows;
+    }
 
 -- a later word may be stored where the seat is as far as it
 module _ (table : TableId) (l : Ledger) (copy : ℕ) where
-  pub fills_on : (seat seat' : TableId) (me me' : Me Unit View) (k j : ℕ) → MayFill table seat me l copy k → StoredTo seat seat' me me' j → MayFill table seat' me' l copy j
-  fills_on seat seat' me me' k j h to =
+  pub fills_on : (seat seat' : TableId) (me me' : Me Unit View) (k steps j : ℕ) → MayFill table seat me l copy k → seat' ≡ seat → FilledTo steps j me me' → MayFill table seat' me' l copy j
+  fills_on seat seat' me me' k steps j h same to =
       subst (λ (m : Me Unit View). MayFill table seat' m l copy j) (sym to.next) record {
-        same = to.same ∙ h.same;
+        same = same ∙ h.same;
         within = h.within;
         bare = h.bare;
         next = refl;
         opening = h.opening;
         taken = h.taken;
         copy_is = h.copy_is;
+        knows = subst (λ (m : Me Unit View). KnowsAfter me'.0.history (writer_or m.0.writer).1) to.next to.knows;
       }

@@ -1,12 +1,22 @@
 -- A publication, step by step.
-use Rattle.std.proofs.Common.{◌≡◌, ℕ, zero, suc, eqb, ◌<◌, Bool, true, false, cond, List, [], ◌∷◌, length, take, set, Some, slice_get, refl, sym, ap, ◌∙◌, arith}
+use Rattle.std.proofs.Common.{◌≡◌, ℕ, zero, suc, eqb, ◌+◌, ◌<◌, Bool, true, false, cond, List, [], ◌∷◌, ◌++◌, length, take, set, replicate, Option, None, Some, slice_get, refl, sym, ap, ◌∙◌, subst, arith, append-nil, append_assoc}
 use Rattle.std.proofs.lemmas.Option.{none-some}
+use Rattle.std.proofs.lemmas.List.{replicate-append-replicate}
+use Rattle.council_core.specs.declared.commands.Command.{Command}
+use Rattle.two_copy_steps.specs.declared.events.Event.{Event}
+use Rattle.two_copy_steps.specs.declared.events.Event.TheVariants.{Writer}
+use Rattle.two_copy_steps.specs.declared.events.Note.{Note}
+use Rattle.two_copy_steps.specs.declared.events.Note.TheVariants.{Busy, Moved, Published}
 use Rattle.two_copy_steps.specs.declared.views.WriterView.{WriterView}
 use Rattle.two_copy_steps.specs.declared.views.Phase.{Phase}
-use Rattle.two_copy_steps.specs.declared.views.Phase.TheVariants.{Idle, Seeing, Filling}
+use Rattle.two_copy_steps.specs.declared.views.Phase.TheVariants.{Idle, Seeing, Filling, Swapping}
 use Rattle.two_copy_steps.specs.Deeds.{all_true, first_false, seeing}
 use Rattle.two_copy_steps.specs.Publications.{StaySeen}
-use Rattle.board_share.specs.Writers.{Desk, known_at, Wrote, Underway, IsIdle, IsSeeing}
+use Rattle.board_share.specs.declared.views.History.{History}
+use Rattle.board_share.specs.Histories.{Adds, is_writers, last_told}
+use Rattle.board_share.specs.Steps.{begin_events, step_note}
+use Rattle.board_share.specs.Writers.{Desk, known_at, Went, Wrote, Underway, IsIdle, IsSeeing, unseen}
+use Rattle.board_share.proofs.Fronts.{adds_none, adds_then}
 use Rattle.board_share.proofs.Desks.{deed_in}
 
 -- who is seen out, one by one
@@ -100,3 +110,65 @@ module _ (d d' : Desk) (found : ℕ) (w : Wrote d d' found) (e : (known_at d).st
 -- where somebody isn't seen out, a pin is loaded next
 pub looks : (d : Desk) → IsSeeing d → all_true (known_at d).state.seen_out ≡ false → (known_at d).state.phase ≡ Seeing
 looks d s e = s.phase ∙ ap (λ (b : Bool). cond b (Filling 0) Seeing) e
+
+-- the steps from one moment to a later one
+pub went_none : (a : Desk) → Went 0 a a
+went_none a = record { own = []; adds = adds_none is_writers a.history; whole = sym (append-nil (begin_events a.due a.held)) }
+
+pub went_on : (n : ℕ) (a b : Desk) → a.due ≡ None → b.due ≡ None → Adds is_writers (replicate n Writer) a.history b.history → Went n a b
+went_on n a b e f adds =
+    record {
+      own = replicate n Writer;
+      adds = adds;
+      whole = ap (λ (x : Option (List Command)). replicate n Writer ++ begin_events x b.held) f ∙ (append-nil (replicate n Writer) ∙ sym (ap (λ (x : Option (List Command)). begin_events x a.held ++ replicate n Writer) e));
+    }
+
+pub went_from : (n : ℕ) (a a' b : Desk) → a ≡ a' → a.due ≡ None → b.due ≡ None → Adds is_writers (replicate n Writer) a.history b.history → Went n a' b
+went_from n a a' b is e f adds = subst (λ (d : Desk). Went n d b) is (went_on n a b e f adds)
+
+pub went_one : (d d' : Desk) (found : ℕ) → Wrote d d' found → Went 1 d d'
+went_one d d' found w =
+    let own : List Event = begin_events d.due d.held ++ Writer ∷ [] in
+    record { own = own; adds = w.adds; whole = ap (λ (x : Option (List Command)). own ++ begin_events x d'.held) w.due ∙ append-nil own }
+
+pub went_then : (m n : ℕ) (a b c : Desk) → Went m a b → Went n b c → Went (m + n) a c
+went_then m n a b c x y =
+    record {
+      own = x.own ++ y.own;
+      adds = adds_then is_writers a.history b.history c.history x.own y.own x.adds y.adds;
+      whole = append_assoc x.own y.own (begin_events c.due c.held)
+          ∙ (ap (λ (l : List Event). x.own ++ l) y.whole
+          ∙ (sym (append_assoc x.own (begin_events b.due b.held) (replicate n Writer))
+          ∙ (ap (λ (l : List Event). l ++ replicate n Writer) x.whole
+          ∙ (append_assoc (begin_events a.due a.held) (replicate m Writer) (replicate n Writer) ∙ ap (λ (l : List Event). begin_events a.due a.held ++ l) (replicate-append-replicate m n Writer)))));
+    }
+
+-- the steps of a publication that began at rest
+pub from_rest : (n : ℕ) (rest begun after : Desk) (events : List Event) → begun.history ≡ rest.history → begin_events begun.due begun.held ≡ events → after.due ≡ None → Went n begun after
+    → Adds is_writers (events ++ replicate n Writer) rest.history after.history
+from_rest n rest begun after events same is none went =
+    let own : went.own ≡ events ++ replicate n Writer =
+    sym (append-nil went.own) ∙ (ap (λ (x : Option (List Command)). went.own ++ begin_events x after.held) (sym none) ∙ (went.whole ∙ ap (λ (l : List Event). l ++ replicate n Writer) is)) in
+    subst (λ (h : History). Adds is_writers (events ++ replicate n Writer) h after.history) same (subst (λ (l : List Event). Adds is_writers l begun.history after.history) own went.adds)
+
+-- one reader more is seen out
+pub unseen_set : (bs : List Bool) (r : ℕ) → slice_get bs r ≡ Some false → unseen (set bs r true) + 1 ≡ unseen bs
+unseen_set [] r e = absurd (none-some false e)
+unseen_set (true ∷ bs) zero e = absurd cc
+unseen_set (false ∷ bs) zero e = let out : unseen (true ∷ bs) ≡ unseen bs = refl in let not_out : unseen (false ∷ bs) ≡ suc (unseen bs) = refl in omega arith
+unseen_set (true ∷ bs) (suc r) e = unseen_set bs r e
+unseen_set (false ∷ bs) (suc r) e = let h = unseen_set bs r e in let more : unseen (false ∷ set bs r true) ≡ suc (unseen (set bs r true)) = refl in let not_out : unseen (false ∷ bs) ≡ suc (unseen bs) = refl in omega arith
+
+pub none_unseen : (bs : List Bool) → all_true bs ≡ true → unseen bs ≡ 0
+none_unseen [] e = refl
+none_unseen (true ∷ bs) e = none_unseen bs e
+none_unseen (false ∷ bs) e = absurd cc
+
+-- the reader in the way is told
+pub told_busy : (d d' : Desk) (found : ℕ) (out : Bool) → Wrote d d' found → (known_at d).state.phase ≡ Seeing → out ≡ eqb found 0 → out ≡ false → last_told d'.history ≡ Some (Busy (suc (first_false (known_at d).state.seen_out)))
+told_busy d d' found out w e is was_in =
+    w.told ∙ (ap (λ (p : Phase). Some (step_note (known_at d).state p found)) e ∙ ap (λ (b : Bool). Some (let n : Note = cond b Moved (Busy (suc (first_false (known_at d).state.seen_out))) in n)) (sym is ∙ was_in))
+
+-- and so is what was published
+pub told_published : (d d' : Desk) (found : ℕ) → Wrote d d' found → (known_at d).state.phase ≡ Swapping → last_told d'.history ≡ Some (Published (length (known_at d).state.taken))
+told_published d d' found w e = w.told ∙ ap (λ (p : Phase). Some (step_note (known_at d).state p found)) e

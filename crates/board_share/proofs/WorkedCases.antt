@@ -1,9 +1,19 @@
--- Audits of a register of one member, computed.
-use Rattle.std.proofs.Common.{◌≡◌, ℕ, List, [], ◌∷◌, ◌++◌, replicate, Some, Ok, Err, refl}
+-- Audits and histories of a register of one member, computed; and what definitions must not hold of.
+use Rattle.std.proofs.Common.{◌≡◌, ℕ, true, false, List, [], ◌∷◌, ◌++◌, replicate, Some, Ok, Err, refl, ap, ◌∙◌}
+use Rattle.std.specs.List.{filter}
 use Rattle.council_core.specs.Rolls.{Opening}
 use Rattle.council_core.specs.declared.commands.Command.{Command}
 use Rattle.council_core.specs.declared.commands.Command.TheVariants.{Open, Move}
+use Rattle.two_copy_steps.specs.declared.events.Event.{Event}
+use Rattle.two_copy_steps.specs.declared.events.Event.TheVariants.{Submit, Publish, Writer, Reader}
+use Rattle.two_copy_steps.specs.declared.events.Note.TheVariants.{Busy, Published, Read}
+use Rattle.two_copy_steps.specs.declared.views.Stage.TheVariants.{AtRest, Arrived}
+use Rattle.board_share.specs.declared.views.Beginning.{Beginning}
+use Rattle.board_share.specs.declared.views.History.{History}
 use Rattle.board_share.specs.Audits.{audit_of}
+use Rattle.board_share.specs.Histories.{Adds, first_history, is_writers, last_told, longer}
+use Rattle.board_share.specs.Readers.{HasLegalRecord, IsLegalSheet, Pass, TookStep, last_front_of, new_pass}
+use Rattle.board_share.specs.Writers.{looks, publication, publication_steps}
 use Rattle.board_share.specs.declared.audits.AuditFault.TheVariants.{BadJournal, BadCuts, Mismatch}
 
 abbrev one_member : Opening
@@ -45,3 +55,66 @@ opened_twice = refl
 
 pub cut_behind : audit_of one_member seated (1 ∷ 3 ∷ []) [] ≡ Err (BadCuts 2)
 cut_behind = refl
+
+-- a board over that register, with one reader
+abbrev begun : Beginning
+begun = record { register = record { opening = one_member; journal = []; limit = 100 }; readers = 1 }
+
+-- the events of a publication: the commands are handed over, it begins, and steps are taken
+pub handed : publication (longer (first_history begun) (Submit (Open 1) ∷ [])) seated 2 ≡ Submit (Move (65 ∷ 65 ∷ 65 ∷ []) (Some 1)) ∷ Publish ∷ Writer ∷ Writer ∷ []
+handed = refl
+
+-- with one of two readers seen out, it takes a load, the stores of the words, and the store of side
+pub steps_of_one : publication_steps (true ∷ false ∷ []) ≡ 36
+steps_of_one = refl
+
+pub looks_at_two : looks (false ∷ false ∷ []) (true ∷ false ∷ []) ≡ 2
+looks_at_two = refl
+
+-- the last step of a publication tells how many commands are published, and that of a reading what was read
+abbrev after_events : List Event → History
+after_events events = longer (first_history begun) events
+
+pub tells_published : last_told (after_events (Submit (Open 1) ∷ Publish ∷ [] ++ replicate 35 Writer)) ≡ Some (Published 1)
+tells_published = refl
+
+pub tells_the_reader : last_told (after_events (replicate 37 (Reader 1))) ≡ Some (Read 1 none_done)
+tells_the_reader = refl
+
+-- behind the second step of the reader a second publication is given up
+pub tells_busy : last_told (after_events (Submit (Open 1) ∷ Publish ∷ [] ++ replicate 35 Writer ++ Reader 1 ∷ Submit (Move (65 ∷ 65 ∷ 65 ∷ []) (Some 1)) ∷ Publish ∷ Writer ∷ [])) ≡ Some (Busy 1)
+tells_busy = refl
+
+-- an event of the writer can't be added and not counted
+pub uncounted : Adds is_writers [] (first_history begun) (after_events (Writer ∷ [])) → ⊥
+uncounted h = none (ap (filter is_writers) (ap (λ (x : History). x.events) h.longer_by) ∙ h.own_are)
+  where
+    none : Writer ∷ [] ≡ [] → ⊥
+    none e = cc
+
+-- the front of the last reading, and 0 before the first
+abbrev having_read : List (List ℕ) → Pass
+having_read readings = record (new_pass begun 0) { readings = readings }
+
+pub front_of_last : last_front_of (having_read (none_done ∷ both_done ∷ [])) ≡ 2
+front_of_last = refl
+
+pub front_of_none : last_front_of (having_read []) ≡ 0
+front_of_none = refl
+
+-- words of no sheet are in no legal record, and are no legal sheet
+no_words : {x : ℕ} {xs : List ℕ} → [] ≡ x ∷ xs → ⊥
+no_words e = cc
+
+pub no_record : HasLegalRecord (having_read ([] ∷ [])) → ⊥
+no_record h = no_words h.2.readings.0.0.2
+
+pub no_sheet : IsLegalSheet one_member [] → ⊥
+no_sheet h = no_words h.2
+
+-- a reader that stays at rest took no step
+pub no_step : TookStep (having_read []) (having_read []) → ⊥
+no_step h = stays (ap (λ v. v.stage) h.knows)
+  where
+    stays : AtRest ≡ Arrived → ⊥
+    stays e = cc

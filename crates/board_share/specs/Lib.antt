@@ -1,3 +1,4 @@
+pub mod Histories
 pub mod Seats
 pub mod Rule
 pub mod Steps

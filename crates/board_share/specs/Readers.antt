@@ -1,5 +1,6 @@
 -- What contracts see of a reader, and how its seat keeps it.
 use Rattle.std.specs.Prelude.{◌≡◌, ℕ, suc, ◌<◌, ◌++◌, List, [], ◌∷◌, Option, None, Some}
+use Rattle.std.specs.Prelude.{replicate, slice_get}
 use Rattle.std.specs.Option.{option_map_or}
 use Rattle.atomic_table.specs.Table.{Me}
 use Rattle.atomic_table.specs.Seated.{TableId}
@@ -7,30 +8,44 @@ use Rattle.council_core.specs.Rolls.{Opening, IsLegal, sheet}
 use Rattle.council_core.specs.Sheets.{front_of}
 use Rattle.council_core.specs.Sequential.{AreLegalRecords}
 use Rattle.council_core.specs.declared.commands.Command.{Command}
+use Rattle.two_copy_steps.specs.declared.events.Event.TheVariants.{Reader}
+use Rattle.two_copy_steps.specs.declared.events.Note.TheVariants.{Read}
 use Rattle.two_copy_steps.specs.declared.views.ReaderView.{ReaderView}
 use Rattle.two_copy_steps.specs.declared.views.Stage.{Stage}
 use Rattle.two_copy_steps.specs.declared.views.Stage.TheVariants.{AtRest}
 use Rattle.two_copy_steps.specs.Deeds.{pin, reader_deed}
+use Rattle.two_copy_steps.specs.Stages.{reading_steps}
 use Rattle.two_copy_steps.specs.States.{IsKnown}
+use Rattle.two_copy_steps.specs.Turns.{stage_note}
 use Rattle.board_share.specs.declared.views.View.{View}
+use Rattle.board_share.specs.declared.views.Beginning.{Beginning}
+use Rattle.board_share.specs.declared.views.History.{History}
+use Rattle.board_share.specs.Histories.{Adds, first_history, is_readers, known_after, last_told}
 use Rattle.board_share.specs.Seats.{Part, reads}
 use Rattle.board_share.specs.Rule.{fresh}
 use Rattle.board_share.specs.Steps.{bare}
 
--- the members and votes of the opening, which reader it is, counted from 0, how far it is in its reading, and its
--- readings so far
+-- the members and votes of the opening, which reader it is, counted from 0, how far it is in its reading, its readings
+-- so far, and what happened on the board up to its last step
 pub record Pass : Type 0 where
   pub opening : Opening
   pub place : ℕ
   pub stage : Stage
   pub readings : List (List ℕ)
+  pub history : History
 
 abbrev pub known_by : Pass → ReaderView
 known_by p = record { stage = p.stage; readings = p.readings }
 
 -- a reader that has read nothing
-abbrev pub new_pass : Opening → ℕ → Pass
-new_pass opening r = record { opening = opening; place = r; stage = AtRest; readings = [] }
+abbrev pub new_pass : Beginning → ℕ → Pass
+new_pass begun r = record {
+  opening = begun.register.opening;
+  place = r;
+  stage = AtRest;
+  readings = [];
+  history = first_history begun;
+}
 
 -- the reader took one step of the machine, on some word found
 pub record TookStep (before after : Pass) : Type 0 where
@@ -40,6 +55,16 @@ pub record TookStep (before after : Pass) : Type 0 where
 -- which reader it is, counted from 1
 abbrev pub number_of : Pass → ℕ
 number_of p = suc p.place
+
+-- its history grew by so many steps of its own, and it knows what the machine's reader does after them
+pub record TookSteps (steps : ℕ) (before after : Pass) : Type 0 where
+  pub adds : Adds (is_readers (number_of before)) (replicate steps (Reader (number_of before))) before.history
+      after.history
+  pub knows : slice_get (known_after after.history).readers after.place ≡ Some (known_by after)
+
+-- the machine told at the last step of its history that this reader ended a reading with these words
+abbrev pub WasTold : Pass → List ℕ → Type 0
+WasTold p words = last_told p.history ≡ Some (Read (number_of p) words)
 
 -- the last of some readings, if there is one
 abbrev pub last_read : List (List ℕ) → Option (List ℕ)
@@ -71,15 +96,20 @@ sole (Some x ∷ xs) = x
 
 -- by what the reader keeps beside its seat: which one it is, and its stage
 abbrev pub pass_of : View → ℕ → Stage → Pass
-pass_of v r stage = record
-    { opening = (sole v.readers).0; place = r; stage = stage; readings = (sole v.readers).1.readings }
+pass_of v r stage = record {
+  opening = (sole v.readers).0;
+  place = r;
+  stage = stage;
+  readings = (sole v.readers).1.readings;
+  history = v.history;
+}
 
 -- a seat of the table is that of this reader alone
 pub record IsReader (table seat : TableId) (me : Me Unit View) (p : Pass) : Type 0 where
   pub same : seat ≡ table
   pub within : pin 34 p.place < table.words
   pub few : p.place < 4
-  pub alone : me ≡ bare (reads p.place (p.opening, known_by p))
+  pub alone : me ≡ bare (reads p.history p.place (p.opening, known_by p))
   pub known : IsKnown p.opening (known_by p)
 
 -- after a step from a pass the seat is that of the same reader, at this stage
@@ -87,9 +117,13 @@ pub record Stepped (table : TableId) (p : Pass) (seat : TableId) (me : Me Unit V
   pub seat_is : IsReader table seat me (pass_of me.0 p.place stage)
   pub opening_is : (pass_of me.0 p.place stage).opening ≡ p.opening
   pub took : TookStep p (pass_of me.0 p.place stage)
+  pub steps : TookSteps 1 p (pass_of me.0 p.place stage)
+  pub told : last_told me.0.history ≡ Some (stage_note (number_of p) p.stage)
 
 -- after a whole reading the seat is that of the same reader at the same stage, and its record has one sheet more
 pub record HasRead (table : TableId) (p : Pass) (seat : TableId) (me : Me Unit View) (words : List ℕ) : Type 0 where
   pub seat_is : IsReader table seat me (pass_of me.0 p.place p.stage)
   pub opening_is : (pass_of me.0 p.place p.stage).opening ≡ p.opening
   pub reading_is : (pass_of me.0 p.place p.stage).readings ≡ p.readings ++ words ∷ []
+  pub steps : TookSteps reading_steps p (pass_of me.0 p.place p.stage)
+  pub told : WasTold (pass_of me.0 p.place p.stage) words

@@ -1,24 +1,42 @@
 -- What a step tells the seat that takes it.
-use Rattle.std.specs.Prelude.{◌≡◌, ℕ, List, [], Option, Some, None}
+use Rattle.std.specs.Prelude.{◌≡◌, ℕ, suc, ◌==◌, List, [], ◌∷◌, ◌++◌, length, slice_get}
+use Rattle.std.specs.Prelude.{if◌then◌else◌, Option, Some, None}
 use Rattle.atomic_table.specs.Table.{Me, Step}
 use Rattle.council_core.specs.declared.commands.Command.{Command}
 use Rattle.council_core.specs.Rolls.{Opening, sheet}
+use Rattle.two_copy_steps.specs.declared.events.Event.{Event}
+use Rattle.two_copy_steps.specs.declared.events.Event.TheVariants.{Publish, Writer, Reader}
+use Rattle.two_copy_steps.specs.declared.events.Note.{Note}
+use Rattle.two_copy_steps.specs.declared.events.Note.TheVariants.{Moved, Published, Busy, Skipped}
 use Rattle.two_copy_steps.specs.declared.views.ReaderView.{ReaderView}
+use Rattle.two_copy_steps.specs.declared.views.Writing.{Writing}
+use Rattle.two_copy_steps.specs.declared.views.Phase.{Phase}
+use Rattle.two_copy_steps.specs.declared.views.Phase.TheVariants.{Idle, Seeing, Filling, Swapping}
 use Rattle.two_copy_steps.specs.declared.views.WriterView.{WriterView}
-use Rattle.two_copy_steps.specs.Deeds.{reader_deed, writer_deed, begun}
+use Rattle.two_copy_steps.specs.Deeds.{first_false, reader_deed, writer_deed, begun}
 use Rattle.two_copy_steps.specs.States.{IsKnown}
+use Rattle.two_copy_steps.specs.Turns.{stage_note}
 use Rattle.board_share.specs.declared.views.View.{View}
+use Rattle.board_share.specs.declared.views.History.{History}
+use Rattle.board_share.specs.Histories.{Adds, KnowsAfter, handed_over, is_readers, is_writers, known_after, last_told}
 use Rattle.board_share.specs.Seats.{reads}
 
 -- the seat with no slot
 abbrev pub bare : View → Me Unit View
 bare v = (v, [])
 
+-- one event of the reader at r was added: what it told, and what the reader knows after it
+pub record ReaderActed (r : ℕ) (before after : History) (v w : ReaderView) : Type 0 where
+  pub adds : Adds (is_readers (suc r)) (Reader (suc r) ∷ []) before after
+  pub knows : slice_get (known_after after).readers r ≡ Some w
+  pub told : last_told after ≡ Some (stage_note (suc r) v.stage)
+
 -- the seat's reader took its step, which left this number in its word
 abbrev pub IsStepOn : Me Unit View → ℕ → Me Unit View → Type 0
 IsStepOn me found me' =
-    (r : ℕ) (opening : Opening) (v : ReaderView) → me ≡ bare (reads r (opening, v))
-    → let w = (reader_deed 34 r v).after found in (me' ≡ bare (reads r (opening, w))) × IsKnown opening w
+    (r : ℕ) (opening : Opening) (v : ReaderView) (h : History) → me ≡ bare (reads h r (opening, v))
+    → let w = (reader_deed 34 r v).after found in
+    (h' : History) × (me' ≡ bare (reads h' r (opening, w))) × IsKnown opening w × ReaderActed r h h' v w
 
 abbrev pub read_then : Step Unit → Me Unit View → ℕ → Me Unit View → Type 0
 read_then st me found me' = IsStepOn me found me'
@@ -28,12 +46,34 @@ abbrev pub begun_with : Option (List Command) → WriterView → WriterView
 begun_with None v = v
 begun_with (Some list) v = record v { state = begun 34 list v.state }
 
--- the seat with another writer
-abbrev pub with_writer : View → Opening → WriterView → View
-with_writer v opening w = record v { writer = Some (opening, w) }
+-- the seat with another writer, after a history
+abbrev pub with_writer : View → Opening → WriterView → History → View
+with_writer v opening w h = record v { writer = Some (opening, w); history = h }
+
+-- the events of that beginning: the commands are handed over, and a publication begins
+abbrev pub begin_events : Option (List Command) → WriterView → List Event
+begin_events None v = []
+begin_events (Some list) v = handed_over v.state.taken list ++ Publish ∷ []
+
+-- what a step of the writer tells that found this number
+abbrev pub step_note : Writing → Phase → ℕ → Note
+step_note w Idle found = Skipped
+step_note w Seeing found = if found == 0 then Moved else Busy (suc (first_false w.seen_out))
+step_note w (Filling k) found = Moved
+step_note w Swapping found = Published (length w.taken)
+
+-- a step of the writer was added, and a beginning before it, if there was one: what it told, and what the writer knows
+-- after it
+pub record WriterActed (list : Option (List Command)) (found : ℕ) (before after : History) (v w : WriterView)
+    : Type 0 where
+  pub adds : Adds is_writers (begin_events list v ++ Writer ∷ []) before after
+  pub knows : KnowsAfter after w
+  pub told : last_told after ≡ Some (step_note (begun_with list v).state (begun_with list v).state.phase found)
 
 -- the writer took its step, and began to publish these commands before it, if there are some
 abbrev pub write_then : Option (List Command) → Step Unit → Me Unit View → ℕ → Me Unit View → Type 0
 write_then list st me found me' =
     (opening : Opening) (v : WriterView) → me.0.writer ≡ Some (opening, v)
-    → me' ≡ (with_writer me.0 opening ((writer_deed 34 (sheet opening) (begun_with list v)).after found), me.1)
+    → let w = (writer_deed 34 (sheet opening) (begun_with list v)).after found in
+    (me' ≡ (with_writer me.0 opening w me'.0.history, me.1))
+    × WriterActed list found me.0.history me'.0.history v w

@@ -1,24 +1,30 @@
 -- What contracts see of the writer, and how its seat keeps it.
-use Rattle.std.specs.Prelude.{◌≡◌, ℕ, ◌<◌, ◌≤◌, Bool, true, false, List, [], ◌∷◌, ◌++◌}
-use Rattle.std.specs.Prelude.{◌==◌, if◌then◌else◌, length, replicate, nat_lt, Option, Some, None}
+use Rattle.std.specs.Prelude.{◌≡◌, ℕ, zero, suc, ◌+◌, ◌-◌, ◌<◌, ◌≤◌, Bool, true, false, List, [], ◌∷◌, ◌++◌}
+use Rattle.std.specs.Prelude.{◌==◌, if◌then◌else◌, length, replicate, nat_lt, Option, Some, None, not}
+use Rattle.std.specs.List.{filter}
 use Rattle.atomic_table.specs.Table.{Me}
 use Rattle.atomic_table.specs.Seated.{TableId}
 use Rattle.council_core.specs.Rolls.{Opening, sheet}
 use Rattle.council_core.specs.Ledgers.{Ledger}
 use Rattle.council_core.specs.declared.commands.Command.{Command}
+use Rattle.two_copy_steps.specs.declared.events.Event.{Event}
+use Rattle.two_copy_steps.specs.declared.events.Event.TheVariants.{Publish, Writer}
 use Rattle.two_copy_steps.specs.declared.views.WriterView.{WriterView}
 use Rattle.two_copy_steps.specs.declared.views.Phase.TheVariants.{Idle, Seeing, Filling, Swapping}
 use Rattle.two_copy_steps.specs.Deeds.{Deed, all_true, other, pin, writer_deed}
 use Rattle.two_copy_steps.specs.Lawful.{IsPublishable}
 use Rattle.board_share.specs.declared.views.View.{View}
-use Rattle.board_share.specs.Steps.{begun_with, with_writer}
+use Rattle.board_share.specs.declared.views.History.{History}
+use Rattle.board_share.specs.Histories.{Adds, KnowsAfter, handed_over, is_writers, known_after, last_told, machine_of}
+use Rattle.board_share.specs.Steps.{begin_events, begun_with, step_note, with_writer}
 
--- the register, what the writer's seat knows, and the commands of a publication that has begun and has not taken a
--- step yet
+-- the register, what the writer's seat knows, the commands of a publication that has begun and has not taken a step
+-- yet, and what happened on the board up to the writer's last step
 pub record Desk : Type 0 where
   pub ledger : Ledger
   pub held : WriterView
   pub due : Option (List Command)
+  pub history : History
 
 -- what the writer knows
 abbrev pub known_at : Desk → WriterView
@@ -41,13 +47,22 @@ abbrev pub held_by : View → WriterView
 held_by v = (writer_or v.writer).1
 
 abbrev pub desk_of : Ledger → View → Bool → Desk
-desk_of ledger v begun = record { ledger = ledger; held = held_by v; due = due_of begun ledger.journal }
+desk_of ledger v begun = record
+    { ledger = ledger; held = held_by v; due = due_of begun ledger.journal; history = v.history }
 
--- the commands of a publication that begins: a publishable list that extends the one last taken
-abbrev pub MayBegin : Opening → WriterView → Option (List Command) → Type 0
-MayBegin opening v None = Unit {0}
-MayBegin opening v (Some list) =
-    IsPublishable opening list × ((rest : List Command) × (v.state.taken ++ rest ≡ list))
+-- a publication of these commands may begin: none is under way, and they are a publishable list within the register's
+-- limit that extends the one last taken and has more commands than are published
+pub record MayPublish (h : History) (opening : Opening) (v : WriterView) (list : List Command) : Type 0 where
+  pub idle : v.state.phase ≡ Idle
+  pub publishable : IsPublishable opening list
+  pub within : length list ≤ h.begun.register.limit
+  pub extends : (rest : List Command) × (v.state.taken ++ rest ≡ list)
+  pub more : length v.state.published < length list
+
+-- if one begins
+abbrev pub MayBegin : History → Opening → WriterView → Option (List Command) → Type 0
+MayBegin h opening v None = Unit {0}
+MayBegin h opening v (Some list) = MayPublish h opening v list
 
 -- one list begins another
 abbrev pub Begins : List Command → List Command → Type 0
@@ -67,10 +82,14 @@ pub record IsWriter (table seat : TableId) (me : Me Unit View) (d : Desk) (side 
   pub published_is : published ≡ length d.held.state.published
   pub taken_begins : Begins d.held.state.taken d.ledger.journal
   pub published_begins : Begins d.held.state.published d.ledger.journal
-  pub may_begin : MayBegin d.ledger.opening d.held d.due
+  pub may_begin : MayBegin d.history d.ledger.opening d.held d.due
+  pub ledger_is : d.ledger ≡ record d.history.begun.register { journal = d.ledger.journal }
+  pub knows : KnowsAfter d.history d.held
 
 -- the writer took one step of the machine, on the word found
 pub record Wrote (before after : Desk) (found : ℕ) : Type 0 where
+  pub adds : Adds is_writers (begin_events before.due before.held ++ Writer ∷ []) before.history after.history
+  pub told : last_told after.history ≡ Some (step_note (known_at before).state (known_at before).state.phase found)
   pub ledger : after.ledger ≡ before.ledger
   pub due : after.due ≡ None
   pub knows : known_at after ≡ (writer_deed 34 (sheet before.ledger.opening) (known_at before)).after found
@@ -86,29 +105,43 @@ pub record MayWrite (table seat : TableId) (me : Me Unit View) (list : Option (L
   pub within : place < table.words
   pub writes : me.0.writer ≡ Some (writer_or me.0.writer)
   pub bare : me.1 ≡ []
-  pub may_begin : MayBegin (writer_or me.0.writer).0 (writer_or me.0.writer).1 list
+  pub may_begin : MayBegin me.0.history (writer_or me.0.writer).0 (writer_or me.0.writer).1 list
   pub word : place ≡ (next_deed list me).word
 
--- and what it leaves
-abbrev pub next_me : Option (List Command) → Me Unit View → ℕ → Me Unit View
-next_me list me found = (with_writer me.0 (writer_or me.0.writer).0 ((next_deed list me).after found), me.1)
+-- and what it leaves, after a history
+abbrev pub next_me : Option (List Command) → Me Unit View → ℕ → History → Me Unit View
+next_me list me found h = (with_writer me.0 (writer_or me.0.writer).0 ((next_deed list me).after found) h, me.1)
 
--- the writer's seat where word k of its sheet is stored next
-abbrev pub at_word : Me Unit View → ℕ → Me Unit View
-at_word me k =
+-- the writer's seat where word k of its sheet is stored next, after a history
+abbrev pub at_word : Me Unit View → ℕ → History → Me Unit View
+at_word me k h =
     let w = writer_or me.0.writer in
     let phase = if k == 34 then Swapping else Filling k in
-    (with_writer me.0 w.0 (record w.1 { state = record w.1.state { phase = phase } }), me.1)
+    (with_writer me.0 w.0 (record w.1 { state = record w.1.state { phase = phase } }) h, me.1)
 
 -- what is asked of the writer's seat where it stores word k of a register's sheet, in this copy
 pub record MayFill (table seat : TableId) (me : Me Unit View) (ledger : Ledger) (copy k : ℕ) : Type 0 where
   pub same : seat ≡ table
   pub within : pin 34 0 ≤ table.words
   pub bare : me.1 ≡ []
-  pub next : me ≡ at_word me k
+  pub next : me ≡ at_word me k me.0.history
   pub opening : (writer_or me.0.writer).0 ≡ ledger.opening
   pub taken : (writer_or me.0.writer).1.state.taken ≡ ledger.journal
   pub copy_is : copy ≡ other (writer_or me.0.writer).1.state.side
+  pub knows : KnowsAfter me.0.history (writer_or me.0.writer).1
+
+-- so many steps were taken, and word k is stored next
+pub record FilledTo (steps k : ℕ) (me me' : Me Unit View) : Type 0 where
+  pub next : me' ≡ at_word me k me'.0.history
+  pub adds : Adds is_writers (replicate steps Writer) me.0.history me'.0.history
+  pub knows : KnowsAfter me'.0.history (writer_or me'.0.writer).1
+
+-- from one moment to a later one so many steps were taken, behind the beginning that was due if there was one
+pub record Went (steps : ℕ) (before after : Desk) : Type 0 where
+  pub own : List Event
+  pub adds : Adds is_writers own before.history after.history
+  pub whole : own ++ begin_events after.due after.held
+      ≡ begin_events before.due before.held ++ replicate steps Writer
 
 -- from one moment to a later one of the same publication: the register, the side, what is published and taken, and
 -- the cuts are the same
@@ -135,12 +168,13 @@ pub record IsFilling (d : Desk) (k : ℕ) : Type 0 where
   pub phase : (known_at d).state.phase ≡ (if k == 34 then Swapping else Filling k)
 
 -- what contracts see of the writer: its register, the commands published, the lengths of the lists published so far,
--- and who is seen out
+-- who is seen out, and what happened on the board up to its last step
 pub record Publisher : Type 0 where
   pub ledger : Ledger
   pub published : List Command
   pub cuts : List ℕ
   pub seen_out : List Bool
+  pub history : History
 
 abbrev pub publisher_of : Desk → Publisher
 publisher_of d = record {
@@ -148,11 +182,44 @@ publisher_of d = record {
   published = (known_at d).state.published;
   cuts = (known_at d).cuts;
   seen_out = (known_at d).state.seen_out;
+  history = d.history;
 }
 
 -- more commands are accepted than published
 abbrev pub is_pending : Publisher → Bool
 is_pending b = nat_lt (length b.published) (length b.ledger.journal)
+
+-- the events of a publication that begins after a history with this journal, and takes so many steps
+abbrev pub publication : History → List Command → ℕ → List Event
+publication h journal steps = handed_over (machine_of h).ledger.journal journal ++ Publish ∷ replicate steps Writer
+
+-- one publication was begun, and given up or ended, in so many steps; and what the writer shows besides its register is
+-- what the machine's writer knows after them
+pub record TookTry (steps : ℕ) (before after : Publisher) : Type 0 where
+  pub adds : Adds is_writers (publication before.history before.ledger.journal steps) before.history after.history
+  pub published : after.published ≡ (known_after after.history).writer.state.published
+  pub cuts : after.cuts ≡ (known_after after.history).writer.cuts
+  pub seen_out : after.seen_out ≡ (known_after after.history).writer.state.seen_out
+
+-- how many readers are not seen out
+abbrev pub unseen : List Bool → ℕ
+unseen seen_out = length (filter not seen_out)
+
+-- the steps of a publication: a load of the pin of each reader that isn't seen out, a store of each word, and one of
+-- side
+abbrev pub publication_steps : List Bool → ℕ
+publication_steps seen_out = unseen seen_out + (34 + 1)
+
+-- the steps of one that is given up: a load for each reader that was seen out by it, and one for the reader in the way
+abbrev pub looks : List Bool → List Bool → ℕ
+looks before after = unseen before - unseen after + 1
+
+-- after so many tries that were given up, one publication was ended
+abbrev pub Published : ℕ → Publisher → Publisher → Type 0
+Published zero before after = TookTry (publication_steps before.seen_out) before after
+Published (suc tries) before after =
+    (between : Publisher) × TookTry (looks before.seen_out between.seen_out) before between
+    × (between.ledger ≡ before.ledger) × Published tries between after
 
 -- with a cut more, if something is pending
 abbrev pub cuts_after : Publisher → List ℕ

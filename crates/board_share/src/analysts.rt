@@ -4,7 +4,9 @@ ghost use Rattle.council_core.specs.Sheets.{front_of};
 ghost use Rattle.council_core.specs.declared.refusals.Refusal.TheVariants.{OutOfMemory};
 ghost use Rattle.two_copy_steps.specs.declared.views.Stage.TheVariants.{AtRest};
 ghost use Rattle.power_index.specs.Indices.{AreIndices, indices_of};
-ghost use Rattle.board_share.specs.Readers.{HasLegalRecord, IsLegalSheet, last_front_of, last_of, number_of};
+ghost use Rattle.board_share.specs.Readers.{HasLegalRecord, IsLegalSheet, TookSteps, WasTold, last_front_of, last_of};
+ghost use Rattle.board_share.specs.Readers.{number_of};
+ghost use Rattle.two_copy_steps.specs.Stages.{reading_steps};
 
 use crate::readers::Reader;
 use council_core::{Refusal, SHEET_WORDS, Sheet};
@@ -51,6 +53,8 @@ impl Analyst {
     pub fn ask(&mut self, majority: Majority) -> Indices
         ensures opening { self.new.reader.opening ≡ self.old.reader.opening }
         ensures number { number_of self.new.reader ≡ number_of self.old.reader }
+        ensures steps { TookSteps reading_steps self.old.reader self.new.reader }
+        ensures told { WasTold self.new.reader self.new.sheet }
         ensures reading { self.new.reader.readings ≡ self.old.reader.readings ++ self.new.sheet ∷ [] }
         ensures last { last_of self.new.reader ≡ Some self.new.sheet }
         ensures sheet { IsLegalSheet self.old.reader.opening self.new.sheet }

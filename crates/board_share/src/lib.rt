@@ -19,7 +19,7 @@ mod writers;
 pub use analysts::Analyst;
 pub use audits::{AuditFault, audit};
 pub use busy::Busy;
-pub use laws::{audit_fault_laws, audit_law, rule_laws, seat_laws};
+pub use laws::{audit_fault_laws, audit_law, order_laws, rule_laws, seat_laws};
 pub use opening::start;
 pub use readers::Reader;
 pub use readings::Reading;

@@ -1,9 +1,12 @@
 //! A publication of all commands, by single loads.
 ghost use Rattle.std.specs.Prelude.{◌≡◌, suc, ◌∷◌, ◌++◌, [], true, false, length};
-ghost use Rattle.std.specs.Prelude.{replicate, OnOk, IfOk, OnErr, IfErr, IsOk};
+ghost use Rattle.std.specs.Prelude.{◌<◌, ◌+◌, Some, replicate, OnOk, IfOk, OnErr, IfErr, IsOk};
+ghost use Rattle.two_copy_steps.specs.declared.events.Note.TheVariants.{Busy as BusyAt, Published};
 ghost use Rattle.two_copy_steps.specs.Deeds.{all_true, first_false};
 ghost use Rattle.two_copy_steps.specs.Publications.{StaySeen};
-ghost use Rattle.board_share.specs.Writers.{Underway, IsIdle, IsSeeing, IsFilling, known_at};
+ghost use Rattle.board_share.specs.Histories.{Adds, KnowsAfter, is_writers, last_told};
+ghost use Rattle.board_share.specs.Writers.{Underway, IsIdle, IsSeeing, IsFilling, Went, known_at, looks, publication};
+ghost use Rattle.board_share.specs.Writers.{publication_steps, unseen};
 
 use crate::busy::Busy;
 use crate::word_writers::WordWriter;
@@ -23,12 +26,17 @@ fn see_all(words: &mut WordWriter) -> Result<(), Busy>
         (λ b. (b.reader ≡ suc (first_false (known_at words.new).state.seen_out))
         × (all_true (known_at words.new).state.seen_out ≡ false)) }
     ensures sure { all_true (known_at words.old).state.seen_out ≡ true → IsOk result }
+    ensures looked { OnOk result (Went (unseen (known_at words.old).state.seen_out) words.old words.new) }
+    ensures gave_up { OnErr result
+        (Went (looks (known_at words.old).state.seen_out (known_at words.new).state.seen_out) words.old words.new) }
+    ensures told { IfErr result (λ b. last_told words.new.history ≡ Some (BusyAt b.reader)) }
+    ensures knows { OnErr result (KnowsAfter words.new.history words.new.held) }
 {
     for r in 0..words.readers() {
         if words.is_seen_out(r) {
             continue;
         }
-        if !words.see::<Brand>() {
+        if !words.see::<Brand>(r) {
             return Err(Busy {
                 reader: r as u8 + 1,
             });
@@ -43,6 +51,7 @@ fn fill_all(words: &mut WordWriter)
     ensures way { Underway words.old words.new }
     ensures seen { (known_at words.new).state.seen_out ≡ (known_at words.old).state.seen_out }
     ensures stored { IsFilling words.new COPY_WORDS }
+    ensures steps { Went COPY_WORDS words.old words.new }
 {
     let first = words.register().sheet_word(0);
     words.fill::<Brand>(0, first);
@@ -52,7 +61,8 @@ fn fill_all(words: &mut WordWriter)
 // Publishes all commands and answers how many there are, or gives it up where a reader is found in the middle of a
 // reading.
 pub(crate) fn publish_all(words: &mut WordWriter) -> Result<u32, Busy>
-    requires { IsIdle words.old }
+    requires idle { IsIdle words.old }
+    requires pending { length (known_at words.old).state.published < length words.old.ledger.journal }
     ensures ledger { words.new.ledger ≡ words.old.ledger }
     ensures idle { IsIdle words.new }
     ensures front { IfOk result (λ n. n ≡ length words.old.ledger.journal) }
@@ -70,6 +80,19 @@ pub(crate) fn publish_all(words: &mut WordWriter) -> Result<u32, Busy>
         (λ b. (b.reader ≡ suc (first_false (known_at words.new).state.seen_out))
         × (all_true (known_at words.new).state.seen_out ≡ false)) }
     ensures sure { all_true (known_at words.old).state.seen_out ≡ true → IsOk result }
+    ensures steps { OnOk result
+        (Adds is_writers
+        (publication words.old.history words.old.ledger.journal
+        (publication_steps (known_at words.old).state.seen_out))
+        words.old.history words.new.history) }
+    ensures gave_up { OnErr result
+        (Adds is_writers
+        (publication words.old.history words.old.ledger.journal
+        (looks (known_at words.old).state.seen_out (known_at words.new).state.seen_out))
+        words.old.history words.new.history) }
+    ensures told { IfOk result (λ n. last_told words.new.history ≡ Some (Published n)) }
+    ensures in_the_way { IfErr result (λ b. last_told words.new.history ≡ Some (BusyAt b.reader)) }
+    ensures knows { KnowsAfter words.new.history words.new.held }
 {
     let taken = words.begin();
     see_all(words)?;

@@ -4,10 +4,10 @@ ghost use Rattle.std.specs.Prelude.{IsSome, IfSome, IsTrue, if◌then◌else◌}
 ghost use Rattle.std.specs.Option.{option_map};
 ghost use Rattle.std.specs.Arc.{arc_value};
 ghost use Rattle.council_core.specs.Sheets.{front_of};
-ghost use Rattle.two_copy_steps.specs.Stages.{sheet_read, steps_taken};
+ghost use Rattle.two_copy_steps.specs.Stages.{reading_steps, sheet_read, steps_taken};
 ghost use Rattle.two_copy_steps.specs.declared.views.Stage.TheVariants.{AtRest};
 ghost use Rattle.board_share.specs.Readers.{HasLegalRecord, IsLegalSheet, IsReader, TookStep, last_front_of, last_of};
-ghost use Rattle.board_share.specs.Readers.{number_of, pass_of};
+ghost use Rattle.board_share.specs.Readers.{TookSteps, WasTold, number_of, pass_of};
 
 use crate::readings::Reading;
 use crate::rule::Board;
@@ -75,6 +75,8 @@ impl Reader {
         ensures opening { self.new.opening ≡ self.old.opening }
         ensures number { number_of self.new ≡ number_of self.old }
         ensures step { TookStep self.old self.new }
+        ensures steps { TookSteps 1 self.old self.new }
+        ensures told { IfSome result (λ x. WasTold self.new x.sheet) }
         ensures count { steps_taken self.new.stage
             ≡ (if steps_taken self.old.stage == 36 then 0 else steps_taken self.old.stage + 1) }
         ensures answer { IsSome result ↔ (steps_taken self.old.stage ≡ 36) }
@@ -91,6 +93,8 @@ impl Reader {
         ensures opening { self.new.opening ≡ self.old.opening }
         ensures number { number_of self.new ≡ number_of self.old }
         ensures rest { self.new.stage ≡ AtRest }
+        ensures steps { TookSteps reading_steps self.old self.new }
+        ensures told { WasTold self.new result.sheet }
         ensures reading { self.new.readings ≡ self.old.readings ++ result.sheet ∷ [] }
         ensures last { last_of self.new ≡ Some result.sheet }
         ensures sheet { IsLegalSheet self.old.opening result.sheet }

@@ -1,15 +1,19 @@
 //! The writer's register and its seat.
-ghost use Rattle.std.specs.Prelude.{◌≡◌, ℕ, ◌<◌, ◌≤◌, ◌==◌, true, false, Some, None, length};
+ghost use Rattle.std.specs.Prelude.{◌≡◌, ℕ, ◌<◌, ◌≤◌, ◌==◌, ◌-◌, ◌++◌, ◌∷◌, [], true, false, Some, None, length};
 ghost use Rattle.std.specs.Prelude.{replicate, slice_get, slice_index, IfOk, OnErr};
 ghost use Rattle.std.specs.Arc.{arc_value};
 ghost use Rattle.council_core.specs.Rolls.{sheet};
 ghost use Rattle.council_core.specs.Ledgers.{verdict_of, appended};
 ghost use Rattle.council_core.specs.Verdicts.{Follows};
 ghost use Rattle.council_core.specs.declared.refusals.Refusal.TheVariants.{OutOfMemory};
+ghost use Rattle.two_copy_steps.specs.declared.events.Event.TheVariants.{Publish};
 ghost use Rattle.two_copy_steps.specs.declared.views.Phase.TheVariants.{Seeing, Filling, Swapping};
-ghost use Rattle.two_copy_steps.specs.Deeds.{all_true};
-ghost use Rattle.board_share.specs.Steps.{begun_with};
-ghost use Rattle.board_share.specs.Writers.{Begins, IsFilling, IsWriter, Underway, Wrote, desk_of, known_at};
+ghost use Rattle.two_copy_steps.specs.Deeds.{all_true, first_false};
+ghost use Rattle.two_copy_steps.specs.Publications.{seen_out_at};
+ghost use Rattle.board_share.specs.Histories.{KnowsAfter, handed_over, machine_of};
+ghost use Rattle.board_share.specs.Steps.{begin_events, begun_with};
+ghost use Rattle.board_share.specs.Writers.{Begins, IsFilling, IsIdle, IsWriter, Underway, Went, Wrote, desk_of};
+ghost use Rattle.board_share.specs.Writers.{known_at};
 
 use crate::rule::{Board, Taken};
 use crate::views::View;
@@ -101,6 +105,13 @@ impl WordWriter {
         self.seen_out.get(r)
     }
 
+    // Whether the reader of a number, counted from 1, is seen out; false where there is no such reader.
+    pub(crate) fn has_seen_out(&self, reader: u8) -> bool
+        ensures { result ≡ seen_out_at (known_at self.now).state.seen_out reader }
+    {
+        self.seen_out.has(reader)
+    }
+
     pub(crate) fn submit(&mut self, command: Command) -> Result<u32, Refusal>
         requires idle { self.old.due ≡ None }
         ensures verdict { Follows (verdict_of self.old.ledger command) result OutOfMemory }
@@ -108,28 +119,35 @@ impl WordWriter {
             (λ n. (self.new.ledger ≡ appended self.old.ledger command) × (n ≡ length self.new.ledger.journal)) }
         ensures refused { OnErr result (self.new.ledger ≡ self.old.ledger) }
         ensures kept { (self.new.held ≡ self.old.held) × (self.new.due ≡ None) }
+        ensures history { self.new.history ≡ self.old.history }
     {
         self.register.apply(command)
     }
 
     // Begins a publication of all commands, and answers how many there are. No word is touched.
     pub(crate) fn begin(&mut self) -> u32
+        requires idle { IsIdle self.old }
+        requires pending { length (known_at self.old).state.published < length self.old.ledger.journal }
         ensures ledger { self.new.ledger ≡ self.old.ledger }
         ensures begun { known_at self.new ≡ begun_with (Some self.old.ledger.journal) (known_at self.old) }
+        ensures history { self.new.history ≡ self.old.history }
+        ensures events { begin_events self.new.due self.new.held
+            ≡ handed_over (machine_of self.old.history).ledger.journal self.old.ledger.journal ++ Publish ∷ [] }
         ensures taken { result ≡ length self.old.ledger.journal }
     {
         self.begun = true;
         self.register.journal().len() as u32
     }
 
-    // Loads the pin of the least reader that isn't seen out, and tells whether it is out now.
-    pub(crate) fn see<J: Taken>(&mut self) -> bool
+    // Loads the pin of the reader at r, the least that isn't seen out, and tells whether it is out now.
+    pub(crate) fn see<J: Taken>(&mut self, r: usize) -> bool
         requires list { J.list ≡ self.old.due }
         requires phase { (known_at self.old).state.phase ≡ Seeing }
         requires some { all_true (known_at self.old).state.seen_out ≡ false }
-        ensures { (found : ℕ) × Wrote self.old self.new found × (result ≡ (found == 0)) }
+        requires least { r ≡ first_false (known_at self.old).state.seen_out }
+        ensures step { (found : ℕ) × Wrote self.old self.new found × (result ≡ (found == 0)) }
+        ensures knows { KnowsAfter self.new.history self.new.held }
     {
-        let r = self.seen_out.first_false();
         let found = load::<J>(&self.board, &mut self.seat, pin(r));
         self.begun = false;
         if found != 0 {
@@ -161,6 +179,7 @@ impl WordWriter {
         ensures way { Underway self.old self.new }
         ensures seen { (known_at self.new).state.seen_out ≡ (known_at self.old).state.seen_out }
         ensures stored { IsFilling self.new COPY_WORDS }
+        ensures steps { Went (COPY_WORDS - 1) self.old self.new }
     {
         let copy = 1 - self.side;
         store_rest(&self.board, &mut self.seat, &self.register, copy);
@@ -171,7 +190,8 @@ impl WordWriter {
         requires list { J.list ≡ self.old.due }
         requires phase { (known_at self.old).state.phase ≡ Swapping }
         requires whole { (known_at self.old).state.taken ≡ self.old.ledger.journal }
-        ensures { (found : ℕ) × Wrote self.old self.new found }
+        ensures step { (found : ℕ) × Wrote self.old self.new found }
+        ensures knows { KnowsAfter self.new.history self.new.held }
     {
         self.side = 1 - self.side;
         store::<J>(&self.board, &mut self.seat, SIDE, self.side);

@@ -1,12 +1,15 @@
 //! The writer.
-ghost use Rattle.std.specs.Prelude.{◌≡◌, suc, true, false, length, IfOk, IfErr, OnOk, OnErr, IsOk};
+ghost use Rattle.std.specs.Prelude.{◌≡◌, ℕ, suc, true, false, length, Some, IfOk, IfErr, OnOk, OnErr, IsOk};
 ghost use Rattle.council_core.specs.Rolls.{IsLegal};
 ghost use Rattle.council_core.specs.Ledgers.{verdict_of, appended};
 ghost use Rattle.council_core.specs.Verdicts.{Follows};
 ghost use Rattle.council_core.specs.declared.refusals.Refusal.TheVariants.{OutOfMemory};
+ghost use Rattle.two_copy_steps.specs.declared.events.Note.TheVariants.{Busy as BusyAt, Published as PublishedAll};
 ghost use Rattle.two_copy_steps.specs.Deeds.{all_true, first_false};
 ghost use Rattle.two_copy_steps.specs.Publications.{StaySeen, seen_out_at};
-ghost use Rattle.board_share.specs.Writers.{IsIdle, publisher_of, is_pending, cuts_after, seen_out_after};
+ghost use Rattle.board_share.specs.Histories.{last_told};
+ghost use Rattle.board_share.specs.Writers.{IsIdle, Published, TookTry, cuts_after, is_pending, looks};
+ghost use Rattle.board_share.specs.Writers.{publication_steps, publisher_of, seen_out_after};
 
 use crate::busy::Busy;
 use crate::publishing::publish_all;
@@ -50,6 +53,7 @@ impl Writer {
         ensures published { self.new.published ≡ self.old.published }
         ensures cuts { self.new.cuts ≡ self.old.cuts }
         ensures seen_out { self.new.seen_out ≡ self.old.seen_out }
+        ensures history { self.new.history ≡ self.old.history }
     {
         self.words.submit(command)
     }
@@ -70,6 +74,13 @@ impl Writer {
             (λ b. (b.reader ≡ suc (first_false self.new.seen_out)) × (all_true self.new.seen_out ≡ false)) }
         ensures sure { all_true self.old.seen_out ≡ true → IsOk result }
         ensures nothing_pending { is_pending self.old ≡ false → IsOk result }
+        ensures still { is_pending self.old ≡ false → self.new ≡ self.old }
+        ensures steps { is_pending self.old ≡ true
+            → OnOk result (TookTry (publication_steps self.old.seen_out) self.old self.new) }
+        ensures gave_up { OnErr result (TookTry (looks self.old.seen_out self.new.seen_out) self.old self.new) }
+        ensures told { is_pending self.old ≡ true
+            → IfOk result (λ n. last_told self.new.history ≡ Some (PublishedAll n)) }
+        ensures in_the_way { IfErr result (λ b. last_told self.new.history ≡ Some (BusyAt b.reader)) }
     {
         if self.words.register().accepted() <= self.words.published() {
             return Ok(self.words.published());
@@ -85,6 +96,9 @@ impl Writer {
         ensures published { self.new.published ≡ self.old.ledger.journal }
         ensures cuts { self.new.cuts ≡ cuts_after self.old }
         ensures seen_out { self.new.seen_out ≡ seen_out_after self.old }
+        ensures still { is_pending self.old ≡ false → self.new ≡ self.old }
+        ensures steps { is_pending self.old ≡ true → (tries : ℕ) × Published tries self.old self.new }
+        ensures told { is_pending self.old ≡ true → last_told self.new.history ≡ Some (PublishedAll result) }
     {
         for _ in rt.forever() {
             if let Ok(front) = self.try_publish() {
@@ -115,9 +129,6 @@ impl Writer {
     pub fn seen_out(&self, reader: u8) -> bool
         ensures same { result ≡ seen_out_at self.now.seen_out reader }
     {
-        if reader == 0 || self.words.readers() < reader as usize {
-            return false;
-        }
-        self.words.is_seen_out(reader as usize - 1)
+        self.words.has_seen_out(reader)
     }
 }

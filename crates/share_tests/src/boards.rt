@@ -315,6 +315,38 @@ fn two_readers_stopped(rt: HostRuntime) -> Result<(), Fail> {
     Ok(())
 }
 
+// Reader 1 is stopped after so many steps, or dropped there, and chairs 1 and 2 are opened: what both tries to publish
+// answer, and the fronts that reader 2 then reads at once, step by step, and as it asks.
+fn beside_a_stopped_reader(
+    alloc: Global,
+    count: u32,
+    is_dropped: bool,
+) -> Result<([Tried; 2], [Option<u32>; 3]), Refusal> {
+    let (mut writer, mut first, mut second) = begin_two(alloc)?;
+    let _none = steps(&mut first, count);
+    let _kept = if is_dropped { None } else { Some(first) };
+    submit_open(&mut writer, 1)?;
+    let one = try_now(&mut writer);
+    submit_open(&mut writer, 2)?;
+    let two = try_now(&mut writer);
+    let at_once = read_front(&mut second);
+    let by_steps = front_of(steps(&mut second, 37));
+    let [front, ..] = ask_half(alloc, second)?;
+    Ok(([one, two], [at_once, by_steps, Some(front as u32)]))
+}
+
+#[test]
+fn reader_goes_on_beside_a_stopped_one(rt: HostRuntime) -> Result<(), Fail> {
+    let tried = [Tried::Published(1), Tried::Busy(1)];
+    for count in [1, 2, 36] {
+        for is_dropped in [false, true] {
+            let got = beside_a_stopped_reader(rt.alloc(), count, is_dropped)?;
+            assert_eq!(rt; got, (tried, [Some(1); 3]));
+        }
+    }
+    Ok(())
+}
+
 // Opens chairs 1 and 2 past a reader that was dropped after so many steps: what four tries answer.
 fn past_a_dropped_reader(alloc: Global, count: u32) -> Result<([Tried; 4], u32, usize), Refusal> {
     let (mut writer, mut reader) = begin_one(alloc)?;

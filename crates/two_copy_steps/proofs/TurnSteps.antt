@@ -65,7 +65,7 @@ looked_taken w r true = (refl, refl)
 looked_taken w r false = (refl, refl)
 
 -- a step of the writer keeps the list taken
-taken_kept : (opening : Opening) (w : Writing) (p : Phase) (found : ℕ) → ((phase_deed 34 (sheet opening) w p).after found).taken ≡ w.taken
+pub taken_kept : (opening : Opening) (w : Writing) (p : Phase) (found : ℕ) → ((phase_deed 34 (sheet opening) w p).after found).taken ≡ w.taken
 taken_kept opening w Idle found = refl
 taken_kept opening w Seeing found = (looked_taken w (first_false w.seen_out) (eqb found 0)).1
 taken_kept opening w (Filling k) found = refl

@@ -9,7 +9,11 @@ use Rattle.two_copy_steps.specs.declared.stages.ReaderPhase.{ReaderPhase}
 use Rattle.two_copy_steps.specs.declared.stages.ReaderPhase.TheVariants as phase
 use Rattle.two_copy_steps.specs.Deeds.{loaded}
 
--- of the 37 steps of a reading, how many are taken: a number from 0 to 36
+-- the steps of a reading: its pin, side, the words of a copy, its pin
+abbrev pub reading_steps : ℕ
+reading_steps = 37
+
+-- of the steps of a reading, how many are taken: a number from 0 to 36
 abbrev pub steps_taken : Stage → ℕ
 steps_taken AtRest = 0
 steps_taken Arrived = 1

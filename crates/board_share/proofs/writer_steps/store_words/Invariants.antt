@@ -1,5 +1,5 @@
-use Rattle.std.proofs.Common.{◌≡◌}
-use Rattle.board_share.specs.Writers.{MayFill, at_word}
+use Rattle.std.proofs.Common.{◌≡◌, ◌≤◌, ◌-◌}
+use Rattle.board_share.specs.Writers.{FilledTo, MayFill}
 use Rattle.board_share.proofs.writer_steps.store_words.Given as goal
 
 abbrev pub invariant-loop-k : goal.invariant-loop-k
@@ -7,5 +7,6 @@ invariant-loop-k l =
     record {
       fills : MayFill l.board.shared.table_id l.seat.table_id l.seat.me l.register l.copy l.k;
       table : l.seat.table_id ≡ l.fn.seat.table_id;
-      stored : l.seat.me ≡ at_word l.fn.seat.me l.k;
+      from : l.from ≤ l.k;
+      stored : FilledTo (l.k - l.from) l.k l.fn.seat.me l.seat.me;
     }

@@ -1,19 +1,12 @@
+use Rattle.std.proofs.Common.{◌∷◌, ◌++◌, [], List, sym, ap, ◌∙◌}
+use Rattle.council_core.specs.Ledgers.{Ledger}
+use Rattle.council_core.specs.declared.commands.Command.{Command}
+use Rattle.two_copy_steps.specs.declared.events.Event.TheVariants.{Publish}
+use Rattle.board_share.specs.Histories.{handed_over, machine_of}
+use Rattle.board_share.specs.Writers.{Desk}
 use Rattle.board_share.proofs.word_writers.WordWriter.begin.Goals as goal
 
-pub invariant_of-self : goal.invariant_of-self
-invariant_of-self c =
-    let i = c.self.invariant in
-    record {
-      same = i.same;
-      within = i.within;
-      few = i.few;
-      writes = i.writes;
-      bare = i.bare;
-      two = i.two;
-      side_is = i.side_is;
-      out_is = i.out_is;
-      published_is = i.published_is;
-      taken_begins = i.taken_begins;
-      published_begins = i.published_begins;
-      may_begin = ((c.journal.ensures.legal, c.journal.ensures.in_range), i.taken_begins);
-    }
+pub returns-clause-events : goal.returns-clause-events
+returns-clause-events c =
+    ap (λ (taken : List Command). handed_over taken c.self.inside.register.journal ++ Publish ∷ []) (sym (ap (λ (l : Ledger). l.journal) c.self.invariant.knows.register))
+    ∙ ap (λ (d : Desk). handed_over (machine_of d.history).ledger.journal d.ledger.journal ++ Publish ∷ []) c.self.view_is

@@ -1,0 +1,211 @@
+-- The machine after a longer history.
+use Rattle.std.proofs.Common.{◌≡◌, ℕ, zero, suc, ◌<◌, ◌≤◌, Bool, true, false, cond, ◌&&◌, List, [], ◌∷◌, ◌++◌, map, length, Option, None, Some, slice_get, Result, Ok, Err, is_ok, IsTrue, refl, sym, ap, ◌∙◌, subst, arith, length-set, length-append, append_assoc, append-nil, ne_eqb}
+use Rattle.std.specs.Prelude.{⊤}
+use Rattle.std.proofs.lemmas.Bool.{lt-ltb}
+use Rattle.std.proofs.lemmas.Option.{none-some, same_Some}
+use Rattle.std.proofs.lemmas.List.{length-replicate}
+use Rattle.council_core.specs.declared.commands.Command.{Command}
+use Rattle.council_core.specs.declared.refusals.Refusal.{Refusal}
+use Rattle.council_core.specs.declared.refusals.Refusal.TheVariants.{JournalFull}
+use Rattle.council_core.specs.Rolls.{Roll, opening_roll, fold_from, step, all_accepted}
+use Rattle.council_core.specs.Rolls as rolls
+use Rattle.council_core.specs.Ledgers.{Ledger, roll_of, room_of, verdict, verdict_of, appended}
+use Rattle.two_copy_steps.specs.declared.events.Event.{Event}
+use Rattle.two_copy_steps.specs.declared.events.Event.TheVariants.{Submit, Publish, Writer, Reader}
+use Rattle.two_copy_steps.specs.declared.events.Note.{Note}
+use Rattle.two_copy_steps.specs.declared.events.Note.TheVariants.{Skipped}
+use Rattle.two_copy_steps.specs.declared.views.ReaderView.{ReaderView}
+use Rattle.two_copy_steps.specs.declared.views.Stage.{Stage}
+use Rattle.two_copy_steps.specs.declared.views.Stage.TheVariants.{AtRest}
+use Rattle.two_copy_steps.specs.Deeds.{begun}
+use Rattle.two_copy_steps.specs.Lawful.{read_by, written_by, begun_by}
+use Rattle.two_copy_steps.specs.Turns.{TwoCopies, turn, after, notes, started, submitted, published_by, is_pending, is_idle, reader_turn, stage_note}
+use Rattle.two_copy_steps.specs.Passes.{Passes, passed, passes, opened, record_at, viewed, reader_passed, state_of}
+use Rattle.two_copy_steps.proofs.EventLists.{after_append, notes_append}
+use Rattle.two_copy_steps.proofs.Journals.{IsAccepted}
+use Rattle.two_copy_steps.proofs.TurnFacts.{reader_is}
+use Rattle.two_copy_steps.proofs.TurnSteps.{view_at}
+use Rattle.board_share.specs.declared.views.History.{History}
+use Rattle.board_share.specs.Histories.{machine_of, known_after, last_note, last_told, longer}
+
+-- the cuts and records after one list of events and then another
+pub passes_append : (events more : List Event) (m : TwoCopies) (p : Passes) → passes m p (events ++ more) ≡ passes (after m events) (passes m p events) more
+passes_append [] more m p = refl
+passes_append (event ∷ events) more m p = passes_append events more (turn m event).0 (passed m p event)
+
+-- there is a record for each reader
+by_submit : (m : TwoCopies) (command : Command) (v : Result ⊤ Refusal) → (submitted m command v).0.readers ≡ m.readers
+by_submit m command (Ok u) = refl
+by_submit m command (Err refusal) = refl
+
+even_turn : (m : TwoCopies) (p : Passes) → length p.records ≡ length m.readers → (event : Event) → length (passed m p event).records ≡ length (turn m event).0.readers
+even_turn m p e (Submit command) =
+    elim (is_idle m.writer.phase) as (λ b. length p.records ≡ length (cond b (submitted m command (verdict_of m.ledger command)) (m, Skipped)).0.readers)
+    [ true ↦ e ∙ ap (length {A = Stage}) (sym (by_submit m command (verdict_of m.ledger command))) | false ↦ e ]
+even_turn m p e Publish =
+    elim (is_idle m.writer.phase) as (λ b. length p.records ≡ length (cond b (published_by m (is_pending m)) (m, Skipped)).0.readers) [
+      | true ↦ elim (is_pending m) as (λ c. length p.records ≡ length (published_by m c).0.readers) [ true ↦ e | false ↦ e ]
+      | false ↦ e
+    ]
+even_turn m p e Writer = e
+even_turn m p e (Reader zero) = e
+even_turn m p e (Reader (suc r)) = even_reader (slice_get m.readers r)
+  where
+    even_reader : (o : Option Stage) → length (reader_passed m p r o).records ≡ length (reader_turn m r o).0.readers
+    even_reader None = e
+    even_reader (Some stage) = length-set p.records r _ ∙ (e ∙ sym (length-set m.readers r _))
+
+even_after : (events : List Event) (m : TwoCopies) (p : Passes) → length p.records ≡ length m.readers → length (passes m p events).records ≡ length (after m events).readers
+even_after [] m p e = e
+even_after (event ∷ events) m p e = even_after events (turn m event).0 (passed m p event) (even_turn m p e event)
+
+pub even_of : (h : History) → length (passes (started h.begun.register h.begun.readers) (opened h.begun.register h.begun.readers) h.events).records ≡ length (machine_of h).readers
+even_of h =
+    even_after h.events (started h.begun.register h.begun.readers) (opened h.begun.register h.begun.readers)
+    (length-replicate h.begun.readers [] ∙ sym (length-replicate h.begun.readers AtRest))
+
+abbrev pub passes_of : History → Passes
+passes_of h = passes (started h.begun.register h.begun.readers) (opened h.begun.register h.begun.readers) h.events
+
+-- what is known after a longer history
+pub machine_longer : (h : History) (events : List Event) → machine_of (longer h events) ≡ after (machine_of h) events
+machine_longer h events = after_append h.events events (started h.begun.register h.begun.readers)
+
+pub known_longer : (h : History) (events : List Event) → known_after (longer h events) ≡ state_of (after (machine_of h) events) (passes (machine_of h) (passes_of h) events)
+known_longer h events =
+    (λ i. state_of (machine_longer h events i) (passes_append h.events events (started h.begun.register h.begun.readers) (opened h.begun.register h.begun.readers) i))
+
+-- the last of some notes
+last_pushed : (told : List Note) (note : Note) → last_note (told ++ note ∷ []) ≡ Some note
+last_pushed [] note = refl
+last_pushed (x ∷ []) note = refl
+last_pushed (x ∷ y ∷ told) note = last_pushed (y ∷ told) note
+
+pub told_last : (h : History) (events : List Event) (event : Event) → last_told (longer h (events ++ event ∷ [])) ≡ Some (turn (after (machine_of h) events) event).1
+told_last h events event =
+    let m = started h.begun.register h.begun.readers in
+    ap (λ (l : List Event). last_note (notes m l)) (sym (append_assoc h.events events (event ∷ [])))
+    ∙ (ap last_note (notes_append (h.events ++ events) (event ∷ []) m)
+    ∙ (last_pushed (notes m (h.events ++ events)) (turn (after m (h.events ++ events)) event).1
+    ∙ ap (λ (n : TwoCopies). Some (turn n event).1) (machine_longer h events)))
+
+pub longer_none : (h : History) → longer h [] ≡ h
+longer_none h = ap (λ (l : List Event). let x : History = record h { events = l } in x) (append-nil h.events)
+
+pub longer_twice : (h : History) (events more : List Event) → longer (longer h events) more ≡ longer h (events ++ more)
+longer_twice h events more = ap (λ (l : List Event). let x : History = record h { events = l } in x) (append_assoc h.events events more)
+
+-- a reader in the state is one of the machine
+viewed_back : (stages : List Stage) (records : List (List (List ℕ))) (r : ℕ) (v : ReaderView) → slice_get (viewed stages records) r ≡ Some v
+    → (slice_get stages r ≡ Some v.stage) × (record_at records r ≡ v.readings)
+viewed_back [] records r v e = absurd (none-some v e)
+viewed_back (x ∷ stages) [] zero v e = let s = same_Some _ v e in (ap (λ (w : ReaderView). Some w.stage) s, ap (λ (w : ReaderView). w.readings) s)
+viewed_back (x ∷ stages) [] (suc r) v e = viewed_back stages [] r v e
+viewed_back (x ∷ stages) (y ∷ records) zero v e = let s = same_Some _ v e in (ap (λ (w : ReaderView). Some w.stage) s, ap (λ (w : ReaderView). w.readings) s)
+viewed_back (x ∷ stages) (y ∷ records) (suc r) v e = viewed_back stages records r v e
+
+-- the next step of a reader
+module _ (h : History) (r : ℕ) (v : ReaderView) (there : slice_get (known_after h).readers r ≡ Some v) where
+  abbrev found_there : (slice_get (machine_of h).readers r ≡ Some v.stage) × (record_at (passes_of h).records r ≡ v.readings)
+  found_there = viewed_back (machine_of h).readers (passes_of h).records r v there
+
+  pub reader_known : known_after (longer h (Reader (suc r) ∷ [])) ≡ read_by (known_after h) r v
+  reader_known =
+      known_longer h (Reader (suc r) ∷ [])
+      ∙ (reader_is (machine_of h) (passes_of h) (even_of h) r v.stage found_there.0
+      ∙ ap (λ (readings : List (List ℕ)). read_by (known_after h) r (view_at v.stage readings)) found_there.1)
+
+  pub reader_told : last_told (longer h (Reader (suc r) ∷ [])) ≡ Some (stage_note (suc r) v.stage)
+  reader_told = told_last h [] (Reader (suc r)) ∙ ap (λ (o : Option Stage). Some (reader_turn (machine_of h) r o).1) found_there.0
+
+  pub reader_register : (machine_of (longer h (Reader (suc r) ∷ []))).ledger ≡ (machine_of h).ledger
+  reader_register =
+      ap (λ (m : TwoCopies). m.ledger) (machine_longer h (Reader (suc r) ∷ []))
+      ∙ ap (λ (o : Option Stage). (reader_turn (machine_of h) r o).0.ledger) found_there.0
+
+-- the writer hands over commands that the register accepts
+and_left : (a b : Bool) → IsTrue (a && b) → IsTrue a
+and_left true b h = refl
+and_left false b h = cc
+
+and_right : (a b : Bool) → IsTrue (a && b) → IsTrue b
+and_right true b h = h
+and_right false b h = cc
+
+accepted_there : (r : Roll) (commands : List Command) (command : Command) (rest : List Command) → IsTrue (all_accepted r (commands ++ command ∷ rest)) → IsTrue (is_ok (step (fold_from r commands) command))
+accepted_there r [] command rest h = and_left (is_ok (step r command)) _ h
+accepted_there r (c ∷ cs) command rest h = accepted_there (rolls.after r c) cs command rest (and_right (is_ok (step r c)) _ h)
+
+verdict_is : (v : Result Roll Refusal) (room : Result ⊤ Refusal) → IsTrue (is_ok v) → verdict v room ≡ room
+verdict_is (Ok r) room h = refl
+verdict_is (Err why) room h = cc
+
+room_is : (ledger : Ledger) → length ledger.journal < ledger.limit → room_of ledger ≡ Ok tt
+room_is ledger h = ap (λ (b : Bool). let x : Result ⊤ Refusal = cond b (Err JournalFull) (Ok tt) in x) (ne_eqb (length ledger.journal) ledger.limit (λ e. omega arith))
+
+-- the register with more commands
+abbrev pub with_journal : TwoCopies → List Command → TwoCopies
+with_journal m journal = record m { ledger = record m.ledger { journal = journal } }
+
+-- more commands fit into a register
+pub record Fits (ledger : Ledger) (rest : List Command) : Type 0 where
+  pub accepted : IsAccepted ledger.opening (ledger.journal ++ rest)
+  pub within : length (ledger.journal ++ rest) ≤ ledger.limit
+
+fits_on : (ledger : Ledger) (command : Command) (rest : List Command) → Fits ledger (command ∷ rest) → Fits (appended ledger command) rest
+fits_on ledger command rest h =
+    let e = sym (append_assoc ledger.journal (command ∷ []) rest) in
+    record { accepted = subst (IsAccepted ledger.opening) e h.accepted; within = subst (λ (l : List Command). length l ≤ ledger.limit) e h.within }
+
+submit_turn : (m : TwoCopies) (command : Command) (rest : List Command) → is_idle m.writer.phase ≡ true → Fits m.ledger (command ∷ rest) → (turn m (Submit command)).0 ≡ record m { ledger = appended m.ledger command }
+submit_turn m command rest idle h =
+    let within = h.within in
+    let ok : verdict_of m.ledger command ≡ Ok tt = verdict_is (step (roll_of m.ledger) command) (room_of m.ledger) (accepted_there (opening_roll m.ledger.opening) m.ledger.journal command rest h.accepted)
+    ∙ room_is m.ledger (omega (arith, length-append m.ledger.journal (command ∷ rest))) in
+    ap (λ (b : Bool). (cond b (submitted m command (verdict_of m.ledger command)) (m, Skipped)).0) idle ∙ ap (λ (v : Result ⊤ Refusal). (submitted m command v).0) ok
+
+pub submits_turn : (rest : List Command) (m : TwoCopies) (p : Passes) → is_idle m.writer.phase ≡ true → Fits m.ledger rest
+    → (after m (map Submit rest) ≡ with_journal m (m.ledger.journal ++ rest)) × (passes m p (map Submit rest) ≡ p)
+submits_turn [] m p idle h = (ap (with_journal m) (sym (append-nil m.ledger.journal)), refl)
+submits_turn (command ∷ rest) m p idle h =
+    let n : TwoCopies = record m { ledger = appended m.ledger command } in
+    let e : (turn m (Submit command)).0 ≡ n = submit_turn m command rest idle h in
+    let more = submits_turn rest n p idle (fits_on m.ledger command rest h) in
+    (ap (λ (k : TwoCopies). after k (map Submit rest)) e ∙ (more.0 ∙ ap (with_journal m) (append_assoc m.ledger.journal (command ∷ []) rest)), ap (λ (k : TwoCopies). passes k p (map Submit rest)) e ∙ more.1)
+
+-- the writer's next step
+pub writer_known : (h : History) → known_after (longer h (Writer ∷ [])) ≡ written_by (machine_of h).ledger.opening (known_after h)
+writer_known h = known_longer h (Writer ∷ [])
+
+pub writer_register : (h : History) → (machine_of (longer h (Writer ∷ []))).ledger ≡ (machine_of h).ledger
+writer_register h = ap (λ (m : TwoCopies). m.ledger) (machine_longer h (Writer ∷ []))
+
+-- a publication begins over a journal that extends what the register had
+module _ (h : History) (rest : List Command) (idle : is_idle (machine_of h).writer.phase ≡ true) (fits : Fits (machine_of h).ledger rest)
+    (more : length (machine_of h).writer.published < length ((machine_of h).ledger.journal ++ rest)) where
+  abbrev m : TwoCopies
+  m = machine_of h
+
+  abbrev journal : List Command
+  journal = m.ledger.journal ++ rest
+
+  -- the machine with all commands handed over
+  abbrev handed : TwoCopies
+  handed = with_journal m journal
+
+  begun_turn : (turn handed Publish).0 ≡ record handed { writer = begun 34 journal m.writer }
+  begun_turn =
+      ap (λ (b : Bool). (cond b (published_by handed (is_pending handed)) (handed, Skipped)).0) idle
+      ∙ ap (λ (b : Bool). (published_by handed b).0) (lt-ltb (length m.writer.published) (length journal) more)
+
+  begin_after : after m (map Submit rest ++ Publish ∷ []) ≡ record handed { writer = begun 34 journal m.writer }
+  begin_after = after_append (map Submit rest) (Publish ∷ []) m ∙ (ap (λ (n : TwoCopies). (turn n Publish).0) (submits_turn rest m (passes_of h) idle fits).0 ∙ begun_turn)
+
+  begin_passes : passes m (passes_of h) (map Submit rest ++ Publish ∷ []) ≡ passes_of h
+  begin_passes = passes_append (map Submit rest) (Publish ∷ []) m (passes_of h) ∙ (submits_turn rest m (passes_of h) idle fits).1
+
+  pub begin_known : known_after (longer h (map Submit rest ++ Publish ∷ [])) ≡ begun_by (known_after h) journal
+  begin_known = known_longer h (map Submit rest ++ Publish ∷ []) ∙ (λ i. state_of (begin_after i) (begin_passes i))
+
+  pub begin_register : (machine_of (longer h (map Submit rest ++ Publish ∷ []))).ledger ≡ record m.ledger { journal = journal }
+  begin_register = ap (λ (n : TwoCopies). n.ledger) (machine_longer h (map Submit rest ++ Publish ∷ []) ∙ begin_after)

@@ -1,0 +1,75 @@
+-- What happened on a board: how it began, and the events since, of all seats.
+use Rattle.std.specs.Prelude.{◌≡◌, ℕ, ◌==◌, Bool, true, false, List, [], ◌∷◌, ◌++◌, map, drop, length}
+use Rattle.std.specs.Prelude.{Option, None, Some}
+use Rattle.std.specs.List.{filter}
+use Rattle.council_core.specs.declared.commands.Command.{Command}
+use Rattle.two_copy_steps.specs.declared.events.Event.{Event}
+use Rattle.two_copy_steps.specs.declared.events.Event.TheVariants.{Submit, Publish, Writer, Reader}
+use Rattle.two_copy_steps.specs.declared.events.Note.{Note}
+use Rattle.two_copy_steps.specs.declared.views.WriterView.{WriterView}
+use Rattle.two_copy_steps.specs.Lawful.{State}
+use Rattle.two_copy_steps.specs.Turns.{TwoCopies, started, notes}
+use Rattle.two_copy_steps.specs.Passes.{state_of}
+use Rattle.two_copy_steps.specs.Runs.{machine_after, passes_after}
+use Rattle.board_share.specs.declared.views.Beginning.{Beginning}
+use Rattle.board_share.specs.declared.views.History.{History}
+
+-- the machine of one thread after the events
+abbrev pub machine_of : History → TwoCopies
+machine_of h = machine_after h.begun.register h.begun.readers h.events
+
+-- the words, and what the writer and each reader know then
+abbrev pub known_after : History → State
+known_after h = state_of (machine_of h) (passes_after h.begun.register h.begun.readers h.events)
+
+-- after a history the machine's writer knows this, and its register holds the commands taken
+pub record KnowsAfter (h : History) (v : WriterView) : Type 0 where
+  pub writer : (known_after h).writer ≡ v
+  pub register : (machine_of h).ledger ≡ record h.begun.register { journal = v.state.taken }
+
+-- what the events told
+abbrev pub told_in : History → List Note
+told_in h = notes (started h.begun.register h.begun.readers) h.events
+
+-- the last of some notes
+abbrev pub last_note : List Note → Option Note
+last_note [] = None
+last_note (note ∷ []) = Some note
+last_note (note ∷ more ∷ rest) = last_note (more ∷ rest)
+
+-- what the last event told
+abbrev pub last_told : History → Option Note
+last_told h = last_note (told_in h)
+
+-- before anything happened
+abbrev pub first_history : Beginning → History
+first_history begun = record { begun = begun; events = [] }
+
+-- with more events
+abbrev pub longer : History → List Event → History
+longer h events = record h { events = h.events ++ events }
+
+-- whether an event is the writer's
+abbrev pub is_writers : Event → Bool
+is_writers (Submit command) = true
+is_writers Publish = true
+is_writers Writer = true
+is_writers (Reader number) = false
+
+-- whether it is that of the reader of a number
+abbrev pub is_readers : ℕ → Event → Bool
+is_readers number (Submit command) = false
+is_readers number Publish = false
+is_readers number Writer = false
+is_readers number (Reader n) = n == number
+
+-- from one history to a later one, in which of all events that came between just these are an actor's own
+pub record Adds (is_own : Event → Bool) (own : List Event) (before after : History) : Type 0 where
+  pub events : List Event
+  pub longer_by : after ≡ longer before events
+  pub own_are : filter is_own events ≡ own
+
+-- the commands of a journal that the writer hands over where it begins to publish them: those behind the ones that it
+-- took before
+abbrev pub handed_over : List Command → List Command → List Event
+handed_over taken journal = map Submit (drop (length taken) journal)
