@@ -1,6 +1,7 @@
 -- The two halves of a sheet (Horowitz and Sahni 1974): the first half of its open chairs, by number, stand on the left,
 -- with the odd one, and the others on the right, each at slots from 0.
-use Rattle.std.specs.Prelude.{◌≡◌, ℕ, ◌+◌, ◌-◌, ◌/◌, Bool, not, if◌then◌else◌, List, [], ◌∷◌, map, length, take, drop, nat_eq, nat_lt}
+use Rattle.std.specs.Prelude.{◌≡◌, ℕ, ◌+◌, ◌-◌, ◌/◌, Bool, not, if◌then◌else◌, List, [], ◌∷◌, map}
+use Rattle.std.specs.Prelude.{length, take, drop, nat_eq, nat_lt}
 use Rattle.std.specs.Cmp.Lexicographic.{pointwise}
 use Rattle.council_core.specs.Sheets.{Chair, open_from, open_chairs}
 use Rattle.half_sums.specs.declared.entry.Entry.{Entry}

@@ -55,8 +55,8 @@ impl Evaluator {
         Ok(Evaluator { sheet, left, right })
     }
 
-    /// Holds another sheet, and answers in how many of chairs 1 to 16 and chairs 17 to 32 it differs from the one before.
-    /// The total and the front belong to neither.
+    /// Holds another sheet, and answers in how many of chairs 1 to 16 and chairs 17 to 32 it differs from the one
+    /// before. The total and the front belong to neither.
     ///
     /// Whatever their numbers, the first half of the open chairs make the one list, with the odd chair, and the others
     /// the other. A list is rebuilt where its weights differ from those before.

@@ -124,8 +124,8 @@ fn pass(
     }
 }
 
-/// Whether the falling entry comes before the rising one: there is one, and it reaches the quota with the rising one, or
-/// no rising one is left.
+/// Whether the falling entry comes before the rising one: there is one, and it reaches the quota with the rising one,
+/// or no rising one is left.
 fn falls_next(low: &Entry, high: &Entry, some_rising: bool, some_falling: bool, quota: u64) -> bool
     requires small { low.now.sum + high.now.sum < 2 ^ 64 }
     ensures next { result ≡ (not some_rising || (some_falling && nat_le quota (low.now.sum + high.now.sum))) }
