@@ -209,7 +209,7 @@ pub(crate) struct Listed {
 
 // Lists the sets of a chair of two votes and one of one: how many sets there are, how many of one chair, the greatest
 // sum, and how many pairs of sets have three votes.
-fn listed(half: &mut HalfSums) -> [u64; 4] {
+fn counts_of_lists(half: &mut HalfSums) -> [u64; 4] {
     half.rebuild(&[(0, 2), (1, 1)]);
     let greatest = match half.ascending().last() {
         Some(entry) => entry.sum,
@@ -234,7 +234,7 @@ impl Call for Listing {
     }
 
     fn call<R: Threads + Wait + Sync>(&self, _rt: &R, _alloc: Global, state: &mut Listed) -> u8 {
-        state.seen = listed(&mut state.half);
+        state.seen = counts_of_lists(&mut state.half);
         if state.seen == [4, 2, 3, 10] { 0 } else { NONE }
     }
 

@@ -5,3 +5,7 @@ use Rattle.count_tests.proofs.sums.ordered_sums_of_three.Goals as goal
 pub rebuild-requires-clause-distinct : goal.rebuild-requires-clause-distinct
 unfolding IsDistinct
 rebuild-requires-clause-distinct g c = search rules
+
+pub rebuild-requires-2-clause-distinct : goal.rebuild-requires-2-clause-distinct
+unfolding IsDistinct
+rebuild-requires-2-clause-distinct g c = search rules
