@@ -1,6 +1,8 @@
 -- Legal journals, whatever the event.
 use Rattle.std.proofs.Common.{◌≡◌, ◌≢◌, ℕ, zero, suc, eqb, ◌≤◌, Bool, true, false, cond, ◌&&◌, List, [], ◌∷◌, ◌++◌, length, Option, None, Some, slice_get, Result, Ok, Err, is_ok, IsTrue, refl, sym, ap, arith, length-append, eq-eqb, true≢false}
 use Rattle.std.specs.Prelude.{⊤}
+use Rattle.std.proofs.lemmas.List.Elements.{All-push}
+use Rattle.council_core.specs.Laws.{SetsInRange}
 use Rattle.council_core.specs.declared.commands.Command.{Command}
 use Rattle.council_core.specs.declared.refusals.Refusal.{Refusal}
 use Rattle.council_core.specs.declared.refusals.Refusal.TheVariants.{JournalFull}
@@ -10,6 +12,7 @@ use Rattle.two_copy_steps.specs.declared.events.Event.{Event}
 use Rattle.two_copy_steps.specs.declared.events.Event.TheVariants.{Submit, Publish, Writer, Reader}
 use Rattle.two_copy_steps.specs.declared.events.Note.TheVariants.{Skipped}
 use Rattle.two_copy_steps.specs.declared.views.Stage.{Stage}
+use Rattle.two_copy_steps.specs.Laws.{HandsInRange, HasVotesInRange}
 use Rattle.two_copy_steps.specs.Turns.{TwoCopies, turn, submitted, published_by, is_pending, is_idle, reader_turn}
 
 -- each command is accepted in its turn
@@ -98,3 +101,24 @@ journal_within =
     let below = h.0 in
     let apart = room_there l (step_ok (step (roll_of l) command) (room_of l) v).1 in
     (omega (arith, length-append l.journal (command ∷ [])), h.1))
+
+-- votes stay in range
+in_range_more : (ledger : Ledger) (command : Command) → HasVotesInRange ledger → SetsInRange command → HasVotesInRange (appended ledger command)
+in_range_more ledger command h c = (h.0, All-push SetsInRange ledger.journal command h.1 c)
+
+in_range_by : (m : TwoCopies) (command : Command) (v : Result ⊤ Refusal) → HasVotesInRange m.ledger → SetsInRange command → HasVotesInRange (submitted m command v).0.ledger
+in_range_by m command (Ok u) h c = in_range_more m.ledger command h c
+in_range_by m command (Err refusal) h c = h
+
+pub stays_in_range : (m : TwoCopies) → HasVotesInRange m.ledger → (event : Event) → HandsInRange event → HasVotesInRange (turn m event).0.ledger
+stays_in_range m h (Submit command) c =
+    elim (is_idle m.writer.phase) as (λ b. HasVotesInRange (cond b (submitted m command (verdict_of m.ledger command)) (m, Skipped)).0.ledger)
+    [ true ↦ in_range_by m command (verdict_of m.ledger command) h c | false ↦ h ]
+stays_in_range m h Publish c =
+    elim (is_idle m.writer.phase) as (λ b. HasVotesInRange (cond b (published_by m (is_pending m)) (m, Skipped)).0.ledger) [
+      | true ↦ elim (is_pending m) as (λ b. HasVotesInRange (published_by m b).0.ledger) [ true ↦ h | false ↦ h ]
+      | false ↦ h
+    ]
+stays_in_range m h Writer c = h
+stays_in_range m h (Reader zero) c = h
+stays_in_range m h (Reader (suc r)) c = elim (slice_get m.readers r) as (λ o. HasVotesInRange (reader_turn m r o).0.ledger) [ None ↦ h | Some stage ↦ h ]

@@ -1,5 +1,6 @@
 pub mod Lists
 pub mod Records
+pub mod Cuts
 pub mod ReaderSteps
 pub mod WriterSteps
 pub mod TurnSteps

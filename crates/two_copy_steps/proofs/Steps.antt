@@ -3,7 +3,7 @@ use Rattle.std.proofs.Common.{◌≡◌, ◌≢◌, ◌⊎◌, ⊎_elim, ℕ, ze
 use Rattle.std.specs.Prelude.{⊤, nat_lt}
 use Rattle.std.proofs.lemmas.List.{set-get_or, take-append-le, length-replicate}
 use Rattle.std.proofs.lemmas.Bool.{lt-ltb}
-use Rattle.std.proofs.lemmas.Option.{slice_get_past}
+use Rattle.std.proofs.lemmas.Option.{slice_get-get_or, slice_get_past}
 use Rattle.std.proofs.Math.Seq.{take-length}
 use Rattle.council_core.specs.declared.commands.Command.{Command}
 use Rattle.council_core.specs.declared.refusals.Refusal.{Refusal}
@@ -33,12 +33,6 @@ use Rattle.two_copy_steps.proofs.Starts.{start_lawful}
 -- what a register is asked for its sheet tells of its journal
 pub publishable : (L : Ledger) (words : List ℕ) → IsLedger L → words ≡ sheet_of L → IsSheet words → IsPublishable L.opening L.journal
 publishable L words legal is in_range = (legal.legal, subst IsSheet is in_range)
-
--- a second write to a place
-pub set_set : {A : Type 0} (xs : List A) (i : ℕ) (a b : A) → set (set xs i a) i b ≡ set xs i b
-set_set [] i a b = refl
-set_set (x ∷ xs) zero a b = refl
-set_set (x ∷ xs) (suc i) a b = ap (λ l. x ∷ l) (set_set xs i a b)
 
 -- the writer's step, by its phase
 abbrev wrote : TwoCopies → Phase → TwoCopies
@@ -282,7 +276,7 @@ module _ (L : Ledger) (W : List ℕ) (s n : ℕ) (t : List ℕ) (ph : Phase) (so
       pub skipped_at : (number : ℕ) → (number ≡ 0) ⊎ (length R < number) → (turn now (Reader number)) ≡ (now, Skipped)
       skipped_at number none = subst (λ (m : TwoCopies). (turn m (Reader number)) ≡ (m, Skipped)) is (no_reader number none)
 
-      module _ (number : ℕ) (some : number ≡ 0 → ⊥) (within : number ≤ length R) (stage : Stage) (found : slice_get R (number - 1) ≡ Some stage) where
+      module _ (number : ℕ) (some : number ≡ 0 → ⊥) (within : number ≤ length R) where
         number_is : number ≡ suc (number - 1)
         number_is = by_cases number some
           where
@@ -290,23 +284,31 @@ module _ (L : Ledger) (W : List ℕ) (s n : ℕ) (t : List ℕ) (ph : Phase) (so
             by_cases zero h = absurd (h refl)
             by_cases (suc x) h = omega arith
 
+        abbrev stage : Stage
+        stage = get_or R (number - 1) AtRest
+
+        pub seat_here : number - 1 < length R
+        seat_here = let h = number_is in omega arith
+
+        found : slice_get R (number - 1) ≡ Some stage
+        found = slice_get-get_or R (number - 1) AtRest seat_here
+
         pub seat_within : 69 + (number - 1) < length W
         seat_within = let wide = wide_enough in let h = number_is in omega arith
+
+        pub seat_few : number - 1 < 4
+        seat_few = let few = k.few in let h = number_is in omega arith
 
         pub seat_readable : IsReadable stage
         seat_readable = readable (number - 1) stage found
 
-        module _ (seats : List Stage) (blank : Stage) (put : seats ≡ set R (number - 1) blank) (W' : List ℕ) (next : Stage) (R' : List Stage)
-            (words : let d = stage_deed 34 (number - 1) stage in W' ≡ set W d.word (d.becomes (get_or W d.word 0))) (after : let d = stage_deed 34 (number - 1) stage in next ≡ d.after (get_or W d.word 0))
-            (put_back : R' ≡ set seats (number - 1) next) where
-          seats_are : R' ≡ set R (number - 1) next
-          seats_are = put_back ∙ (ap (λ (x : List Stage). set x (number - 1) next) put ∙ set_set R (number - 1) blank next)
-
+        module _ (W' : List ℕ) (R' : List Stage) (words : let d = stage_deed 34 (number - 1) stage in W' ≡ set W d.word (d.becomes (get_or W d.word 0)))
+            (stages : let d = stage_deed 34 (number - 1) stage in R' ≡ set R (number - 1) (d.after (get_or W d.word 0))) where
           pub read_at : seen_as L W' s n t ph so R' ≡ (turn old (Reader number)).0
-          read_at = reader_reads number (number - 1) stage W' R' number_is found (words, seats_are ∙ ap (set R (number - 1)) after)
+          read_at = reader_reads number (number - 1) stage W' R' number_is found (words, stages)
 
           pub read_machine : IsMachine L W' s n t ph so R'
-          read_machine = reader_stays number W' R' read_at (ap (length {A = Stage}) seats_are ∙ length-set R (number - 1) next)
+          read_machine = reader_stays number W' R' read_at (ap (length {A = Stage}) stages ∙ length-set R (number - 1) _)
 
         pub read_note : (note : Note) → note ≡ stage_note (suc (number - 1)) stage → note ≡ (turn old (Reader number)).1
         read_note note e = e ∙ reader_tells number (number - 1) stage number_is found

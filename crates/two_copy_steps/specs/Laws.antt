@@ -1,8 +1,9 @@
 -- Laws of the machine, for whoever builds on it.
 use Rattle.std.specs.Prelude.{◌≡◌, ◌≢◌, ℕ, suc, ◌+◌, ◌≤◌, ◌==◌, true, false, List, []}
-use Rattle.std.specs.Prelude.{◌∷◌, ◌++◌, length, slice_get, slice_index, Some, if◌then◌else◌}
+use Rattle.std.specs.Prelude.{◌∷◌, ◌++◌, length, slice_get, slice_index, Some, if◌then◌else◌, All}
 use Rattle.council_core.specs.declared.commands.Command.{Command}
 use Rattle.council_core.specs.Rolls.{Opening}
+use Rattle.council_core.specs.Laws.{IsOpening, SetsInRange}
 use Rattle.council_core.specs.Ledgers.{Ledger, IsLedger}
 use Rattle.council_core.specs.Sheets.{front_of}
 use Rattle.two_copy_steps.specs.declared.events.Event.{Event}
@@ -130,6 +131,23 @@ EventLaw = (m : TwoCopies) (p : Passes) → IsLawful IsPublishable m p
 -- each event keeps the journal legal and within its limit
 abbrev pub LedgerLaw : Type 0
 LedgerLaw = (m : TwoCopies) → IsLedger m.ledger → (event : Event) → IsLedger (turn m event).0.ledger
+
+-- a register whose members and commands have votes in range
+abbrev pub HasVotesInRange : Ledger → Type 0
+HasVotesInRange ledger = IsOpening ledger.opening × All SetsInRange ledger.journal
+
+-- an event that hands over a command hands over one whose votes are in range
+abbrev pub HandsInRange : Event → Type 0
+HandsInRange (Submit command) = SetsInRange command
+HandsInRange Publish = Unit {0}
+HandsInRange Writer = Unit {0}
+HandsInRange (Reader number) = Unit {0}
+
+-- each such event keeps the votes in range, and the journal publishable
+abbrev pub RangeLaw : Type 0
+RangeLaw = (m : TwoCopies) → IsLedger m.ledger → HasVotesInRange m.ledger → (event : Event) → HandsInRange event
+    → HasVotesInRange (turn m event).0.ledger
+    × IsPublishable (turn m event).0.ledger.opening (turn m event).0.ledger.journal
 
 -- over every list of events the records are legal
 abbrev pub RecordsLaw : Type 0

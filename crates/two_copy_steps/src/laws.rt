@@ -2,7 +2,7 @@
 ghost use Rattle.two_copy_steps.specs.Laws.{StartLaw, ReaderLaw, WriterLaw, BeginLaw, StateRecordsLaw, StateUnderLaw};
 ghost use Rattle.two_copy_steps.specs.Laws.{StateKnownLaw, WriterTurnLaw, ReaderTurnLaw, BeginTurnLaw, IdleTurnLaw};
 ghost use Rattle.two_copy_steps.specs.Laws.{SubmitTurnLaw, BusyLaw, StayLaw, AtOnceLaw, CountLaw, GrowthLaw, EventLaw};
-ghost use Rattle.two_copy_steps.specs.Laws.{LedgerLaw, RecordsLaw, UnderLaw, RepliesLaw, FreshLaw, ToldLaw};
+ghost use Rattle.two_copy_steps.specs.Laws.{LedgerLaw, RangeLaw, RecordsLaw, UnderLaw, RepliesLaw, FreshLaw, ToldLaw};
 ghost use Rattle.two_copy_steps.specs.Laws.{NeverOlderLaw, EffectsLaw, NotesLaw, AfterLaw};
 
 /// The machine is lawful at its start.
@@ -51,10 +51,13 @@ pub fn reading_laws()
     ensures growth { GrowthLaw }
 {}
 
-/// Each event keeps the machine lawful, with its cuts and records, and its journal legal.
+/// Each event keeps the machine lawful, with its cuts and records, and its journal legal; where votes
+/// are in range, it keeps them so, and the journal publishable. So what is asked before an event holds
+/// after it, and the next may come.
 pub fn event_law()
     ensures lawful { EventLaw }
     ensures journal { LedgerLaw }
+    ensures in_range { RangeLaw }
 {}
 
 /// Over every list of events: the records are legal, no word is stored under a reader, each answer

@@ -11,9 +11,7 @@ ghost use Rattle.two_copy_steps.specs.Machines.{IsFew, WantsMemory};
 ghost use Rattle.two_copy_steps.specs.Publications.{seen_out_at};
 
 use crate::events::{Event, Note};
-use crate::readers::advance;
 use crate::seats::{Flags, Seats};
-use crate::stages::ReaderStage;
 use crate::table::{COPY_WORDS, READERS, SIDE, Table, pin, place};
 use crate::views::Phase;
 use council_core::{Command, Refusal, Register, Sheet};
@@ -219,11 +217,7 @@ impl Machine {
         if number == 0 || self.seats.len() < number as usize {
             return Note::Skipped;
         }
-        let r = number as usize - 1;
-        let mut stage = self.seats.replace(r, ReaderStage::new());
-        let note = advance(&mut self.table, r, &mut stage);
-        let _at_rest = self.seats.replace(r, stage);
-        note
+        self.seats.advance(&mut self.table, number as usize - 1)
     }
 
     // The register alone.

@@ -1,16 +1,19 @@
 //! The readers' stages, and who of them is seen out.
 ghost use Rattle.std.specs.Prelude.{◌≡◌, List, Bool, ◌<◌, ◌≤◌, true, false, length, take, replicate};
-ghost use Rattle.std.specs.Prelude.{Some, slice_get, slice_set};
+ghost use Rattle.std.specs.Prelude.{Some, suc, slice_get, slice_index, slice_index_or, slice_set};
 ghost use Rattle.two_copy_steps.specs.declared.views.Stage.{Stage};
 ghost use Rattle.two_copy_steps.specs.declared.views.Stage.TheVariants.{AtRest};
 ghost use Rattle.two_copy_steps.specs.declared.table.TheConstants.{READERS};
-ghost use Rattle.two_copy_steps.specs.Deeds.{all_true, first_false};
+ghost use Rattle.two_copy_steps.specs.Deeds.{all_true, first_false, pin, stage_deed};
 ghost use Rattle.two_copy_steps.specs.Publications.{seen_out_at};
+ghost use Rattle.two_copy_steps.specs.Stages.{IsReadable};
+ghost use Rattle.two_copy_steps.specs.Turns.{stage_note};
 
+use crate::events::Note;
+use crate::readers::advance;
 use crate::stages::ReaderStage;
-use crate::table::READERS;
+use crate::table::{COPY_WORDS, READERS, Table};
 use std::marker::Model;
-use std::mem;
 
 /// The stage of each reader, of at most four.
 #[derive(Drop)]
@@ -50,14 +53,19 @@ impl Seats {
         self.len
     }
 
-    // Puts a stage in the place of another, and answers that one.
-    pub(crate) fn replace(&mut self, r: usize, stage: ReaderStage) -> ReaderStage
-        requires within { r < length self.old }
+    // One step of the reader at a place, and what it tells.
+    pub(crate) fn advance(&mut self, table: &mut Table, r: usize) -> Note
+        requires here { r < length self.old }
         requires few { r < READERS }
-        ensures found { slice_get self.old r ≡ Some result }
-        ensures put { self.new ≡ slice_set self.old r stage }
+        requires within { pin COPY_WORDS r < length table.old }
+        requires readable { IsReadable (slice_index_or self.old r AtRest) }
+        ensures words { let d = stage_deed COPY_WORDS r (slice_index_or self.old r AtRest)
+            in table.new ≡ slice_set table.old d.word (d.becomes (slice_index table.old d.word)) }
+        ensures stages { let d = stage_deed COPY_WORDS r (slice_index_or self.old r AtRest)
+            in self.new ≡ slice_set self.old r (d.after (slice_index table.old d.word)) }
+        ensures note { result ≡ stage_note (suc r) (slice_index_or self.old r AtRest) }
     {
-        mem::replace(&mut self.stages[r], stage)
+        advance(table, r, &mut self.stages[r])
     }
 }
 

@@ -64,6 +64,13 @@ impl ReaderStage {
         matches!(self.phase, ReaderPhase::AtRest)
     }
 
+    /// Gives up the reading that is in progress, if one is.
+    pub fn give_up(&mut self)
+        ensures rest { self.new ≡ AtRest }
+    {
+        self.phase = ReaderPhase::AtRest;
+    }
+
     /// What the next step of the reader at r, counted from 0, does to its word.
     pub fn access(&self, r: usize) -> Access
         requires few { r < READERS }

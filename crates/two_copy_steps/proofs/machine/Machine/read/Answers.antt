@@ -2,7 +2,7 @@ use Rattle.std.proofs.Common.{◌≡◌, ◌<◌, ◌⊎◌, inl, inr, length, �
 use Rattle.two_copy_steps.specs.declared.events.Note.{Note}
 use Rattle.two_copy_steps.specs.declared.events.Event.TheVariants.{Reader}
 use Rattle.two_copy_steps.specs.Turns.{TwoCopies, turn}
-use Rattle.two_copy_steps.proofs.Steps.{skipped_at, seat_within, seat_readable, read_at, read_machine, read_note}
+use Rattle.two_copy_steps.proofs.Steps.{skipped_at, seat_here, seat_few, seat_within, seat_readable, read_at, read_machine, read_note}
 use Rattle.two_copy_steps.proofs.machine.Machine.read.Goals as goal
 use Rattle.two_copy_steps.proofs.machine.Machine.read.Goals.{then-number-eq0-via-then-number-eq0, then-number-eq0-via-else-number-eq0+then-len-number}
 
@@ -19,36 +19,33 @@ returns-then-number-eq0-clause-machine c = ap (λ (x : TwoCopies × Note). x.0) 
 pub returns-then-number-eq0-clause-note : goal.returns-then-number-eq0-clause-note
 returns-then-number-eq0-clause-note c = ap (λ (x : TwoCopies × Note). x.1) (sym (skipped_at _ _ _ _ _ _ _ _ c.self.invariant _ c.self.view_is c.args.number (none c)))
 
-pub advance-note-requires-clause-within : goal.advance-note-requires-clause-within
-advance-note-requires-clause-within c =
+pub advance-requires : goal.advance-requires
+advance-requires c =
     let e = c.len.ensures in
     let h = c.if-len-number.false in
-    seat_within _ _ _ _ _ _ _ _ c.self.invariant _ c.self.view_is _ c.if-number-eq0.false (omega arith) _ c.replace-stage.ensures.found
-
-pub advance-note-requires-clause-readable : goal.advance-note-requires-clause-readable
-advance-note-requires-clause-readable c =
-    let e = c.len.ensures in
-    let h = c.if-len-number.false in
-    seat_readable _ _ _ _ _ _ _ _ c.self.invariant _ c.self.view_is _ c.if-number-eq0.false (omega arith) _ c.replace-stage.ensures.found
+    record {
+      here = seat_here _ _ _ _ _ _ _ _ c.self.invariant _ c.self.view_is _ c.if-number-eq0.false (omega arith);
+      few = seat_few _ _ _ _ _ _ _ _ c.self.invariant _ c.self.view_is _ c.if-number-eq0.false (omega arith);
+      within = seat_within _ _ _ _ _ _ _ _ c.self.invariant _ c.self.view_is _ c.if-number-eq0.false (omega arith);
+      readable = seat_readable _ _ _ _ _ _ _ _ c.self.invariant _ c.self.view_is _ c.if-number-eq0.false (omega arith);
+    }
 
 pub invariant_of-self : goal.invariant_of-self
 invariant_of-self c =
     let e = c.len.ensures in
     let h = c.if-len-number.false in
-    read_machine _ _ _ _ _ _ _ _ c.self.invariant _ c.self.view_is _ c.if-number-eq0.false (omega arith) _ c.replace-stage.ensures.found _ _ c.replace-stage.ensures.put _ _ _
-    c.advance-note.ensures.words c.advance-note.ensures.stage c.replace-at_rest.ensures.put
+    read_machine _ _ _ _ _ _ _ _ c.self.invariant _ c.self.view_is _ c.if-number-eq0.false (omega arith) _ _ c.advance.ensures.words c.advance.ensures.stages
 
 pub returns-clause-machine : goal.returns-clause-machine
 returns-clause-machine c =
     let e = c.len.ensures in
     let h = c.if-len-number.false in
-    read_at _ _ _ _ _ _ _ _ c.self.invariant _ c.self.view_is _ c.if-number-eq0.false (omega arith) _ c.replace-stage.ensures.found _ _ c.replace-stage.ensures.put _ _ _
-    c.advance-note.ensures.words c.advance-note.ensures.stage c.replace-at_rest.ensures.put
+    read_at _ _ _ _ _ _ _ _ c.self.invariant _ c.self.view_is _ c.if-number-eq0.false (omega arith) _ _ c.advance.ensures.words c.advance.ensures.stages
     ∙ ap (λ (m : TwoCopies). (turn m (Reader c.args.number)).0) c.self.view_is
 
 pub returns-clause-note : goal.returns-clause-note
 returns-clause-note c =
     let e = c.len.ensures in
     let h = c.if-len-number.false in
-    read_note _ _ _ _ _ _ _ _ c.self.invariant _ c.self.view_is _ c.if-number-eq0.false (omega arith) _ c.replace-stage.ensures.found _ c.advance-note.ensures.note
+    read_note _ _ _ _ _ _ _ _ c.self.invariant _ c.self.view_is _ c.if-number-eq0.false (omega arith) _ c.advance.ensures.note
     ∙ ap (λ (m : TwoCopies). (turn m (Reader c.args.number)).1) c.self.view_is
