@@ -87,7 +87,8 @@ impl Reader {
         advance(&self.board, &mut self.seat, self.place, &mut self.stage)
     }
 
-    /// One reading, all 37 steps of it: the sheet that is published when the second step is taken.
+    /// One reading, all 37 steps of it: the sheet that is published when the second step is taken. In
+    /// the middle of a reading, where no proved caller comes, that one is given up, and a new one begins.
     pub fn read(&mut self) -> Reading
         requires rest { self.old.stage ≡ AtRest }
         ensures opening { self.new.opening ≡ self.old.opening }
@@ -101,6 +102,7 @@ impl Reader {
         ensures not_older { last_front_of self.old ≤ front_of result.sheet }
         ensures record_legal { HasLegalRecord self.new }
     {
+        self.stage.give_up();
         read_all(&self.board, &mut self.seat, self.place)
     }
 }

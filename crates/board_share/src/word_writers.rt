@@ -2,6 +2,8 @@
 ghost use Rattle.std.specs.Prelude.{◌≡◌, ℕ, ◌<◌, ◌≤◌, ◌==◌, ◌-◌, ◌++◌, ◌∷◌, [], true, false, Some, None, length};
 ghost use Rattle.std.specs.Prelude.{replicate, slice_get, slice_index, IfOk, OnErr};
 ghost use Rattle.std.specs.Arc.{arc_value};
+ghost use Rattle.std.specs.List.{last_or};
+ghost use Rattle.std.specs.List.Sorted.{IsStrictlyIncreasing};
 ghost use Rattle.council_core.specs.Rolls.{sheet};
 ghost use Rattle.council_core.specs.Ledgers.{verdict_of, appended};
 ghost use Rattle.council_core.specs.Verdicts.{Follows};
@@ -85,6 +87,8 @@ impl WordWriter {
     pub(crate) fn published(&self) -> u32
         ensures number { result ≡ length (known_at self.now).state.published }
         ensures begins { Begins (known_at self.now).state.published self.now.ledger.journal }
+        ensures ascending { IsStrictlyIncreasing (known_at self.now).cuts }
+        ensures last_cut { last_or None (known_at self.now).cuts ≡ Some result }
     {
         self.published
     }

@@ -1,5 +1,7 @@
 //! The writer.
-ghost use Rattle.std.specs.Prelude.{◌≡◌, ℕ, suc, true, false, length, Some, IfOk, IfErr, OnOk, OnErr, IsOk};
+ghost use Rattle.std.specs.Prelude.{◌≡◌, ℕ, suc, true, false, length, None, Some, IfOk, IfErr, OnOk, OnErr, IsOk};
+ghost use Rattle.std.specs.List.{last_or};
+ghost use Rattle.std.specs.List.Sorted.{IsStrictlyIncreasing};
 ghost use Rattle.council_core.specs.Rolls.{IsLegal};
 ghost use Rattle.council_core.specs.Ledgers.{verdict_of, appended};
 ghost use Rattle.council_core.specs.Verdicts.{Follows};
@@ -8,7 +10,7 @@ ghost use Rattle.two_copy_steps.specs.declared.events.Note.TheVariants.{Busy as 
 ghost use Rattle.two_copy_steps.specs.Deeds.{all_true, first_false};
 ghost use Rattle.two_copy_steps.specs.Publications.{StaySeen, seen_out_at};
 ghost use Rattle.board_share.specs.Histories.{last_told};
-ghost use Rattle.board_share.specs.Writers.{IsIdle, Published, TookTry, cuts_after, is_pending, looks};
+ghost use Rattle.board_share.specs.Writers.{Begins, IsIdle, Published, TookTry, cuts_after, is_pending, looks};
 ghost use Rattle.board_share.specs.Writers.{publication_steps, publisher_of, seen_out_after};
 
 use crate::busy::Busy;
@@ -117,9 +119,12 @@ impl Writer {
         self.words.register().journal()
     }
 
-    /// How many commands are published.
+    /// How many commands are published: the last cut.
     pub fn published(&self) -> u32
         ensures number { result ≡ length self.now.published }
+        ensures begins { Begins self.now.published self.now.ledger.journal }
+        ensures ascending { IsStrictlyIncreasing self.now.cuts }
+        ensures last_cut { last_or None self.now.cuts ≡ Some result }
     {
         self.words.published()
     }
