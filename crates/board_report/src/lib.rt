@@ -2,7 +2,6 @@
 //! programs of one's own: what is written is a stated function of the bytes that are read.
 #![tactic(auto)]
 
-mod command_line;
 mod programs;
 
 pub use board_runs::{replay, trace};

@@ -1,14 +1,16 @@
 -- What the command line says, as clap found it.
-use Rattle.std.proofs.Common.{◌≡◌, ℕ, ◌∙◌, Bool, true, false, ◌&&◌, not, List, [], Option, None, Some, Result, Ok, Err, option_map, refl, sym, ap, subst}
+use Rattle.std.proofs.Common.{◌≡◌, ℕ, ◌∙◌, Bool, true, false, ◌&&◌, not, List, [], Option, None, Some, Result, Ok, Err, option_map, codes, refl, sym, ap, subst}
 use Rattle.std.specs.Option.{unwrap_or}
-use Rattle.std.specs.Io.KnownBytes.{Keeps}
 use Rattle.std.specs.Str.Parse.{ParsesUnsigned}
 use Rattle.clap.proofs.WalkLemmas.{one_text-rows}
 use Rattle.clap.proofs.OnLiterals.{clap_on_literals}
 use Rattle.clap.specs.Words.{App, HasKind, Kinds, ReadsOne, Row, Text, fault_of, is_simple, is_simple_and_free, one_of, one_text, rows_of, subcommand_of, takes}
 use Rattle.clap.specs.declared.error.Error.{Error}
 use Rattle.clap.specs.declared.parser.matches.Found.{Found}
-use Rattle.board_report.specs.Commands.{IsSaid, IsTaken, Says, board_app}
+use Rattle.board_words.specs.Calls.{Asks, IsSaid, Says}
+use Rattle.board_words.specs.Commands.{IsTaken, board_app}
+use Rattle.board_words.specs.declared.calls.Call.{Call}
+use Rattle.board_words.specs.declared.calls.Call.TheVariants.{Replay, Trace, Serve}
 
 -- a command whose fields are plain has no global argument
 pub no-globals : (a b c d : Bool) → (a && (b && (not c && d))) ≡ true → c ≡ false
@@ -16,10 +18,6 @@ no-globals true true false d e = refl
 no-globals true true true d e = cc e
 no-globals true false c d e = cc e
 no-globals false b c d e = cc e
-
-pub keeps-same : (a : Option (List ℕ)) → Keeps a a
-keeps-same None = tt
-keeps-same (Some xs) = refl
 
 module _ {E : Type 0} (bits : ℕ) (gives : List ℕ → Result ℕ E → Type 0) (parses : (t : List ℕ) (x : Result ℕ E) → gives t x → ParsesUnsigned bits 10 t x) where
   by-text : (t : Text) (default n : ℕ) (r : Option ℕ) → ReadsOne gives t r → Says bits t n → unwrap_or r default ≡ n
@@ -70,3 +68,10 @@ met-name f g (Some a) n name rows is found =
 pub met-rows : (x : Option (Text × List Row)) (r : List Row) (name : Text) (rows : List Row) → Some r ≡ option_map (λ p. p.1) x → x ≡ Some (name, rows) → r ≡ rows
 met-rows None r name rows is found = cc is
 met-rows (Some p) r name rows is found = let one : r ≡ p.1 = cc in let other : p.1 ≡ rows = cc in one ∙ other
+
+-- words that ask for a call are taken
+module _ (a : App) (words : List Text) (same : a ≡ board_app) where
+  pub takes-asked : (call : Call) → Asks words call → takes a words ≡ true
+  takes-asked (Replay readers journal) (rows, taken, said) = takes-words a words (codes "replay") rows same taken
+  takes-asked (Trace readers journal) (rows, taken, said) = takes-words a words (codes "trace") rows same taken
+  takes-asked (Serve journal) (rows, taken, said) = takes-words a words (codes "serve") rows same taken

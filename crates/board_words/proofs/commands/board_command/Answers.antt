@@ -1,8 +1,8 @@
 use Rattle.std.proofs.Common.{◌∙◌, ap, ap₂}
 use Rattle.std.proofs.lemmas.Result.{IfOk-weaker}
 use Rattle.clap.specs.Words.{App, with_subcommand}
-use Rattle.board_report.proofs.ProgramFacts.{no-globals}
-use Rattle.board_report.proofs.command_line.board_command.Goals as goal
+use Rattle.board_words.proofs.WordFacts.{no-globals}
+use Rattle.board_words.proofs.commands.board_command.Goals as goal
 
 pub returns : goal.returns
 returns c =

@@ -1,8 +1,8 @@
 use Rattle.std.proofs.Common.{◌∙◌, codes}
 use Rattle.std.specs.Str.Parse.{ParsesUnsigned, ExplainsUnsignedError, HasUnsignedDigitsIfOk}
 use Rattle.clap.specs.Words.{found_of}
-use Rattle.board_report.proofs.ProgramFacts.{said-number}
-use Rattle.board_report.proofs.programs.journal_of.Goals as goal
+use Rattle.board_words.proofs.WordFacts.{said-number}
+use Rattle.board_words.proofs.calls.journal_of.Goals as goal
 
 pub returns : goal.returns
 returns c =

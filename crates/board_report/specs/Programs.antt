@@ -1,0 +1,75 @@
+-- How the program ends.
+use Rattle.std.specs.Prelude.{◌≡◌, ℕ, ◌⊎◌, ⊤, List, [], ◌∷◌, ◌++◌, Option, IfSome, Result, Ok, Err, codes}
+use Rattle.std.specs.Io.KnownBytes.{Keeps}
+use Rattle.council_core.specs.Refusals.{code_of}
+use Rattle.council_core.specs.declared.refusals.Refusal.TheVariants.{OutOfMemory}
+use Rattle.board_words.specs.Calls.{AskText, HaveFault}
+use Rattle.board_words.specs.declared.calls.Call.{Call}
+use Rattle.board_words.specs.declared.calls.Call.TheVariants.{Replay, Trace, Serve}
+use Rattle.board_text.specs.Lines.{fault_name}
+use Rattle.board_text.specs.Output.{AppendsFront}
+use Rattle.board_text.specs.declared.bounds.Limits.{Limits}
+use Rattle.board_text.specs.declared.faults.Fault.{Fault}
+use Rattle.board_runs.specs.Ended.{Replays}
+use Rattle.board_runs.specs.Replays.{run_of}
+use Rattle.board_runs.specs.Traces.{trace_of}
+use Rattle.board_serve.specs.Plans.{plan_of}
+use Rattle.board_serve.specs.Serving.{Serves}
+use Rattle.board_serve.specs.declared.served.Served.{Served}
+
+abbrev pub limits : ℕ → ℕ → Limits
+limits readers journal = record { readers = readers; journal = journal }
+
+-- the call over this input answers so, and its lines are written
+abbrev pub CallEnds : Call → Option (List ℕ) → Option (List ℕ) → Option (List ℕ) → Result ⊤ Fault → Type 0
+CallEnds (Replay readers journal) input old new ended =
+    IfSome input (λ bytes. Replays old new ended (run_of (limits readers journal) bytes))
+CallEnds (Trace readers journal) input old new ended =
+    IfSome input (λ bytes. Replays old new ended (trace_of (limits readers journal) bytes))
+CallEnds (Serve journal) input old new (Ok done) =
+    (served : Served) × IfSome input (λ bytes. Serves old new (Ok served) (plan_of journal bytes))
+CallEnds (Serve journal) input old new (Err f) =
+    IfSome input (λ bytes. Serves old new (Err f) (plan_of journal bytes))
+
+-- what goes to standard error where a run ends in a fault of this number
+abbrev pub failure_text : ℕ → List ℕ
+failure_text code = codes "board: " ++ fault_name code ++ 10 ∷ []
+
+-- what the program wrote before it ended, to standard output and to standard error
+pub record Streams : Type 0 where
+  pub out_old : Option (List ℕ)
+  pub out_new : Option (List ℕ)
+  pub err_old : Option (List ℕ)
+  pub err_new : Option (List ℕ)
+
+abbrev pub streams : Option (List ℕ) → Option (List ℕ) → Option (List ℕ) → Option (List ℕ) → Streams
+streams out_old out_new err_old err_new =
+    record { out_old = out_old; out_new = out_new; err_old = err_old; err_new = err_new }
+
+-- nothing came of the words, since memory was refused
+pub record LacksMemory (status : ℕ) (s : Streams) : Type 0 where
+  pub status_is : status ≡ 1
+  pub out_kept : Keeps s.out_old s.out_new
+  pub said : AppendsFront s.err_old s.err_new (failure_text (code_of OutOfMemory))
+
+-- the help or the version is shown on standard output; or the words are refused on standard error; or nothing came of
+-- them
+abbrev pub AnswersWords : List (List ℕ) → ℕ → Streams → Type 0
+AnswersWords words status s =
+    ((status ≡ 0) × Keeps s.err_old s.err_new × AskText words)
+    ⊎ ((status ≡ 2) × Keeps s.out_old s.out_new × HaveFault words)
+    ⊎ LacksMemory status s
+
+-- what goes to standard error where the words are no text
+abbrev pub no_text : List ℕ
+no_text = codes "error: the arguments are not text" ++ 10 ∷ []
+
+-- the call over this input answered Ok, and the status is 0; or a fault, whose name is told, and the status is 1; or
+-- nothing came of the words
+abbrev pub CallExits : Call → Option (List ℕ) → ℕ → Streams → Type 0
+CallExits call input status s =
+    ((status ≡ 0) × CallEnds call input s.out_old s.out_new (Ok tt) × Keeps s.err_old s.err_new)
+    ⊎ ((status ≡ 1)
+    × ((f : Fault) × CallEnds call input s.out_old s.out_new (Err f)
+    × AppendsFront s.err_old s.err_new (failure_text f.code)))
+    ⊎ LacksMemory status s

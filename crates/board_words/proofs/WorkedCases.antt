@@ -1,0 +1,66 @@
+-- Words that ask for each call, with the limits that they say; and words that ask for none.
+use Rattle.std.proofs.Common.{◌≡◌, List, [], ◌∷◌, Bool, true, false, Some, arith, codes, refl, ℕ, ◌<◌, ◌^◌}
+use Rattle.std.specs.Str.Parse.{IsNumeral, digits_value, without_leading_plus}
+use Rattle.clap.proofs.OnLiterals.{clap_on_literals}
+use Rattle.clap.specs.Words.{Row, Text, one_of, subcommand_of, takes}
+use Rattle.std.specs.Option.{option_map_or}
+use Rattle.board_words.specs.Calls.{Asks, HasJournal, HasLimits, HasReaders, Says}
+use Rattle.board_words.specs.Commands.{IsTaken, board_app}
+use Rattle.board_words.specs.declared.calls.Call.TheVariants.{Replay, Trace, Serve}
+
+abbrev plain : Text → List Text
+plain name = codes "board" ∷ name ∷ []
+
+abbrev with_limits : Text → List Text
+with_limits name = codes "board" ∷ name ∷ codes "--readers" ∷ codes "4" ∷ codes "--journal=70" ∷ []
+
+abbrev with_journal : List Text
+with_journal = codes "board" ∷ codes "serve" ∷ codes "--journal" ∷ codes "70" ∷ []
+
+-- what clap finds for the command
+abbrev rows : List Text → List Row
+rows words = option_map_or (λ p. p.1) (subcommand_of board_app words) []
+
+replay_taken : IsTaken (plain (codes "replay")) (codes "replay") (rows (plain (codes "replay")))
+unfolding clap_on_literals
+replay_taken = record { taken = refl; found = refl }
+
+trace_taken : IsTaken (with_limits (codes "trace")) (codes "trace") (rows (with_limits (codes "trace")))
+unfolding clap_on_literals
+trace_taken = record { taken = refl; found = refl }
+
+serve_taken : IsTaken with_journal (codes "serve") (rows with_journal)
+unfolding clap_on_literals
+serve_taken = record { taken = refl; found = refl }
+
+one_reader : one_of (codes "readers") (rows (plain (codes "replay"))) ≡ Some (codes "1")
+unfolding clap_on_literals
+one_reader = refl
+
+whole_journal : one_of (codes "journal") (rows (plain (codes "replay"))) ≡ Some (codes "1000000")
+unfolding clap_on_literals
+whole_journal = refl
+
+four_readers : one_of (codes "readers") (rows (with_limits (codes "trace"))) ≡ Some (codes "4")
+unfolding clap_on_literals
+four_readers = refl
+
+short_journal : one_of (codes "journal") (rows (with_limits (codes "trace"))) ≡ Some (codes "70")
+unfolding clap_on_literals
+short_journal = refl
+
+served_journal : one_of (codes "journal") (rows with_journal) ≡ Some (codes "70")
+unfolding clap_on_literals
+served_journal = refl
+
+no_command : takes board_app (codes "board" ∷ []) ≡ false
+unfolding clap_on_literals
+no_command = refl
+
+five_readers : takes board_app (codes "board" ∷ codes "replay" ∷ codes "--readers" ∷ codes "5" ∷ []) ≡ false
+unfolding clap_on_literals
+five_readers = refl
+
+serve_with_readers : takes board_app (codes "board" ∷ codes "serve" ∷ codes "--readers" ∷ codes "2" ∷ []) ≡ false
+unfolding clap_on_literals
+serve_with_readers = refl

@@ -1,0 +1,67 @@
+-- The call that words ask for, and what is said of words of which none comes.
+use Rattle.std.specs.Prelude.{◌≡◌, ◌≢◌, ℕ, ◌<◌, ◌^◌, ◌⊎◌, ⊤, List, [], Option, Some, None, Result, Ok}
+use Rattle.std.specs.Prelude.{Err, codes}
+use Rattle.std.specs.Str.Parse.{IsNumeral, digits_value, without_leading_plus}
+use Rattle.clap.specs.Words.{IsAmong, Row, Text, fault_of, one_of}
+use Rattle.clap.specs.declared.error.kind.ErrorKind.{ErrorKind}
+use Rattle.clap.specs.declared.error.kind.ErrorKind.TheVariants.{DisplayHelp, DisplayVersion}
+use Rattle.board_words.specs.Commands.{IsTaken, board_app}
+use Rattle.board_words.specs.declared.calls.Call.{Call}
+use Rattle.board_words.specs.declared.calls.Call.TheVariants.{Replay, Trace, Serve}
+use Rattle.board_words.specs.declared.calls.NoCall.{NoCall}
+use Rattle.board_words.specs.declared.calls.NoCall.TheVariants.{Shown, Refused, OutOfMemory}
+
+-- digits say a number below 2^bits
+pub record Says (bits : ℕ) (text : Text) (n : ℕ) : Type 0 where
+  pub numeral : IsNumeral 10 (without_leading_plus text)
+  pub small : digits_value 10 (without_leading_plus text) < 2 ^ bits
+  pub same : n ≡ digits_value 10 (without_leading_plus text)
+
+abbrev pub IsSaid : ℕ → Option Text → ℕ → Type 0
+IsSaid bits None n = ⊥
+IsSaid bits (Some text) n = Says bits text n
+
+-- what clap found says how many readers there are
+abbrev pub HasReaders : List Row → ℕ → Type 0
+HasReaders rows readers = IsSaid 8 (one_of (codes "readers") rows) readers
+
+-- what clap found says how many commands the journal takes
+abbrev pub HasJournal : List Row → ℕ → Type 0
+HasJournal rows journal = IsSaid 32 (one_of (codes "journal") rows) journal
+
+pub record HasLimits (rows : List Row) (readers journal : ℕ) : Type 0 where
+  pub readers_said : HasReaders rows readers
+  pub journal_said : HasJournal rows journal
+
+-- clap takes the words, and they ask for this call
+abbrev pub Asks : List Text → Call → Type 0
+Asks words (Replay readers journal) =
+    (rows : List Row) × IsTaken words (codes "replay") rows × HasLimits rows readers journal
+Asks words (Trace readers journal) =
+    (rows : List Row) × IsTaken words (codes "trace") rows × HasLimits rows readers journal
+Asks words (Serve journal) = (rows : List Row) × IsTaken words (codes "serve") rows × HasJournal rows journal
+
+-- this call is the answer, unless memory lacks
+abbrev pub IsAnswered : Result Call NoCall → Call → Type 0
+IsAnswered answer call = (answer ≡ Ok call) ⊎ (answer ≡ Err OutOfMemory)
+
+-- what the words ask for is a text that clap shows
+abbrev pub IsShown : ErrorKind → Type 0
+IsShown k = (k ≡ DisplayHelp) ⊎ (k ≡ DisplayVersion)
+
+-- clap takes the words as no command: they ask for a text, or a fault is in them
+abbrev pub AreNotTaken : List Text → Type 0
+AreNotTaken words = fault_of board_app words ≢ []
+
+-- of what clap has to say of the words one is a text that they ask for
+abbrev pub AskText : List Text → Type 0
+AskText words = (k : ErrorKind) × IsAmong k (fault_of board_app words) × IsShown k
+
+-- of what clap has to say of the words one is a fault
+abbrev pub HaveFault : List Text → Type 0
+HaveFault words = (k : ErrorKind) × IsAmong k (fault_of board_app words) × (IsShown k → ⊥)
+
+abbrev pub Explains : List Text → NoCall → Type 0
+Explains words (Shown text) = AskText words
+Explains words (Refused text) = HaveFault words
+Explains words OutOfMemory = ⊤

@@ -1,0 +1,47 @@
+-- The words that the program takes, as clap reads them.
+use Rattle.std.specs.Prelude.{◌≡◌, ℕ, [], List, ◌∷◌, true, Some, pos, codes}
+use Rattle.clap.specs.Simple.{on_top}
+use Rattle.clap.specs.Words.{App, Row, Rule, Text, new_app, new_rule, subcommand_of, takes}
+use Rattle.clap.specs.Words.{with_rule, with_subcommand}
+use Rattle.clap.specs.declared.builder.ArgAction.TheVariants.{Set}
+use Rattle.clap.specs.declared.builder.value_parser.ValueParser.TheVariants as parser
+
+-- an option `--NAME N`, a number from 1 to another, with a default
+abbrev pub number_rule : Text → ℕ → Text → Rule
+number_rule name most default =
+    record (new_rule name) {
+      long = Some name;
+      action = Some Set;
+      parser = Some (parser.Signed (pos 1) (pos most));
+      defaults = default ∷ [];
+      value_names = 1;
+    }
+
+abbrev pub readers_rule : Rule
+readers_rule = number_rule (codes "readers") 4 (codes "1")
+
+abbrev pub journal_rule : Rule
+journal_rule = number_rule (codes "journal") 1000000 (codes "1000000")
+
+-- a command that takes both
+abbrev pub limited_app : Text → App
+limited_app name = with_rule (with_rule (new_app name) readers_rule) journal_rule
+
+-- a command that takes the second
+abbrev pub serve_app : App
+serve_app = with_rule (new_app (codes "serve")) journal_rule
+
+-- the program asks for a command, and tells its version
+abbrev pub bare_app : App
+bare_app = on_top (λ s. record s { has_version = true; subcommand_required = true }) (new_app (codes "board"))
+
+abbrev pub board_app : App
+board_app =
+    with_subcommand
+    (with_subcommand (with_subcommand bare_app (limited_app (codes "replay")).top) (limited_app (codes "trace")).top)
+    serve_app.top
+
+-- clap takes the words as the command of this name, and this is what it found for it
+pub record IsTaken (words : List Text) (name : Text) (rows : List Row) : Type 0 where
+  pub taken : takes board_app words ≡ true
+  pub found : subcommand_of board_app words ≡ Some (name, rows)

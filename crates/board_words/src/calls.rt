@@ -1,0 +1,121 @@
+//! The call that words ask for.
+ghost use Rattle.std.specs.Prelude.{◌≡◌, ℕ, List, IsErrAnd, codes, map};
+ghost use Rattle.std.specs.String.{string_bytes};
+ghost use Rattle.clap.specs.Words.{HasKind, Text, fault_of, found_of, kind_of, rows_of};
+ghost use Rattle.clap.specs.declared.error.ErrorKind.TheVariants.{OutOfMemory as LackOfMemory};
+ghost use Rattle.board_words.specs.Calls.{AreNotTaken, Asks, Explains, HasJournal, HasLimits, HasReaders, IsAnswered};
+ghost use Rattle.board_words.specs.Commands.{board_app};
+ghost use Rattle.board_words.specs.declared.calls.Call.TheVariants.{Replay, Trace, Serve};
+ghost use Rattle.board_words.specs.declared.calls.NoCall.TheVariants.{OutOfMemory};
+
+use crate::commands::board_command;
+use clap::error::ErrorKind;
+use clap::{ArgMatches, Error};
+use council_core::MAX_COMMANDS;
+use std::alloc::{AllocError, Global};
+
+/// What the words of a command line ask for.
+#[derive(Clone, Copy, Debug, PartialEq, Eq)]
+pub enum Call {
+    /// `replay`, with how many readers there are, and how many commands the journal takes.
+    Replay { readers: u8, journal: u32 },
+    /// `trace`, with the same limits.
+    Trace { readers: u8, journal: u32 },
+    /// `serve`, with how many commands the journal takes.
+    Serve { journal: u32 },
+}
+
+/// Why no call comes of the words of a command line.
+#[derive(Drop)]
+pub enum NoCall {
+    /// They ask for help or for the version: its text.
+    Shown(String),
+    /// They are refused: the reason.
+    Refused(String),
+    OutOfMemory,
+}
+
+impl From<AllocError> for NoCall {
+    ghost from_gives = { λ _ e. e ≡ OutOfMemory };
+
+    fn from(_error: AllocError) -> NoCall {
+        NoCall::OutOfMemory
+    }
+}
+
+// How many commands the journal takes, as the command line says it.
+fn journal_of(matches: &ArgMatches<'_>) -> u32
+    ensures same { (journal : ℕ) → HasJournal (rows_of (found_of matches.now)) journal → result ≡ journal }
+{
+    matches.get_one::<u32>("journal").unwrap_or(MAX_COMMANDS)
+}
+
+// How many readers there are, as the command line says it.
+fn readers_of(matches: &ArgMatches<'_>) -> u8
+    ensures same { (readers : ℕ) → HasReaders (rows_of (found_of matches.now)) readers → result ≡ readers }
+{
+    matches.get_one::<u8>("readers").unwrap_or(1)
+}
+
+// What clap says of words of which no call comes.
+fn explanation(alloc: Global, error: &Error) -> NoCall
+    ensures memory { kind_of error.now ≡ LackOfMemory → result ≡ OutOfMemory }
+    ensures explained { (words : List Text) → HasKind (fault_of board_app words) error.now → Explains words result }
+{
+    if error.kind() == ErrorKind::OutOfMemory {
+        return NoCall::OutOfMemory;
+    }
+    match error.to_string(alloc) {
+        Ok(text) if error.use_stderr() => NoCall::Refused(text),
+        Ok(text) => NoCall::Shown(text),
+        Err(_) => NoCall::OutOfMemory,
+    }
+}
+
+impl Call {
+    // The call of the command of this name. Clap finds no other name than the three.
+    fn of_command(name: &str, found: &ArgMatches<'_>) -> Call
+        ensures replay { (readers journal : ℕ) → name.now ≡ codes "replay"
+            → HasLimits (rows_of (found_of found.now)) readers journal → result ≡ Replay readers journal }
+        ensures trace { (readers journal : ℕ) → name.now ≡ codes "trace"
+            → HasLimits (rows_of (found_of found.now)) readers journal → result ≡ Trace readers journal }
+        ensures serve { (journal : ℕ) → name.now ≡ codes "serve"
+            → HasJournal (rows_of (found_of found.now)) journal → result ≡ Serve journal }
+    {
+        let journal = journal_of(found);
+        if name == "replay" {
+            return Call::Replay {
+                readers: readers_of(found),
+                journal,
+            };
+        }
+        if name == "trace" {
+            return Call::Trace {
+                readers: readers_of(found),
+                journal,
+            };
+        }
+        Call::Serve { journal }
+    }
+
+    /// The call that these words ask for, the first of which is the program's name.
+    ///
+    /// # Errors
+    /// `Shown` where they ask for help or for the version, `Refused` where clap finds a fault in them, also where the
+    /// command is missing, and `OutOfMemory`, which can come of any words.
+    pub fn from_words(alloc: Global, words: &[String]) -> Result<Call, NoCall>
+        ensures asked { (call : Call) → Asks (map string_bytes words.now) call → IsAnswered result call }
+        ensures refused { AreNotTaken (map string_bytes words.now)
+            → IsErrAnd result (Explains (map string_bytes words.now)) }
+    {
+        let command = board_command(alloc)?;
+        let matches = match command.try_get_matches_from(words) {
+            Ok(matches) => matches,
+            Err(error) => return Err(explanation(alloc, &error)),
+        };
+        let Some((name, found)) = matches.subcommand() else {
+            return Err(NoCall::Refused("".to_string(alloc)?));
+        };
+        Ok(Call::of_command(name, found))
+    }
+}
