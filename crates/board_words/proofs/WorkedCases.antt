@@ -1,12 +1,9 @@
 -- Words that ask for each call, with the limits that they say; and words that ask for none.
-use Rattle.std.proofs.Common.{◌≡◌, List, [], ◌∷◌, Bool, true, false, Some, arith, codes, refl, ℕ, ◌<◌, ◌^◌}
-use Rattle.std.specs.Str.Parse.{IsNumeral, digits_value, without_leading_plus}
+use Rattle.std.proofs.Common.{◌≡◌, List, [], ◌∷◌, false, Some, codes, refl}
 use Rattle.clap.proofs.OnLiterals.{clap_on_literals}
 use Rattle.clap.specs.Words.{Row, Text, one_of, subcommand_of, takes}
 use Rattle.std.specs.Option.{option_map_or}
-use Rattle.board_words.specs.Calls.{Asks, HasJournal, HasLimits, HasReaders, Says}
 use Rattle.board_words.specs.Commands.{IsTaken, board_app}
-use Rattle.board_words.specs.declared.calls.Call.TheVariants.{Replay, Trace, Serve}
 
 abbrev plain : Text → List Text
 plain name = codes "board" ∷ name ∷ []

@@ -16,11 +16,19 @@ pub(crate) fn one_member(alloc: Global) -> Result<Register, Refusal> {
     )
 }
 
-pub(crate) fn begin(alloc: Global, readers: u8) -> Result<(Writer, Vec<Reader>), Refusal> {
-    match start(alloc, one_member(alloc)?, readers) {
+fn begin_over(
+    alloc: Global,
+    register: Register,
+    readers: u8,
+) -> Result<(Writer, Vec<Reader>), Refusal> {
+    match start(alloc, register, readers) {
         Ok(board) => Ok(board),
         Err((_, why)) => Err(why),
     }
+}
+
+pub(crate) fn begin(alloc: Global, readers: u8) -> Result<(Writer, Vec<Reader>), Refusal> {
+    begin_over(alloc, one_member(alloc)?, readers)
 }
 
 // A board of one reader.
@@ -221,6 +229,28 @@ fn reader_in_37_steps(rt: HostRuntime) -> Result<(), Fail> {
         assert!(rt; !reader.at_rest());
     }
     assert_eq!(rt; front_of(steps(&mut reader, 1)), Some(1));
+    assert!(rt; reader.at_rest());
+    Ok(())
+}
+
+// A board of one reader over a register that has accepted a command: chair 1 is open.
+fn begin_with_a_command(alloc: Global) -> Result<(Writer, Reader), Refusal> {
+    let mut register = one_member(alloc)?;
+    register.apply(Command::Open(ChairId::new(1)?))?;
+    let (writer, mut readers) = begin_over(alloc, register, 1)?;
+    match readers.pop() {
+        Some(reader) => Ok((writer, reader)),
+        None => Err(Refusal::BadReader),
+    }
+}
+
+#[test]
+fn reads_a_register_with_a_command_in_37_steps(rt: HostRuntime) -> Result<(), Fail> {
+    let (writer, mut reader) = begin_with_a_command(rt.alloc())?;
+    assert_eq!(rt; writer.published(), 1);
+    assert!(rt; steps(&mut reader, 36).is_none());
+    assert!(rt; !reader.at_rest());
+    assert_eq!(rt; shown(steps(&mut reader, 1)), Some([1, 0, 10]));
     assert!(rt; reader.at_rest());
     Ok(())
 }

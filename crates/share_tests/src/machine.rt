@@ -195,29 +195,35 @@ fn refused_commands_want_no_memory(rt: HostRuntime) -> Result<(), Fail> {
     Ok(())
 }
 
-/// The lines of the first events of the schedule above, and nothing where `run` can't be taken to its end.
-fn lines_of_first(
+/// What each of the first events of the schedule above tells, and nothing where `run` can't be taken to
+/// its end.
+fn notes_of_first(
     alloc: Global,
     events: &[Event],
     count: usize,
-) -> Result<Option<Vec<Line>>, Fail> {
+) -> Result<Option<Vec<Option<Line>>>, Fail> {
     let some = events.get(..count).unwrap_or_default();
-    match run(alloc, one_member(alloc)?, 1, some) {
-        Ok(log) => Ok(Some(lines_of(alloc, log.notes.as_slice())?)),
-        Err(_) => Ok(None),
+    let Ok(log) = run(alloc, one_member(alloc)?, 1, some) else {
+        return Ok(None);
+    };
+    let mut told = Vec::new(alloc);
+    for note in log.notes.as_slice() {
+        told.push(line_of(note))?;
     }
+    Ok(Some(told))
 }
 
 #[test]
 fn events_cut_anywhere(rt: HostRuntime) -> Result<(), Fail> {
     let events = schedule(rt.alloc())?;
-    let Some(whole) = lines_of_first(rt.alloc(), &events, events.len())? else {
+    let Some(whole) = notes_of_first(rt.alloc(), &events, events.len())? else {
         assert!(rt; false);
         return Ok(());
     };
+    assert_eq!(rt; whole.len(), events.len());
     for count in 0..events.len() {
-        match lines_of_first(rt.alloc(), &events, count)? {
-            Some(lines) => assert_eq!(rt; Some(lines.as_slice()), whole.get(..lines.len())),
+        match notes_of_first(rt.alloc(), &events, count)? {
+            Some(notes) => assert_eq!(rt; Some(notes.as_slice()), whole.get(..count)),
             None => assert!(rt; false),
         }
     }

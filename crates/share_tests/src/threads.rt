@@ -5,7 +5,6 @@ use council_core::{Command, MemberCode, Refusal, Sheet, Votes};
 use std::alloc::{AllocError, Global};
 use std::sync::Wait;
 use std::test::Fail;
-use std::thread;
 use std::thread::join;
 
 // Opens chairs 1 to 5, and publishes after each.
@@ -100,23 +99,12 @@ fn read_all(alloc: Global, mut reader: Reader) -> Result<Vec<Sheet>, AllocError>
     Ok(sheets)
 }
 
-// Tries until all is published.
-fn publish_by_tries<R: Wait>(rt: &R, writer: &mut Writer) -> u32 {
-    for _ in rt.forever() {
-        if let Ok(front) = writer.try_publish() {
-            return front;
-        }
-        thread::yield_now();
-    }
-    unreachable!()
-}
-
 // Hands over as many commands as there are to be publications, and publishes each: the cuts.
 fn publish_each<R: Wait>(rt: &R, alloc: Global, writer: &mut Writer) -> Result<Vec<u32>, Refusal> {
     let mut cuts = Vec::new(alloc);
     for count in 0..PUBLICATIONS {
         submit_votes(writer, u64::from(count))?;
-        if cuts.push(publish_by_tries(rt, writer)).is_err() {
+        if cuts.push(writer.publish(rt)).is_err() {
             return Err(Refusal::OutOfMemory);
         }
     }
@@ -171,5 +159,81 @@ fn four_readers_audited(rt: HostRuntime) -> Result<(), Fail> {
     assert_eq!(rt; cuts.len(), PUBLICATIONS as usize);
     assert!(rt; readings.iter().all(|sheets| sheets.len() == READINGS));
     assert_eq!(rt; audit_of(alloc, writer.journal(), &cuts, &readings), Ok(()));
+    Ok(())
+}
+
+const LAST: u32 = 2_000;
+
+// So that a test that goes wrong ends.
+const MOST_READINGS: u32 = 10_000_000;
+
+// AAA's votes are set to 0, 1, 2 and so on, and each is published at full speed.
+fn publish_to_the_last<R: Wait>(rt: &R, writer: &mut Writer) -> Result<u32, Refusal> {
+    for count in 0..LAST {
+        submit_votes(writer, u64::from(count))?;
+        let _front = writer.publish(rt);
+    }
+    Ok(writer.published())
+}
+
+// Whether the words are those of AAA's votes after so many of these commands as the front says.
+fn is_sheet_of_its_front(words: &[u64; 34]) -> bool {
+    let votes = if words[33] == 0 { 10 } else { words[33] - 1 };
+    words[32] == votes && words[..32].iter().all(|word| *word == 0)
+}
+
+fn next_sheet(reader: &mut Reader, by_steps: bool) -> Option<Sheet> {
+    if by_steps {
+        return steps(reader, 37);
+    }
+    if !reader.at_rest() {
+        return None;
+    }
+    Some(reader.read().sheet)
+}
+
+// Whether each reading up to the last publication is the sheet of its front, and no front falls.
+fn follow(reader: &mut Reader, by_steps: bool) -> bool {
+    let mut low = 0;
+    for _ in 0..MOST_READINGS {
+        let Some(sheet) = next_sheet(reader, by_steps) else {
+            return false;
+        };
+        if sheet.front() < low || !is_sheet_of_its_front(&sheet.words()) {
+            return false;
+        }
+        low = sheet.front();
+        if low == LAST {
+            return true;
+        }
+    }
+    true
+}
+
+#[test]
+fn four_readers_beside_publications_at_full_speed(rt: HostRuntime) -> Result<(), Fail> {
+    let (mut writer, mut readers) = begin(rt.alloc(), 4)?;
+    let (Some(mut d), Some(mut c), Some(mut b), Some(mut a)) = (
+        readers.pop(),
+        readers.pop(),
+        readers.pop(),
+        readers.pop(),
+    ) else {
+        assert!(rt; false);
+        return Ok(());
+    };
+    let (front, fine) = join(
+        &rt,
+        || publish_to_the_last(&rt, &mut writer),
+        || {
+            join(
+                &rt,
+                || join(&rt, || follow(&mut a, false), || follow(&mut b, true)),
+                || join(&rt, || follow(&mut c, false), || follow(&mut d, true)),
+            )
+        },
+    );
+    assert_eq!(rt; front, Ok(LAST));
+    assert_eq!(rt; fine, ((true, true), (true, true)));
     Ok(())
 }
