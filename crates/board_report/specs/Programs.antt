@@ -21,7 +21,8 @@ abbrev pub limits : ℕ → ℕ → Limits
 limits readers journal = record { readers = readers; journal = journal }
 
 -- the call over this input answers so, and its lines are written
-abbrev pub CallEnds : Call → Option (List ℕ) → Option (List ℕ) → Option (List ℕ) → Result ⊤ Fault → Type 0
+abbrev pub CallEnds : Call → Option (List ℕ) → Option (List ℕ) → Option (List ℕ)
+    → Result ⊤ Fault → Type 0
 CallEnds (Replay readers journal) input old new ended =
     IfSome input (λ bytes. Replays old new ended (run_of (limits readers journal) bytes))
 CallEnds (Trace readers journal) input old new ended =

@@ -1,9 +1,12 @@
 -- Words that ask for each call, with the limits that they say; and words that ask for none.
-use Rattle.std.proofs.Common.{◌≡◌, List, [], ◌∷◌, false, Some, codes, refl}
+use Rattle.std.proofs.Common.{◌≡◌, List, [], ◌∷◌, false, Some, codes, inl, refl, rules}
 use Rattle.clap.proofs.OnLiterals.{clap_on_literals}
 use Rattle.clap.specs.Words.{Row, Text, one_of, subcommand_of, takes}
 use Rattle.std.specs.Option.{option_map_or}
+use Rattle.clap.specs.declared.error.kind.ErrorKind.TheVariants.{DisplayHelp}
+use Rattle.board_words.specs.Calls.{AreNotTaken, AskText, Asks, Says}
 use Rattle.board_words.specs.Commands.{IsTaken, board_app}
+use Rattle.board_words.specs.declared.calls.Call.TheVariants.{Replay, Serve, Trace}
 
 abbrev plain : Text → List Text
 plain name = codes "board" ∷ name ∷ []
@@ -61,3 +64,35 @@ five_readers = refl
 serve_with_readers : takes board_app (codes "board" ∷ codes "serve" ∷ codes "--readers" ∷ codes "2" ∷ []) ≡ false
 unfolding clap_on_literals
 serve_with_readers = refl
+
+says_one : Says 8 (codes "1") 1
+says_one = record { numeral = search rules; small = search rules; same = refl }
+
+says_four : Says 8 (codes "4") 4
+says_four = record { numeral = search rules; small = search rules; same = refl }
+
+says_seventy : Says 32 (codes "70") 70
+says_seventy = record { numeral = search rules; small = search rules; same = refl }
+
+says_million : Says 32 (codes "1000000") 1000000
+says_million = record { numeral = search rules; small = search rules; same = refl }
+
+replay_asked : Asks (plain (codes "replay")) (Replay 1 1000000)
+unfolding clap_on_literals
+replay_asked = (rows (plain (codes "replay")), replay_taken, record { readers_said = says_one; journal_said = says_million })
+
+trace_asked : Asks (with_limits (codes "trace")) (Trace 4 70)
+unfolding clap_on_literals
+trace_asked = (rows (with_limits (codes "trace")), trace_taken, record { readers_said = says_four; journal_said = says_seventy })
+
+serve_asked : Asks with_journal (Serve 70)
+unfolding clap_on_literals
+serve_asked = (rows with_journal, serve_taken, says_seventy)
+
+help_asked : AskText (codes "board" ∷ codes "--help" ∷ [])
+unfolding clap_on_literals
+help_asked = (DisplayHelp, inl refl, inl refl)
+
+help_not_taken : AreNotTaken (codes "board" ∷ codes "--help" ∷ [])
+unfolding clap_on_literals
+help_not_taken = λ none. cc none

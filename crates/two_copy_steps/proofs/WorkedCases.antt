@@ -1,7 +1,7 @@
 -- Small cases, computed, over a register of one member, with one reader; and what definitions must not hold of.
-use Rattle.std.proofs.Common.{◌≡◌, ℕ, true, false, List, [], ◌∷◌, ◌++◌, replicate, None, Some, refl}
+use Rattle.std.proofs.Common.{◌≡◌, ◌^◌, ℕ, arith, rules, true, false, List, [], ◌∷◌, ◌++◌, replicate, None, Some, refl}
 use Rattle.council_core.specs.Ledgers.{Ledger}
-use Rattle.council_core.specs.declared.commands.Command.TheVariants.{Open, Move}
+use Rattle.council_core.specs.declared.commands.Command.TheVariants.{Open, Move, SetVotes}
 use Rattle.two_copy_steps.specs.declared.events.Event.{Event}
 use Rattle.two_copy_steps.specs.declared.events.Event.TheVariants.{Submit, Publish, Writer, Reader}
 use Rattle.two_copy_steps.specs.declared.events.Note.TheVariants.{Accepted, Began, Busy, Moved, Published, Read, Skipped}
@@ -10,6 +10,7 @@ use Rattle.two_copy_steps.specs.declared.views.Stage.TheVariants.{AtRest, Readin
 use Rattle.two_copy_steps.specs.declared.views.Phase.TheVariants.{Idle, Filling, Swapping}
 use Rattle.two_copy_steps.specs.Effects.{Thread, begun_after, replied_at}
 use Rattle.two_copy_steps.specs.Lawful.{State}
+use Rattle.two_copy_steps.specs.Laws.{HandsInRange, HasVotesInRange}
 use Rattle.two_copy_steps.specs.Passes.{NoneUnder, side_filled, side_held}
 use Rattle.two_copy_steps.specs.Publications.{stores_side}
 use Rattle.two_copy_steps.specs.States.{HasRecords}
@@ -91,3 +92,16 @@ no_cut h = absurd_words h.readings.0.0.2
   where
     absurd_words : {x : ℕ} {xs : List ℕ} → [] ≡ x ∷ xs → ⊥
     absurd_words e = cc
+
+-- the votes of a register and those that an event hands over are in range, or too many
+abbrev code : List ℕ
+code = 65 ∷ 65 ∷ 65 ∷ []
+
+votes_in_range : HasVotesInRange one_member
+votes_in_range = search rules
+
+hands_three_votes : HandsInRange (Submit (SetVotes code 3))
+hands_three_votes = search rules
+
+hands_too_many : HandsInRange (Submit (SetVotes code (2 ^ 41))) → ⊥
+hands_too_many h = omega (arith, h)
