@@ -7,10 +7,10 @@ use Rattle.council_core.specs.Sequential.{AreCuts, AreLegalRecords}
 use Rattle.council_core.specs.declared.commands.Command.{Command}
 use Rattle.council_core.specs.declared.refusals.Refusal.{Refusal}
 use Rattle.council_core.specs.declared.refusals.Refusal.TheVariants.{BadLimit}
-use Rattle.board_share.specs.AuditLaws.{AuditLaw}
-use Rattle.board_share.specs.Audits.{Answers, Finding, audit_of, cut_sheet, cuts_finding, fault_at, first_of, journal_finding, readings_finding, start_finding, unread_place}
-use Rattle.board_share.specs.declared.audits.AuditFault.{AuditFault}
-use Rattle.board_share.specs.declared.audits.AuditFault.TheVariants as found
+use Rattle.board_audits.specs.AuditLaws.{AuditLaw}
+use Rattle.board_audits.specs.Audits.{Answers, Finding, audit_of, cut_sheet, cuts_finding, fault_at, first_of, journal_finding, readings_finding, start_finding, unread_place}
+use Rattle.board_audits.specs.declared.audits.AuditFault.{AuditFault}
+use Rattle.board_audits.specs.declared.audits.AuditFault.TheVariants as found
 use Rattle.board_serve.specs.Findings.{CanBeFound}
 
 with-limit : (b : Bool) (v : Result ⊤ Refusal) → cond b (Err BadLimit) v ≡ Ok tt → v ≡ Ok tt

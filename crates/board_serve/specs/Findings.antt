@@ -1,6 +1,6 @@
 -- What an audit can find of records whose journal is legal and whose cuts are in order.
-use Rattle.board_share.specs.declared.audits.AuditFault.{AuditFault}
-use Rattle.board_share.specs.declared.audits.AuditFault.TheVariants as found
+use Rattle.board_audits.specs.declared.audits.AuditFault.{AuditFault}
+use Rattle.board_audits.specs.declared.audits.AuditFault.TheVariants as found
 
 -- a sheet that is no reading, or want of memory
 abbrev pub CanBeFound : AuditFault → Type 0

@@ -3,7 +3,7 @@ ghost use Rattle.std.specs.Prelude.{◌≡◌, ◌≢◌, ◌∷◌, true, false
 ghost use Rattle.council_core.specs.Ledgers.{start_verdict};
 ghost use Rattle.council_core.specs.Rolls.{IsLegal};
 ghost use Rattle.council_core.specs.Sequential.{AreCuts, AreLegalRecords};
-ghost use Rattle.board_share.specs.declared.audits.AuditFault.TheVariants.{OutOfMemory as LacksMemory};
+ghost use Rattle.board_audits.specs.declared.audits.AuditFault.TheVariants.{OutOfMemory as LacksMemory};
 ghost use Rattle.board_serve.specs.Findings.{CanBeFound};
 ghost use Rattle.board_serve.specs.Outcomes.{sheets_of};
 ghost use Rattle.board_text.specs.declared.stops.Stop.TheVariants as stop;

@@ -1,5 +1,5 @@
--- Audits and histories of a register of one member, computed; and what definitions must not hold of.
-use Rattle.std.proofs.Common.{◌≡◌, ℕ, true, false, List, [], ◌∷◌, ◌++◌, replicate, Some, Ok, Err, refl, ap, ◌∙◌}
+-- Histories of a board over a register of one member, computed; and what definitions must not hold of.
+use Rattle.std.proofs.Common.{◌≡◌, ℕ, true, false, List, [], ◌∷◌, ◌++◌, replicate, Some, refl, ap, ◌∙◌}
 use Rattle.std.specs.List.{filter}
 use Rattle.council_core.specs.Rolls.{Opening}
 use Rattle.council_core.specs.declared.commands.Command.{Command}
@@ -10,11 +10,9 @@ use Rattle.two_copy_steps.specs.declared.events.Note.TheVariants.{Busy, Publishe
 use Rattle.two_copy_steps.specs.declared.views.Stage.TheVariants.{AtRest, Arrived}
 use Rattle.board_share.specs.declared.views.Beginning.{Beginning}
 use Rattle.board_share.specs.declared.views.History.{History}
-use Rattle.board_share.specs.Audits.{audit_of}
 use Rattle.board_share.specs.Histories.{Adds, first_history, is_writers, last_told, longer}
 use Rattle.board_share.specs.Readers.{HasLegalRecord, IsLegalSheet, Pass, TookStep, last_front_of, new_pass}
 use Rattle.board_share.specs.Writers.{looks, publication, publication_steps}
-use Rattle.board_share.specs.declared.audits.AuditFault.TheVariants.{BadJournal, BadCuts, Mismatch}
 
 abbrev one_member : Opening
 one_member = (65 ∷ 65 ∷ 65 ∷ [], 10) ∷ []
@@ -32,29 +30,6 @@ one_done = 1 ∷ replicate 31 0 ++ 10 ∷ 1 ∷ []
 
 abbrev both_done : List ℕ
 both_done = 11 ∷ replicate 31 0 ++ 10 ∷ 2 ∷ []
-
--- two readers, of whom each saw whole publications, none older than the one before
-pub whole : audit_of one_member seated (1 ∷ 2 ∷ []) ((none_done ∷ one_done ∷ both_done ∷ []) ∷ (both_done ∷ []) ∷ []) ≡ Ok tt
-whole = refl
-
--- reader 2 saw the weight of the last publication with the front of the one before
-pub torn : audit_of one_member seated (1 ∷ 2 ∷ []) ((none_done ∷ []) ∷ ((11 ∷ replicate 31 0 ++ 10 ∷ 1 ∷ []) ∷ []) ∷ []) ≡ Err (Mismatch 2 1)
-torn = refl
-
--- reader 1 saw a publication older than the one before
-pub stale : audit_of one_member seated (1 ∷ 2 ∷ []) ((both_done ∷ one_done ∷ []) ∷ []) ≡ Err (Mismatch 1 2)
-stale = refl
-
--- one command was never published alone
-pub unpublished : audit_of one_member seated (2 ∷ []) ((one_done ∷ []) ∷ []) ≡ Err (Mismatch 1 1)
-unpublished = refl
-
--- a chair can't be opened twice, and no publication lies behind the journal's end
-pub opened_twice : audit_of one_member (Open 1 ∷ Open 1 ∷ []) [] [] ≡ Err (BadJournal 2)
-opened_twice = refl
-
-pub cut_behind : audit_of one_member seated (1 ∷ 3 ∷ []) [] ≡ Err (BadCuts 2)
-cut_behind = refl
 
 -- a board over that register, with one reader
 abbrev begun : Beginning

@@ -6,7 +6,4 @@ pub mod Readers
 pub mod Writers
 pub mod Openings
 pub mod Analysts
-pub mod Audits
-pub mod AuditWalks
-pub mod AuditLaws
 pub mod Laws

@@ -2,7 +2,6 @@
 #![tactic(auto)]
 
 mod analysts;
-mod audits;
 mod busy;
 mod laws;
 mod opening;
@@ -17,9 +16,9 @@ mod writer_steps;
 mod writers;
 
 pub use analysts::Analyst;
-pub use audits::{AuditFault, audit};
+pub use board_audits::{AuditFault, audit, audit_fault_laws, audit_law};
 pub use busy::Busy;
-pub use laws::{audit_fault_laws, audit_law, order_laws, rule_laws, seat_laws};
+pub use laws::{order_laws, rule_laws, seat_laws};
 pub use opening::start;
 pub use readers::Reader;
 pub use readings::Reading;

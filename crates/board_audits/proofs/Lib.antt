@@ -1,0 +1,5 @@
+pub mod KeptSheets
+pub mod FirstFaults
+pub mod LegalAudits
+pub mod FirstPlaces
+pub mod WorkedCases
