@@ -1,6 +1,8 @@
 -- Worked cases, computed by the definitions.
 use Rattle.std.proofs.Common.{◌≡◌, ℕ, List, [], ◌∷◌, ◌++◌, map, Some, None, Err, refl, replicate}
 use Rattle.council_core.specs.Rolls.{Roll, Opening, entered, admit_member, sheet, cast, roll_after}
+use Rattle.council_core.specs.Coalitions.{eta_of, omega_of, reaching}
+use Rattle.council_core.specs.Sheets.{Chair}
 use Rattle.council_core.specs.Sequential.{Sequential, submit, publish, read, accepted, refused, published, reading, replies_of}
 use Rattle.council_core.specs.declared.refusals.Refusal.TheVariants.{ChairOpen, JournalFull, MemberSuspended, ChairHasMembers, ChairNotOpen, UnknownMember, TooManyMembers, MemberExists, MemberSeated}
 use Rattle.council_core.specs.declared.commands.Command.{Command}
@@ -75,3 +77,19 @@ full_roll = record { members = replicate 256 (entered (AAA, 1)); open_chairs = [
 
 pub no_257th_member : (admit_member full_roll AAA 1 ≡ Err MemberExists) × (admit_member full_roll BBB 1 ≡ Err TooManyMembers)
 no_257th_member = (refl, refl)
+
+-- of chairs with 50, 49 and 1 votes 51 win: each pair with the first, and all; so it has three swings, the others one each
+abbrev three : List Chair
+three = (1, 50) ∷ (2, 49) ∷ (3, 1) ∷ []
+
+pub three_win : omega_of (reaching 51 0) three ≡ 3
+three_win = refl
+
+pub swings_of_first : eta_of (reaching 51 0) (1, 50) three ≡ 3
+swings_of_first = refl
+
+pub swings_of_second : eta_of (reaching 51 0) (2, 49) three ≡ 1
+swings_of_second = refl
+
+pub swings_of_third : eta_of (reaching 51 0) (3, 1) three ≡ 1
+swings_of_third = refl
