@@ -1,15 +1,15 @@
-//! The program `board`: the standard streams, and `board_report`'s program over them.
+//! The program `board`: the standard streams, wrapped, and `board_report`'s program over them.
 #![tactic(auto)]
 
-use board_report::{program, words_out_of_memory, words_refused};
+use board_report::{Given, Told, program, words_out_of_memory, words_refused};
 use std::env;
 use std::io::ErrorKind;
 use std::process::ExitCode;
 
 fn main(rt: HostRuntime) -> ExitCode {
-    let mut input = rt.stdin();
-    let mut out = rt.stdout();
-    let mut err = rt.stderr();
+    let mut input = Given::new(rt.stdin());
+    let mut out = Told::new(rt.stdout());
+    let mut err = Told::new(rt.stderr());
     let args = match env::args(&rt) {
         Ok(args) => args,
         Err(e) => {

@@ -1,5 +1,5 @@
 -- How the program ends.
-use Rattle.std.specs.Prelude.{◌≡◌, ℕ, ◌⊎◌, ⊤, List, [], ◌∷◌, ◌++◌, Option, IfSome, Result, Ok, Err, codes}
+use Rattle.std.specs.Prelude.{◌≡◌, ℕ, ◌⊎◌, ⊤, List, [], ◌∷◌, ◌++◌, Option, Result, Ok, Err, codes}
 use Rattle.std.specs.Io.KnownBytes.{Keeps}
 use Rattle.council_core.specs.Refusals.{code_of}
 use Rattle.council_core.specs.declared.refusals.Refusal.TheVariants.{OutOfMemory}
@@ -13,24 +13,26 @@ use Rattle.board_text.specs.declared.faults.Fault.{Fault}
 use Rattle.board_runs.specs.Ended.{Replays}
 use Rattle.board_runs.specs.Replays.{run_of}
 use Rattle.board_runs.specs.Traces.{trace_of}
-use Rattle.board_serve.specs.Plans.{plan_of}
+use Rattle.board_serve.specs.Plans.{plan_of, two_readers}
 use Rattle.board_serve.specs.Serving.{Serves}
 use Rattle.board_serve.specs.declared.served.Served.{Served}
 
 abbrev pub limits : ℕ → ℕ → Limits
 limits readers journal = record { readers = readers; journal = journal }
 
--- the call over this input answers so, and its lines are written
-abbrev pub CallEnds : Call → Option (List ℕ) → Option (List ℕ) → Option (List ℕ)
-    → Result ⊤ Fault → Type 0
-CallEnds (Replay readers journal) input old new ended =
-    IfSome input (λ bytes. Replays old new ended (run_of (limits readers journal) bytes))
-CallEnds (Trace readers journal) input old new ended =
-    IfSome input (λ bytes. Replays old new ended (trace_of (limits readers journal) bytes))
-CallEnds (Serve journal) input old new (Ok done) =
-    (served : Served) × IfSome input (λ bytes. Serves old new (Ok served) (plan_of journal bytes))
-CallEnds (Serve journal) input old new (Err f) =
-    IfSome input (λ bytes. Serves old new (Err f) (plan_of journal bytes))
+-- the call over these bytes answers so, and its lines are written
+abbrev pub CallEnds : Call → List ℕ → Option (List ℕ) → Option (List ℕ) → Result ⊤ Fault → Type 0
+CallEnds (Replay readers journal) bytes old new ended = Replays old new ended (run_of (limits readers journal) bytes)
+CallEnds (Trace readers journal) bytes old new ended = Replays old new ended (trace_of (limits readers journal) bytes)
+CallEnds (Serve journal) bytes old new (Ok done) =
+    (served : Served) × Serves old new (Ok served) (plan_of journal bytes)
+CallEnds (Serve journal) bytes old new (Err f) = Serves old new (Err f) (plan_of journal bytes)
+
+-- the limits of a call; `serve` has two readers
+abbrev pub limits_of : Call → Limits
+limits_of (Replay readers journal) = limits readers journal
+limits_of (Trace readers journal) = limits readers journal
+limits_of (Serve journal) = two_readers journal
 
 -- what goes to standard error where a run ends in a fault of this number
 abbrev pub failure_text : ℕ → List ℕ
@@ -65,12 +67,12 @@ AnswersWords words status s =
 abbrev pub no_text : List ℕ
 no_text = codes "error: the arguments are not text" ++ 10 ∷ []
 
--- the call over this input answered Ok, and the status is 0; or a fault, whose name is told, and the status is 1; or
+-- the call over these bytes answered Ok, and the status is 0; or a fault, whose name is told, and the status is 1; or
 -- nothing came of the words
-abbrev pub CallExits : Call → Option (List ℕ) → ℕ → Streams → Type 0
-CallExits call input status s =
-    ((status ≡ 0) × CallEnds call input s.out_old s.out_new (Ok tt) × Keeps s.err_old s.err_new)
+abbrev pub CallExits : Call → List ℕ → ℕ → Streams → Type 0
+CallExits call bytes status s =
+    ((status ≡ 0) × CallEnds call bytes s.out_old s.out_new (Ok tt) × Keeps s.err_old s.err_new)
     ⊎ ((status ≡ 1)
-    × ((f : Fault) × CallEnds call input s.out_old s.out_new (Err f)
+    × ((f : Fault) × CallEnds call bytes s.out_old s.out_new (Err f)
     × AppendsFront s.err_old s.err_new (failure_text f.code)))
     ⊎ LacksMemory status s

@@ -1,5 +1,6 @@
 //! The program: what it does on its words, and its exit status.
-ghost use Rattle.std.specs.Prelude.{◌≡◌, ◌≤◌, ℕ, List, map};
+ghost use Rattle.std.specs.Prelude.{◌≡◌, ◌≤◌, ℕ, List, false, map};
+ghost use Rattle.told_streams.specs.Tapes.{OfInput};
 ghost use Rattle.std.specs.String.{string_bytes};
 ghost use Rattle.council_core.specs.Refusals.{code_of};
 ghost use Rattle.council_core.specs.declared.refusals.Refusal.TheVariants.{OutOfMemory};
@@ -7,9 +8,11 @@ ghost use Rattle.board_words.specs.Calls.{AreNotTaken, Asks, Explains};
 ghost use Rattle.board_words.specs.declared.calls.Call.{Call};
 ghost use Rattle.board_words.specs.declared.calls.Call.TheVariants.{Serve};
 ghost use Rattle.board_words.specs.declared.calls.NoCall.TheVariants as none;
-ghost use Rattle.board_report.specs.Programs.{AnswersWords, CallEnds, CallExits, LacksMemory, failure_text, no_text};
+ghost use Rattle.board_report.specs.Programs.{AnswersWords, CallEnds, CallExits, LacksMemory, failure_text, limits_of, no_text};
 ghost use Rattle.board_report.specs.Programs.{streams};
 ghost use Rattle.board_text.specs.Output.{AppendsFront};
+ghost use Rattle.board_text.specs.Text.{in_range};
+ghost use Rattle.board_serve.specs.Plans.{two_readers};
 
 use board_runs::{replay, trace};
 use board_serve::{FreeGate, serve};
@@ -20,6 +23,7 @@ use std::alloc::Global;
 use std::io::{Read, Write};
 use std::sync::Wait;
 use std::thread::Threads;
+use told_streams::Given;
 
 // Says the name of a fault, and answers the status.
 fn fail<E: Write>(err: &mut E, fault: Fault) -> u8
@@ -64,14 +68,16 @@ fn explain<W: Write, E: Write>(why: &NoCall, out: &mut W, err: &mut E) -> u8
 }
 
 // Serves with a journal of so many commands, and answers how that ended.
-fn run_serve<T: Threads + Wait + Sync, R: Read, W: Write>(
+fn run_serve<T: Threads + Wait + Sync, R: Read + Drop, W: Write>(
     rt: &T,
     alloc: Global,
     journal: u32,
-    input: &mut R,
+    input: &mut Given<R>,
     out: &mut W,
 ) -> Result<(), Fault>
-    ensures ends { CallEnds (Serve journal) (R.remaining input.old) (W.contents out.old) (W.contents out.new) result }
+    ensures ends { OfInput input.old input.new
+        (λ bytes. CallEnds (Serve journal) bytes (W.contents out.old) (W.contents out.new) result) }
+    ensures limits_first { in_range (two_readers journal) ≡ false → input.new ≡ input.old }
 {
     match serve(rt, alloc, &FreeGate, input, out, journal) {
         Ok(_served) => Ok(()),
@@ -80,14 +86,16 @@ fn run_serve<T: Threads + Wait + Sync, R: Read, W: Write>(
 }
 
 // Carries out the call, and answers how it ended.
-fn run<T: Threads + Wait + Sync, R: Read, W: Write>(
+fn run<T: Threads + Wait + Sync, R: Read + Drop, W: Write>(
     rt: &T,
     alloc: Global,
     call: Call,
-    input: &mut R,
+    input: &mut Given<R>,
     out: &mut W,
 ) -> Result<(), Fault>
-    ensures ends { CallEnds call (R.remaining input.old) (W.contents out.old) (W.contents out.new) result }
+    ensures ends { OfInput input.old input.new
+        (λ bytes. CallEnds call bytes (W.contents out.old) (W.contents out.new) result) }
+    ensures limits_first { in_range (limits_of call) ≡ false → input.new ≡ input.old }
 {
     match call {
         Call::Replay { readers, journal } => replay(alloc, input, out, Limits { readers, journal }),
@@ -105,18 +113,20 @@ fn run<T: Threads + Wait + Sync, R: Read, W: Write>(
 /// Where the words ask for a call, what is written and the status are those of `replay`, `trace` or
 /// `serve` with the limits that the words say. Where clap finds a fault in them, or is asked for help
 /// or the version, one of the two streams gets its text and the other stays.
-pub fn program<T: Threads + Wait + Sync, R: Read, W: Write, E: Write>(
+pub fn program<T: Threads + Wait + Sync, R: Read + Drop, W: Write, E: Write>(
     rt: &T,
     alloc: Global,
     words: &[String],
-    input: &mut R,
+    input: &mut Given<R>,
     out: &mut W,
     err: &mut E,
 ) -> u8
     ensures status { result ≤ 2 }
     ensures calls { (call : Call) → Asks (map string_bytes words.now) call
-        → CallExits call (R.remaining input.old) result
-        (streams (W.contents out.old) (W.contents out.new) (E.contents err.old) (E.contents err.new)) }
+        → OfInput input.old input.new (λ bytes. CallExits call bytes result
+        (streams (W.contents out.old) (W.contents out.new) (E.contents err.old) (E.contents err.new))) }
+    ensures limits_first { (call : Call) → Asks (map string_bytes words.now) call → in_range (limits_of call) ≡ false
+        → input.new ≡ input.old }
     ensures refuses { AreNotTaken (map string_bytes words.now)
         → AnswersWords (map string_bytes words.now) result
         (streams (W.contents out.old) (W.contents out.new) (E.contents err.old) (E.contents err.new)) }

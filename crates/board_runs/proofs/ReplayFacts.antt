@@ -1,8 +1,9 @@
 -- The run of a whole input, and its end.
-use Rattle.std.proofs.Common.{◌≡◌, ◌≤◌, inl, inr, ℕ, true, List, [], ◌∷◌, ◌++◌, length, Option, Some, None, IfSome, Result, Err, refl, sym, ap, ◌∙◌, subst}
+use Rattle.std.proofs.Common.{◌≡◌, ◌≤◌, inl, inr, ℕ, true, List, [], ◌∷◌, ◌++◌, length, Option, Some, None, Result, Err, refl, sym, ap, ◌∙◌, subst}
 use Rattle.std.proofs.KnownBytes.{Appends-nil}
 use Rattle.std.specs.Io.KnownBytes.{Appends}
 use Rattle.csv.specs.Reading.{default_config, records, strip_bom}
+use Rattle.told_streams.specs.Tapes.{Giving, OfInput}
 use Rattle.council_core.specs.declared.refusals.Refusal.TheVariants as why
 use Rattle.board_text.specs.Lines.{Line, fault_line}
 use Rattle.board_text.specs.Text.{Begun, Run, begun_of, begun_with, end_lines, fault_at, in_range, opened_of, output, text_of}
@@ -30,14 +31,10 @@ fails-stop a (stop.Told f) play spec p = rw p (refl, Appends-nil a)
 pub plays-failed : (a : Option (List ℕ)) (e d : Stop) (play : Begun → Run) (spec : Result Begun Fault) → d ≡ e → Fails e spec → Plays a a (Err d) (begun_run play spec)
 plays-failed a e d play spec same p = let P : Stop → Type 0 = λ s. StopsIn a a s (begun_run play spec) in subst P (sym same) (fails-stop a e play spec p)
 
--- the same, where the input is known
-pub plays-failed_input : (o a : Option (List ℕ)) (e d : Stop) (lim : Limits) (play : Begun → Run) → d ≡ e
-    → IfSome o (λ bytes. Fails e (begun_of lim bytes)) → IfSome o (λ bytes. Plays a a (Err d) (begun_run play (begun_of lim bytes)))
-plays-failed_input None a e d lim play same p = tt
-plays-failed_input (Some bytes) a e d lim play same p = plays-failed a e d play (begun_of lim bytes) same p
-
-pub some-failed : (a : Option (List ℕ)) (e d : Stop) (lim : Limits) (play : Begun → Run) → d ≡ e → (bytes : List ℕ) × Fails e (begun_of lim bytes) → (bytes : List ℕ) × Plays a a (Err d) (begun_run play (begun_of lim bytes))
-some-failed a e d lim play same p = (p.0, plays-failed a e d play (begun_of lim p.0) same p.1)
+-- the same of an input
+pub plays-failed_input : (from to : Giving) (a : Option (List ℕ)) (e d : Stop) (lim : Limits) (play : Begun → Run) → d ≡ e
+    → OfInput from to (λ bytes. Fails e (begun_of lim bytes)) → OfInput from to (λ bytes. Plays a a (Err d) (begun_run play (begun_of lim bytes)))
+plays-failed_input from to a e d lim play same p = λ bytes is. plays-failed a e d play (begun_of lim bytes) same (p bytes is)
 
 -- a text that was read: an input that is not too long, where the limits are in range
 pub record TextRead (lim : Limits) (text : List ℕ) : Type 0 where
@@ -46,17 +43,12 @@ pub record TextRead (lim : Limits) (text : List ℕ) : Type 0 where
   pub same : text ≡ input
   pub short : length input ≤ 4194304
 
-pub some-played : (a b : Option (List ℕ)) (r : Result (Unit {0}) Stop) (lim : Limits) (play : Begun → Run) (text : List ℕ) → TextRead lim text
-    → Plays a b r (begun_run play (begun_with lim (opened_of (records default_config (strip_bom text))))) → (bytes : List ℕ) × Plays a b r (begun_run play (begun_of lim bytes))
-some-played a b r lim play text read p = (read.input, rw (begun-records lim read.input read.fits read.short, ← read.same) p)
-
 -- the text that was read is the input
-pub played-input : (o a b : Option (List ℕ)) (r : Result (Unit {0}) Stop) (lim : Limits) (play : Begun → Run) (text : List ℕ) (read : TextRead lim text)
-    → IfSome o (λ bytes. read.input ≡ bytes) → Plays a b r (begun_run play (begun_with lim (opened_of (records default_config (strip_bom text)))))
-    → IfSome o (λ bytes. Plays a b r (begun_run play (begun_of lim bytes)))
-played-input None a b r lim play text read whole p = tt
-played-input (Some bytes) a b r lim play text read whole p =
-    rw (← whole, begun-records lim read.input read.fits read.short, ← read.same) p
+pub played-input : (from to : Giving) (a b : Option (List ℕ)) (r : Result (Unit {0}) Stop) (lim : Limits) (play : Begun → Run) (text : List ℕ) (read : TextRead lim text)
+    → OfInput from to (λ bytes. read.input ≡ bytes) → Plays a b r (begun_run play (begun_with lim (opened_of (records default_config (strip_bom text)))))
+    → OfInput from to (λ bytes. Plays a b r (begun_run play (begun_of lim bytes)))
+played-input from to a b r lim play text read whole p = λ bytes is.
+    rw (← whole bytes is, begun-records lim read.input read.fits read.short, ← read.same) p
 
 -- a run cut by the writer
 cut-run : (a b : Option (List ℕ)) (run : Run) → StopsIn a b stop.WriteFault run → Replays a b (Err (fault_at why.WriteFault 0)) run
@@ -87,11 +79,10 @@ ended-run a b c stop.ReadFault f g run p e q = let same : f ≡ fault_at why.Rea
 ended-run a b c stop.WriteFault f g run p e q = cc e
 ended-run a b c (stop.Told h) f g run p e q = told-ends a b c f g run (p.0 ∙ e) p.1 q
 
--- the same, where the input is known
-pub replayed : (o a b c : Option (List ℕ)) (s : Stop) (g : Fault) (run : List ℕ → Run) → IfSome o (λ bytes. Plays a b (Err s) (run bytes)) → FaultTold b c s g
-    → IfSome o (λ bytes. Replays a c (Err g) (run bytes))
-replayed None a b c s g run p told = tt
-replayed (Some bytes) a b c s g run p told = ended-run a b c s told.fault g (run bytes) p told.stopped_by told.ends
+-- the same of an input
+pub replayed : (from to : Giving) (a b c : Option (List ℕ)) (s : Stop) (g : Fault) (run : List ℕ → Run) → OfInput from to (λ bytes. Plays a b (Err s) (run bytes)) → FaultTold b c s g
+    → OfInput from to (λ bytes. Replays a c (Err g) (run bytes))
+replayed from to a b c s g run p told = λ bytes is. ended-run a b c s told.fault g (run bytes) (p bytes is) told.stopped_by told.ends
 
 cut-by : (a b : Option (List ℕ)) (s : Stop) (run : Run) → fault_of s ≡ None → StopsIn a b s run → Replays a b (Err (fault_at why.WriteFault 0)) run
 cut-by a b stop.OutOfMemory run e p = cc e
@@ -99,16 +90,6 @@ cut-by a b stop.ReadFault run e p = cc e
 cut-by a b stop.WriteFault run e p = cut-run a b run p
 cut-by a b (stop.Told f) run e p = cc e
 
-pub replay-cut : (o a b : Option (List ℕ)) (s : Stop) (g : Fault) (run : List ℕ → Run) → IfSome o (λ bytes. Plays a b (Err s) (run bytes)) → fault_of s ≡ None
-    → g ≡ fault_at why.WriteFault 0 → IfSome o (λ bytes. Replays a b (Err g) (run bytes))
-replay-cut None a b s g run p e w = tt
-replay-cut (Some bytes) a b s g run p e w = rw w (cut-by a b s (run bytes) e p)
-
--- the same of some bytes
-pub some-replayed : (a b c : Option (List ℕ)) (s : Stop) (g : Fault) (run : List ℕ → Run) → (bytes : List ℕ) × Plays a b (Err s) (run bytes) → FaultTold b c s g
-    → (bytes : List ℕ) × Replays a c (Err g) (run bytes)
-some-replayed a b c s g run p told = (p.0, ended-run a b c s told.fault g (run p.0) p.1 told.stopped_by told.ends)
-
-pub some-cut : (a b : Option (List ℕ)) (s : Stop) (g : Fault) (run : List ℕ → Run) → (bytes : List ℕ) × Plays a b (Err s) (run bytes) → fault_of s ≡ None → g ≡ fault_at why.WriteFault 0
-    → (bytes : List ℕ) × Replays a b (Err g) (run bytes)
-some-cut a b s g run p e w = (p.0, rw w (cut-by a b s (run p.0) e p.1))
+pub replay-cut : (from to : Giving) (a b : Option (List ℕ)) (s : Stop) (g : Fault) (run : List ℕ → Run) → OfInput from to (λ bytes. Plays a b (Err s) (run bytes)) → fault_of s ≡ None
+    → g ≡ fault_at why.WriteFault 0 → OfInput from to (λ bytes. Replays a b (Err g) (run bytes))
+replay-cut from to a b s g run p e w = λ bytes is. rw w (cut-by a b s (run bytes) e (p bytes is))

@@ -1,15 +1,17 @@
 //! Playing an input: the run that `replay` and `trace` share.
-ghost use Rattle.std.specs.Prelude.{◌≡◌, ◌≤◌, ◌<◌, ◌+◌, ◌^◌, ℕ, List, [], true, length, IfOk};
-ghost use Rattle.std.specs.Prelude.{IfSome, OnOk, IsOkUnless};
+ghost use Rattle.std.specs.Prelude.{◌≡◌, ◌≤◌, ◌<◌, ◌+◌, ◌^◌, [], true, false, length, IfOk};
+ghost use Rattle.std.specs.Prelude.{IsErrOf, OnOk, IsOkUnless};
+ghost use Rattle.told_streams.specs.Tapes.{OfInput};
+ghost use Rattle.council_core.specs.declared.refusals.Refusal.TheVariants as why;
 ghost use Rattle.csv.specs.Reading.{default_config, records, strip_bom};
 ghost use Rattle.csv.specs.Records.{fields_of};
 ghost use Rattle.council_core.specs.Ledgers.{Ledger};
-ghost use Rattle.board_text.specs.Output.{Plays};
+ghost use Rattle.board_text.specs.Output.{IsBadLimit, Plays};
 ghost use Rattle.board_runs.specs.Ended.{Replays};
 ghost use Rattle.board_text.specs.Pens.{GoesOn};
 ghost use Rattle.board_text.specs.Requests.{Row};
 ghost use Rattle.board_runs.specs.Scripts.{Turn, begun_run, played, played_run};
-ghost use Rattle.board_text.specs.Text.{begun_with, in_range, opened_of};
+ghost use Rattle.board_text.specs.Text.{begun_with, fault_at, in_range, opened_of};
 ghost use Rattle.board_runs.specs.Scripts.{script_run, step_run};
 ghost use Rattle.board_text.specs.declared.bounds.Limits.{Limits};
 ghost use Rattle.board_text.specs.declared.stops.Stop.TheVariants as stop;
@@ -21,6 +23,7 @@ use council_core::{Refusal, Register};
 use csv::ByteRecord;
 use std::alloc::Global;
 use std::io::{Read, Write};
+use told_streams::Given;
 
 /// What the records of a script are carried out on.
 pub(crate) trait Player: Sized + Drop {
@@ -95,16 +98,16 @@ fn play_text<P: Player, W: Write>(
 }
 
 // Plays the input, and leaves out the line of a fault.
-fn play_input<P: Player, R: Read, W: Write>(
+fn play_input<P: Player, R: Read + Drop, W: Write>(
     alloc: Global,
-    input: &mut R,
+    input: &mut Given<R>,
     out: &mut Output<'_, W>,
     limits: Limits,
 ) -> Result<(), Stop>
-    ensures wrote { IfSome (R.remaining input.old)
+    ensures wrote { OfInput input.old input.new
         (λ bytes. Plays out.old.held out.new.held result (played_run P.opened P.step limits bytes)) }
-    ensures some { (bytes : List ℕ)
-        × Plays out.old.held out.new.held result (played_run P.opened P.step limits bytes) }
+    ensures limits_first { in_range limits ≡ false
+        → IsErrOf result (stop.Told (fault_at why.BadLimit 0)) × (input.new ≡ input.old) }
     ensures on { GoesOn out.old out.new }
 {
     let text = read_within(alloc, input, limits)?;
@@ -112,16 +115,15 @@ fn play_input<P: Player, R: Read, W: Write>(
 }
 
 // Plays the input.
-fn play_all<P: Player, R: Read, W: Write>(
+fn play_all<P: Player, R: Read + Drop, W: Write>(
     alloc: Global,
-    input: &mut R,
+    input: &mut Given<R>,
     out: &mut Output<'_, W>,
     limits: Limits,
 ) -> Result<(), Fault>
-    ensures wrote { IfSome (R.remaining input.old)
+    ensures wrote { OfInput input.old input.new
         (λ bytes. Replays out.old.held out.new.held result (played_run P.opened P.step limits bytes)) }
-    ensures some { (bytes : List ℕ)
-        × Replays out.old.held out.new.held result (played_run P.opened P.step limits bytes) }
+    ensures limits_first { in_range limits ≡ false → IsBadLimit result × (input.new ≡ input.old) }
     ensures on { GoesOn out.old out.new }
 {
     let Err(stop) = play_input::<P, R, W>(alloc, input, out, limits) else {
@@ -134,16 +136,15 @@ fn play_all<P: Player, R: Read, W: Write>(
 }
 
 // The same, into a writer.
-pub(crate) fn play<P: Player, R: Read, W: Write>(
+pub(crate) fn play<P: Player, R: Read + Drop, W: Write>(
     alloc: Global,
-    input: &mut R,
+    input: &mut Given<R>,
     out: &mut W,
     limits: Limits,
 ) -> Result<(), Fault>
-    ensures wrote { IfSome (R.remaining input.old)
+    ensures wrote { OfInput input.old input.new
         (λ bytes. Replays (W.contents out.old) (W.contents out.new) result (played_run P.opened P.step limits bytes)) }
-    ensures some { (bytes : List ℕ)
-        × Replays (W.contents out.old) (W.contents out.new) result (played_run P.opened P.step limits bytes) }
+    ensures limits_first { in_range limits ≡ false → IsBadLimit result × (input.new ≡ input.old) }
 {
     let mut output = Output::new(out);
     let result = play_all::<P, R, W>(alloc, input, &mut output, limits);

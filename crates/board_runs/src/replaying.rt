@@ -1,12 +1,13 @@
 //! Replaying an input.
-ghost use Rattle.std.specs.Prelude.{◌≡◌, ℕ, List, map, IfSome, OnOk};
+ghost use Rattle.std.specs.Prelude.{◌≡◌, map, false, OnOk};
 ghost use Rattle.council_core.specs.Sequential.{respond, shown};
 ghost use Rattle.board_text.specs.Lines.{chair_line, reading_lines, reply_lines};
-ghost use Rattle.board_text.specs.Output.{Plays};
+ghost use Rattle.board_text.specs.Output.{IsBadLimit, Plays};
 ghost use Rattle.board_runs.specs.Ended.{Replays};
 ghost use Rattle.board_text.specs.Pens.{GoesOn};
 ghost use Rattle.board_text.specs.Requests.{call_of};
-ghost use Rattle.board_text.specs.Text.{prints};
+ghost use Rattle.board_text.specs.Text.{in_range, prints};
+ghost use Rattle.told_streams.specs.Tapes.{OfInput};
 ghost use Rattle.board_runs.specs.Replays.{replay_start, replay_step, run_of};
 
 use crate::desks::Desk;
@@ -21,6 +22,7 @@ use majority_rule::Majority;
 use power_index::ChairPower;
 use std::alloc::Global;
 use std::io::{Read, Write};
+use told_streams::Given;
 
 // Writes the lines of some chairs.
 fn write_chairs<W: Write>(rows: &[ChairPower], out: &mut Output<'_, W>) -> Result<(), Stop>
@@ -102,24 +104,23 @@ impl Player for Desk {
 }
 
 /// Replays an input: reads it whole, and carries out the records of its script one by one. What is
-/// written and answered is what `run_of` says of the bytes that the reader gives, whichever way the
-/// run ends; where the reader doesn't tell its bytes, nothing is promised of them.
+/// written and answered is what `run_of` says of the bytes that the reader gave, whichever way the
+/// run ends; where they weren't read to their end, of these however they go on.
 ///
-/// A fault's number is its refusal's, in this order: `BadLimit`; `ReadFault` and `TooLong` (more
+/// A fault's number is its refusal's, in this order: `BadLimit`, before anything is read; `ReadFault` and `TooLong` (more
 /// than 4,194,304 bytes); `BadHeader`; of the members' records `TooManyMembers`, `BadRecord` and
 /// `NoScript`; `DuplicateMember`; of the script's records `BadRecord` and `BadReader`, each with
 /// the record's number. `OutOfMemory` may come at any place, `WriteFault` at any write. The lines
 /// written before a fault stay, and its own line is the last, but after a `WriteFault`.
-pub fn replay<R: Read, W: Write>(
+pub fn replay<R: Read + Drop, W: Write>(
     alloc: Global,
-    input: &mut R,
+    input: &mut Given<R>,
     out: &mut W,
     limits: Limits,
 ) -> Result<(), Fault>
-    ensures wrote { IfSome (R.remaining input.old)
+    ensures wrote { OfInput input.old input.new
         (λ bytes. Replays (W.contents out.old) (W.contents out.new) result (run_of limits bytes)) }
-    ensures some { (bytes : List ℕ)
-        × Replays (W.contents out.old) (W.contents out.new) result (run_of limits bytes) }
+    ensures limits_first { in_range limits ≡ false → IsBadLimit result × (input.new ≡ input.old) }
 {
     play::<Desk, R, W>(alloc, input, out, limits)
 }

@@ -1,11 +1,12 @@
 //! Taking the two-copy machine through a schedule.
-ghost use Rattle.std.specs.Prelude.{◌≡◌, ℕ, List, true, replicate, IfSome, OnOk};
+ghost use Rattle.std.specs.Prelude.{◌≡◌, true, false, replicate, OnOk};
 ghost use Rattle.two_copy_steps.specs.Turns.{after, turn};
 ghost use Rattle.board_text.specs.Lines.{note_lines};
-ghost use Rattle.board_text.specs.Output.{Plays};
+ghost use Rattle.board_text.specs.Output.{IsBadLimit, Plays};
 ghost use Rattle.board_runs.specs.Ended.{Replays};
 ghost use Rattle.board_text.specs.Pens.{GoesOn};
-ghost use Rattle.board_text.specs.Text.{prints};
+ghost use Rattle.board_text.specs.Text.{in_range, prints};
+ghost use Rattle.told_streams.specs.Tapes.{OfInput};
 ghost use Rattle.board_runs.specs.Traces.{events_of, told, trace_of, trace_start, trace_step};
 ghost use Rattle.board_text.specs.Schedules.{is_scheduled};
 
@@ -15,6 +16,7 @@ use council_core::{Refusal, Register};
 use csv::ByteRecord;
 use std::alloc::Global;
 use std::io::{Read, Write};
+use told_streams::Given;
 use two_copy_steps::{Event, Machine, Note};
 
 // Writes what a note tells.
@@ -109,21 +111,19 @@ impl Player for Machine {
 /// Takes the two-copy machine through an input's schedule: one writer and as many readers as the
 /// limits say, every step of which is a record's. Each event prints what the machine tells of it; an
 /// event that only moves prints nothing. What is written and answered is what `trace_of` says of the
-/// bytes that the reader gives, whichever way the run ends; where the reader doesn't tell its bytes,
-/// nothing is promised of them.
+/// bytes that the reader gave, whichever way the run ends, as in `replay`.
 ///
 /// The faults are those of `replay`, in the same order. Want of memory as a command is handed over
 /// is `OutOfMemory` and ends the run: it is no line of the machine's.
-pub fn trace<R: Read, W: Write>(
+pub fn trace<R: Read + Drop, W: Write>(
     alloc: Global,
-    input: &mut R,
+    input: &mut Given<R>,
     out: &mut W,
     limits: Limits,
 ) -> Result<(), Fault>
-    ensures wrote { IfSome (R.remaining input.old)
+    ensures wrote { OfInput input.old input.new
         (λ bytes. Replays (W.contents out.old) (W.contents out.new) result (trace_of limits bytes)) }
-    ensures some { (bytes : List ℕ)
-        × Replays (W.contents out.old) (W.contents out.new) result (trace_of limits bytes) }
+    ensures limits_first { in_range limits ≡ false → IsBadLimit result × (input.new ≡ input.old) }
 {
     play::<Machine, R, W>(alloc, input, out, limits)
 }

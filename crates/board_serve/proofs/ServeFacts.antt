@@ -1,5 +1,5 @@
 -- What `serve` has written, at each of its ends.
-use Rattle.std.proofs.Common.{◌≡◌, inl, inr, ℕ, Bool, true, false, List, [], ◌∷◌, ◌++◌, map, Option, Some, None, IfSome, Result, Ok, Err, refl, sym, ap, subst}
+use Rattle.std.proofs.Common.{◌≡◌, inl, inr, ℕ, Bool, true, false, List, [], ◌∷◌, ◌++◌, map, Option, Some, None, Result, Ok, Err, refl, sym, ap, subst}
 use Rattle.std.proofs.KnownBytes.{Appends-nil}
 use Rattle.std.specs.Io.KnownBytes.{Appends}
 use Rattle.council_core.specs.declared.refusals.Refusal.TheVariants as why
@@ -7,7 +7,7 @@ use Rattle.board_text.specs.Replies.{reply_of}
 use Rattle.board_text.specs.Lines.{Line, fault_line, reply_line}
 use Rattle.board_serve.specs.Outcomes.{HasRecords, IsServed}
 use Rattle.board_text.specs.Output.{AppendsFront, Ends, Fails, IsBroken, IsFrontOf, Plays, Writes, fault_of}
-use Rattle.board_serve.specs.Plans.{AreOf, Planned, lines_of_work, work_lines}
+use Rattle.board_serve.specs.Plans.{Planned, lines_of_work, work_lines}
 use Rattle.board_text.specs.Lines.{audit_line, reader_line}
 use Rattle.board_serve.specs.Serving.{Differs, EndsAfter, Serves, ServesTo, StopsServe, Tells}
 use Rattle.board_text.specs.Text.{fault_at, line_text, prints, text_of}
@@ -109,11 +109,6 @@ ended-serve a b c s g spec p told = ended a b c told.fault g spec (subst (λ (x 
 
 pub cut-serve : (a b : Option (List ℕ)) (s : Stop) (g : Fault) (spec : Result Planned Fault) → StopsServe a b (fault_of s) spec → fault_of s ≡ None → g ≡ fault_at why.WriteFault 0 → Serves a b (Err g) spec
 cut-serve a b s g spec p e w = inr (w, subst (λ (x : Option Fault). StopsServe a b x spec) e p)
-
--- what holds of the bytes that the input gives holds of them where they are known
-pub known-input : (o : Option (List ℕ)) (P : List ℕ → Type 0) → (bytes : List ℕ) × AreOf o bytes × P bytes → IfSome o P
-known-input None P p = tt
-known-input (Some known) P p = subst P p.1 p.2
 
 -- an error that is passed on is the error that stopped the work
 pub serves-passed : (a b : Option (List ℕ)) (e d : Stop) (spec : Result Planned Fault) → d ≡ e → ServesTo a b (Err e) spec → ServesTo a b (Err d) spec

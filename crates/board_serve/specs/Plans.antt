@@ -1,6 +1,6 @@
 -- What a run of the threads is asked, and what it writes, as functions of the bytes that it reads.
-use Rattle.std.specs.Prelude.{◌≡◌, ℕ, ◌<◌, ◌^◌, ◌++◌, List, [], ◌∷◌, length, map, Option}
-use Rattle.std.specs.Prelude.{IfSome, Result, Ok, Err}
+use Rattle.std.specs.Prelude.{◌≡◌, ℕ, ◌<◌, ◌^◌, ◌++◌, List, [], ◌∷◌, length, map}
+use Rattle.std.specs.Prelude.{Result, Ok, Err}
 use Rattle.council_core.specs.Ledgers.{start_verdict}
 use Rattle.council_core.specs.Sequential.{Call, Reply, Sequential, replies_of}
 use Rattle.board_text.specs.Lines.{Line, reply_line}
@@ -44,10 +44,6 @@ plan_from lim (Ok b) = planned_with (fresh b.0) (parts_of lim no_parts b.1 b.2)
 -- what these bytes ask, or the fault that they have
 abbrev pub plan_of : ℕ → List ℕ → Result Planned Fault
 plan_of journal bytes = plan_from (two_readers journal) (begun_of (two_readers journal) bytes)
-
--- these are the bytes that a reader still gives, where it tells them
-abbrev pub AreOf : Option (List ℕ) → List ℕ → Type 0
-AreOf remaining bytes = IfSome remaining (λ known. bytes ≡ known)
 
 -- what the input asks was found, or why nothing came of it
 abbrev pub Finds : Result Plan Stop → Result Planned Fault → Type 0

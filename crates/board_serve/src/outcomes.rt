@@ -1,9 +1,10 @@
 //! What comes of the work of all threads.
-ghost use Rattle.std.specs.Prelude.{◌≡◌, ◌<◌, ◌^◌, [], Ok, IfOk, IfErr};
+ghost use Rattle.std.specs.Prelude.{◌≡◌, ◌<◌, ◌^◌, [], Ok, Err, IfOk, IfErr};
 ghost use Rattle.board_serve.specs.Outcomes.{IsBrought, IsOutcome};
 ghost use Rattle.board_text.specs.Text.{fresh};
 ghost use Rattle.board_serve.specs.Parts.{shares_of, size_of};
 ghost use Rattle.board_serve.specs.Work.{IsClosed, IsHeldUp};
+ghost use Rattle.board_text.specs.declared.stops.Stop.TheVariants as stop;
 
 use crate::gates::Gate;
 use crate::parts::Parts;
@@ -71,6 +72,7 @@ fn bring(alloc: Global, ended: Ended) -> Result<Outcome, Stop>
     ensures ends { IfOk result
         (λ _. (ended.wrote.end ≡ Ok tt) × (ended.first.end ≡ Ok tt) × (ended.second.end ≡ Ok tt)) }
     ensures causes { IfErr result IsHeldUp }
+    ensures memory_first { ended.wrote.end ≡ Err stop.OutOfMemory → result ≡ Err stop.OutOfMemory }
 {
     let Ended {
         wrote,

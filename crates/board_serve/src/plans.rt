@@ -1,15 +1,18 @@
 //! What a run of the threads is asked.
-ghost use Rattle.std.specs.Prelude.{◌≡◌, ◌≤◌, ℕ, List, Ok, length, IfOk, IfErr};
+ghost use Rattle.std.specs.Prelude.{◌≡◌, ◌≤◌, Ok, false, length, IfOk, IfErr, IsErrOf};
+ghost use Rattle.council_core.specs.declared.refusals.Refusal.TheVariants as why;
+ghost use Rattle.told_streams.specs.Tapes.{OfInput};
 ghost use Rattle.csv.specs.Reading.{default_config, records, strip_bom};
 ghost use Rattle.board_text.specs.Output.{Fails};
-ghost use Rattle.board_serve.specs.Plans.{AreOf, Finds, IsSound, plan_from, plan_of, plan_shown};
-ghost use Rattle.board_text.specs.Text.{begun_with, opened_of};
+ghost use Rattle.board_serve.specs.Plans.{Finds, IsSound, plan_from, plan_of, plan_shown, two_readers};
+ghost use Rattle.board_text.specs.Text.{begun_with, fault_at, in_range, opened_of};
 
 use crate::parts::{Parts, read_parts};
 use board_text::{Beginning, INPUT_LIMIT, Limits, Script, Stop, begin, read_within};
 use csv::ByteRecord;
 use std::alloc::Global;
 use std::io::Read;
+use told_streams::Given;
 
 /// A register at its start, and the script's records by who carries them out.
 #[derive(Drop)]
@@ -37,13 +40,14 @@ fn plan_text(alloc: Global, text: &[u8], limits: Limits) -> Result<Plan, Stop>
 }
 
 // Reads the input, and looks at all of its records.
-pub(crate) fn read_plan<R: Read>(
+pub(crate) fn read_plan<R: Read + Drop>(
     alloc: Global,
-    input: &mut R,
+    input: &mut Given<R>,
     journal_limit: u32,
 ) -> Result<Plan, Stop>
-    ensures found { (bytes : List ℕ) × AreOf (R.remaining input.old) bytes
-        × Finds result (plan_of journal_limit bytes) }
+    ensures found { OfInput input.old input.new (λ bytes. Finds result (plan_of journal_limit bytes)) }
+    ensures limits_first { in_range (two_readers journal_limit) ≡ false
+        → IsErrOf result (Stop.Told (fault_at why.BadLimit 0)) × (input.new ≡ input.old) }
     ensures sound { IfOk result IsSound }
 {
     let limits = Limits {

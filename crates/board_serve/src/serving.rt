@@ -1,8 +1,12 @@
 //! A run of one writer thread and two reader threads.
-ghost use Rattle.std.specs.Prelude.{◌≡◌, ℕ, List, true, false, IfOk, IfErr, IfSome};
+ghost use Rattle.std.specs.Prelude.{◌≡◌, true, false, IfOk, IfErr, IsErrOf};
+ghost use Rattle.council_core.specs.declared.refusals.Refusal.TheVariants as why;
+ghost use Rattle.board_text.specs.Output.{IsBadLimit};
+ghost use Rattle.board_text.specs.Text.{fault_at, in_range};
+ghost use Rattle.told_streams.specs.Tapes.{OfInput};
 ghost use Rattle.board_serve.specs.Outcomes.{HasRecords, IsOutcome, IsServed};
 ghost use Rattle.board_text.specs.Pens.{GoesOn};
-ghost use Rattle.board_serve.specs.Plans.{AreOf, IsSound, plan_of, plan_shown};
+ghost use Rattle.board_serve.specs.Plans.{IsSound, plan_of, plan_shown, two_readers};
 ghost use Rattle.board_serve.specs.Serving.{Serves, ServesTo};
 ghost use Rattle.board_serve.specs.Work.{IsHeldUp};
 
@@ -18,6 +22,7 @@ use std::alloc::Global;
 use std::io::{Read, Write};
 use std::sync::Wait;
 use std::thread::Threads;
+use told_streams::Given;
 
 // Carries out a plan, and looks whether what it brought back are legal records.
 fn perform<G: Gate, R: Threads + Wait + Sync>(
@@ -44,16 +49,18 @@ fn perform<G: Gate, R: Threads + Wait + Sync>(
 }
 
 // Serves the input, and leaves out the line of a fault.
-fn serve_to<G: Gate, T: Threads + Wait + Sync, R: Read, W: Write>(
+fn serve_to<G: Gate, T: Threads + Wait + Sync, R: Read + Drop, W: Write>(
     rt: &T,
     alloc: Global,
     gate: &G,
-    input: &mut R,
+    input: &mut Given<R>,
     out: &mut Output<'_, W>,
     journal_limit: u32,
 ) -> Result<Served, Stop>
-    ensures wrote { (bytes : List ℕ) × AreOf (R.remaining input.old) bytes
-        × ServesTo out.old.held out.new.held result (plan_of journal_limit bytes) }
+    ensures wrote { OfInput input.old input.new
+        (λ bytes. ServesTo out.old.held out.new.held result (plan_of journal_limit bytes)) }
+    ensures limits_first { in_range (two_readers journal_limit) ≡ false
+        → IsErrOf result (Stop.Told (fault_at why.BadLimit 0)) × (input.new ≡ input.old) }
     ensures on { GoesOn out.old out.new }
 {
     let plan = read_plan(alloc, input, journal_limit)?;
@@ -65,17 +72,17 @@ fn serve_to<G: Gate, T: Threads + Wait + Sync, R: Read, W: Write>(
 }
 
 // Serves the input.
-fn serve_all<G: Gate, T: Threads + Wait + Sync, R: Read, W: Write>(
+fn serve_all<G: Gate, T: Threads + Wait + Sync, R: Read + Drop, W: Write>(
     rt: &T,
     alloc: Global,
     gate: &G,
-    input: &mut R,
+    input: &mut Given<R>,
     out: &mut Output<'_, W>,
     journal_limit: u32,
 ) -> Result<Served, Fault>
-    ensures wrote { IfSome (R.remaining input.old)
+    ensures wrote { OfInput input.old input.new
         (λ bytes. Serves out.old.held out.new.held result (plan_of journal_limit bytes)) }
-    ensures some { (bytes : List ℕ) × Serves out.old.held out.new.held result (plan_of journal_limit bytes) }
+    ensures limits_first { in_range (two_readers journal_limit) ≡ false → IsBadLimit result × (input.new ≡ input.old) }
     ensures on { GoesOn out.old out.new }
 {
     let stop = match serve_to(rt, alloc, gate, input, out, journal_limit) {
@@ -90,28 +97,27 @@ fn serve_all<G: Gate, T: Threads + Wait + Sync, R: Read, W: Write>(
 
 /// Serves an input: reads it whole, looks at all records of its script, and then carries them out by
 /// a writer and two readers, each in a thread of its own. What is written and answered is what
-/// `plan_of` says of the bytes that the reader gives; where the reader doesn't tell its bytes,
-/// nothing is promised of them.
+/// `plan_of` says of the bytes that the reader gave; where they weren't read to their end, of these
+/// however they go on.
 ///
 /// A fault's number is its refusal's, in this order: those of `replay` with limits of two readers,
 /// all before a thread is started; once all threads have ended `OutOfMemory`, `GateClosed`, and what
 /// the audit finds. `OutOfMemory` may come at any place, `WriteFault` at any write.
-pub fn serve<G: Gate, T: Threads + Wait + Sync, R: Read, W: Write>(
+pub fn serve<G: Gate, T: Threads + Wait + Sync, R: Read + Drop, W: Write>(
     rt: &T,
     alloc: Global,
     gate: &G,
-    input: &mut R,
+    input: &mut Given<R>,
     out: &mut W,
     journal_limit: u32,
 ) -> Result<Served, Fault>
-    ensures wrote { IfSome (R.remaining input.old)
+    ensures wrote { OfInput input.old input.new
         (λ bytes. Serves (W.contents out.old) (W.contents out.new) result (plan_of journal_limit bytes)) }
-    ensures some { (bytes : List ℕ)
-        × Serves (W.contents out.old) (W.contents out.new) result (plan_of journal_limit bytes) }
+    ensures limits_first { in_range (two_readers journal_limit) ≡ false → IsBadLimit result × (input.new ≡ input.old) }
     ensures served { IfOk result
-        (λ s. IfSome (R.remaining input.old) (λ bytes. IfOk (plan_of journal_limit bytes) (λ p. IsServed p s))) }
+        (λ s. OfInput input.old input.new (λ bytes. IfOk (plan_of journal_limit bytes) (λ p. IsServed p s))) }
     ensures records { IfOk result
-        (λ s. IfSome (R.remaining input.old) (λ bytes. IfOk (plan_of journal_limit bytes) (λ p. HasRecords p s))) }
+        (λ s. OfInput input.old input.new (λ bytes. IfOk (plan_of journal_limit bytes) (λ p. HasRecords p s))) }
 {
     let mut output = Output::new(out);
     let result = serve_all(rt, alloc, gate, input, &mut output, journal_limit);

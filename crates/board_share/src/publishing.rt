@@ -45,7 +45,8 @@ fn see_all(words: &mut WordWriter) -> Result<(), Busy>
     Ok(())
 }
 
-// Stores all words of the sheet. They are read from the register one by one: a sheet made first would be waited for.
+// Stores all words of the sheet. They are read from the register one by one, since making a sheet first would delay the
+// stores.
 fn fill_all(words: &mut WordWriter)
     requires begun { IsFilling words.old 0 }
     ensures way { Underway words.old words.new }

@@ -1,7 +1,7 @@
 //! Inputs at the limit of their length, and a field that is far too long.
 ghost use Rattle.std.specs.Thread.{IsSync};
 
-use board_report::{Fault, FreeGate, Limits, replay, serve, trace};
+use board_report::{Fault, FreeGate, Given, Limits, replay, serve, trace};
 use std::alloc::{AllocError, Global};
 use std::sync::Wait;
 use std::test::Fail;
@@ -36,12 +36,12 @@ fn longest_input(rt: HostRuntime) -> Result<(), Fail> {
     let head = b"member,votes\nAAA,0000010\nscript\n";
     let mut text = repeated(rt.alloc(), head, b"publish\n", 524_284)?;
     assert!(rt; text.len() == LONGEST);
-    let mut input = text.as_slice();
+    let mut input = Given::new(text.as_slice());
     let mut out: Vec<u8> = Vec::new(rt.alloc());
     assert!(rt; replay(rt.alloc(), &mut input, &mut out, LIMITS) == Ok(()));
     assert!(rt; out.len() == 524_284 * 12);
     text.extend_from_slice(b"\n")?;
-    let mut input = text.as_slice();
+    let mut input = Given::new(text.as_slice());
     let mut out: Vec<u8> = Vec::new(rt.alloc());
     let end = replay(rt.alloc(), &mut input, &mut out, LIMITS);
     assert!(rt; end == Err(TOO_LONG));
@@ -54,12 +54,12 @@ fn longest_schedule(rt: HostRuntime) -> Result<(), Fail> {
     let head = b"member,votes\nAAA,000000010\nscript\n";
     let mut text = repeated(rt.alloc(), head, b"writer,1\n", 466_030)?;
     assert!(rt; text.len() == LONGEST);
-    let mut input = text.as_slice();
+    let mut input = Given::new(text.as_slice());
     let mut out: Vec<u8> = Vec::new(rt.alloc());
     assert!(rt; trace(rt.alloc(), &mut input, &mut out, LIMITS) == Ok(()));
     assert!(rt; out.len() == 466_030 * 8);
     text.extend_from_slice(b"\n")?;
-    let mut input = text.as_slice();
+    let mut input = Given::new(text.as_slice());
     let mut out: Vec<u8> = Vec::new(rt.alloc());
     let end = trace(rt.alloc(), &mut input, &mut out, LIMITS);
     assert!(rt; end == Err(TOO_LONG));
@@ -71,7 +71,7 @@ fn longest_schedule(rt: HostRuntime) -> Result<(), Fail> {
 fn served<R: Threads + Wait + Sync>(rt: &R, alloc: Global, text: &[u8]) -> (Vec<u8>, Option<Fault>)
     requires shared { IsSync R.row }
 {
-    let mut input = text;
+    let mut input = Given::new(text);
     let mut out: Vec<u8> = Vec::new(alloc);
     let end = serve(rt, alloc, &FreeGate, &mut input, &mut out, 1_000_000);
     (out, end.err())
@@ -107,12 +107,12 @@ fn with_a_long_field(alloc: Global, head: &[u8]) -> Result<Vec<u8>, AllocError> 
 fn a_field_of_a_million_bytes(rt: HostRuntime) -> Result<(), Fail> {
     let bad = Err(Fault { code: 17, place: 5 });
     let text = with_a_long_field(rt.alloc(), b"open,1\nopen,")?;
-    let mut input = text.as_slice();
+    let mut input = Given::new(text.as_slice());
     let mut out: Vec<u8> = Vec::new(rt.alloc());
     assert!(rt; replay(rt.alloc(), &mut input, &mut out, LIMITS) == bad);
     assert!(rt; out.as_slice() == "accepted,1\nfault,5,BadRecord\n".as_bytes());
     let text = with_a_long_field(rt.alloc(), b"writer,1\nwriter,")?;
-    let mut input = text.as_slice();
+    let mut input = Given::new(text.as_slice());
     let mut out: Vec<u8> = Vec::new(rt.alloc());
     assert!(rt; trace(rt.alloc(), &mut input, &mut out, LIMITS) == bad);
     assert!(rt; out.as_slice() == "skipped\nfault,5,BadRecord\n".as_bytes());

@@ -1,5 +1,7 @@
 //! The program on its words, and its calls on whole inputs.
-use board_report::{Fault, Limits, program, replay, trace, words_out_of_memory, words_refused};
+use board_report::{
+    Fault, Given, Limits, program, replay, trace, words_out_of_memory, words_refused,
+};
 use std::alloc::Global;
 use std::process::Abort;
 use std::sync::Wait;
@@ -40,7 +42,7 @@ const OUTPUT: &str = "accepted,1\n\
 
 #[test]
 fn replays_three_chairs(rt: HostRuntime) -> Result<(), Fail> {
-    let mut input = INPUT.as_bytes();
+    let mut input = Given::new(INPUT.as_bytes());
     let mut out: Vec<u8> = Vec::new(rt.alloc());
     let end = replay(rt.alloc(), &mut input, &mut out, LIMITS);
     assert!(rt; end == Ok(()));
@@ -51,7 +53,7 @@ fn replays_three_chairs(rt: HostRuntime) -> Result<(), Fail> {
 #[test]
 fn refuses_limits_out_of_range(rt: HostRuntime) -> Result<(), Fail> {
     for (readers, journal) in [(0u8, 1u32), (5, 1), (1, 0), (1, 1_000_001)] {
-        let mut input = INPUT.as_bytes();
+        let mut input = Given::new(INPUT.as_bytes());
         let mut out: Vec<u8> = Vec::new(rt.alloc());
         let end = replay(
             rt.alloc(),
@@ -93,7 +95,7 @@ const TOLD: &str =
 
 #[test]
 fn traces_a_reader_in_the_way(rt: HostRuntime) -> Result<(), Fail> {
-    let mut input = SCHEDULE.as_bytes();
+    let mut input = Given::new(SCHEDULE.as_bytes());
     let mut out: Vec<u8> = Vec::new(rt.alloc());
     let end = trace(rt.alloc(), &mut input, &mut out, LIMITS);
     assert!(rt; end == Ok(()));
@@ -113,7 +115,7 @@ fn a_trace_stops_at_a_bad_record(rt: HostRuntime) -> Result<(), Fail> {
         let mut text: Vec<u8> = Vec::new(rt.alloc());
         text.extend_from_slice(b"member,votes\nscript\nwriter,1\n")?;
         text.extend_from_slice(bad.as_bytes())?;
-        let mut input = text.as_slice();
+        let mut input = Given::new(text.as_slice());
         let mut out: Vec<u8> = Vec::new(rt.alloc());
         let end = trace(rt.alloc(), &mut input, &mut out, LIMITS);
         assert!(rt; end == Err(Fault { code, place: 4 }));
@@ -134,7 +136,7 @@ fn runs<R: Abort + Threads + Wait + Sync>(
     for text in texts {
         words.push(String::from_str(alloc, text)?)?;
     }
-    let mut input = text.as_bytes();
+    let mut input = Given::new(text.as_bytes());
     let mut out: Vec<u8> = Vec::new(alloc);
     let mut err: Vec<u8> = Vec::new(alloc);
     let status = program(rt, alloc, words.as_slice(), &mut input, &mut out, &mut err);

@@ -1,5 +1,5 @@
 //! A run of one writer thread and two reader threads, held up by gates.
-use board_report::{FreeGate, Gate, GateClosed, Place, Served, serve};
+use board_report::{FreeGate, Gate, GateClosed, Given, Place, Served, serve};
 use std::alloc::Global;
 use std::sync::Wait;
 use std::sync::atomic::{AtomicU64, Ordering};
@@ -121,7 +121,7 @@ fn run<G: Gate, R: Threads + Wait + Sync>(
     text: &str,
     journal: u32,
 ) -> (Vec<u8>, u8, Option<u32>) {
-    let mut input = text.as_bytes();
+    let mut input = Given::new(text.as_bytes());
     let mut out: Vec<u8> = Vec::new(alloc);
     match serve(rt, alloc, gate, &mut input, &mut out, journal) {
         Ok(served) => (out, 0, first_front(&served)),
@@ -196,23 +196,38 @@ fn a_closed_gate_is_told(rt: HostRuntime) -> Result<(), Fail> {
     Ok(())
 }
 
+// Places, and whether the run passes there.
+const PLACES: [(Place, bool); 17] = [
+    (Place::BeforePublish(1), true),
+    (Place::BeforePublish(2), true),
+    (Place::BeforePublish(3), true),
+    (Place::AfterPublish(1), true),
+    (Place::AfterPublish(2), true),
+    (Place::AfterPublish(3), true),
+    (Place::BeforeReading(1, 1), true),
+    (Place::AfterReading(1, 1), true),
+    (Place::BeforeReading(1, 2), true),
+    (Place::AfterReading(1, 2), true),
+    (Place::BeforeReading(2, 1), true),
+    (Place::AfterReading(2, 1), true),
+    (Place::BeforePublish(0), false),
+    (Place::BeforePublish(4), false),
+    (Place::AfterPublish(4), false),
+    (Place::BeforeReading(1, 3), false),
+    (Place::AfterReading(2, 2), false),
+];
+
 #[test]
 fn a_gate_may_close_at_each_place(rt: HostRuntime) -> Result<(), Fail> {
-    let places = [
-        Place::BeforePublish(2),
-        Place::AfterPublish(3),
-        Place::BeforeReading(1, 2),
-        Place::AfterReading(2, 1),
-    ];
-    for place in places {
+    for (place, passed) in PLACES {
         let (out, code, _) = run(&rt, rt.alloc(), &ClosesAt(place), INPUT, 1000);
-        assert_eq!(rt; code, 27);
-        assert!(rt; out.as_slice() == "fault,0,GateClosed\n".as_bytes());
-    }
-    for place in [Place::BeforePublish(4), Place::AfterReading(2, 2)] {
-        let (out, code, _) = run(&rt, rt.alloc(), &ClosesAt(place), INPUT, 1000);
-        assert_eq!(rt; code, 0);
-        assert!(rt; out.as_slice() == OUTPUT.as_bytes());
+        let (wanted, written) = if passed {
+            (27, "fault,0,GateClosed\n")
+        } else {
+            (0, OUTPUT)
+        };
+        assert_eq!(rt; code, wanted);
+        assert!(rt; out.as_slice() == written.as_bytes());
     }
     Ok(())
 }
@@ -220,7 +235,7 @@ fn a_gate_may_close_at_each_place(rt: HostRuntime) -> Result<(), Fail> {
 #[test]
 fn serves_what_was_read(rt: HostRuntime) -> Result<(), Fail> {
     let text = "member,votes\nAAA,10\nscript\nopen,1\nmove,AAA,1\nmove,AAA,1\nread,2,85\n";
-    let mut input = text.as_bytes();
+    let mut input = Given::new(text.as_bytes());
     let mut out: Vec<u8> = Vec::new(rt.alloc());
     let served = match serve(&rt, rt.alloc(), &FreeGate, &mut input, &mut out, 10) {
         Ok(served) => served,

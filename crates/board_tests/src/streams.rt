@@ -1,5 +1,5 @@
 //! Readers and writers over memory that interrupt, fail, give or take single bytes, or take none.
-use board_report::{Fault, FreeGate, Limits, replay, serve, trace};
+use board_report::{Fault, FreeGate, Given, Limits, replay, serve, trace};
 use std::alloc::Global;
 use std::io;
 use std::io::{ErrorKind, Read, Write};
@@ -12,10 +12,15 @@ const LIMITS: Limits = Limits {
     journal: 1_000,
 };
 
-// A reader that is interrupted some times, then gives a byte at a time, and after so many bytes fails.
+// The most bytes that a reader is asked for at once.
+const PIECE: usize = 4096;
+
+// A reader that is interrupted some times, then gives a byte at a time. It may fail once after its bytes, and gives the
+// rest to whoever asks again. It fails, too, where it is asked for too many bytes at once.
 #[derive(Drop)]
 struct Choppy<'a> {
     bytes: &'a [u8],
+    rest: &'a [u8],
     interruptions: u32,
     fails: bool,
 }
@@ -28,12 +33,17 @@ impl<'a> Read for Choppy<'a> {
         }
         let Some((first, rest)) = self.bytes.split_first() else {
             if self.fails {
+                self.fails = false;
+                self.bytes = self.rest;
                 return Err(io::Error::from(ErrorKind::Other));
             }
             return Ok(0);
         };
         if buf.is_empty() {
             return Ok(0);
+        }
+        if buf.len() > PIECE {
+            return Err(io::Error::from(ErrorKind::Other));
         }
         buf[0] = *first;
         self.bytes = rest;
@@ -42,7 +52,7 @@ impl<'a> Read for Choppy<'a> {
 }
 
 // A writer that takes a byte at a time, one after each hundred of its interruptions and the rest after the last; at its
-// limit it takes nothing, or fails.
+// limit it takes nothing, or fails, once, and then takes what whoever asks again hands it.
 #[derive(Drop)]
 struct Narrow {
     taken: Vec<u8>,
@@ -64,6 +74,7 @@ impl Write for Narrow {
             return Ok(0);
         };
         if self.taken.len() >= self.limit {
+            self.limit = usize::MAX;
             if self.fails {
                 return Err(io::Error::from(ErrorKind::Other));
             }
@@ -112,17 +123,19 @@ fn output_of(command: &Command) -> &'static [u8] {
 }
 
 // Runs a command, and answers its fault's number, 0 for none.
-fn run<T: Threads + Wait + Sync, R: Read, W: Write>(
+fn run<T: Threads + Wait + Sync, R: Read + Drop, W: Write>(
     rt: &T,
     alloc: Global,
     command: &Command,
-    input: &mut R,
+    limits: Limits,
+    input: R,
     out: &mut W,
 ) -> u8 {
+    let mut given = Given::new(input);
     let end = match command {
-        Command::Replay => replay(alloc, input, out, LIMITS),
-        Command::Trace => trace(alloc, input, out, LIMITS),
-        Command::Serve => match serve(rt, alloc, &FreeGate, input, out, 1_000) {
+        Command::Replay => replay(alloc, &mut given, out, limits),
+        Command::Trace => trace(alloc, &mut given, out, limits),
+        Command::Serve => match serve(rt, alloc, &FreeGate, &mut given, out, limits.journal) {
             Ok(_) => Ok(()),
             Err(fault) => Err(fault),
         },
@@ -142,12 +155,12 @@ fn reads<T: Threads + Wait + Sync>(
     rt: &T,
     alloc: Global,
     command: &Command,
+    limits: Limits,
     choppy: Choppy<'_>,
     wanted: &[u8],
 ) -> (u8, bool) {
-    let mut input = choppy;
     let mut out: Vec<u8> = Vec::new(alloc);
-    let code = run(rt, alloc, command, &mut input, &mut out);
+    let code = run(rt, alloc, command, limits, choppy, &mut out);
     (code, out.as_slice() == wanted)
 }
 
@@ -161,7 +174,6 @@ fn writes<T: Threads + Wait + Sync>(
     fails: bool,
     wanted: &[u8],
 ) -> (u8, bool) {
-    let mut input = input_of(command);
     let mut out = Narrow {
         taken: Vec::new(alloc),
         interruptions,
@@ -169,11 +181,13 @@ fn writes<T: Threads + Wait + Sync>(
         fails,
         rested: false,
     };
-    let code = run(rt, alloc, command, &mut input, &mut out);
+    let code = run(rt, alloc, command, LIMITS, input_of(command), &mut out);
     (code, out.taken.as_slice() == wanted)
 }
 
 const READ_FAULT: &[u8] = b"fault,0,ReadFault\n";
+
+const BAD_LIMIT: &[u8] = b"fault,0,BadLimit\n";
 
 #[test]
 fn readers_that_interrupt_or_fail(rt: HostRuntime) -> Result<(), Fail> {
@@ -185,11 +199,9 @@ fn readers_that_interrupt_or_fail(rt: HostRuntime) -> Result<(), Fail> {
             (1_001, false, 19),
             (0, true, 19),
         ] {
-            let given = if fails {
-                bytes.get(..40).unwrap_or_default()
-            } else {
-                bytes
-            };
+            let cut = if fails { 40 } else { bytes.len() };
+            let given = bytes.get(..cut).unwrap_or_default();
+            let rest = bytes.get(cut..).unwrap_or_default();
             let wanted = if code == 0 {
                 output_of(command)
             } else {
@@ -197,10 +209,29 @@ fn readers_that_interrupt_or_fail(rt: HostRuntime) -> Result<(), Fail> {
             };
             let choppy = Choppy {
                 bytes: given,
+                rest,
                 interruptions,
                 fails,
             };
-            assert!(rt; reads(&rt, rt.alloc(), command, choppy, wanted) == (code, true));
+            assert!(rt; reads(&rt, rt.alloc(), command, LIMITS, choppy, wanted) == (code, true));
+        }
+    }
+    Ok(())
+}
+
+#[test]
+fn bad_limits_come_before_a_failed_read(rt: HostRuntime) -> Result<(), Fail> {
+    for place in 0..3usize {
+        let command = &COMMANDS[place];
+        for (readers, journal) in [(0u8, 0u32), (5, 1_000_001)] {
+            let limits = Limits { readers, journal };
+            let choppy = Choppy {
+                bytes: b"",
+                rest: input_of(command),
+                interruptions: 0,
+                fails: true,
+            };
+            assert!(rt; reads(&rt, rt.alloc(), command, limits, choppy, BAD_LIMIT) == (13, true));
         }
     }
     Ok(())

@@ -1,8 +1,8 @@
 -- What an input begins with, and why nothing comes of it.
-use Rattle.std.proofs.Common.{◌≡◌, ◌<◌, ◌≤◌, ◌⊎◌, inl, inr, ℕ, true, false, List, [], ◌∷◌, length, replicate, Option, Some, None, IfSome, IfErr, Result, Ok, Err, refl, sym, ap, ◌∙◌, arith}
+use Rattle.std.proofs.Common.{◌≡◌, ◌<◌, ◌≤◌, ◌⊎◌, inl, inr, ℕ, true, false, List, [], ◌∷◌, length, IfErr, Result, Ok, Err, refl, sym, ap, ◌∙◌}
 use Rattle.std.proofs.lemmas.Bool.{le-leb, lt-leb}
-use Rattle.std.proofs.lemmas.List.{length-replicate}
 use Rattle.csv.specs.Reading.{default_config, records, strip_bom}
+use Rattle.told_streams.specs.Tapes.{Giving, OfInput}
 use Rattle.council_core.specs.Ledgers.{Ledger, start_verdict}
 use Rattle.council_core.specs.declared.refusals.Refusal.TheVariants as why
 use Rattle.board_text.specs.Requests.{Row, is_header}
@@ -26,9 +26,8 @@ unfolding begun_of
 begun-records lim bytes e h = rw (e, le-leb _ _ h) refl
 
 -- limits out of range
-pub fails-by_limits : (o : Option (List ℕ)) (d : Stop) (lim : Limits) → in_range lim ≡ false → d ≡ stop.Told (fault_at why.BadLimit 0) → IfSome o (λ bytes. Fails d (begun_of lim bytes))
-fails-by_limits None d lim e s = tt
-fails-by_limits (Some bytes) d lim e s = rw s (begun-out_of_range lim bytes e)
+pub fails-by_limits : (from to : Giving) (d : Stop) (lim : Limits) → in_range lim ≡ false → d ≡ stop.Told (fault_at why.BadLimit 0) → OfInput from to (λ bytes. Fails d (begun_of lim bytes))
+fails-by_limits from to d lim e s = λ bytes is. rw s (begun-out_of_range lim bytes e)
 
 read-fails : (bytes : List ℕ) (e : Stop) (lim : Limits) → in_range lim ≡ true
     → (e ≡ stop.OutOfMemory) ⊎ (e ≡ stop.ReadFault) ⊎ (e ≡ stop.Told (fault_at why.TooLong 0))
@@ -38,44 +37,12 @@ read-fails bytes e lim fits (inr (inl d)) long = rw d tt
 read-fails bytes e lim fits (inr (inr t)) long = rw t (begun-too_long lim bytes fits (long t))
 
 -- the input could not be read
-pub fails-reading : (o : Option (List ℕ)) (e : Stop) (lim : Limits) → in_range lim ≡ true
-    → (e ≡ stop.OutOfMemory) ⊎ (e ≡ stop.ReadFault) ⊎ (e ≡ stop.Told (fault_at why.TooLong 0))
-    → (e ≡ stop.Told (fault_at why.TooLong 0) → IfSome o (λ bytes. 4194304 < length bytes))
-    → IfSome o (λ bytes. Fails e (begun_of lim bytes))
-fails-reading None e lim fits causes long = tt
-fails-reading (Some bytes) e lim fits causes long = read-fails bytes e lim fits causes long
-
--- some bytes have the fault, or it is one that may come with any
-pub some-limits : (d : Stop) (lim : Limits) → in_range lim ≡ false → d ≡ stop.Told (fault_at why.BadLimit 0) → (bytes : List ℕ) × Fails d (begun_of lim bytes)
-some-limits d lim e s = ([], rw s (begun-out_of_range lim [] e))
-
--- a text of any length
-some-text : (n : ℕ) → (bytes : List ℕ) × (length bytes ≡ n)
-some-text n = (replicate n 0, length-replicate n 0)
-
-some-long : (n : ℕ) → 4194304 < n → (bytes : List ℕ) × (4194304 < length bytes)
-some-long n h = let b = some-text n in (b.0, omega (arith, b.1, h))
-
-from-long : (e : Stop) (lim : Limits) → in_range lim ≡ true → e ≡ stop.Told (fault_at why.TooLong 0) → (bytes : List ℕ) × (4194304 < length bytes) → (bytes : List ℕ) × Fails e (begun_of lim bytes)
-from-long e lim fits t b = (b.0, rw t (begun-too_long lim b.0 fits b.1))
-
-some-reading : (e : Stop) (lim : Limits) → in_range lim ≡ true → (e ≡ stop.OutOfMemory) ⊎ (e ≡ stop.ReadFault) ⊎ (e ≡ stop.Told (fault_at why.TooLong 0)) → (bytes : List ℕ) × Fails e (begun_of lim bytes)
-some-reading e lim fits (inl m) = ([], rw m tt)
-some-reading e lim fits (inr (inl d)) = ([], rw d tt)
-some-reading e lim fits (inr (inr t)) = from-long e lim fits t (some-long 4194305 (omega arith))
-
-pub some-input : {A : Type 0} (r : Result A Stop) (lim : Limits) → in_range lim ≡ true → IfErr r (λ e. (e ≡ stop.OutOfMemory) ⊎ (e ≡ stop.ReadFault) ⊎ (e ≡ stop.Told (fault_at why.TooLong 0)))
-    → IfErr r (λ e. (bytes : List ℕ) × Fails e (begun_of lim bytes))
-some-input (Ok a) lim fits causes = tt
-some-input (Err e) lim fits causes = some-reading e lim fits causes
-
--- the same of an answer
-pub fails-input : {A : Type 0} (o : Option (List ℕ)) (r : Result A Stop) (lim : Limits) → in_range lim ≡ true
+pub fails-input : {A : Type 0} (from to : Giving) (r : Result A Stop) (lim : Limits) → in_range lim ≡ true
     → IfErr r (λ e. (e ≡ stop.OutOfMemory) ⊎ (e ≡ stop.ReadFault) ⊎ (e ≡ stop.Told (fault_at why.TooLong 0)))
-    → (r ≡ Err (stop.Told (fault_at why.TooLong 0)) → IfSome o (λ bytes. 4194304 < length bytes))
-    → IfErr r (λ e. IfSome o (λ bytes. Fails e (begun_of lim bytes)))
-fails-input o (Ok a) lim fits causes long = tt
-fails-input o (Err e) lim fits causes long = fails-reading o e lim fits causes (λ same. long (ap Err same))
+    → (r ≡ Err (stop.Told (fault_at why.TooLong 0)) → OfInput from to (λ bytes. 4194304 < length bytes))
+    → IfErr r (λ e. OfInput from to (λ bytes. Fails e (begun_of lim bytes)))
+fails-input from to (Ok a) lim fits causes long = tt
+fails-input from to (Err e) lim fits causes long = λ bytes is. read-fails bytes e lim fits causes (λ same. long (ap Err same) bytes is)
 
 -- the opening of records, the first of which is the header
 pub opened-header : (rs ss : List Row) (r : Row) → rs ≡ r ∷ ss → is_header r ≡ true → opened_of rs ≡ opening_of [] 2 ss

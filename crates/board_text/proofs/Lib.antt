@@ -4,5 +4,6 @@ pub mod ScriptFacts
 pub mod WriteFacts
 pub mod OpeningFacts
 pub mod PlayFacts
+pub mod InputFacts
 pub mod BeginningFacts
 pub mod WorkedCases

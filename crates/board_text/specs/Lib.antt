@@ -9,3 +9,4 @@ pub mod Script
 pub mod Replies
 pub mod Pens
 pub mod Output
+pub mod Inputs

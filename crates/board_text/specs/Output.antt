@@ -85,3 +85,7 @@ abbrev pub Ends : Option (List ℕ) → Option (List ℕ) → Fault → Fault �
 Ends old new f result =
     ((result ≡ f) × Appends old new (line_text (fault_line f)))
     ⊎ ((result ≡ fault_at why.WriteFault 0) × AppendsFront old new (line_text (fault_line f)))
+
+-- limits out of range are the fault, or its line could not be written
+abbrev pub IsBadLimit : {A : Type 0} → Result A Fault → Type 0
+IsBadLimit r = (r ≡ Err (fault_at why.BadLimit 0)) ⊎ (r ≡ Err (fault_at why.WriteFault 0))

@@ -1,9 +1,11 @@
 //! The beginning of a run: its input read whole, and the records before the script.
-ghost use Rattle.std.specs.Prelude.{◌≡◌, ◌≤◌, ◌<◌, ◌+◌, ◌^◌, ℕ, List, [], Ok, true, length};
-ghost use Rattle.std.specs.Prelude.{IfOk, IfErr, IfSome, OnOk};
+ghost use Rattle.std.specs.Prelude.{◌≡◌, ◌≤◌, ◌<◌, ◌+◌, ◌^◌, [], Ok, true, false, length};
+ghost use Rattle.std.specs.Prelude.{IfOk, IfErr, IsErrOf, OnOk};
+ghost use Rattle.told_streams.specs.Tapes.{OfInput};
+ghost use Rattle.council_core.specs.declared.refusals.Refusal.TheVariants as why;
 ghost use Rattle.council_core.specs.Ledgers.{start_verdict};
 ghost use Rattle.board_text.specs.Output.{Fails, Starts};
-ghost use Rattle.board_text.specs.Text.{begun_of, begun_with, in_range, opened_of};
+ghost use Rattle.board_text.specs.Text.{begun_of, begun_with, fault_at, in_range, opened_of};
 
 use crate::bounds::Limits;
 use crate::input::{INPUT_LIMIT, read_input};
@@ -15,6 +17,7 @@ use council_core::{MAX_COMMANDS, MemberCode, Refusal, Register, Votes};
 use csv::ByteRecord;
 use std::alloc::Global;
 use std::io::Read;
+use told_streams::Given;
 
 /// A register of an opening's members, with the number of the script's first record.
 #[derive(Drop)]
@@ -25,12 +28,17 @@ pub struct Beginning {
 }
 
 /// Reads the input whole, where the limits are in range.
-pub fn read_within<R: Read>(alloc: Global, input: &mut R, limits: Limits) -> Result<Vec<u8>, Stop>
-    ensures whole { IfOk result (λ text. IfSome (R.remaining input.old) (λ bytes. text.items ≡ bytes)) }
+pub fn read_within<R: Read + Drop>(
+    alloc: Global,
+    input: &mut Given<R>,
+    limits: Limits,
+) -> Result<Vec<u8>, Stop>
+    ensures whole { IfOk result (λ text. OfInput input.old input.new (λ bytes. text.items ≡ bytes)) }
     ensures fits { IfOk result (λ text. length text.items ≤ INPUT_LIMIT) }
     ensures in_range { OnOk result (in_range limits ≡ true) }
-    ensures fault { IfErr result (λ e. IfSome (R.remaining input.old) (λ bytes. Fails e (begun_of limits bytes))) }
-    ensures some_fault { IfErr result (λ e. (bytes : List ℕ) × Fails e (begun_of limits bytes)) }
+    ensures fault { IfErr result (λ e. OfInput input.old input.new (λ bytes. Fails e (begun_of limits bytes))) }
+    ensures limits_first { in_range limits ≡ false
+        → IsErrOf result (Stop.Told (fault_at why.BadLimit 0)) × (input.new ≡ input.old) }
 {
     if !limits.is_in_range() {
         return Err(Stop::told(Refusal::BadLimit, 0));

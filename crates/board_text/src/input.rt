@@ -1,12 +1,16 @@
 //! Reading the whole input before anything is done with it.
-ghost use Rattle.std.specs.Prelude.{◌≡◌, ◌≤◌, ◌<◌, length, IfOk, IfErr, ◌⊎◌, IfSome, IsErrOf};
+ghost use Rattle.std.specs.Prelude.{◌≡◌, ◌≤◌, ◌<◌, ◌+◌, length, IfOk, IfErr, ◌⊎◌, IsErrOf, IsOkUnless};
+ghost use Rattle.told_streams.specs.Tapes.{OfInput};
 ghost use Rattle.council_core.specs.declared.refusals.Refusal.TheVariants as why;
+ghost use Rattle.board_text.specs.Inputs.{Reads};
 ghost use Rattle.board_text.specs.Text.{fault_at};
+ghost use Rattle.board_text.specs.declared.stops.Stop.TheVariants as stop;
 
 use crate::stops::Stop;
 use council_core::Refusal;
 use std::alloc::Global;
 use std::io::{ErrorKind, Read};
+use told_streams::Given;
 
 // The bytes that one read asks for.
 const PIECE: usize = 4096;
@@ -20,34 +24,55 @@ pub(crate) const INTERRUPTIONS: u32 = 1000;
 // Each read but the last gives a byte or is an interruption.
 const READS: u32 = INPUT_LIMIT as u32 + INTERRUPTIONS + 1;
 
+// One read: how many bytes it gave, or nothing where it was interrupted and may be asked again. After an error nothing is
+// promised of the reader.
+fn read_some<R: Read + Drop>(
+    input: &mut Given<R>,
+    piece: &mut [u8],
+    interrupted: &mut u32,
+) -> Result<Option<usize>, Stop>
+    requires few { interrupted.old ≤ INTERRUPTIONS }
+    ensures once { input.new.asks ≡ input.old.asks + 1 }
+    ensures read { IfOk result (Reads input.old input.new interrupted.old interrupted.new piece.new) }
+    ensures few { interrupted.new ≤ INTERRUPTIONS }
+    ensures only { IsOkUnless result stop.ReadFault }
+{
+    match input.read(piece) {
+        Ok(count) => Ok(Some(count)),
+        Err(e) if e.kind() == ErrorKind::Interrupted && *interrupted < INTERRUPTIONS => {
+            *interrupted += 1;
+            Ok(None)
+        }
+        Err(_) => Err(Stop::ReadFault),
+    }
+}
+
 // All bytes of the input, where there are at most `INPUT_LIMIT`.
-pub(crate) fn read_input<R: Read>(alloc: Global, input: &mut R) -> Result<Vec<u8>, Stop>
-    ensures whole { IfOk result (λ text. IfSome (R.remaining input.old) (λ bytes. text.items ≡ bytes)) }
+pub(crate) fn read_input<R: Read + Drop>(
+    alloc: Global,
+    input: &mut Given<R>,
+) -> Result<Vec<u8>, Stop>
+    ensures whole { IfOk result (λ text. OfInput input.old input.new (λ bytes. text.items ≡ bytes)) }
     ensures causes { IfErr result
         (λ e. (e ≡ Stop.OutOfMemory) ⊎ (e ≡ Stop.ReadFault) ⊎ (e ≡ Stop.Told (fault_at why.TooLong 0))) }
     ensures fits { IfOk result (λ text. length text.items ≤ INPUT_LIMIT) }
     ensures too_long { IsErrOf result (Stop.Told (fault_at why.TooLong 0))
-        → IfSome (R.remaining input.old) (λ bytes. INPUT_LIMIT < length bytes) }
+        → OfInput input.old input.new (λ bytes. INPUT_LIMIT < length bytes) }
 {
     let mut text = Vec::new(alloc);
     let mut piece = [0u8; PIECE];
     let mut interrupted: u32 = 0;
     for _turn in 0..READS {
-        match input.read(&mut piece) {
-            Ok(0) => return Ok(text),
-            Ok(n) => {
+        match read_some(input, &mut piece, &mut interrupted)? {
+            None => {}
+            Some(0) => return Ok(text),
+            Some(n) => {
                 if n > INPUT_LIMIT - text.len() {
                     return Err(Stop::told(Refusal::TooLong, 0));
                 }
                 if text.extend_from_slice(&piece[..n]).is_err() {
                     return Err(Stop::OutOfMemory);
                 }
-            }
-            Err(e) => {
-                if e.kind() != ErrorKind::Interrupted || interrupted == INTERRUPTIONS {
-                    return Err(Stop::ReadFault);
-                }
-                interrupted += 1;
             }
         }
     }

@@ -34,7 +34,7 @@ abbrev pub verdict : Result Roll Refusal → Result ⊤ Refusal → Result ⊤ R
 verdict (Ok r) room = room
 verdict (Err e) room = Err e
 
--- what is answered to a command, want of memory aside: the refusal of the step, else that the journal is full
+-- what is answered to a command, out of memory aside: the refusal of the step, else that the journal is full
 abbrev pub verdict_of : Ledger → Command → Result ⊤ Refusal
 verdict_of l command = verdict (step (roll_of l) command) (room_of l)
 
@@ -47,7 +47,7 @@ abbrev pub has_duplicate : Opening → Bool
 has_duplicate [] = false
 has_duplicate (m ∷ ms) = list_any (λ n. same_code n.0 m.0) ms || has_duplicate ms
 
--- what is answered to a start, want of memory aside
+-- what is answered to a start, out of memory aside
 abbrev pub start_verdict : Opening → ℕ → Result ⊤ Refusal
 start_verdict opening limit =
     if limit == 0 || nat_lt 1000000 limit then Err BadLimit

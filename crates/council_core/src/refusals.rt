@@ -116,7 +116,7 @@ impl Refusal {
         first_of_code(&Self::ALL, code)
     }
 
-    /// Its number: 1 to 9 refuse a command, 10 is want of memory, and the others are of calls
+    /// Its number: 1 to 9 refuse a command, 10 is out of memory, and the others are of calls
     /// and of whole runs.
     pub fn code(&self) -> u8
         ensures number { result ≡ code_of self.now }

@@ -69,7 +69,7 @@ impl Register {
     /// A register of these members, with no command accepted: none sits in a chair or is
     /// suspended, and no chair is open. Refused, in this order: a journal limit that is 0 or above
     /// 1,000,000 as `BadLimit`, more than 256 members as `TooManyMembers`, two members of one code
-    /// as `DuplicateMember`, and want of memory as `OutOfMemory`.
+    /// as `DuplicateMember`, and a refused growth as `OutOfMemory`.
     pub fn start(
         alloc: Global,
         members: &[(MemberCode, Votes)],
@@ -326,7 +326,7 @@ impl Register {
         }
     }
 
-    /// What `apply` would refuse, want of memory aside: one of the refusals numbered 1 to 9, or
+    /// What `apply` would refuse, out of memory aside: one of the refusals numbered 1 to 9, or
     /// `TooManyMembers`, `MemberExists`, `MemberSeated`.
     pub fn check(&self, command: Command) -> Result<(), Refusal>
         ensures verdict { result ≡ verdict_of self.now command }

@@ -1,4 +1,4 @@
-//! Calls that may be answered for want of memory, with each growth that they ask for refused in turn. That takes
+//! Calls that may run out of memory, with each growth that they ask for refused in turn. That takes
 //! `tests/memory/refuse.c`; where it isn't loaded nothing is refused, and the calls are compared with themselves.
 ghost use Rattle.std.specs.Thread.{IsSync};
 
@@ -7,13 +7,13 @@ use crate::calls_without_memory::{
     Asking, Evaluating, Listing, Publishing, ReadingWords, Turning, Valuing, Viewing,
 };
 use crate::growth_calls::{Applying, Counting, Halving, Starting, Stepping};
-use crate::run_calls::{Programming, Replaying, Running, Serving, Tracing};
+use crate::run_calls::{Programming, Replaying, Running, Serving, ServingClosed, Tracing};
 use std::alloc::{AllocError, Global};
 use std::sync::Wait;
 use std::test::Fail;
 use std::thread::Threads;
 
-/// The number of want of memory.
+/// The number of out of memory.
 pub(crate) const OUT_OF_MEMORY: u8 = 10;
 
 // While a block of this many bytes and N more is held, the Nth growth after it is refused.
@@ -22,7 +22,7 @@ const COUNTING: usize = 77_000_000;
 // More growths than any of the calls asks for.
 const MOST: usize = 2_000;
 
-/// A call that may be answered for want of memory.
+/// A call that may run out of memory.
 pub(crate) trait Call {
     /// What the call is made on, and what it hands back.
     type State: Drop;
@@ -47,12 +47,12 @@ pub(crate) trait Call {
         0
     }
 
-    /// Whether this may stand after want of memory, by what stood before and what stands with ample memory.
+    /// Whether this may stand after it ran out of memory, by what stood before and what stands with ample memory.
     fn may_stand(&self, _alloc: Global, before: &[u64], after: &[u64], _ample: &[u64]) -> bool {
         before == after
     }
 
-    /// Whether the call, made again on what stands after want of memory, does what it would have done at first.
+    /// Whether the call, made again on what stands after it ran out of memory, does what it would have done at first.
     fn is_asked_again(&self) -> bool {
         true
     }
@@ -126,7 +126,7 @@ fn is_mended<C: Call, R: Threads + Wait + Sync>(
     Some(answer == call.wanted() && shown.as_slice() == ample)
 }
 
-// Whether the answer is want of memory and what stands is right, or all is as with ample memory.
+// Whether the answer is out of memory and what stands is right, or all is as with ample memory.
 fn is_right<C: Call, R: Threads + Wait + Sync>(
     rt: &R,
     alloc: Global,
@@ -146,14 +146,15 @@ fn is_right<C: Call, R: Threads + Wait + Sync>(
     is_mended(rt, alloc, call, state, ample)
 }
 
-// Makes a call with a growth refused, on a state of its own: whether all is right, and whether it met that growth.
+// Makes a call with a growth refused, on a state of its own: whether all is right, whether it met that growth, and its
+// answer.
 fn try_once<C: Call, R: Threads + Wait + Sync>(
     rt: &R,
     alloc: Global,
     call: &C,
     number: usize,
     ample: &[u64],
-) -> Option<(bool, bool)> {
+) -> Option<(bool, bool, u8)> {
     let mut state = call.prepare(alloc)?;
     let before = call.shown(alloc, &state)?;
     let (answer, met) = call_refused(rt, alloc, call, &mut state, number)?;
@@ -166,11 +167,11 @@ fn try_once<C: Call, R: Threads + Wait + Sync>(
         before.as_slice(),
         ample,
     )?;
-    Some((right && (met || answer != OUT_OF_MEMORY), met))
+    Some((right && (met || answer != OUT_OF_MEMORY), met, answer))
 }
 
-// Whether all is right with each growth refused in turn, until the call asks for no more, and it asks for as many as it
-// is to ask for.
+// Whether all is right with each growth refused in turn and each is answered by want of memory, until the call asks for
+// no more, and it asks for as many as it is to ask for.
 fn is_right_throughout<C: Call, R: Threads + Wait + Sync>(
     rt: &R,
     alloc: Global,
@@ -178,19 +179,22 @@ fn is_right_throughout<C: Call, R: Threads + Wait + Sync>(
 ) -> Option<bool> {
     let ample = with_memory(rt, alloc, call)?;
     if !can_refuse(alloc)? {
-        let (right, _) = try_once(rt, alloc, call, 1, ample.as_slice())?;
+        let (right, _, _) = try_once(rt, alloc, call, 1, ample.as_slice())?;
         return Some(right);
     }
     for number in 1..MOST {
-        let (right, met) = try_once(rt, alloc, call, number, ample.as_slice())?;
+        let (right, met, answer) = try_once(rt, alloc, call, number, ample.as_slice())?;
         if !right || !met {
             return Some(right && number > call.growths());
+        }
+        if answer != OUT_OF_MEMORY {
+            return Some(false);
         }
     }
     Some(false)
 }
 
-/// Whether a call keeps what is said of want of memory, and asks for memory.
+/// Whether a call keeps what is said of running out of memory, and asks for memory.
 pub(crate) fn survives<C: Call, R: Threads + Wait + Sync>(rt: &R, alloc: Global, call: &C) -> bool {
     is_right_throughout(rt, alloc, call).unwrap_or(false)
 }
@@ -201,7 +205,7 @@ fn is_right_without<C: Call, R: Threads + Wait + Sync>(
     call: &C,
 ) -> Option<bool> {
     let ample = with_memory(rt, alloc, call)?;
-    let (right, met) = try_once(rt, alloc, call, 1, ample.as_slice())?;
+    let (right, met, _) = try_once(rt, alloc, call, 1, ample.as_slice())?;
     Some(right && (!met || !can_refuse(alloc)?))
 }
 
@@ -256,6 +260,7 @@ fn whole_runs(rt: HostRuntime) -> Result<(), Fail> {
     assert!(rt; survives(&rt, rt.alloc(), &Replaying));
     assert!(rt; survives(&rt, rt.alloc(), &Tracing));
     assert!(rt; survives(&rt, rt.alloc(), &Serving));
+    assert!(rt; survives(&rt, rt.alloc(), &ServingClosed));
     assert!(rt; survives(&rt, rt.alloc(), &Programming));
     Ok(())
 }

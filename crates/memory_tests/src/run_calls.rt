@@ -2,7 +2,9 @@
 use crate::growth_calls::{NONE, begun, open, opens};
 use crate::refused_growths::{Call, OUT_OF_MEMORY};
 use crate::seen::{add_machine, add_note, add_number, add_register};
-use board_report::{FreeGate, Limits, program, replay, serve, trace};
+use board_report::{
+    FreeGate, Gate, GateClosed, Given, Limits, Place, program, replay, serve, trace,
+};
 use council_core::Register;
 use std::alloc::Global;
 use std::sync::Wait;
@@ -124,8 +126,11 @@ const LIMITS: Limits = Limits {
     journal: 1_000,
 };
 
-// The line of want of memory.
+// The line of out of memory.
 const LINE: &[u8] = b"fault,0,OutOfMemory\n";
+
+// The number of a gate that is closed.
+const GATE_CLOSED: u8 = 27;
 
 // The room of an output: more than any of these runs writes, so that writing asks for no memory.
 const ROOM: usize = 4_096;
@@ -150,7 +155,7 @@ fn is_line(numbers: &[u64], bytes: &[u8]) -> bool {
             .all(|pair| *pair.0 == u64::from(*pair.1))
 }
 
-// Whether some first lines of a text stand, whole, and then the line of want of memory.
+// Whether some first lines of a text stand, whole, and then the line of out of memory.
 fn is_cut(after: &[u64], ample: &[u64]) -> bool {
     let Some(kept) = after.len().checked_sub(LINE.len()) else {
         return false;
@@ -175,7 +180,7 @@ impl Call for Replaying {
     }
 
     fn call<R: Threads + Wait + Sync>(&self, _rt: &R, alloc: Global, state: &mut Vec<u8>) -> u8 {
-        let mut input = THREE_CHAIRS.as_bytes();
+        let mut input = Given::new(THREE_CHAIRS.as_bytes());
         match replay(alloc, &mut input, state, LIMITS) {
             Ok(()) => 0,
             Err(fault) => fault.code,
@@ -207,7 +212,7 @@ impl Call for Tracing {
     }
 
     fn call<R: Threads + Wait + Sync>(&self, _rt: &R, alloc: Global, state: &mut Vec<u8>) -> u8 {
-        let mut input = A_READER_IN_THE_WAY.as_bytes();
+        let mut input = Given::new(A_READER_IN_THE_WAY.as_bytes());
         match trace(alloc, &mut input, state, LIMITS) {
             Ok(()) => 0,
             Err(fault) => fault.code,
@@ -239,7 +244,7 @@ impl Call for Serving {
     }
 
     fn call<R: Threads + Wait + Sync>(&self, rt: &R, alloc: Global, state: &mut Vec<u8>) -> u8 {
-        let mut input = THREE_PUBLICATIONS.as_bytes();
+        let mut input = Given::new(THREE_PUBLICATIONS.as_bytes());
         match serve(rt, alloc, &FreeGate, &mut input, state, 1_000) {
             Ok(_) => 0,
             Err(fault) => fault.code,
@@ -248,6 +253,54 @@ impl Call for Serving {
 
     fn shown(&self, alloc: Global, state: &Vec<u8>) -> Option<Vec<u64>> {
         numbers(alloc, state.as_slice())
+    }
+
+    fn may_stand(&self, _alloc: Global, _before: &[u64], after: &[u64], _ample: &[u64]) -> bool {
+        is_line(after, LINE)
+    }
+
+    fn is_asked_again(&self) -> bool {
+        false
+    }
+}
+
+/// `serve`, with a gate that is closed to the first reader: want of memory comes before that.
+#[derive(Clone, Copy)]
+pub(crate) struct ServingClosed;
+
+/// A gate that is closed to the first reader.
+struct ClosedGate;
+
+impl Gate for ClosedGate {
+    fn pass(&self, at: Place) -> Result<(), GateClosed> {
+        match at {
+            Place::BeforeReading(1, _) => return Err(GateClosed),
+            _ => return Ok(()),
+        }
+    }
+}
+
+impl Call for ServingClosed {
+    type State = Vec<u8>;
+
+    fn prepare(&self, alloc: Global) -> Option<Vec<u8>> {
+        output(alloc)
+    }
+
+    fn call<R: Threads + Wait + Sync>(&self, rt: &R, alloc: Global, state: &mut Vec<u8>) -> u8 {
+        let mut input = Given::new(THREE_PUBLICATIONS.as_bytes());
+        match serve(rt, alloc, &ClosedGate, &mut input, state, 1_000) {
+            Ok(_) => 0,
+            Err(fault) => fault.code,
+        }
+    }
+
+    fn shown(&self, alloc: Global, state: &Vec<u8>) -> Option<Vec<u64>> {
+        numbers(alloc, state.as_slice())
+    }
+
+    fn wanted(&self) -> u8 {
+        GATE_CLOSED
     }
 
     fn may_stand(&self, _alloc: Global, _before: &[u64], after: &[u64], _ample: &[u64]) -> bool {
@@ -293,7 +346,7 @@ impl Call for Programming {
     }
 
     fn call<R: Threads + Wait + Sync>(&self, rt: &R, alloc: Global, state: &mut Streams) -> u8 {
-        let mut input = THREE_CHAIRS.as_bytes();
+        let mut input = Given::new(THREE_CHAIRS.as_bytes());
         let words = state.words.as_slice();
         let status = program(rt, alloc, words, &mut input, &mut state.out, &mut state.err);
         if status == 1 && state.err.as_slice() == SAID {

@@ -1,5 +1,5 @@
 -- Small cases, computed, over a register of one member, with one reader; and what definitions must not hold of.
-use Rattle.std.proofs.Common.{◌≡◌, ◌^◌, ℕ, arith, rules, true, false, List, [], ◌∷◌, ◌++◌, replicate, None, Some, refl}
+use Rattle.std.proofs.Common.{◌≡◌, ◌^◌, ℕ, suc, arith, rules, true, false, List, [], ◌∷◌, ◌++◌, replicate, None, Some, refl}
 use Rattle.council_core.specs.Ledgers.{Ledger}
 use Rattle.council_core.specs.declared.commands.Command.TheVariants.{Open, Move, SetVotes}
 use Rattle.two_copy_steps.specs.declared.events.Event.{Event}
@@ -13,6 +13,7 @@ use Rattle.two_copy_steps.specs.Lawful.{State}
 use Rattle.two_copy_steps.specs.Laws.{HandsInRange, HasVotesInRange}
 use Rattle.two_copy_steps.specs.Passes.{NoneUnder, side_filled, side_held}
 use Rattle.two_copy_steps.specs.Publications.{stores_side}
+use Rattle.two_copy_steps.specs.Stages.{reading_steps, steps_taken}
 use Rattle.two_copy_steps.specs.States.{HasRecords}
 use Rattle.two_copy_steps.specs.Turns.{TwoCopies, started, notes}
 
@@ -68,6 +69,10 @@ fills_the_other = refl
 
 holds_its_side : side_held (Leaving 1 []) ≡ Some 1
 holds_its_side = refl
+
+-- behind a reader's last stage its reading has all its steps
+all_steps : suc (steps_taken (Leaving 0 [])) ≡ reading_steps
+all_steps = refl
 
 -- the writer's last step stores side, and no other event does
 stores_it : stores_side Writer Swapping ≡ true

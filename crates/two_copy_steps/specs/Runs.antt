@@ -42,11 +42,11 @@ abbrev pub WantsMemoryFrom : TwoCopies → List Event → ℕ → Type 0
 WantsMemoryFrom m events place =
     (event : Event) × (slice_get events place ≡ Some event) × WantsMemory (after m (take place events)) event
 
--- memory was wanting for the notes before any event, or can be for the event that was next
+-- memory ran out for the notes before any event, or can for the event that was next
 abbrev pub LacksMemory : Ledger → ℕ → List Event → ℕ → Type 0
 LacksMemory ledger readers events done = (done ≡ 0) ⊎ WantsMemoryFrom (started ledger readers) events done
 
--- the number of readers is refused before any event; else memory was wanting
+-- the number of readers is refused before any event; else memory ran out
 abbrev pub HasCause : Ledger → ℕ → List Event → ℕ → Refusal → Type 0
 HasCause ledger readers events done why =
     ((IsFew readers → ⊥) × (why ≡ BadLimit) × (done ≡ 0))

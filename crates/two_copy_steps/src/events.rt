@@ -2,7 +2,7 @@
 use council_core::{Command, Refusal, Sheet};
 
 /// One event: a call of the writer's, or the next step of an actor.
-#[derive(Clone, Copy)]
+#[derive(Clone, Copy, Debug, PartialEq, Eq)]
 pub enum Event {
     /// Hands the register a command.
     Submit(Command),
@@ -15,11 +15,11 @@ pub enum Event {
 }
 
 /// What an event tells.
-#[derive(Clone, Copy)]
+#[derive(Clone, Copy, Debug, PartialEq, Eq)]
 pub enum Note {
     /// The command was accepted; the number of commands accepted so far.
     Accepted(u32),
-    /// The command was refused, for want of memory aside.
+    /// The command was refused, out of memory aside.
     Refused(Refusal),
     /// A publication began.
     Began,

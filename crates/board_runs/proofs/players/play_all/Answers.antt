@@ -1,24 +1,14 @@
 use Rattle.std.proofs.Common.{sym}
 use Rattle.board_runs.specs.Scripts.{played_run}
-use Rattle.board_runs.proofs.ReplayFacts.{replay-cut, replayed, some-cut, some-replayed}
+use Rattle.board_runs.proofs.ReplayFacts.{replay-cut, replayed}
 use Rattle.board_runs.proofs.players.play_all.Goals as goal
 
 pub returns-in_default-to_fault-clause-wrote : goal.returns-in_default-to_fault-clause-wrote
 returns-in_default-to_fault-clause-wrote g c =
-    replay-cut (g.R.Read.remaining c.args.input.now) c.args.out.now.held c.play_input.new.out.held c.in-Err.stop c.new.result (played_run g.P.Player.opened g.P.Player.step c.args.limits)
+    replay-cut c.args.input.now c.play_input.new.input c.args.out.now.held c.play_input.new.out.held c.in-Err.stop c.new.result (played_run g.P.Player.opened g.P.Player.step c.args.limits)
     c.in-Err.ensures.wrote (sym c.in_default-to_fault.ensures.same) c.new.ensures.same
 
 pub returns-clause-wrote : goal.returns-clause-wrote
 returns-clause-wrote g c =
-    replayed (g.R.Read.remaining c.args.input.now) c.args.out.now.held c.play_input.new.out.held c.end_with.new.out.held c.in-Err.stop c.end_with.result
+    replayed c.args.input.now c.play_input.new.input c.args.out.now.held c.play_input.new.out.held c.end_with.new.out.held c.in-Err.stop c.end_with.result
     (played_run g.P.Player.opened g.P.Player.step c.args.limits) c.in-Err.ensures.wrote (record { fault = c.in-Some.fault; stopped_by = sym c.in-Some.ensures.same; ends = c.end_with.ensures.ends })
-
-pub returns-in_default-to_fault-clause-some : goal.returns-in_default-to_fault-clause-some
-returns-in_default-to_fault-clause-some g c =
-    some-cut c.args.out.now.held c.play_input.new.out.held c.in-Err.stop c.new.result (played_run g.P.Player.opened g.P.Player.step c.args.limits)
-    c.in-Err.ensures.some (sym c.in_default-to_fault.ensures.same) c.new.ensures.same
-
-pub returns-clause-some : goal.returns-clause-some
-returns-clause-some g c =
-    some-replayed c.args.out.now.held c.play_input.new.out.held c.end_with.new.out.held c.in-Err.stop c.end_with.result
-    (played_run g.P.Player.opened g.P.Player.step c.args.limits) c.in-Err.ensures.some (record { fault = c.in-Some.fault; stopped_by = sym c.in-Some.ensures.same; ends = c.end_with.ensures.ends })

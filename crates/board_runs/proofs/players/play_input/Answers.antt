@@ -1,28 +1,16 @@
 use Rattle.std.proofs.lemmas.Result.{err_from_is_err_and}
 use Rattle.board_runs.specs.Scripts.{played}
-use Rattle.board_runs.proofs.ReplayFacts.{TextRead, played-input, plays-failed_input, some-failed, some-played}
+use Rattle.board_runs.proofs.ReplayFacts.{TextRead, played-input, plays-failed_input}
 use Rattle.board_runs.proofs.players.play_input.Goals as goal
 
 pub returns-in_err-text-clause-wrote : goal.returns-in_err-text-clause-wrote
 returns-in_err-text-clause-wrote g c =
     let p = err_from_is_err_and c.from_residual.result c.from_residual.ensures.1 in
-    rw p.1 (plays-failed_input (g.R.Read.remaining c.args.input.now) c.args.out.now.held c.in_err-text.field-0.0 p.0 c.args.limits (played g.P.Player.opened g.P.Player.step c.args.limits) p.2 c.in_err-text.ensures.fault)
+    rw p.1 (plays-failed_input c.args.input.now c.read_within.new.input c.args.out.now.held c.in_err-text.field-0.0 p.0 c.args.limits (played g.P.Player.opened g.P.Player.step c.args.limits) p.2 c.in_err-text.ensures.fault)
 
 pub returns-clause-wrote : goal.returns-clause-wrote
 returns-clause-wrote g c =
     let read : TextRead c.args.limits c.as_slice.result.now =
     record { input = c.in_ok-text.text.items; fits = c.in_ok-text.ensures.in_range; same = c.as_slice.ensures.value; short = c.in_ok-text.ensures.fits } in
-    played-input (g.R.Read.remaining c.args.input.now) c.args.out.now.held c.play_text.new.out.held c.play_text.result c.args.limits (played g.P.Player.opened g.P.Player.step c.args.limits)
+    played-input c.args.input.now c.read_within.new.input c.args.out.now.held c.play_text.new.out.held c.play_text.result c.args.limits (played g.P.Player.opened g.P.Player.step c.args.limits)
     c.as_slice.result.now read c.in_ok-text.ensures.whole c.play_text.ensures.wrote
-
-pub returns-in_err-text-clause-some : goal.returns-in_err-text-clause-some
-returns-in_err-text-clause-some g c =
-    let p = err_from_is_err_and c.from_residual.result c.from_residual.ensures.1 in
-    rw p.1 (some-failed c.args.out.now.held c.in_err-text.field-0.0 p.0 c.args.limits (played g.P.Player.opened g.P.Player.step c.args.limits) p.2 c.in_err-text.ensures.some_fault)
-
-pub returns-clause-some : goal.returns-clause-some
-returns-clause-some g c =
-    let read : TextRead c.args.limits c.as_slice.result.now =
-    record { input = c.in_ok-text.text.items; fits = c.in_ok-text.ensures.in_range; same = c.as_slice.ensures.value; short = c.in_ok-text.ensures.fits } in
-    some-played c.args.out.now.held c.play_text.new.out.held c.play_text.result c.args.limits (played g.P.Player.opened g.P.Player.step c.args.limits)
-    c.as_slice.result.now read c.play_text.ensures.wrote

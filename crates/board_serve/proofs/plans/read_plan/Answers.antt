@@ -6,10 +6,10 @@ pub returns-in_err-text-clause-found : goal.returns-in_err-text-clause-found
 returns-in_err-text-clause-found g c =
     let p = err_from_is_err_and c.from_residual.result c.from_residual.ensures.1 in
     let read = c.in_err-text.ensures in
-    rw p.1 (unread-input (g.R.Read.remaining c.args.input.now) c.in_err-text.field-0.0 p.0 c.args.journal_limit p.2 read.fault read.some_fault)
+    rw p.1 (unread-input c.args.input.now c.read_within.new.input c.in_err-text.field-0.0 p.0 c.args.journal_limit p.2 read.fault)
 
 pub returns-clause-found : goal.returns-clause-found
 returns-clause-found g c =
     let read = c.in_ok-text.ensures in
     found-input c.args.journal_limit c.as_slice.result.now c.in_ok-text.text.items read.in_range c.as_slice.ensures.value read.fits
-    (g.R.Read.remaining c.args.input.now) c.plan_text.result read.whole c.plan_text.ensures.planned c.plan_text.ensures.fault
+    c.args.input.now c.read_within.new.input c.plan_text.result read.whole c.plan_text.ensures.planned c.plan_text.ensures.fault

@@ -7,29 +7,25 @@ use Rattle.board_serve.proofs.ServeFacts.{WorkAsked, WorkAudited, fails-serve, h
 use Rattle.board_serve.proofs.serving.serve_to.Goals as goal
 
 pub returns-in_err-plan-clause-wrote : goal.returns-in_err-plan-clause-wrote
-returns-in_err-plan-clause-wrote g c =
+returns-in_err-plan-clause-wrote g c = λ bytes is.
     let p = err_from_is_err_and c.from_residual.result c.from_residual.ensures.1 in
-    let found = c.in_err-plan.ensures.found in
-    let spec = plan_of c.args.journal_limit found.0 in
-    rw p.1 (found.0, found.1, serves-passed c.args.out.now.held c.args.out.now.held c.in_err-plan.field-0.0 p.0 spec p.2 (fails-serve c.args.out.now.held c.in_err-plan.field-0.0 spec found.2))
+    let found = c.in_err-plan.ensures.found bytes is in
+    let spec = plan_of c.args.journal_limit bytes in
+    rw p.1 (serves-passed c.args.out.now.held c.args.out.now.held c.in_err-plan.field-0.0 p.0 spec p.2 (fails-serve c.args.out.now.held c.in_err-plan.field-0.0 spec found))
 
 pub returns-in_err-outcome-clause-wrote : goal.returns-in_err-outcome-clause-wrote
-returns-in_err-outcome-clause-wrote g c =
+returns-in_err-outcome-clause-wrote g c = λ bytes is.
     let p = err_from_is_err_and c.from_residual-in_err-outcome.result c.from_residual-in_err-outcome.ensures.1 in
-    let found = c.in_ok-plan.ensures.found in
-    let spec = plan_of c.args.journal_limit found.0 in
-    rw p.1 (
-      found.0,
-      found.1,
-      serves-passed c.args.out.now.held c.args.out.now.held c.in_err-outcome.field-0.0 p.0 spec p.2
-          (held-input c.args.out.now.held c.in_err-outcome.field-0.0 spec (plan_shown c.in_ok-plan.plan) c.in_err-outcome.ensures.causes found.2),
-    )
+    let found = c.in_ok-plan.ensures.found bytes is in
+    let spec = plan_of c.args.journal_limit bytes in
+    rw p.1 (serves-passed c.args.out.now.held c.args.out.now.held c.in_err-outcome.field-0.0 p.0 spec p.2
+    (held-input c.args.out.now.held c.in_err-outcome.field-0.0 spec (plan_shown c.in_ok-plan.plan) c.in_err-outcome.ensures.causes found))
 
 pub returns-in_err-tell-clause-wrote : goal.returns-in_err-tell-clause-wrote
-returns-in_err-tell-clause-wrote g c =
+returns-in_err-tell-clause-wrote g c = λ bytes is.
     let p = err_from_is_err_and c.from_residual-in_err-tell.result c.from_residual-in_err-tell.ensures.1 in
     let plan = c.in_ok-plan.plan in
-    let found = c.in_ok-plan.ensures.found in
+    let found = c.in_ok-plan.ensures.found bytes is in
     let done = c.in_ok-outcome.ensures.done in
     let first : c.len-first.result ≡ length plan.parts.first.items = search rules in
     let second : c.len-second.result ≡ length plan.parts.second.items = search rules in
@@ -37,23 +33,19 @@ returns-in_err-tell-clause-wrote g c =
     let spelled : lines_of_work (map reply_of c.as_slice.result.now) c.len-first.result c.len-second.result ≡ work_lines (plan_shown plan) =
     ap (λ (rs : List Reply). lines_of_work rs c.len-first.result c.len-second.result) told ∙ ap (λ (n : ℕ). lines_of_work (told_by (plan_shown plan)) n c.len-second.result) first
     ∙ ap (λ (n : ℕ). lines_of_work (told_by (plan_shown plan)) (length plan.parts.first.items) n) second in
-    let spec = plan_of c.args.journal_limit found.0 in
+    let spec = plan_of c.args.journal_limit bytes in
     let served = c.in_ok-outcome.outcome.served in
     let asked : WorkAsked spec (lines_of_work (map reply_of c.as_slice.result.now) c.len-first.result c.len-second.result) =
-    record { plan = plan_shown plan; found = found.2; spelled = spelled } in
+    record { plan = plan_shown plan; found = found; spelled = spelled } in
     let audited : WorkAudited (plan_shown plan) served c.in_ok-outcome.legal =
     record { served = done.served; records = c.in_ok-outcome.ensures.records; differs = c.in_ok-outcome.ensures.differs } in
-    rw p.1 (
-      found.0,
-      found.1,
-      serves-passed c.args.out.now.held c.tell.new.out.held c.in_err-tell.field-0.0 p.0 spec p.2
-          (told-input c.args.out.now.held c.tell.new.out.held c.in_ok-outcome.legal c.in_err-tell.field-0.0 served spec _ asked audited c.in_err-tell.ensures.wrote),
-    )
+    rw p.1 (serves-passed c.args.out.now.held c.tell.new.out.held c.in_err-tell.field-0.0 p.0 spec p.2
+    (told-input c.args.out.now.held c.tell.new.out.held c.in_ok-outcome.legal c.in_err-tell.field-0.0 served spec _ asked audited c.in_err-tell.ensures.wrote))
 
 pub returns-clause-wrote : goal.returns-clause-wrote
-returns-clause-wrote g c =
+returns-clause-wrote g c = λ bytes is.
     let plan = c.in_ok-plan.plan in
-    let found = c.in_ok-plan.ensures.found in
+    let found = c.in_ok-plan.ensures.found bytes is in
     let done = c.in_ok-outcome.ensures.done in
     let first : c.len-first.result ≡ length plan.parts.first.items = search rules in
     let second : c.len-second.result ≡ length plan.parts.second.items = search rules in
@@ -61,13 +53,10 @@ returns-clause-wrote g c =
     let spelled : lines_of_work (map reply_of c.as_slice.result.now) c.len-first.result c.len-second.result ≡ work_lines (plan_shown plan) =
     ap (λ (rs : List Reply). lines_of_work rs c.len-first.result c.len-second.result) told ∙ ap (λ (n : ℕ). lines_of_work (told_by (plan_shown plan)) n c.len-second.result) first
     ∙ ap (λ (n : ℕ). lines_of_work (told_by (plan_shown plan)) (length plan.parts.first.items) n) second in
-    let spec = plan_of c.args.journal_limit found.0 in
+    let spec = plan_of c.args.journal_limit bytes in
     let served = c.in_ok-outcome.outcome.served in
     let asked : WorkAsked spec (lines_of_work (map reply_of c.as_slice.result.now) c.len-first.result c.len-second.result) =
-    record { plan = plan_shown plan; found = found.2; spelled = spelled } in
+    record { plan = plan_shown plan; found = found; spelled = spelled } in
     let audited : WorkAudited (plan_shown plan) served c.in_ok-outcome.legal =
-    record { served = done.served; records = c.in_ok-outcome.ensures.records; differs = c.in_ok-outcome.ensures.differs } in (
-      found.0,
-      found.1,
-      whole-input c.args.out.now.held c.tell.new.out.held c.in_ok-outcome.legal tt served spec _ asked audited c.in_ok-tell.ensures.wrote,
-    )
+    record { served = done.served; records = c.in_ok-outcome.ensures.records; differs = c.in_ok-outcome.ensures.differs } in
+    whole-input c.args.out.now.held c.tell.new.out.held c.in_ok-outcome.legal tt served spec _ asked audited c.in_ok-tell.ensures.wrote

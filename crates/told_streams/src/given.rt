@@ -1,0 +1,66 @@
+//! A reader whose bytes contracts know, over any reader, as a process's own.
+ghost use Rattle.std.specs.Prelude.{◌≡◌, false, []};
+ghost use Rattle.std.specs.Io.{ReadsAtMost};
+ghost use Rattle.std.specs.Io.KnownBytes.{ReadConsumes};
+ghost use Rattle.told_streams.specs.Tapes.{Gives};
+
+use crate::tape::Tape;
+use std::io;
+use std::io::Read;
+use std::marker::Model;
+
+/// A reader, with the bytes that its reads gave.
+#[derive(Drop)]
+pub struct Given<R: Read + Drop> {
+    from: R,
+    tape: Tape,
+}
+
+impl<R: Read + Drop> Model for Given<R> {
+    ghost use Rattle.told_streams.specs.Tapes.{Giving};
+
+    ghost Value = { Giving };
+
+    ghost view = { λ g. record {
+      left = R.remaining g.from;
+      gave = g.tape.bytes;
+      ended = g.tape.ended;
+      asks = g.tape.asks;
+    } };
+}
+
+impl<R: Read + Drop> Given<R> {
+    /// A reader of which nothing was asked yet.
+    pub fn new(from: R) -> Given<R>
+        ensures left { result.left ≡ R.remaining from }
+        ensures gave { result.gave ≡ [] }
+        ensures ended { result.ended ≡ false }
+        ensures asks { result.asks ≡ 0 }
+    {
+        Given {
+            from,
+            tape: Tape::new(),
+        }
+    }
+}
+
+impl<R: Read + Drop> Read for Given<R> {
+    ghost remaining = { λ g. g.left };
+
+    fn read(&mut self, buf: &mut [u8]) -> io::Result<usize>
+        ensures bound { ReadsAtMost result buf.new }
+        ensures bytes { ReadConsumes self.old.left self.new.left result buf.new }
+        ensures gave { Gives self.old self.new result buf.new }
+    {
+        match self.from.read(buf) {
+            Ok(count) => {
+                self.tape.note(buf, count);
+                Ok(count)
+            }
+            Err(e) => {
+                self.tape.note(&[], 0);
+                Err(e)
+            }
+        }
+    }
+}
