@@ -1,0 +1,70 @@
+-- What a caller is told: the majority of a number, the words of a board that is given by its weights, and the counts.
+use Rattle.std.specs.Prelude.{◌≡◌, ℕ, ◌+◌, ◌-◌, ◌^◌, ◌≤◌, ◌==◌, ◌↔◌}
+use Rattle.std.specs.Prelude.{IsTrue, IsSome, if◌then◌else◌}
+use Rattle.std.specs.Prelude.{Option, None, Some, List, [], ◌∷◌, ◌++◌, length, map, replicate}
+use Rattle.council_core.specs.Sheets.{Chair, open_chairs, cast_of, total_of, IsSheet}
+use Rattle.council_core.specs.Coalitions.{Rule, omega_of, eta_of}
+use Rattle.majority_rule.specs.declared.majorities.Majority.{Majority}
+use Rattle.majority_rule.specs.declared.majorities.Majority.TheVariants.{Half, Seventy, EightyFive, Quorum}
+use Rattle.majority_rule.specs.Winning.{wins, rule_of}
+use Rattle.council_core.specs.declared.refusals.Refusal.{Refusal}
+use Rattle.council_core.specs.declared.refusals.Refusal.TheVariants.{BadRecord, BadSheet, OutOfMemory}
+use Rattle.council_core.specs.Refusals.{code_of}
+use Rattle.board_c.specs.declared.counts.BoardChair.{BoardChair}
+use Rattle.board_c.specs.declared.counts.BoardCounts.{BoardCounts}
+
+-- the majority of a number
+abbrev pub majority_of : ℕ → Option Majority
+majority_of n =
+    if n == 0 then Some Half else if n == 1 then Some Seventy else if n == 2 then Some EightyFive
+    else if n == 3 then Some Quorum else None
+
+-- words are a whole sheet: 34, in their ranges
+pub record IsWhole (words : List ℕ) : Type 0 where
+  pub long : length words ≡ 34
+  pub sheet : IsSheet words
+
+-- the words of a sheet whose first chairs are open, with these weights, and on which no command was accepted
+abbrev pub words_of : List ℕ → ℕ → List ℕ
+words_of weights total = map (λ w. w + 1) weights ++ (replicate (32 - length weights) 0 ++ total ∷ 0 ∷ [])
+
+-- a chair among those of a board: its number, its weight, its swings
+abbrev pub counted : Rule → List Chair → Chair → BoardChair
+counted rule board c = record { chair = c.0; weight = c.1; swings = eta_of rule c board }
+
+-- no chair
+abbrev pub no_chair : BoardChair
+no_chair = record { chair = 0; weight = 0; swings = 0 }
+
+-- the counts of a sheet by a majority: so much weight as the quota and so many chairs as the least size are what wins,
+-- and a row for each open chair, by number, and zeros behind
+pub record AreCountsOf (majority : Majority) (words : List ℕ) (counts : BoardCounts) : Type 0 where
+  pub least_winning : (w k : ℕ)
+      → ((counts.quota ≤ w) × (counts.least_size ≤ k)) ↔ IsTrue (wins majority words w k)
+  pub cast : counts.cast ≡ cast_of words
+  pub total : counts.total ≡ total_of words
+  pub open_count : counts.chairs ≡ length (open_chairs words)
+  pub omega : counts.omega ≡ omega_of (rule_of majority words) (open_chairs words)
+  pub all : counts.coalitions ≡ 2 ^ length (open_chairs words)
+  pub row_each : counts.rows
+      ≡ map (counted (rule_of majority words) (open_chairs words)) (open_chairs words)
+      ++ replicate (32 - length (open_chairs words)) no_chair
+
+-- the counts of a sheet by the majority of a number
+pub record ShowsCounts (number : ℕ) (words : List ℕ) (counts : BoardCounts) : Type 0 where
+  pub majority : Majority
+  pub known : majority_of number ≡ Some majority
+  pub whole : IsWhole words
+  pub counts_of : AreCountsOf majority words counts
+
+-- why a call by the majority of a number is refused: the words are no sheet's; they are, and there is no majority of
+-- this number; or both are as they should be, and memory was not granted
+abbrev pub IsRefusedAs : ℕ → List ℕ → Refusal → Type 0
+IsRefusedAs number words BadSheet = IsWhole words → ⊥
+IsRefusedAs number words BadRecord = IsWhole words × (majority_of number ≡ None)
+IsRefusedAs number words OutOfMemory = IsWhole words × IsSome (majority_of number)
+IsRefusedAs number words _ = ⊥
+
+-- the number of such a refusal
+abbrev pub IsRefusal : ℕ → List ℕ → ℕ → Type 0
+IsRefusal number words answer = (why : Refusal) × (answer ≡ code_of why) × IsRefusedAs number words why

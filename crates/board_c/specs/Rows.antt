@@ -1,0 +1,18 @@
+-- What a caller is told of the indices.
+use Rattle.std.specs.Prelude.{ℕ, List}
+use Rattle.majority_rule.specs.declared.majorities.Majority.{Majority}
+use Rattle.power_index.specs.declared.indices.ChairPower.{ChairPower}
+use Rattle.power_index.specs.declared.indices.Indices.{Indices}
+use Rattle.power_index.specs.Indices.{AreIndices}
+use Rattle.board_c.specs.declared.counts.BoardChair.{BoardChair}
+use Rattle.board_c.specs.declared.counts.BoardCounts.{BoardCounts}
+use Rattle.board_c.specs.Counts.{AreCountsOf}
+
+-- chair, weight and swings of a row
+abbrev pub without_indices : ChairPower → BoardChair
+without_indices row = record { chair = row.chair; weight = row.weight; swings = row.swings }
+
+-- whatever board these are the indices of, those are its counts
+abbrev pub AreCountsAmong : Indices → BoardCounts → Type 0
+AreCountsAmong indices counts =
+    (m : Majority) (words : List ℕ) → AreIndices m words indices → AreCountsOf m words counts

@@ -1,0 +1,102 @@
+//! The counts, as a caller in C sees them.
+ghost use Rattle.std.specs.Prelude.{◌≡◌, ◌≤◌, ◌-◌, ◌++◌, length, map, replicate, IfOk, IsOkUnless};
+ghost use Rattle.council_core.specs.declared.refusals.Refusal.TheVariants.{OutOfMemory};
+ghost use Rattle.board_c.specs.Counts.{AreCountsOf, no_chair};
+ghost use Rattle.board_c.specs.Rows.{AreCountsAmong, without_indices};
+
+use council_core::{CHAIRS, Refusal, Sheet};
+use majority_rule::Majority;
+use power_index::{ChairPower, Evaluator, Indices};
+use std::alloc::Global;
+
+/// An open chair.
+#[repr(C)]
+#[derive(Clone, Copy)]
+pub struct BoardChair {
+    /// Its number, from 1 to 32.
+    pub chair: u64,
+    /// Its weight, in votes.
+    pub weight: u64,
+    /// Its swings: the coalitions of the other chairs that lose, and that win once it is added.
+    pub swings: u64,
+}
+
+/// What wins on a board, and how many coalitions do.
+#[repr(C)]
+#[derive(Clone, Copy)]
+pub struct BoardCounts {
+    /// The least weight that wins, in votes.
+    pub quota: u64,
+    /// The least number of chairs that wins, 0 where the majority asks for none.
+    pub least_size: u64,
+    /// The votes of the open chairs.
+    pub cast: u64,
+    /// The total voting power, in votes.
+    pub total: u64,
+    /// How many chairs are open: so many of the rows are theirs.
+    pub chairs: u64,
+    /// How many coalitions win.
+    pub omega: u64,
+    /// How many coalitions there are.
+    pub coalitions: u64,
+    /// The open chairs, by number, and zeros behind.
+    pub rows: [BoardChair; CHAIRS],
+}
+
+// A chair without its indices.
+fn chair_of(row: &ChairPower) -> BoardChair
+    ensures { result ≡ without_indices row.now }
+{
+    BoardChair {
+        chair: u64::from(row.chair.number()),
+        weight: row.weight,
+        swings: row.swings,
+    }
+}
+
+// The rows of the open chairs, and zeros behind.
+fn rows_of(rows: &[ChairPower]) -> [BoardChair; CHAIRS]
+    requires { length rows.now ≤ CHAIRS }
+    ensures { result ≡ map without_indices rows.now ++ replicate (CHAIRS - length rows.now) no_chair }
+{
+    let mut chairs = [BoardChair {
+        chair: 0,
+        weight: 0,
+        swings: 0,
+    }; CHAIRS];
+    for place in 0..rows.len() {
+        chairs[place] = chair_of(&rows[place]);
+    }
+    chairs
+}
+
+// The counts among the indices.
+fn counts_of(indices: &Indices) -> BoardCounts
+    ensures { AreCountsAmong indices.now result }
+{
+    BoardCounts {
+        quota: indices.quota,
+        least_size: u64::from(indices.least_size),
+        cast: indices.cast,
+        total: indices.total,
+        chairs: u64::from(indices.chairs),
+        omega: indices.winning,
+        coalitions: indices.coalitions,
+        rows: rows_of(indices.rows.as_slice()),
+    }
+}
+
+// The counts of a sheet by a majority. Its memory is taken and given back here.
+pub(crate) fn evaluated(
+    alloc: Global,
+    sheet: &Sheet,
+    majority: Majority,
+) -> Result<BoardCounts, Refusal>
+    ensures counts { IfOk result (λ c. AreCountsOf majority sheet.now c) }
+    ensures memory { IsOkUnless result OutOfMemory }
+{
+    let mut evaluator = Evaluator::new(alloc)?;
+    evaluator.set(sheet);
+    let indices = evaluator.evaluate(majority);
+    Ok(counts_of(&indices))
+}

@@ -1,0 +1,53 @@
+//! What a caller gives: a majority by its number, and the words of a sheet or the weights of a board.
+ghost use Rattle.std.specs.Prelude.{◌≡◌, ◌↔◌, IfOk, IfErr, IsOk, IsOkUnless};
+ghost use Rattle.council_core.specs.declared.refusals.Refusal.TheVariants.{BadSheet};
+ghost use Rattle.board_c.specs.Counts.{IsWhole, majority_of, words_of};
+
+use council_core::{CHAIRS, Refusal, SHEET_WORDS, Sheet, TOTAL};
+use majority_rule::Majority;
+
+// The majority of a number.
+pub(crate) fn majority_at(number: u8) -> Option<Majority>
+    ensures { result ≡ majority_of number }
+{
+    match number {
+        0 => Some(Majority::Half),
+        1 => Some(Majority::Seventy),
+        2 => Some(Majority::EightyFive),
+        3 => Some(Majority::Quorum),
+        _ => None,
+    }
+}
+
+// The sheet of 34 words.
+pub(crate) fn sheet_of(words: &[u64]) -> Result<Sheet, Refusal>
+    ensures in_range { IsOk result ↔ IsWhole words.now }
+    ensures kept { IfOk result (λ s. s ≡ words.now) }
+    ensures refused { IsOkUnless result BadSheet }
+{
+    if words.len() != SHEET_WORDS {
+        return Err(Refusal::BadSheet);
+    }
+    let mut all = [0; SHEET_WORDS];
+    all.copy_from_slice(words);
+    Sheet::from_words(&all)
+}
+
+// The words of a sheet whose first chairs are open with these weights, as far as words can say them.
+pub(crate) fn words_at(weights: &[u64], total: u64) -> Result<[u64; SHEET_WORDS], Refusal>
+    ensures same { IfOk result (λ words. words ≡ words_of weights.now total) }
+    ensures refused { IfErr result (λ why. (why ≡ BadSheet) × (IsWhole (words_of weights.now total) → ⊥)) }
+{
+    if weights.len() > CHAIRS {
+        return Err(Refusal::BadSheet);
+    }
+    let mut words = [0; SHEET_WORDS];
+    words[TOTAL] = total;
+    for place in 0..weights.len() {
+        let Some(word) = weights[place].checked_add(1) else {
+            return Err(Refusal::BadSheet);
+        };
+        words[place] = word;
+    }
+    Ok(words)
+}

@@ -1,0 +1,81 @@
+//! A writer, two readers and an analyst over one board, each in a thread of its own, and an audit of what they bring.
+#![tactic(auto)]
+
+mod faults;
+mod sessions;
+mod work;
+
+use council_core::{ChairId, Command, MemberCode, Refusal, Votes};
+use faults::Fault;
+use power_index::Indices;
+use sessions::{Session, hold};
+use std::alloc::Global;
+use std::io;
+use std::process::ExitCode;
+use std::sync::Wait;
+use std::thread::Threads;
+
+// Three members and their votes.
+fn members() -> Result<[(MemberCode, Votes); 3], Refusal> {
+    Ok([
+        (MemberCode::new(b"AAA")?, Votes::new(50)?),
+        (MemberCode::new(b"BBB")?, Votes::new(49)?),
+        (MemberCode::new(b"CCC")?, Votes::new(1)?),
+    ])
+}
+
+// A chair for each of them.
+fn commands(members: &[(MemberCode, Votes); 3]) -> Result<[Command; 6], Refusal> {
+    let [(a, _), (b, _), (c, _)] = *members;
+    let (one, two, three) = (ChairId::new(1)?, ChairId::new(2)?, ChairId::new(3)?);
+    Ok([
+        Command::Open(one),
+        Command::Open(two),
+        Command::Open(three),
+        Command::Move(a, Some(one)),
+        Command::Move(b, Some(two)),
+        Command::Move(c, Some(three)),
+    ])
+}
+
+// Prints what is the same whatever the threads' schedule was: how much was published and read, and the last answer.
+fn tell(rt: &(impl Print + Alloc), session: &Session) -> io::Result<()> {
+    println!(rt; "published {} times", session.cuts.len())?;
+    for (at, sheets) in session.readings.iter().enumerate() {
+        println!(rt; "reader {}: {} readings", at + 1, sheets.len())?;
+    }
+    tell_indices(rt, &session.answer.indices)?;
+    println!(rt; "audit: ok")
+}
+
+fn tell_indices(rt: &(impl Print + Alloc), indices: &Indices) -> io::Result<()> {
+    println!(rt;
+        "after {} commands {} of {} coalitions win",
+        indices.front, indices.winning, indices.coalitions
+    )?;
+    for row in &indices.rows {
+        println!(rt;
+            "chair {}: {} votes, {} swings",
+            row.chair.number(),
+            row.weight,
+            row.swings
+        )?;
+    }
+    Ok(())
+}
+
+fn held<R: Threads + Wait + Sync>(rt: &R, alloc: Global) -> Result<Session, Fault> {
+    let members = members()?;
+    let commands = commands(&members)?;
+    hold(rt, alloc, &members, &commands)
+}
+
+fn main(rt: HostRuntime) -> ExitCode {
+    match held(&rt, rt.alloc()) {
+        Ok(session) => match tell(&rt, &session) {
+            Ok(()) => ExitCode::SUCCESS,
+            Err(_) => ExitCode::FAILURE,
+        },
+        Err(_) => ExitCode::FAILURE,
+    }
+}

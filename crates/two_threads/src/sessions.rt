@@ -1,0 +1,212 @@
+//! A board with its threads, from the start to the audit.
+ghost use Rattle.std.specs.Prelude.{◌≡◌, ◌∷◌, [], length, IfOk};
+ghost use Rattle.two_threads.specs.Sessions.{IsNew, IsRecord, IsSession};
+
+use crate::faults::Fault;
+use crate::work::{Answer, Asked, Written, ask_often, ask_once, read_often, write_all};
+use board_share::{Analyst, Reader, Writer, audit, start};
+use council_core::{Command, MAX_COMMANDS, MemberCode, Register, Sheet, Votes};
+use std::alloc::Global;
+use std::sync::Wait;
+use std::thread::{Threads, join};
+
+/// What came of a session: the journal, its cuts, what each reader read, and the last answer.
+#[derive(Drop)]
+pub(crate) struct Session {
+    pub(crate) journal: Vec<Command>,
+    pub(crate) cuts: Vec<u32>,
+    pub(crate) readings: Vec<Vec<Sheet>>,
+    pub(crate) answer: Answer,
+}
+
+/// A board's seats.
+#[derive(Drop)]
+struct Seats {
+    writer: Writer,
+    first: Reader,
+    second: Reader,
+    analyst: Analyst,
+}
+
+/// What the readers and the analyst bring back.
+#[derive(Drop)]
+struct Brought {
+    first: Vec<Sheet>,
+    second: Vec<Sheet>,
+    asked: Asked,
+}
+
+// The readers of a board of three.
+fn three(mut readers: Vec<Reader>) -> (Reader, Reader, Reader)
+    requires three { length readers.items ≡ 3 }
+    ensures all { readers.items ≡ result.0 ∷ result.1 ∷ result.2 ∷ [] }
+{
+    let Some(third) = readers.pop() else {
+        unreachable!();
+    };
+    let Some(second) = readers.pop() else {
+        unreachable!();
+    };
+    let Some(first) = readers.pop() else {
+        unreachable!();
+    };
+    (first, second, third)
+}
+
+// A board over these members: a writer, two readers and an analyst, who have read nothing.
+fn seat(alloc: Global, members: &[(MemberCode, Votes)]) -> Result<Seats, Fault>
+    ensures new { IfOk result (λ s. IsNew s.first × IsNew s.second × IsNew s.analyst.reader) }
+    ensures first { IfOk result (λ s. s.first.opening ≡ members.now) }
+    ensures second { IfOk result (λ s. s.second.opening ≡ members.now) }
+    ensures analyst { IfOk result (λ s. s.analyst.reader.opening ≡ members.now) }
+{
+    let register = Register::start(alloc, members, MAX_COMMANDS)?;
+    let (writer, readers) = match start(alloc, register, 3) {
+        Ok(board) => board,
+        Err((_, why)) => return Err(Fault::Refused(why)),
+    };
+    let (first, second, third) = three(readers);
+    match Analyst::new(alloc, third) {
+        Ok(analyst) => Ok(Seats {
+            writer,
+            first,
+            second,
+            analyst,
+        }),
+        Err((_, why)) => Err(Fault::Refused(why)),
+    }
+}
+
+// The second reader reads while the analyst asks.
+fn ask_beside<R: Threads + Sync>(
+    rt: &R,
+    alloc: Global,
+    second: Reader,
+    analyst: Analyst,
+) -> Result<(Vec<Sheet>, Asked), Fault>
+    requires new { IsNew second × IsNew analyst.reader }
+    ensures second { IfOk result (λ r. IsRecord second.opening r.0.items) }
+    ensures asked { IfOk result (λ r. IsRecord analyst.reader.opening r.1.sheets.items) }
+    ensures opening { IfOk result (λ r. r.1.analyst.reader.opening ≡ analyst.reader.opening) }
+{
+    let read = move || -> Result<Vec<Sheet>, Fault>
+        requires { IsNew second }
+        ensures { IfOk result (λ sheets. IsRecord second.opening sheets.items) }
+    { read_often(alloc, second) };
+    let ask = move || -> Result<Asked, Fault>
+        requires { IsNew analyst.reader }
+        ensures opening { IfOk result (λ a. a.analyst.reader.opening ≡ analyst.reader.opening) }
+        ensures record { IfOk result (λ a. IsRecord analyst.reader.opening a.sheets.items) }
+    { ask_often(alloc, analyst) };
+    let (sheets, asked) = join(rt, read, ask);
+    Ok((sheets?, asked?))
+}
+
+// Both readers read while the analyst asks.
+fn read_beside<R: Threads + Sync>(
+    rt: &R,
+    alloc: Global,
+    first: Reader,
+    second: Reader,
+    analyst: Analyst,
+) -> Result<Brought, Fault>
+    requires new { IsNew first × IsNew second × IsNew analyst.reader }
+    ensures first { IfOk result (λ b. IsRecord first.opening b.first.items) }
+    ensures second { IfOk result (λ b. IsRecord second.opening b.second.items) }
+    ensures asked { IfOk result (λ b. IsRecord analyst.reader.opening b.asked.sheets.items) }
+    ensures opening { IfOk result (λ b. b.asked.analyst.reader.opening ≡ analyst.reader.opening) }
+{
+    let read = move || -> Result<Vec<Sheet>, Fault>
+        requires { IsNew first }
+        ensures { IfOk result (λ sheets. IsRecord first.opening sheets.items) }
+    { read_often(alloc, first) };
+    let others = move || -> Result<(Vec<Sheet>, Asked), Fault>
+        requires { IsNew second × IsNew analyst.reader }
+        ensures second { IfOk result (λ r. IsRecord second.opening r.0.items) }
+        ensures asked { IfOk result (λ r. IsRecord analyst.reader.opening r.1.sheets.items) }
+        ensures opening { IfOk result (λ r. r.1.analyst.reader.opening ≡ analyst.reader.opening) }
+    { ask_beside(rt, alloc, second, analyst) };
+    let (sheets, rest) = join(rt, read, others);
+    let (second, asked) = rest?;
+    Ok(Brought {
+        first: sheets?,
+        second,
+        asked,
+    })
+}
+
+// Runs all four at once, and answers once all have ended.
+fn run_all<R: Threads + Wait + Sync>(
+    rt: &R,
+    alloc: Global,
+    seats: Seats,
+    commands: &[Command],
+) -> Result<(Written, Brought), Fault>
+    requires new { IsNew seats.first × IsNew seats.second × IsNew seats.analyst.reader }
+    ensures first { IfOk result (λ r. IsRecord seats.first.opening r.1.first.items) }
+    ensures second { IfOk result (λ r. IsRecord seats.second.opening r.1.second.items) }
+    ensures asked { IfOk result (λ r. IsRecord seats.analyst.reader.opening r.1.asked.sheets.items) }
+    ensures opening { IfOk result (λ r. r.1.asked.analyst.reader.opening ≡ seats.analyst.reader.opening) }
+{
+    let Seats {
+        writer,
+        first,
+        second,
+        analyst,
+    } = seats;
+    let write = move || -> Result<Written, Fault> { write_all(rt, alloc, writer, commands) };
+    let read = move || -> Result<Brought, Fault>
+        requires { IsNew first × IsNew second × IsNew analyst.reader }
+        ensures first { IfOk result (λ b. IsRecord first.opening b.first.items) }
+        ensures second { IfOk result (λ b. IsRecord second.opening b.second.items) }
+        ensures asked { IfOk result (λ b. IsRecord analyst.reader.opening b.asked.sheets.items) }
+        ensures opening { IfOk result (λ b. b.asked.analyst.reader.opening ≡ analyst.reader.opening) }
+    { read_beside(rt, alloc, first, second, analyst) };
+    let (written, brought) = join(rt, write, read);
+    Ok((written?, brought?))
+}
+
+/// Holds a session over these members: the writer hands over and publishes each command, two readers and an analyst
+/// read beside it, and an audit looks at what they bring back. What comes are legal records, so each reading is the
+/// sheet of a cut of a legal list and no reader's front falls; the last answer has the indices of a legal register.
+///
+/// `Refused` has the refusal of the members or of a command, or `OutOfMemory`; `Audit` what the audit finds.
+pub(crate) fn hold<R: Threads + Wait + Sync>(
+    rt: &R,
+    alloc: Global,
+    members: &[(MemberCode, Votes)],
+    commands: &[Command],
+) -> Result<Session, Fault>
+    ensures session { IfOk result (λ s. IsSession members.now s) }
+{
+    let seats = seat(alloc, members)?;
+    let (written, brought) = run_all(rt, alloc, seats, commands)?;
+    let Written { journal, cuts } = written;
+    let Brought {
+        first,
+        second,
+        asked,
+    } = brought;
+    let Asked {
+        mut analyst,
+        sheets,
+    } = asked;
+    let answer = ask_once(&mut analyst);
+    let mut readings = Vec::new(alloc);
+    readings.push(first)?;
+    readings.push(second)?;
+    readings.push(sheets)?;
+    audit(
+        alloc,
+        members,
+        journal.as_slice(),
+        cuts.as_slice(),
+        readings.as_slice(),
+    )?;
+    Ok(Session {
+        journal,
+        cuts,
+        readings,
+        answer,
+    })
+}

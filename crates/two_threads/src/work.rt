@@ -1,0 +1,93 @@
+//! What each thread does.
+ghost use Rattle.std.specs.Prelude.{◌≡◌, IfOk};
+ghost use Rattle.majority_rule.specs.declared.majorities.Majority.TheVariants.{EightyFive};
+ghost use Rattle.power_index.specs.Indices.{AreIndices};
+ghost use Rattle.board_share.specs.Readers.{IsLegalSheet};
+ghost use Rattle.two_threads.specs.Sessions.{IsNew, IsRecord};
+
+use crate::faults::Fault;
+use board_share::{Analyst, Reader, Writer};
+use council_core::{Command, Sheet};
+use majority_rule::Majority;
+use power_index::Indices;
+use std::alloc::Global;
+use std::sync::Wait;
+
+/// How often each reader reads.
+pub(crate) const READINGS: u32 = 100;
+
+/// What the writer's thread brings back: the commands accepted, and the number that each publication answered.
+#[derive(Drop)]
+pub(crate) struct Written {
+    pub(crate) journal: Vec<Command>,
+    pub(crate) cuts: Vec<u32>,
+}
+
+/// What the analyst's thread brings back: the analyst, and the sheets that it read.
+#[derive(Drop)]
+pub(crate) struct Asked {
+    pub(crate) analyst: Analyst,
+    pub(crate) sheets: Vec<Sheet>,
+}
+
+/// The indices of a sheet.
+#[derive(Drop)]
+pub(crate) struct Answer {
+    pub(crate) sheet: Sheet,
+    pub(crate) indices: Indices,
+}
+
+/// Hands over each command and publishes it, and waits for readers that are in the middle of a reading.
+pub(crate) fn write_all<R: Wait>(
+    rt: &R,
+    alloc: Global,
+    mut writer: Writer,
+    commands: &[Command],
+) -> Result<Written, Fault> {
+    let mut cuts = Vec::new(alloc);
+    for command in commands {
+        let _accepted = writer.submit(*command)?;
+        cuts.push(writer.publish(rt))?;
+    }
+    let mut journal = Vec::new(alloc);
+    journal.extend_from_slice(writer.journal())?;
+    Ok(Written { journal, cuts })
+}
+
+/// Reads a hundred times: the sheets are the record of a legal register, whose fronts never fall.
+pub(crate) fn read_often(alloc: Global, mut reader: Reader) -> Result<Vec<Sheet>, Fault>
+    requires new { IsNew reader }
+    ensures record { IfOk result (λ sheets. IsRecord reader.opening sheets.items) }
+{
+    let mut sheets = Vec::new(alloc);
+    for _ in 0..READINGS {
+        sheets.push(reader.read().sheet)?;
+    }
+    Ok(sheets)
+}
+
+/// Asks a hundred times, and keeps the sheets: they are such a record, too.
+pub(crate) fn ask_often(alloc: Global, mut analyst: Analyst) -> Result<Asked, Fault>
+    requires new { IsNew analyst.reader }
+    ensures opening { IfOk result (λ a. a.analyst.reader.opening ≡ analyst.reader.opening) }
+    ensures record { IfOk result (λ a. IsRecord analyst.reader.opening a.sheets.items) }
+{
+    let mut sheets = Vec::new(alloc);
+    for _ in 0..READINGS {
+        let _indices = analyst.ask(Majority::EightyFive);
+        sheets.push(analyst.sheet())?;
+    }
+    Ok(Asked { analyst, sheets })
+}
+
+/// Asks once: the indices of the sheet of a legal register.
+pub(crate) fn ask_once(analyst: &mut Analyst) -> Answer
+    ensures legal { IsLegalSheet analyst.old.reader.opening result.sheet }
+    ensures exact { AreIndices EightyFive result.sheet result.indices }
+{
+    let indices = analyst.ask(Majority::EightyFive);
+    Answer {
+        sheet: analyst.sheet(),
+        indices,
+    }
+}
