@@ -125,8 +125,8 @@ pub fn program<T: Threads + Wait + Sync, R: Read + Drop, W: Write, E: Write>(
     ensures calls { (call : Call) → Asks (map string_bytes words.now) call
         → OfInput input.old input.new (λ bytes. CallExits call bytes result
         (streams (W.contents out.old) (W.contents out.new) (E.contents err.old) (E.contents err.new))) }
-    ensures limits_first { (call : Call) → Asks (map string_bytes words.now) call → in_range (limits_of call) ≡ false
-        → input.new ≡ input.old }
+    ensures limits_first { (call : Call) → Asks (map string_bytes words.now) call
+        → in_range (limits_of call) ≡ false → input.new ≡ input.old }
     ensures refuses { AreNotTaken (map string_bytes words.now)
         → AnswersWords (map string_bytes words.now) result
         (streams (W.contents out.old) (W.contents out.new) (E.contents err.old) (E.contents err.new)) }

@@ -17,7 +17,7 @@ IsBrokenOff run f text =
 abbrev pub IsOutputOf : Run → List ℕ → Type 0
 IsOutputOf run text = (text ≡ output run) ⊎ ((f : Fault) × IsBroken f × IsBrokenOff run f text)
 
--- after want of memory or a failed read: some first lines, whole, and then the fault's line, whose number is 0
+-- after running out of memory or a failed read: some first lines, whole, and then the fault's line, whose number is 0
 abbrev pub BreaksOff : Option (List ℕ) → Option (List ℕ) → Fault → Run → Type 0
 BreaksOff old new f run = IsBroken f × ((text : List ℕ) × IsBrokenOff run f text × Appends old new text)
 

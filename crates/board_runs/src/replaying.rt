@@ -107,8 +107,8 @@ impl Player for Desk {
 /// written and answered is what `run_of` says of the bytes that the reader gave, whichever way the
 /// run ends; where they weren't read to their end, of these however they go on.
 ///
-/// A fault's number is its refusal's, in this order: `BadLimit`, before anything is read; `ReadFault` and `TooLong` (more
-/// than 4,194,304 bytes); `BadHeader`; of the members' records `TooManyMembers`, `BadRecord` and
+/// A fault's number is its refusal's, in this order: `BadLimit`, before anything is read; `ReadFault` and `TooLong`
+/// (more than 4,194,304 bytes); `BadHeader`; of the members' records `TooManyMembers`, `BadRecord` and
 /// `NoScript`; `DuplicateMember`; of the script's records `BadRecord` and `BadReader`, each with
 /// the record's number. `OutOfMemory` may come at any place, `WriteFault` at any write. The lines
 /// written before a fault stay, and its own line is the last, but after a `WriteFault`.

@@ -70,7 +70,7 @@ module _ (law : AuditLaw) (opening : Opening) (journal : List Command) (cuts : L
   only-memory fault (inl e) = cc e
   only-memory fault (inr e) = cc e
 
-  -- of legal records only want of memory is answered
+  -- of legal records only out of memory is answered
   pub found-nothing : (fault : AuditFault) → Answers (audit_of opening journal cuts readings) (Err fault) → AreLegalRecords opening journal (0 ∷ cuts) readings → fault ≡ found.OutOfMemory
   found-nothing fault a h =
       let P : Finding → Type 0 = λ f. Answers f (Err fault) in

@@ -75,7 +75,7 @@ tells-audit a b c legal u (Err stop.OutOfMemory) ls audit p w = cc w.0
 tells-audit a b c legal u (Err stop.ReadFault) ls audit p w = cc w.0
 tells-audit a b c legal u (Err (stop.Told f)) ls audit p w = cc w.0
 
--- want of memory, or a failed read, before anything is written
+-- out of memory, or a failed read, before anything is written
 broken-after : (spec : Result Planned Fault) (f : Fault) → IsBroken f → EndsAfter spec [] f
 broken-after (Err g) f h = (refl, inr h)
 broken-after (Ok p) f h = inl (refl, inl h)

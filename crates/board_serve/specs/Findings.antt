@@ -2,7 +2,7 @@
 use Rattle.board_audits.specs.declared.audits.AuditFault.{AuditFault}
 use Rattle.board_audits.specs.declared.audits.AuditFault.TheVariants as found
 
--- a sheet that is no reading, or want of memory
+-- a sheet that is no reading, or out of memory
 abbrev pub CanBeFound : AuditFault → Type 0
 CanBeFound (found.Start why) = ⊥
 CanBeFound (found.BadJournal place) = ⊥

@@ -28,7 +28,7 @@ Tells old new legal (Err (stop.Told f)) ls =
 abbrev pub Differs : Planned → Type 0
 Differs p = (s : Served) × IsServed p s × (HasRecords p s → ⊥)
 
--- after which lines which fault may come: the input's, want of memory, a failed read and a closed gate after none,
+-- after which lines which fault may come: the input's, out of memory, a failed read and a closed gate after none,
 -- and after those of the work what the audit finds of readings that differ
 abbrev pub EndsAfter : Result Planned Fault → List Line → Fault → Type 0
 EndsAfter (Err g) front f = (front ≡ []) × ((f ≡ g) ⊎ IsBroken f)

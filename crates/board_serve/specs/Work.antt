@@ -41,7 +41,7 @@ cuts_of replies = flat_map cuts_of_reply replies
 abbrev pub IsClosed : Stop → Type 0
 IsClosed e = e ≡ stop.Told (fault_at why.GateClosed 0)
 
--- why the writer's work ends before its records do: want of memory, or a gate that was closed
+-- why the writer's work ends before its records do: out of memory, or a gate that was closed
 abbrev pub IsHeldUp : Stop → Type 0
 IsHeldUp e = (e ≡ stop.OutOfMemory) ⊎ IsClosed e
 

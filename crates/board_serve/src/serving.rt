@@ -82,7 +82,8 @@ fn serve_all<G: Gate, T: Threads + Wait + Sync, R: Read + Drop, W: Write>(
 ) -> Result<Served, Fault>
     ensures wrote { OfInput input.old input.new
         (λ bytes. Serves out.old.held out.new.held result (plan_of journal_limit bytes)) }
-    ensures limits_first { in_range (two_readers journal_limit) ≡ false → IsBadLimit result × (input.new ≡ input.old) }
+    ensures limits_first { in_range (two_readers journal_limit) ≡ false
+        → IsBadLimit result × (input.new ≡ input.old) }
     ensures on { GoesOn out.old out.new }
 {
     let stop = match serve_to(rt, alloc, gate, input, out, journal_limit) {
@@ -113,7 +114,8 @@ pub fn serve<G: Gate, T: Threads + Wait + Sync, R: Read + Drop, W: Write>(
 ) -> Result<Served, Fault>
     ensures wrote { OfInput input.old input.new
         (λ bytes. Serves (W.contents out.old) (W.contents out.new) result (plan_of journal_limit bytes)) }
-    ensures limits_first { in_range (two_readers journal_limit) ≡ false → IsBadLimit result × (input.new ≡ input.old) }
+    ensures limits_first { in_range (two_readers journal_limit) ≡ false
+        → IsBadLimit result × (input.new ≡ input.old) }
     ensures served { IfOk result
         (λ s. OfInput input.old input.new (λ bytes. IfOk (plan_of journal_limit bytes) (λ p. IsServed p s))) }
     ensures records { IfOk result

@@ -108,7 +108,7 @@ pub(crate) struct Ended {
 }
 
 // Runs the three at once, and answers once all have ended. Where one can't be started, it answers
-// want of memory once those that were started have ended.
+// out of memory once those that were started have ended.
 pub(crate) fn run_all<G: Gate, R: Threads + Wait + Sync>(
     rt: &R,
     gate: &G,

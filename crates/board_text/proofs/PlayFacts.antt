@@ -165,7 +165,7 @@ broken-here : (a : Option (List ℕ)) (e : Stop) (run : Run) → (e ≡ stop.Out
 broken-here a e run (inl memory) = rw memory ([], front-none run.lines, Appends-nil a)
 broken-here a e run (inr failed) = rw failed ([], front-none run.lines, Appends-nil a)
 
--- lines written, and then want of memory or a failed read
+-- lines written, and then out of memory or a failed read
 pub plays-broken : (a b : Option (List ℕ)) (e : Stop) (whole left : Run) → (e ≡ stop.OutOfMemory) ⊎ (e ≡ stop.ReadFault) → PlayedTo a b whole left → Plays a b (Err e) whole
 plays-broken a b e whole left causes so_far = plays-whole a b b (Err e) whole left so_far (broken-here b e left causes)
 

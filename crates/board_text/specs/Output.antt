@@ -48,7 +48,7 @@ abbrev pub Plays : Option (List ℕ) → Option (List ℕ) → Result (Unit {0})
 Plays old new (Ok _) run = (run.end ≡ None) × Appends old new (text_of run.lines)
 Plays old new (Err e) run = StopsIn old new e run
 
--- why nothing came of a reading of the input: want of memory, a failed read, or the fault that its definition says
+-- why nothing came of a reading of the input: out of memory, a failed read, or the fault that its definition says
 abbrev pub Fails : {A : Type 0} → Stop → Result A Fault → Type 0
 Fails stop.OutOfMemory spec = Unit {0}
 Fails stop.ReadFault spec = Unit {0}
@@ -76,7 +76,7 @@ fault_of stop.ReadFault = Some (fault_at why.ReadFault 0)
 fault_of stop.WriteFault = None
 fault_of (stop.Told f) = Some f
 
--- want of memory, or a failed read: a fault that may come at any place and tells of no record
+-- out of memory, or a failed read: a fault that may come at any place and tells of no record
 abbrev pub IsBroken : Fault → Type 0
 IsBroken f = (f ≡ fault_at why.OutOfMemory 0) ⊎ (f ≡ fault_at why.ReadFault 0)
 

@@ -18,13 +18,13 @@ const PIECE: usize = 4096;
 /// The most bytes that an input may have.
 pub const INPUT_LIMIT: usize = 4_194_304;
 
-/// The most interrupted reads, and the most interrupted writes, that are asked again in one run.
+/// The most interrupted reads, and the most interrupted writes, that are retried in one run.
 pub(crate) const INTERRUPTIONS: u32 = 1000;
 
 // Each read but the last gives a byte or is an interruption.
 const READS: u32 = INPUT_LIMIT as u32 + INTERRUPTIONS + 1;
 
-// One read: how many bytes it gave, or nothing where it was interrupted and may be asked again. After an error nothing is
+// One read: how many bytes it gave, or nothing where it was interrupted and may be retried. After an error nothing is
 // promised of the reader.
 fn read_some<R: Read + Drop>(
     input: &mut Given<R>,

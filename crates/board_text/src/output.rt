@@ -10,7 +10,7 @@ use crate::stops::Stop;
 use std::io::{ErrorKind, Write};
 use std::marker::Model;
 
-/// A writer, with how many of its interruptions were asked again so far. At most 1,000 are, in a
+/// A writer, with how many of its interruptions were retried so far. At most 1,000 are, in a
 /// whole run.
 #[derive(Drop)]
 pub struct Output<'a, W: Write> {
@@ -69,7 +69,7 @@ impl<'a, W: Write> Output<'a, W> {
         }
     }
 
-    // Writes all of a text. Each turn takes a byte or is an interruption that is asked again.
+    // Writes all of a text. Each turn takes a byte or is an interruption that is retried.
     pub(crate) fn write_text(&mut self, text: &[u8]) -> Result<(), Stop>
         ensures written { Writes self.old.held self.new.held result text.now }
         ensures on { GoesOn self.old self.new }

@@ -6,7 +6,7 @@ ghost use Rattle.board_text.specs.Text.{fault_at};
 use crate::faults::Fault;
 use council_core::Refusal;
 
-/// Want of memory and the devices' faults, and the faults that the input itself has.
+/// Out of memory, the devices' faults, and the faults that the input itself has.
 #[derive(Clone, Copy, Debug, PartialEq, Eq)]
 pub enum Stop {
     OutOfMemory,

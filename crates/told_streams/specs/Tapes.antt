@@ -47,8 +47,8 @@ HasEnded to = (to.ended ≡ true) × IsAtEnd to.left
 abbrev pub given_since : Giving → Giving → List ℕ
 given_since from to = drop (length from.gave) to.gave
 
--- these may be the bytes of an input that was read: its reader tells them; or they begin with what it gave, and end there
--- where it said that this is all
+-- these may be the bytes of an input that was read: its reader tells them; or they begin with what it gave, and end
+-- there where it said that this is all
 abbrev pub IsInput : Giving → Giving → List ℕ → Type 0
 IsInput from to bytes = (from.left ≡ Some bytes)
     ⊎ ((rest : List ℕ) × (bytes ≡ given_since from to ++ rest) × (to.ended ≡ true → rest ≡ []))
