@@ -170,7 +170,7 @@ fn try_once<C: Call, R: Threads + Wait + Sync>(
     Some((right && (met || answer != OUT_OF_MEMORY), met, answer))
 }
 
-// Whether all is right with each growth refused in turn and each is answered by want of memory, until the call asks for
+// Whether all is right with each growth refused in turn and each is answered OutOfMemory, until the call asks for
 // no more, and it asks for as many as it is to ask for.
 fn is_right_throughout<C: Call, R: Threads + Wait + Sync>(
     rt: &R,

@@ -264,7 +264,7 @@ impl Call for Serving {
     }
 }
 
-/// `serve`, with a gate that is closed to the first reader: want of memory comes before that.
+/// `serve`, with a gate that is closed to the first reader: OutOfMemory comes before that.
 #[derive(Clone, Copy)]
 pub(crate) struct ServingClosed;
 
