@@ -23,7 +23,7 @@ fn sums_of_three(rt: HostRuntime) -> Result<(), Fail> {
     assert_eq!(rt; half.group(17).len(), 0);
     let sums = half.ascending();
     assert_eq!(rt; sums.len(), 8);
-    assert_eq!(rt; sums[2], Entry { sum: 49, mask: 2 });
+    assert_eq!(rt; sums.at(2), Entry { sum: 49, mask: 2 });
     Ok(())
 }
 
@@ -34,13 +34,13 @@ fn ordered_sums_of_three(rt: HostRuntime) -> Result<(), Fail> {
     half.rebuild(&[(0, 50), (1, 49), (2, 1)]);
     let sums = half.ascending();
     assert_eq!(rt; sums.len(), 8);
-    assert_eq!(rt; sums[0], Entry { sum: 0, mask: 0 });
-    assert_eq!(rt; sums[2], Entry { sum: 49, mask: 2 });
-    assert_eq!(rt; sums[7], Entry { sum: 100, mask: 7 });
+    assert_eq!(rt; sums.at(0), Entry { sum: 0, mask: 0 });
+    assert_eq!(rt; sums.at(2), Entry { sum: 49, mask: 2 });
+    assert_eq!(rt; sums.at(7), Entry { sum: 100, mask: 7 });
     half.rebuild(&[(3, 5)]);
     let sums = half.ascending();
     assert_eq!(rt; sums.len(), 2);
-    assert_eq!(rt; sums[1], Entry { sum: 5, mask: 8 });
+    assert_eq!(rt; sums.at(1), Entry { sum: 5, mask: 8 });
     Ok(())
 }
 

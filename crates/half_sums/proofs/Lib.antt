@@ -1,3 +1,4 @@
+pub mod Columns
 pub mod Merging
 pub mod Mirrors
 pub mod SubsetFacts

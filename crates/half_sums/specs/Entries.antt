@@ -1,6 +1,7 @@
 -- Entries: the sets of a half's chairs by weight and slots, as lists of subset sums (Horowitz and Sahni 1974).
 use Rattle.std.specs.Prelude.{ℕ, ◌+◌, ◌^◌, ◌<◌, ◌≤◌, List, [], ◌∷◌, map}
 use Rattle.std.specs.Prelude.{length, bit_or}
+use Rattle.std.specs.Simd.Lanes.{zip2}
 use Rattle.std.specs.List.{All}
 use Rattle.std.specs.List.Sorted.{IsPermutation, IsNonDecreasingBy}
 use Rattle.half_sums.specs.declared.entry.Entry.{Entry}
@@ -19,6 +20,10 @@ entries_of chairs = map entry_of (subsets chairs)
 -- an entry with one more chair
 abbrev pub joined : ℕ → ℕ → Entry → Entry
 joined weight bit e = record { sum = e.sum + weight; mask = bit_or e.mask bit }
+
+-- the entries whose sums and masks stand in two lists
+abbrev pub entries_from : List ℕ → List ℕ → List Entry
+entries_from sums masks = zip2 (λ sum mask. record { sum = sum; mask = mask }) sums masks
 
 -- each subset of the chairs once, ascending by sum
 pub record AreSubsets (chairs : List (ℕ × ℕ)) (entries : List Entry) : Type 0 where

@@ -12,6 +12,6 @@ mod sums;
 pub use entry::Entry;
 pub use groups::{SIZES, SLOTS};
 pub use laws::mask_law;
-pub use lists::ROOM;
+pub use lists::{ROOM, SumList};
 pub use ordered::OrderedSums;
 pub use sums::HalfSums;

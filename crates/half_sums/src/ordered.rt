@@ -9,9 +9,9 @@ ghost use Rattle.half_sums.specs.declared.entry.Entry.{Entry};
 ghost use Rattle.half_sums.specs.Entries.{joined, AreSubsets, IsHalf};
 ghost use Rattle.half_sums.specs.Merges.{IsMirror};
 
-use crate::Entry;
 use crate::groups::SLOTS;
 use crate::lists::{ROOM, SumList};
+use crate::merge::merge;
 use council_core::Refusal;
 use std::alloc::Global;
 use std::marker::Model;
@@ -34,8 +34,8 @@ impl Model for OrderedSums {
 }
 
 impl OrderedSums {
-    /// The half with no chair, whose one set is the empty one. It reserves here, once, two lists of 65,536 entries of
-    /// 16 bytes, the memory for every half after it; `OutOfMemory` where there is less.
+    /// The half with no chair, whose one set is the empty one. It reserves here, once, two lists of 65,536 sets of ten
+    /// bytes, the memory for every half after it; `OutOfMemory` where there is less.
     pub fn new(alloc: Global) -> Result<OrderedSums, Refusal>
         ensures empty { IfOk result (λ sums. sums ≡ record { sum = 0; mask = 0 } ∷ []) }
         ensures memory { IsOkUnless result OutOfMemory }
@@ -46,11 +46,11 @@ impl OrderedSums {
     }
 
     /// The sets of the half's chairs, ascending by sum; sets of equal sums stand in any order.
-    pub fn ascending(&self) -> &[Entry]
+    pub fn ascending(&self) -> &SumList
         ensures same { result.now ≡ self.now }
         ensures half { IsHalf result.now }
     {
-        self.ascending.as_slice()
+        &self.ascending
     }
 
     /// Makes the list of these chairs in place of those before. A chair is its slot, 0 to 15, and its weight in votes;
@@ -91,6 +91,6 @@ fn add(ascending: &mut SumList, scratch: &mut SumList, weight: u64, bit: u16)
     ensures half { IsHalf ascending.new }
     ensures mirror { IsMirror ascending.new }
 {
-    scratch.double(ascending.as_slice(), weight, bit);
+    merge(ascending, weight, bit, scratch);
     mem::swap(ascending, scratch);
 }

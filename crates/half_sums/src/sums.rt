@@ -6,57 +6,65 @@ ghost use Rattle.std.specs.List.Sorted.{IsPermutation};
 ghost use Rattle.council_core.specs.declared.refusals.Refusal.TheVariants.{OutOfMemory};
 ghost use Rattle.council_core.specs.Sheets.{weight_of};
 ghost use Rattle.half_sums.specs.declared.entry.Entry.{Entry};
+ghost use Rattle.half_sums.specs.declared.lists.TheConstants.{ROOM};
 ghost use Rattle.half_sums.specs.Entries.{AreSubsets, IsHalf};
 ghost use Rattle.half_sums.specs.Groups.{group_of, grouped, AreGroups};
 
-use crate::Entry;
-use crate::groups::{SIZES, SLOTS, STARTS, starts_of};
-use crate::lists::SumList;
-use crate::ordered::list;
+use crate::groups::{SIZES, SLOTS, STARTS, regroup};
+use crate::lists::ROOM;
+use crate::{Entry, OrderedSums, SumList};
 use council_core::Refusal;
 use std::alloc::Global;
 use std::marker::Model;
 
+/// The set of no chair.
+const NO_CHAIR: Entry = Entry { sum: 0, mask: 0 };
+
 /// The subset sums of a half of up to sixteen chairs, ascending, and the same by size (Horowitz and Sahni 1974).
 #[derive(Drop)]
 pub struct HalfSums {
-    ascending: SumList,
-    groups: SumList,
+    ordered: OrderedSums,
+    /// The same sets by size, and behind them those of earlier halves.
+    groups: Vec<Entry>,
     starts: [usize; STARTS],
 }
 
 impl Model for HalfSums {
     ghost Value = { List Entry };
 
-    ghost view = { λ h. h.ascending };
+    ghost view = { λ h. h.ordered };
 
-    ghost invariant = { λ h. IsHalf h.ascending × AreGroups h.ascending h.groups h.starts };
+    ghost invariant = { λ h. IsHalf h.ordered × AreGroups h.ordered (take (length h.ordered) h.groups.items) h.starts
+        × (length h.groups.items ≡ ROOM) };
 }
 
 impl HalfSums {
-    /// The half with no chair, whose one set is the empty one. It reserves here, once, two lists of 65,536 entries of
-    /// 16 bytes, the memory for every half after it; `OutOfMemory` where there is less.
+    /// The half with no chair, whose one set is the empty one. It reserves here, once, two lists of 65,536 sets of ten
+    /// bytes and one of 16 bytes, the memory for every half after it; `OutOfMemory` where there is less.
     pub fn new(alloc: Global) -> Result<HalfSums, Refusal>
         ensures empty { IfOk result (λ h. h ≡ record { sum = 0; mask = 0 } ∷ []) }
         ensures memory { IsOkUnless result OutOfMemory }
     {
-        let ascending = SumList::new(alloc)?;
-        let mut groups = SumList::new(alloc)?;
-        let starts = starts_of(ascending.as_slice());
-        groups.regroup(ascending.as_slice(), &starts);
-        Ok(HalfSums {
-            ascending,
-            groups,
-            starts,
-        })
+        let ordered = OrderedSums::new(alloc)?;
+        match Vec::from_elem(alloc, NO_CHAIR, ROOM) {
+            Ok(mut groups) => {
+                let starts = regroup(ordered.ascending(), &mut groups);
+                Ok(HalfSums {
+                    ordered,
+                    groups,
+                    starts,
+                })
+            }
+            Err(_) => Err(Refusal::OutOfMemory),
+        }
     }
 
     /// The sets of the half's chairs, ascending by sum; sets of equal sums stand in any order.
-    pub fn ascending(&self) -> &[Entry]
+    pub fn ascending(&self) -> &SumList
         ensures same { result.now ≡ self.now }
         ensures half { IsHalf result.now }
     {
-        self.ascending.as_slice()
+        self.ordered.ascending()
     }
 
     /// The sets of the half's chairs by size, from 0 to 16 chairs; those of one size ascend by sum.
@@ -64,7 +72,7 @@ impl HalfSums {
         ensures grouped { result.now ≡ grouped self.now }
         ensures each_once { IsPermutation self.now result.now }
     {
-        self.groups.as_slice()
+        &self.groups[..self.ordered.ascending().len()]
     }
 
     /// The sets of just this many chairs, ascending by sum; none where the half has too few chairs.
@@ -73,7 +81,7 @@ impl HalfSums {
         ensures half { IsHalf result.now }
     {
         let size = usize::from(size);
-        let groups = self.groups.as_slice();
+        let groups = &self.groups[..self.ordered.ascending().len()];
         if size >= SIZES {
             return &[];
         }
@@ -88,9 +96,8 @@ impl HalfSums {
         requires small { weight_of chairs.now ≤ 2 ^ 48 }
         ensures subsets { AreSubsets chairs.now self.new }
     {
-        list(chairs, &mut self.ascending, &mut self.groups);
-        self.starts = starts_of(self.ascending.as_slice());
-        self.groups.regroup(self.ascending.as_slice(), &self.starts);
+        self.ordered.rebuild(chairs);
+        self.starts = regroup(self.ordered.ascending(), &mut self.groups);
     }
 }
 

@@ -211,10 +211,8 @@ pub(crate) struct Listed {
 // sum, and how many pairs of sets have three votes.
 fn counts_of_lists(half: &mut HalfSums) -> [u64; 4] {
     half.rebuild(&[(0, 2), (1, 1)]);
-    let greatest = match half.ascending().last() {
-        Some(entry) => entry.sum,
-        None => 0,
-    };
+    let sets = half.ascending();
+    let greatest = if sets.len() == 4 { sets.at(3).sum } else { 0 };
     [
         half.entries().len() as u64,
         half.group(1).len() as u64,

@@ -20,7 +20,7 @@ use swing_walk::{Counts, count_lists, swings};
 
 /// A sheet, and what its indices are counted from.
 ///
-/// It takes memory once, in `new`: for each half a list of 65,536 entries of 16 bytes, and as much scratch. No other
+/// It takes memory once, in `new`: for each half a list of 65,536 sets of ten bytes, and as much scratch. No other
 /// call takes any.
 #[derive(Drop)]
 pub struct Evaluator {

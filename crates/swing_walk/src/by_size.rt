@@ -10,7 +10,7 @@ ghost use Rattle.swing_walk.specs.Tallies.{marked, total, IsEven, CreditsLefts, 
 
 use crate::sizes::SizeTally;
 use crate::tally::MaskTally;
-use half_sums::Entry;
+use half_sums::SumList;
 
 /// What a pair must have: votes and chairs.
 #[derive(Clone, Copy)]
@@ -31,9 +31,9 @@ struct Sizes {
 /// The first right entry that reaches the quota with the next left entry, sought downwards. Each right entry that
 /// begins to reach is credited with the left entries from there on that are large enough with it.
 fn lower_by_size(
-    left: &[Entry],
+    left: &SumList,
     next: usize,
-    right: &[Entry],
+    right: &SumList,
     from: usize,
     asked: Asked,
     sizes: &mut Sizes,
@@ -69,9 +69,9 @@ fn lower_by_size(
         left.now }
 {
     let mut at = from;
-    while at > 0 && asked.quota <= left[next].sum + right[at - 1].sum {
+    while at > 0 && asked.quota <= left.at(next).sum + right.at(at - 1).sum {
         at -= 1;
-        let mask = right[at].mask;
+        let mask = right.at(at).mask;
         tally.add(mask, sizes.lefts.partners(mask, asked.least_size));
         sizes.rights.add(mask);
     }
@@ -80,8 +80,8 @@ fn lower_by_size(
 
 /// Adds the pairs that reach the quota and the least size to the tallies, and answers how many there are.
 pub(crate) fn walk_by_size(
-    left: &[Entry],
-    right: &[Entry],
+    left: &SumList,
+    right: &SumList,
     quota: u64,
     least_size: u8,
     lefts: &mut MaskTally,
@@ -106,7 +106,7 @@ pub(crate) fn walk_by_size(
     let mut winning = 0;
     for next in 0..left.len() {
         at = lower_by_size(left, next, right, at, asked, &mut sizes, rights);
-        let mask = left[next].mask;
+        let mask = left.at(next).mask;
         let partners = sizes.rights.partners(mask, least_size);
         winning += partners;
         lefts.add(mask, partners);

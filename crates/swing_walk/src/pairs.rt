@@ -8,7 +8,7 @@ use crate::by_size::walk_by_size;
 use crate::tally::MaskTally;
 use crate::walking::walk;
 use council_core::CHAIRS;
-use half_sums::{Entry, HalfSums, OrderedSums, SLOTS};
+use half_sums::{HalfSums, OrderedSums, SLOTS, SumList};
 
 /// The winning pairs of the sets of a left and a right half. Where these are the halves of a board, the pairs are its
 /// coalitions.
@@ -43,7 +43,7 @@ pub fn count_lists(left: &OrderedSums, right: &OrderedSums, quota: u64, least_si
 }
 
 /// Counts the pairs of two ascending lists.
-fn count_entries(left: &[Entry], right: &[Entry], quota: u64, least_size: u8) -> Counts
+fn count_entries(left: &SumList, right: &SumList, quota: u64, least_size: u8) -> Counts
     requires left { IsHalf left.now }
     requires right { IsHalf right.now }
     ensures winning { result.winning ≡ large_pairs quota least_size left.now right.now }
@@ -60,8 +60,8 @@ fn count_entries(left: &[Entry], right: &[Entry], quota: u64, least_size: u8) ->
 
 /// Adds the pairs that reach the quota and the least size to the tallies, and answers how many there are.
 fn credit_pairs(
-    left: &[Entry],
-    right: &[Entry],
+    left: &SumList,
+    right: &SumList,
     quota: u64,
     least_size: u8,
     lefts: &mut MaskTally,

@@ -4,7 +4,7 @@ ghost use Rattle.std.specs.Prelude.{drop, slice_index_or};
 ghost use Rattle.half_sums.specs.Entries.{IsHalf};
 ghost use Rattle.swing_walk.specs.Sizes.{counted, one_at, IsSizeTally};
 
-use half_sums::{Entry, ROOM, SIZES, SLOTS};
+use half_sums::{ROOM, SIZES, SLOTS, SumList};
 
 /// A 1 for each of the 17 sizes, and a 0 for each size but one: a set of so many chairs has its own 17 of these from 16
 /// less than its size on.
@@ -30,13 +30,13 @@ impl SizeTally {
     }
 
     /// The sets of a list.
-    pub(crate) fn of(entries: &[Entry]) -> SizeTally
+    pub(crate) fn of(entries: &SumList) -> SizeTally
         requires half { IsHalf entries.now }
         ensures all { IsSizeTally entries.now result }
     {
         let mut tally = SizeTally::new();
         for at in 0..entries.len() {
-            tally.add(entries[at].mask);
+            tally.add(entries.at(at).mask);
         }
         tally
     }

@@ -13,7 +13,7 @@ ghost use Rattle.swing_walk.specs.Tallies.{total, IsEven, CreditsEach, CreditsLe
 
 use crate::sides::{add_to, either_mask};
 use crate::tally::MaskTally;
-use half_sums::Entry;
+use half_sums::{Entry, SumList};
 
 /// How many entries of the rising list are passed, from the least on, and how many of the falling one, from the
 /// greatest on.
@@ -36,8 +36,8 @@ const NO_ENTRY: Entry = Entry { sum: 0, mask: 0 };
 
 /// Adds the pairs that reach the quota to the tallies, and answers how many there are.
 pub(crate) fn walk(
-    left: &[Entry],
-    right: &[Entry],
+    left: &SumList,
+    right: &SumList,
     quota: u64,
     lefts: &mut MaskTally,
     rights: &mut MaskTally,
@@ -67,8 +67,8 @@ pub(crate) fn walk(
 /// sums.
 #[inline(never)]
 fn walk_from_both_ends(
-    left: &[Entry],
-    right: &[Entry],
+    left: &SumList,
+    right: &SumList,
     quota: u64,
     front: &mut [MaskTally; 2],
     back: &mut [MaskTally; 2],
@@ -96,8 +96,8 @@ fn walk_from_both_ends(
 #[inline(always)]
 fn pass(
     places: Places,
-    rising: &[Entry],
-    falling: &[Entry],
+    rising: &SumList,
+    falling: &SumList,
     quota: u64,
     tallies: &mut [MaskTally; 2],
 ) -> Places
@@ -134,27 +134,27 @@ fn falls_next(low: &Entry, high: &Entry, some_rising: bool, some_falling: bool, 
 }
 
 /// The next entry from the least on, once so many are passed; none where all are.
-fn next_up(entries: &[Entry], passed: usize) -> Entry
+fn next_up(entries: &SumList, passed: usize) -> Entry
     requires half { IsHalf entries.now }
     ensures entry { passed < length entries.now → result ≡ slice_index_or entries.now passed zero_entry }
     ensures small { result.sum ≤ 2 ^ 48 }
 {
     if passed < entries.len() {
-        entries[passed]
+        entries.at(passed)
     } else {
         NO_ENTRY
     }
 }
 
 /// The next entry from the greatest on, once so many are passed; none where all are.
-fn next_down(entries: &[Entry], passed: usize) -> Entry
+fn next_down(entries: &SumList, passed: usize) -> Entry
     requires half { IsHalf entries.now }
     ensures entry { passed < length entries.now
         → result ≡ slice_index_or entries.now (length entries.now - 1 - passed) zero_entry }
     ensures small { result.sum ≤ 2 ^ 48 }
 {
     if passed < entries.len() {
-        entries[entries.len() - 1 - passed]
+        entries.at(entries.len() - 1 - passed)
     } else {
         NO_ENTRY
     }

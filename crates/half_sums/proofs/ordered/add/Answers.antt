@@ -6,6 +6,6 @@ use Rattle.half_sums.proofs.ordered.add.Goals as goal
 
 pub returns-clause-half : goal.returns-clause-half
 returns-clause-half c =
-    let moves : IsPermutation (c.args.ascending.now ++ map (joined c.args.weight c.args.bit) c.args.ascending.now) c.double.new.self = rw c.as_slice.ensures.same at c.double.ensures.each_once in
+    let moves : IsPermutation (c.args.ascending.now ++ map (joined c.args.weight c.args.bit) c.args.ascending.now) c.merge.new.into = c.merge.ensures.each_once in
     let slot : c.args.bit < 2 ^ 16 = search rules in
-    rw c.swap.ensures.x_after (IsHalf-more _ _ _ _ c.requires.half slot c.requires.few c.requires.small moves c.double.ensures.ascending)
+    rw c.swap.ensures.x_after (IsHalf-more _ _ _ _ c.requires.half slot c.requires.few c.requires.small moves c.merge.ensures.ascending)

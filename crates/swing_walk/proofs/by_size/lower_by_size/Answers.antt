@@ -14,7 +14,7 @@ use Rattle.swing_walk.proofs.by_size.lower_by_size.Goals as goal
 
 pub add-requires-clause-room : goal.add-requires-clause-room
 add-requires-clause-room c =
-    let lacks : ℕ = c.args.asked.least_size - size_of (get_or c.args.right.now (c.loop-at.at - 1) zero_entry) in
+    let lacks : ℕ = c.args.asked.least_size - size_of c.at-mask.result in
     omega (
       arith,
       c.partners.ensures.partners,
@@ -38,16 +38,18 @@ loop-at-preserved c =
     let right : List Entry = c.args.right.now in
     let at : ℕ = c.loop-at.at in
     let r : Entry = get_or right (at - 1) zero_entry in
+    let r_is : c.at-mask.result ≡ r = c.at-mask.ensures.same in
+    let won : quota ≤ (get_or left c.args.next zero_entry).sum + r.sum = rw (c.at.ensures.same, c.at-in-loop-at.ensures.same) at c.if-asked-at.true in
     let s : Splits quota r.sum c.args.next left =
-    left_splits quota c.args.next at left right c.requires.left.ascending c.requires.next (omega arith) c.loop-at.invariant.apart c.if-asked-left.true in
+    left_splits quota c.args.next at left right c.requires.left.ascending c.requires.next (omega arith) c.loop-at.invariant.apart won in
     let credit : c.partners.result ≡ count_by (is_enough quota least r) left =
-    c.partners.ensures.partners ∙ c.loop-at.invariant.lefts (least - size_of r) ∙ sym (count_enough quota least c.args.next r left s) in
+    (rw r_is at c.partners.ensures.partners) ∙ c.loop-at.invariant.lefts (least - size_of r) ∙ sym (count_enough quota least c.args.next r left s) in
     record {
       within = omega arith;
       apart = λ k m before below. c.loop-at.invariant.apart k m before (omega arith);
-      reached = reached_back (λ (e : Entry). quota ≤ (get_or left c.args.next zero_entry).sum + e.sum) right at (omega arith) c.loop-at.invariant.within c.if-asked-left.true c.loop-at.invariant.reached;
+      reached = reached_back (λ (e : Entry). quota ≤ (get_or left c.args.next zero_entry).sum + e.sum) right at (omega arith) c.loop-at.invariant.within won c.loop-at.invariant.reached;
       lefts = c.loop-at.invariant.lefts;
-      rights = λ size. omega (arith, c.add-in-loop-at.ensures.more size, c.loop-at.invariant.rights size, tally_back size at right (omega arith) c.loop-at.invariant.within);
+      rights = λ size. omega (arith, rw r_is at (c.add-in-loop-at.ensures.more size), c.loop-at.invariant.rights size, tally_back size at right (omega arith) c.loop-at.invariant.within);
       even = c.add.ensures.even;
       total = omega (
         arith,
@@ -59,7 +61,7 @@ loop-at-preserved c =
       marked = λ slot. omega (
         arith,
         c.loop-at.invariant.marked slot,
-        c.add.ensures.marked slot,
+        rw r_is at (c.add.ensures.marked slot),
         pairs_back (λ b a. is_enough quota least b a && has slot b) left right at (omega arith) c.loop-at.invariant.within,
         count_slot (is_enough quota least r) slot r left,
         ap (λ n. bit_at r.mask slot * n) credit,

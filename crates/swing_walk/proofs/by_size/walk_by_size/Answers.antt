@@ -1,4 +1,4 @@
-use Rattle.std.proofs.Common.{◌≡◌, ◌+◌, ◌-◌, ◌*◌, ◌≤◌, List, arith, get_or, sym, ap, ◌∙◌, ℕ}
+use Rattle.std.proofs.Common.{◌≡◌, ◌+◌, ◌-◌, ◌*◌, ◌<◌, ◌≤◌, List, length, arith, get_or, sym, ap, ◌∙◌, ℕ}
 use Rattle.std.specs.Prelude.{◌&&◌}
 use Rattle.std.specs.Int.{bit_at}
 use Rattle.std.specs.List.{count_by}
@@ -8,6 +8,7 @@ use Rattle.half_sums.specs.declared.entry.Entry.{Entry}
 use Rattle.half_sums.specs.Groups.{size_of}
 use Rattle.swing_walk.specs.Pairs.{is_enough, has}
 use Rattle.half_sums.specs.Entries.{zero_entry}
+use Rattle.swing_walk.specs.Sizes.{one_at}
 use Rattle.swing_walk.proofs.Counting.{Splits, pairs_more, pairs_room}
 use Rattle.swing_walk.proofs.Steps.{short_from, back_room}
 use Rattle.swing_walk.proofs.SizeLemmas.{few_tallied, tally_front}
@@ -25,7 +26,7 @@ lower_by_size-at-requires-clause-room c =
 
 pub overflow_add-winning : goal.overflow_add-winning
 overflow_add-winning c =
-    let lacks : ℕ = c.args.least_size - size_of (get_or c.args.left.now c.loop-next.next zero_entry) in
+    let lacks : ℕ = c.args.least_size - size_of c.at-mask.result in
     Fits-of_lt (omega (
       arith,
       c.loop-next.invariant.winning,
@@ -37,7 +38,7 @@ overflow_add-winning c =
 
 pub add-requires-clause-room : goal.add-requires-clause-room
 add-requires-clause-room c =
-    let lacks : ℕ = c.args.least_size - size_of (get_or c.args.left.now c.loop-next.next zero_entry) in
+    let lacks : ℕ = c.args.least_size - size_of c.at-mask.result in
     omega (
       arith,
       c.loop-next.invariant.left_total,
@@ -50,7 +51,7 @@ add-requires-clause-room c =
 
 pub remove-requires : goal.remove-requires
 remove-requires c = record {
-  there = λ size. omega (arith, c.lower_by_size-at.ensures.lefts size, tally_front size c.loop-next.next c.args.left.now c.loop-next-test.true);
+  there = λ size. omega (arith, c.lower_by_size-at.ensures.lefts size, ap (one_at size) (ap (λ (e : Entry). e.mask) c.at-mask.ensures.same), tally_front size c.loop-next.next c.args.left.now (omega (arith, c.loop-next-test.true, c.len-next-end.ensures.count)));
 }
 
 pub loop-next-preserved : goal.loop-next-preserved
@@ -61,28 +62,30 @@ loop-next-preserved c =
     let right : List Entry = c.args.right.now in
     let next : ℕ = c.loop-next.next in
     let l : Entry = get_or left next zero_entry in
+    let l_is : c.at-mask.result ≡ l = c.at-mask.ensures.same in
+    let inside : next < length left = omega (arith, c.loop-next-test.true, c.len-next-end.ensures.count) in
     let s : Splits quota l.sum c.lower_by_size-at.result right = record {
       within = c.lower_by_size-at.ensures.within;
       short = short_from quota next c.lower_by_size-at.result left right c.lower_by_size-at.ensures.within c.lower_by_size-at.ensures.apart;
       reached = c.lower_by_size-at.ensures.reached;
     } in
     let credit : c.partners-partners.result ≡ count_by (is_enough quota least l) right =
-    c.partners-partners.ensures.partners ∙ c.lower_by_size-at.ensures.rights (least - size_of l) ∙ sym (count_enough quota least c.lower_by_size-at.result l right s) in
+    (rw l_is at c.partners-partners.ensures.partners) ∙ c.lower_by_size-at.ensures.rights (least - size_of l) ∙ sym (count_enough quota least c.lower_by_size-at.result l right s) in
     record {
       within = c.lower_by_size-at.ensures.within;
       apart = c.lower_by_size-at.ensures.apart;
       reached = λ h. All-weaker (λ (e : Entry). quota ≤ l.sum + e.sum) (λ e. quota ≤ (get_or left (next + 1) zero_entry).sum + e.sum)
           (λ e t. omega (arith, c.requires.left.ascending next (next + 1) zero_entry (omega arith) h)) _ c.lower_by_size-at.ensures.reached;
-      lefts_left = λ size. omega (arith, c.remove.ensures.less size, c.lower_by_size-at.ensures.lefts size, tally_front size next left c.loop-next-test.true);
+      lefts_left = λ size. omega (arith, rw l_is at (c.remove.ensures.less size), c.lower_by_size-at.ensures.lefts size, tally_front size next left inside);
       rights_reached = c.lower_by_size-at.ensures.rights;
-      winning = omega (arith, c.loop-next.invariant.winning, pairs_more (is_enough quota least) left right next zero_entry c.loop-next-test.true, credit);
+      winning = omega (arith, c.loop-next.invariant.winning, pairs_more (is_enough quota least) left right next zero_entry inside, credit);
       left_even = c.add.ensures.even;
-      left_total = omega (arith, c.add.ensures.total, c.loop-next.invariant.left_total, pairs_more (is_enough quota least) left right next zero_entry c.loop-next-test.true, credit);
+      left_total = omega (arith, c.add.ensures.total, c.loop-next.invariant.left_total, pairs_more (is_enough quota least) left right next zero_entry inside, credit);
       left_marked = λ slot. omega (
         arith,
-        c.add.ensures.marked slot,
+        rw l_is at (c.add.ensures.marked slot),
         c.loop-next.invariant.left_marked slot,
-        pairs_more (λ a b. is_enough quota least a b && has slot a) left right next zero_entry c.loop-next-test.true,
+        pairs_more (λ a b. is_enough quota least a b && has slot a) left right next zero_entry inside,
         count_slot (is_enough quota least l) slot l right,
         ap (λ n. bit_at l.mask slot * n) credit,
       );

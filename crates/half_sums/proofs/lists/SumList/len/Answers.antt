@@ -1,0 +1,8 @@
+use Rattle.std.proofs.Common.{length, ap, sym, ◌∙◌}
+use Rattle.half_sums.proofs.Columns.{length_from}
+use Rattle.half_sums.proofs.lists.SumList.len.Goals as goal
+
+pub returns : goal.returns
+returns c = record {
+  count = sym (length_from c.self.inside.count c.self.inside.sums.items c.self.inside.masks.items c.self.invariant) ∙ ap length c.self.view_is;
+}
