@@ -55,6 +55,7 @@ fn three(mut readers: Vec<Reader>) -> (Reader, Reader, Reader)
 
 // A board over these members: a writer, two readers and an analyst, who have read nothing.
 fn seat(alloc: Global, members: &[(MemberCode, Votes)]) -> Result<Seats, Fault>
+    ensures writer { IfOk result (λ s. s.writer.ledger.journal ≡ []) }
     ensures new { IfOk result (λ s. IsNew s.first × IsNew s.second × IsNew s.analyst.reader) }
     ensures first { IfOk result (λ s. s.first.opening ≡ members.now) }
     ensures second { IfOk result (λ s. s.second.opening ≡ members.now) }
@@ -142,7 +143,9 @@ fn run_all<R: Threads + Wait + Sync>(
     seats: Seats,
     commands: &[Command],
 ) -> Result<(Written, Brought), Fault>
+    requires writer { seats.writer.ledger.journal ≡ [] }
     requires new { IsNew seats.first × IsNew seats.second × IsNew seats.analyst.reader }
+    ensures journal { IfOk result (λ r. r.0.journal.items ≡ commands.now) }
     ensures first { IfOk result (λ r. IsRecord seats.first.opening r.1.first.items) }
     ensures second { IfOk result (λ r. IsRecord seats.second.opening r.1.second.items) }
     ensures asked { IfOk result (λ r. IsRecord seats.analyst.reader.opening r.1.asked.sheets.items) }
@@ -154,7 +157,10 @@ fn run_all<R: Threads + Wait + Sync>(
         second,
         analyst,
     } = seats;
-    let write = move || -> Result<Written, Fault> { write_all(rt, alloc, writer, commands) };
+    let write = move || -> Result<Written, Fault>
+        requires { writer.ledger.journal ≡ [] }
+        ensures { IfOk result (λ w. w.journal.items ≡ commands.entry.now) }
+    { write_all(rt, alloc, writer, commands) };
     let read = move || -> Result<Brought, Fault>
         requires { IsNew first × IsNew second × IsNew analyst.reader }
         ensures first { IfOk result (λ b. IsRecord first.opening b.first.items) }
@@ -178,6 +184,7 @@ pub(crate) fn hold<R: Threads + Wait + Sync>(
     commands: &[Command],
 ) -> Result<Session, Fault>
     ensures session { IfOk result (λ s. IsSession members.now s) }
+    ensures journal { IfOk result (λ s. s.journal.items ≡ commands.now) }
 {
     let seats = seat(alloc, members)?;
     let (written, brought) = run_all(rt, alloc, seats, commands)?;

@@ -1,5 +1,5 @@
 //! What each thread does.
-ghost use Rattle.std.specs.Prelude.{◌≡◌, IfOk};
+ghost use Rattle.std.specs.Prelude.{◌≡◌, [], vec_len, IfOk};
 ghost use Rattle.majority_rule.specs.declared.majorities.Majority.TheVariants.{EightyFive};
 ghost use Rattle.power_index.specs.Indices.{AreIndices};
 ghost use Rattle.board_share.specs.Readers.{IsLegalSheet};
@@ -43,7 +43,10 @@ pub(crate) fn write_all<R: Wait>(
     alloc: Global,
     mut writer: Writer,
     commands: &[Command],
-) -> Result<Written, Fault> {
+) -> Result<Written, Fault>
+    requires new { writer.ledger.journal ≡ [] }
+    ensures journal { IfOk result (λ w. w.journal.items ≡ commands.now) }
+{
     let mut cuts = Vec::new(alloc);
     for command in commands {
         let _accepted = writer.submit(*command)?;
@@ -58,9 +61,10 @@ pub(crate) fn write_all<R: Wait>(
 pub(crate) fn read_often(alloc: Global, mut reader: Reader) -> Result<Vec<Sheet>, Fault>
     requires new { IsNew reader }
     ensures record { IfOk result (λ sheets. IsRecord reader.opening sheets.items) }
+    ensures count { IfOk result (λ sheets. vec_len sheets ≡ READINGS) }
 {
     let mut sheets = Vec::new(alloc);
-    for _ in 0..READINGS {
+    for _reading in 0..READINGS {
         sheets.push(reader.read().sheet)?;
     }
     Ok(sheets)
@@ -71,9 +75,10 @@ pub(crate) fn ask_often(alloc: Global, mut analyst: Analyst) -> Result<Asked, Fa
     requires new { IsNew analyst.reader }
     ensures opening { IfOk result (λ a. a.analyst.reader.opening ≡ analyst.reader.opening) }
     ensures record { IfOk result (λ a. IsRecord analyst.reader.opening a.sheets.items) }
+    ensures count { IfOk result (λ a. vec_len a.sheets ≡ READINGS) }
 {
     let mut sheets = Vec::new(alloc);
-    for _ in 0..READINGS {
+    for _reading in 0..READINGS {
         let _indices = analyst.ask(Majority::EightyFive);
         sheets.push(analyst.sheet())?;
     }

@@ -13,16 +13,14 @@ all_pushed P none one two three x y z d e f g p q r =
     let second : All P two = rw f (All-push P one y first q) in
     rw g (All-push P two z second r)
 
-pub returns : goal.returns
-returns g c =
+pub returns-clause-session : goal.returns-clause-session
+returns-clause-session g c =
     let openings = c.in_ok-seats.ensures in
     let read = c.in_ok-written.ensures in
     record {
-      session = record {
-        each = all_pushed (λ (sheets : Vec Sheet Global). IsRecord c.args.members.now sheets.items) _ _ _ _ _ _ _ c.new-readings.ensures.items c.in_ok-push.ensures.items c.in_ok-push-2.ensures.items c.in_ok-push-3.ensures.items
-            (rw openings.first at read.first) (rw openings.second at read.second) (rw openings.analyst at read.asked);
-        together = rw (c.as_slice.ensures.value, c.as_slice-2.ensures.value, c.as_slice-3.ensures.value) at c.in_ok-audit.ensures.legal;
-        legal = rw (read.opening, openings.analyst) at c.ask_once-answer.ensures.legal;
-        exact = c.ask_once-answer.ensures.exact;
-      };
+      each = all_pushed (λ (sheets : Vec Sheet Global). IsRecord c.args.members.now sheets.items) _ _ _ _ _ _ _ c.new-readings.ensures.items c.in_ok-push.ensures.items c.in_ok-push-2.ensures.items c.in_ok-push-3.ensures.items
+          (rw openings.first at read.first) (rw openings.second at read.second) (rw openings.analyst at read.asked);
+      together = rw (c.as_slice.ensures.value, c.as_slice-2.ensures.value, c.as_slice-3.ensures.value) at c.in_ok-audit.ensures.legal;
+      legal = rw (read.opening, openings.analyst) at c.ask_once-answer.ensures.legal;
+      exact = c.ask_once-answer.ensures.exact;
     }
