@@ -1,4 +1,4 @@
-use Rattle.std.proofs.Common.{◌≡◌, List, ℕ, replicate, refl}
+use Rattle.std.proofs.Common.{◌≡◌, replicate, refl}
 use Rattle.half_sums.proofs.lists.SumList.new.Goals as goal
 
 pub returns-in-Ok-Ok-clause-empty : goal.returns-in-Ok-Ok-clause-empty

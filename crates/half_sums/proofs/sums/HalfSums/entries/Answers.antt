@@ -1,4 +1,4 @@
-use Rattle.std.proofs.Common.{◌≡◌, ◌∙◌, ap, take, length}
+use Rattle.std.proofs.Common.{◌∙◌, ap, take, length}
 use Rattle.half_sums.specs.Groups.{grouped}
 use Rattle.half_sums.proofs.GroupFacts.{sizes_few, groups_whole, grouped_each}
 use Rattle.half_sums.proofs.sums.HalfSums.entries.Goals as goal
