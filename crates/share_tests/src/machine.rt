@@ -201,16 +201,12 @@ fn notes_of_first(
     alloc: Global,
     events: &[Event],
     count: usize,
-) -> Result<Option<Vec<Option<Line>>>, Fail> {
+) -> Result<Option<Vec<Note>>, Fail> {
     let some = events.get(..count).unwrap_or_default();
-    let Ok(log) = run(alloc, one_member(alloc)?, 1, some) else {
-        return Ok(None);
-    };
-    let mut told = Vec::new(alloc);
-    for note in log.notes.as_slice() {
-        told.push(line_of(note))?;
+    match run(alloc, one_member(alloc)?, 1, some) {
+        Ok(log) => Ok(Some(log.notes.into_vec())),
+        Err(_) => Ok(None),
     }
-    Ok(Some(told))
 }
 
 #[test]
