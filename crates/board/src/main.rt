@@ -7,9 +7,10 @@ use std::io::ErrorKind;
 use std::process::ExitCode;
 
 fn main(rt: HostRuntime) -> ExitCode {
+    let (mut stdout, mut stderr) = (rt.stdout(), rt.stderr());
     let mut input = Given::new(rt.stdin());
-    let mut out = Told::new(rt.stdout());
-    let mut err = Told::new(rt.stderr());
+    let mut out = Told::new(&mut stdout);
+    let mut err = Told::new(&mut stderr);
     let args = match env::args(&rt) {
         Ok(args) => args,
         Err(e) => {

@@ -1,3 +1,4 @@
+pub mod DeskFacts
 pub mod RecordFacts
 pub mod ReplayFacts
 pub mod TraceFacts

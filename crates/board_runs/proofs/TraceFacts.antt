@@ -1,7 +1,7 @@
 -- The lines of events, one event at a time.
 use Rattle.std.proofs.Common.{◌≡◌, ℕ, suc, ◌+◌, ◌-◌, ◌<◌, List, ◌∷◌, ◌++◌, Option, Ok, Err, replicate, refl, sym, ap, ◌∙◌, arith, append_assoc}
 use Rattle.std.specs.Io.KnownBytes.{Appends}
-use Rattle.two_copy_steps.specs.Turns.{TwoCopies, after, turn}
+use Rattle.two_copy_steps.specs.Turns.{MachineState, after, turn}
 use Rattle.two_copy_steps.specs.declared.events.Event.{Event}
 use Rattle.board_text.specs.Lines.{Line, note_lines}
 use Rattle.board_text.specs.Output.{Plays}
@@ -14,16 +14,16 @@ use Rattle.board_text.proofs.PlayFacts.{PlayedTo, lines-then, plays-more, plays-
 events-left : (n i : ℕ) (e : Event) → i < n → replicate (n - i) e ≡ e ∷ replicate (n - (i + 1)) e
 events-left n i e within = let same : n - i ≡ suc (n - (i + 1)) = omega (arith, within) in rw same refl
 
-module _ (m : TwoCopies) (e : Event) (n i : ℕ) (within : i < n) where
+module _ (m : MachineState) (e : Event) (n i : ℕ) (within : i < n) where
   -- the lines of an event, and then those of the events after it
   told-left : told m (replicate (n - i) e) ≡ note_lines (turn m e).1 ++ told (turn m e).0 (replicate (n - (i + 1)) e)
   told-left = ap (λ es. told m es) (events-left n i e within)
 
-  pub after-left : (x : TwoCopies) → x ≡ (turn m e).0 → after m (replicate (n - i) e) ≡ after x (replicate (n - (i + 1)) e)
+  pub after-left : (x : MachineState) → x ≡ (turn m e).0 → after m (replicate (n - i) e) ≡ after x (replicate (n - (i + 1)) e)
   after-left x same = ap (λ es. after m es) (events-left n i e within) ∙ ap (λ y. after y (replicate (n - (i + 1)) e)) (sym same)
 
   module _ (a b c : Option (List ℕ)) (done whole : List Line) (so_far : Appends a b (text_of done)) (parts : whole ≡ done ++ told m (replicate (n - i) e)) where
-    pub told-goes : (u : Unit {0}) (x : TwoCopies) → Plays b c (Ok u) (prints (note_lines (turn m e).1)) → x ≡ (turn m e).0
+    pub told-goes : (u : Unit {0}) (x : MachineState) → Plays b c (Ok u) (prints (note_lines (turn m e).1)) → x ≡ (turn m e).0
         → (more : List Line) × Appends a c (text_of more) × (whole ≡ more ++ told x (replicate (n - (i + 1)) e))
     told-goes u x p same = (
       done ++ note_lines (turn m e).1,

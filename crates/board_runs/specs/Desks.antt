@@ -1,14 +1,20 @@
 -- What a desk shows beside its register.
-use Rattle.std.specs.Prelude.{◌≡◌, ℕ, ◌≤◌, List, length, take}
+use Rattle.std.specs.Prelude.{◌≡◌, ℕ, ◌≤◌, List, length, take, Option, Some}
 use Rattle.council_core.specs.Ledgers.{Ledger}
 use Rattle.council_core.specs.Rolls.{sheet}
 use Rattle.council_core.specs.Sequential.{Sequential}
 use Rattle.council_core.specs.Sheets.{front_of}
+use Rattle.power_index.specs.Indices.{indices_of}
+use Rattle.power_index.specs.declared.indices.Indices.{Indices}
 
 -- the sheet shown is that of the commands published, as many as its front says
 pub record IsShown (ledger : Ledger) (words : List ℕ) : Type 0 where
   pub within : front_of words ≤ length ledger.journal
   pub same : words ≡ sheet ledger.opening (take (front_of words) ledger.journal)
+
+-- the indices kept, if there are any, are those of the sheet
+abbrev pub AreCounted : Option Indices → List ℕ → Type 0
+AreCounted kept words = (i : Indices) → kept ≡ Some i → i ≡ indices_of i.majority words
 
 -- a desk is a sequential register: what is published is what its sheet shows
 abbrev pub desk_of : Ledger → List ℕ → Sequential

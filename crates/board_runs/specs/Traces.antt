@@ -4,7 +4,7 @@ use Rattle.std.specs.Prelude.{if◌then◌else◌}
 use Rattle.std.specs.List.{flat_map}
 use Rattle.council_core.specs.Ledgers.{Ledger}
 use Rattle.council_core.specs.declared.refusals.Refusal.TheVariants.{BadReader, BadRecord}
-use Rattle.two_copy_steps.specs.Turns.{TwoCopies, after, notes}
+use Rattle.two_copy_steps.specs.Turns.{MachineState, after, notes}
 use Rattle.two_copy_steps.specs.Turns as machine
 use Rattle.two_copy_steps.specs.declared.events.Event.{Event}
 use Rattle.two_copy_steps.specs.declared.events.Event.TheVariants as event
@@ -25,23 +25,23 @@ events_of (act.Writer count) = replicate count event.Writer
 events_of (act.Reader number count) = replicate count (event.Reader number)
 
 -- the lines of what events tell
-abbrev pub told : TwoCopies → List Event → List Line
+abbrev pub told : MachineState → List Event → List Line
 told m events = flat_map note_lines (notes m events)
 
 -- the machine is taken through these events, and its notes are printed
-abbrev pub acted : Limits → TwoCopies → Act → Turn TwoCopies
+abbrev pub acted : Limits → MachineState → Act → Turn MachineState
 acted lim m a = if is_scheduled lim a then Ok (told m (events_of a), after m (events_of a)) else Err BadReader
 
-abbrev pub acted_on : Limits → TwoCopies → Option Act → Turn TwoCopies
+abbrev pub acted_on : Limits → MachineState → Option Act → Turn MachineState
 acted_on lim m None = Err BadRecord
 acted_on lim m (Some a) = acted lim m a
 
 -- what one record of a schedule does
-abbrev pub trace_step : Limits → TwoCopies → Row → Turn TwoCopies
+abbrev pub trace_step : Limits → MachineState → Row → Turn MachineState
 trace_step lim m row = acted_on lim m (act_of row)
 
 -- the machine over a register at its start
-abbrev pub trace_start : Limits → Ledger → TwoCopies
+abbrev pub trace_start : Limits → Ledger → MachineState
 trace_start lim ledger = machine.started ledger lim.readers
 
 -- what `trace` writes on these bytes, and how it ends, where memory is found and the devices work

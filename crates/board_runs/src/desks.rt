@@ -14,24 +14,25 @@ use power_index::{Evaluator, Indices};
 use std::alloc::Global;
 use std::marker::Model;
 
-/// A register, the sheet last published, and what its indices are counted with. Contracts see a
-/// desk as the sequential register.
+/// A register, the sheet last published, what its indices are counted with, and those that were
+/// counted last, if they are of this sheet. Contracts see a desk as the sequential register.
 #[derive(Drop)]
 pub(crate) struct Desk {
     register: Register,
     shown: Sheet,
     evaluator: Evaluator,
+    counted: Option<Indices>,
 }
 
 impl Model for Desk {
     ghost use Rattle.council_core.specs.Sequential.{Sequential};
-    ghost use Rattle.board_runs.specs.Desks.{IsShown, desk_of};
+    ghost use Rattle.board_runs.specs.Desks.{AreCounted, IsShown, desk_of};
 
     ghost Value = { Sequential };
 
     ghost view = { λ d. desk_of d.register d.shown };
 
-    ghost invariant = { λ d. IsShown d.register d.shown };
+    ghost invariant = { λ d. IsShown d.register d.shown × AreCounted d.counted d.shown };
 }
 
 impl Desk {
@@ -46,6 +47,7 @@ impl Desk {
                 register,
                 shown,
                 evaluator,
+                counted: None,
             }),
             Err(_) => Err(Stop::OutOfMemory),
         }
@@ -70,15 +72,29 @@ impl Desk {
         ensures after { self.new ≡ (respond self.old publish).0 }
     {
         self.shown = self.register.sheet();
+        self.counted = None;
         Answer::Published(self.register.accepted())
     }
 
-    // The indices of the sheet last published.
+    // The indices of the sheet last published, counted only where they aren't those kept.
     pub(crate) fn indices(&mut self, majority: Majority) -> Indices
         ensures counted { result ≡ indices_of majority (shown self.old) }
         ensures unchanged { self.new ≡ self.old }
     {
-        self.evaluator.set(&self.shown);
-        self.evaluator.evaluate(majority)
+        match self.counted.take() {
+            Some(indices) if indices.majority == majority => indices,
+            _ => {
+                self.evaluator.set(&self.shown);
+                self.evaluator.evaluate(majority)
+            }
+        }
+    }
+
+    // Keeps indices of the sheet last published for the next reading.
+    pub(crate) fn keep(&mut self, indices: Indices)
+        requires counted { indices ≡ indices_of indices.majority (shown self.old) }
+        ensures unchanged { self.new ≡ self.old }
+    {
+        self.counted = Some(indices);
     }
 }

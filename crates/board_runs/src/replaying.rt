@@ -48,7 +48,9 @@ fn write_reading<W: Write>(
 {
     let indices = desk.indices(majority);
     out.write_line(line_of_reading(reader, &indices))?;
-    write_chairs(indices.rows.as_slice(), out)
+    let written = write_chairs(indices.rows.as_slice(), out);
+    desk.keep(indices);
+    written
 }
 
 // Carries out a request of a reader that there is.

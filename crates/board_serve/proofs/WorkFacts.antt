@@ -1,9 +1,14 @@
 -- The work of the threads, one record more at a time.
-use Rattle.std.proofs.Common.{◌≡◌, ◌+◌, ◌≤◌, ℕ, List, [], ◌∷◌, ◌++◌, length, map, take, refl, sym, ap, subst, ◌∙◌, arith, append_assoc}
+use Rattle.std.proofs.Common.{◌≡◌, ◌+◌, ◌≤◌, ℕ, List, [], ◌∷◌, ◌++◌, length, map, take, Ok, Err, Result, refl, sym, ap, subst, ◌∙◌, arith, append_assoc}
 use Rattle.std.proofs.lemmas.List.{append-nil, length-append, map-append, take_more}
 use Rattle.std.proofs.lemmas.List.Elements.{All-append, All-cons, All-nil}
 use Rattle.std.proofs.lemmas.Grind.{flat_map-append}
-use Rattle.council_core.specs.Sequential.{Sequential, Call, Reply, respond, replies_of, state_after}
+use Rattle.std.specs.Prelude.{⊤}
+use Rattle.council_core.specs.Ledgers.{verdict_of}
+use Rattle.council_core.specs.Rolls.{IsLegal, Opening}
+use Rattle.council_core.specs.Sequential.{Sequential, Call, Reply, publish, read, respond, replies_of, state_after, submit, submitted}
+use Rattle.council_core.specs.declared.commands.Command.{Command}
+use Rattle.council_core.specs.declared.refusals.Refusal.{Refusal}
 use Rattle.council_core.specs.Sheets.{front_of}
 use Rattle.majority_rule.specs.declared.majorities.Majority.{Majority}
 use Rattle.two_copy_steps.specs.Lawful.{last_front}
@@ -12,8 +17,10 @@ use Rattle.board_share.specs.Readers.{IsLegalSheet, last_front_of}
 use Rattle.board_share.proofs.WholeReadings.{front_is}
 use Rattle.board_share.specs.Writers.{Publisher}
 use Rattle.board_text.specs.Replies.{reply_of}
+use Rattle.board_serve.specs.Jobs.{AreWritten}
 use Rattle.board_serve.specs.Parts.{call_of_order}
 use Rattle.board_serve.specs.Work.{IsRead, IsReadFrom, IsRising, IsWritten, cuts_of, cuts_of_reply, omega_at, omegas, register_of}
+use Rattle.board_serve.specs.declared.jobs.WriterJob.{WriterJob}
 use Rattle.board_serve.specs.declared.orders.Order.{Order}
 use Rattle.board_serve.specs.declared.readings.Readings.{Readings}
 use Rattle.board_text.specs.declared.replies.Answer.{Answer}
@@ -55,6 +62,32 @@ written-more before after next orders i o w v done one =
       answers = kept ∙ ap (λ (rs : List Reply). rs ++ reply_of a ∷ []) done.answers ∙ sym all;
       register = one.register ∙ ap (λ (t : Sequential). (respond t call).0) done.register ∙ sym (state-more s calls call) ∙ ap (state_after s) (sym more);
       cuts = one.cuts ∙ ap (λ (ns : List ℕ). ns ++ cuts_of_reply (reply_of a)) done.cuts ∙ sym (ap cuts_of all ∙ flat_map-append cuts_of_reply (replies_of s calls) (reply_of a ∷ []) ∙ ap (λ (ns : List ℕ). cuts_of (replies_of s calls) ++ ns) (append-nil (cuts_of_reply (reply_of a))));
+    }
+
+kept-by : (s : Sequential) (command : Command) (v : Result ⊤ Refusal) → (submitted s command v).0.ledger.opening ≡ s.ledger.opening
+kept-by s command (Ok u) = refl
+kept-by s command (Err e) = refl
+
+kept-one : (s : Sequential) (call : Call) → (respond s call).0.ledger.opening ≡ s.ledger.opening
+kept-one s (submit command) = kept-by s command (verdict_of s.ledger command)
+kept-one s publish = refl
+kept-one s read = refl
+
+-- no call changes the opening
+opening-kept : (s : Sequential) (calls : List Call) → (state_after s calls).ledger.opening ≡ s.ledger.opening
+opening-kept s [] = refl
+opening-kept s (call ∷ calls) = opening-kept (respond s call).0 calls ∙ kept-one s call
+
+-- all orders are carried out, and the journal is the writer's
+pub all-written : (job : WriterJob) (after : Publisher) (w v : Written) → IsWritten job.writer job.orders.items after w → v.answers.items ≡ w.answers.items → v.cuts.items ≡ w.cuts.items
+    → v.journal.items ≡ after.ledger.journal → IsLegal after.ledger.opening v.journal.items → AreWritten job v
+all-written job after w v done answers cuts journal legal =
+    let calls = map call_of_order job.orders.items in
+    record {
+      answers = ap (map reply_of) answers ∙ done.answers;
+      cuts = cuts ∙ done.cuts;
+      journal = journal ∙ ap (λ (s : Sequential). s.ledger.journal) done.register;
+      legal = subst (λ (l : Opening). IsLegal l v.journal.items) (ap (λ (s : Sequential). s.ledger.opening) done.register ∙ opening-kept (register_of job.writer) calls) legal;
     }
 
 pub last-more : (low : ℕ) (xs ys : List (List ℕ)) → last_front low (xs ++ ys) ≡ last_front (last_front low xs) ys

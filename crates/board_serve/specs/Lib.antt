@@ -1,7 +1,7 @@
 pub mod Parts
 pub mod Plans
 pub mod Work
-pub mod Threads
+pub mod Jobs
 pub mod Outcomes
 pub mod Serving
 pub mod Findings

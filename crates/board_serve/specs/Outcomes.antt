@@ -7,10 +7,9 @@ use Rattle.board_share.specs.Readers.{IsLegalSheet}
 use Rattle.board_text.specs.Replies.{reply_of}
 use Rattle.board_serve.specs.Plans.{Planned, calls_of, told_by}
 use Rattle.board_serve.specs.Work.{IsRising, cuts_of, omegas}
+use Rattle.board_serve.specs.declared.jobs.Done.{Done}
 use Rattle.board_serve.specs.declared.outcomes.Outcome.{Outcome}
 use Rattle.board_serve.specs.declared.served.Served.{Served}
-use Rattle.board_serve.specs.declared.threads.Asked.{Asked}
-use Rattle.board_serve.specs.declared.threads.Wrote.{Wrote}
 
 -- the sheets that each reader read
 abbrev pub sheets_of : Served → List (List (List ℕ))
@@ -21,13 +20,12 @@ abbrev pub winning_of : Served → List (List ℕ)
 winning_of s = map (λ v. v.items) s.winning.items
 
 -- what the threads brought back, put together
-pub record IsBrought (wrote : Wrote) (first second : Asked) (o : Outcome) : Type 0 where
-  pub answers : o.answers.items ≡ wrote.written.answers.items
-  pub journal : o.served.journal.items ≡ wrote.writer.ledger.journal
-  pub legal : IsLegal wrote.writer.ledger.opening o.served.journal.items
-  pub cuts : o.served.cuts.items ≡ wrote.written.cuts.items
-  pub readings : sheets_of o.served ≡ first.readings.sheets.items ∷ second.readings.sheets.items ∷ []
-  pub winning : winning_of o.served ≡ first.readings.winning.items ∷ second.readings.winning.items ∷ []
+pub record IsBrought (done : Done) (o : Outcome) : Type 0 where
+  pub answers : o.answers.items ≡ done.written.answers.items
+  pub journal : o.served.journal.items ≡ done.written.journal.items
+  pub cuts : o.served.cuts.items ≡ done.written.cuts.items
+  pub readings : sheets_of o.served ≡ done.first.sheets.items ∷ done.second.sheets.items ∷ []
+  pub winning : winning_of o.served ≡ done.first.winning.items ∷ done.second.winning.items ∷ []
 
 -- by reader, omega of each sheet at its record's majority
 abbrev pub omegas_by : List (List Majority) → List (List (List ℕ)) → List (List ℕ)

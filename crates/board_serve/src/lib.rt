@@ -3,6 +3,7 @@
 
 mod audits;
 mod gates;
+mod jobs;
 mod orders;
 mod outcomes;
 mod parts;

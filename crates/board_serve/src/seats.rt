@@ -1,30 +1,23 @@
-//! A board with its writer and two readers, each with its work.
+//! A board with its writer and two readers, each with its job.
 ghost use Rattle.std.specs.Prelude.{◌≡◌, ◌<◌, ◌^◌, ◌∷◌, [], length, vec_len, IfOk, IsOkUnless};
 ghost use Rattle.two_copy_steps.specs.declared.views.Stage.TheVariants.{AtRest};
 ghost use Rattle.board_share.specs.Openings.{beginning_of, new_publisher};
 ghost use Rattle.board_share.specs.Readers.{new_pass};
+ghost use Rattle.board_serve.specs.Jobs.{AreReady};
 ghost use Rattle.board_serve.specs.Parts.{shares_of, size_of};
-ghost use Rattle.board_serve.specs.Threads.{CanAsk, CanWrite};
+ghost use Rattle.board_serve.specs.Work.{HasRoomToRead, HasRoomToWrite};
 ghost use Rattle.board_text.specs.declared.stops.Stop.TheVariants as stop;
 
+use crate::jobs::{Jobs, ReaderJob, WriterJob};
 use crate::parts::Parts;
 use crate::readings::Readings;
-use crate::threads::{Asking, Writing};
 use crate::written::Written;
-use board_share::{Analyst, Reader, start};
+use board_share::{Analyst, Reader, Writer, start};
 use board_text::Stop;
 use council_core::Register;
-use majority_rule::Majority;
-use std::alloc::Global;
+use std::alloc::{AllocError, Global};
 
-/// The work of all three threads.
-#[derive(Drop)]
-pub(crate) struct Seats {
-    pub(crate) writing: Writing,
-    pub(crate) first: Asking,
-    pub(crate) second: Asking,
-}
-
+// The two readers.
 fn pair(mut readers: Vec<Reader>) -> (Reader, Reader)
     requires two { length readers.items ≡ 2 }
     ensures both { readers.items ≡ result.0 ∷ result.1 ∷ [] }
@@ -38,65 +31,89 @@ fn pair(mut readers: Vec<Reader>) -> (Reader, Reader)
     (first, second)
 }
 
-// A reader, with the room for its work.
-fn seat_reader(
-    alloc: Global,
-    reader: Reader,
-    number: u8,
-    asked: Vec<Majority>,
-) -> Result<Asking, Stop>
-    requires rest { reader.stage ≡ AtRest }
-    requires few { vec_len asked < 2 ^ 32 }
-    ensures ready { IfOk result CanAsk }
-    ensures reader { IfOk result (λ a. a.analyst.reader ≡ reader) }
-    ensures asked { IfOk result (λ a. a.asked ≡ asked) }
+// Both readers with the room to count indices.
+fn analysts(alloc: Global, first: Reader, second: Reader) -> Result<(Analyst, Analyst), Stop>
+    requires rest { (first.stage ≡ AtRest) × (second.stage ≡ AtRest) }
+    ensures first { IfOk result (λ a. a.0.reader ≡ first) }
+    ensures second { IfOk result (λ a. a.1.reader ≡ second) }
     ensures memory { IsOkUnless result stop.OutOfMemory }
 {
-    let Ok(analyst) = Analyst::new(alloc, reader) else {
+    let Ok(first) = Analyst::new(alloc, first) else {
         return Err(Stop::OutOfMemory);
     };
-    let Ok(room) = Readings::with_room(alloc, asked.len()) else {
+    let Ok(second) = Analyst::new(alloc, second) else {
         return Err(Stop::OutOfMemory);
     };
-    Ok(Asking {
-        analyst,
-        number,
-        asked,
-        room,
-    })
+    Ok((first, second))
 }
 
-// A board over a register, with the room for all of the work.
-pub(crate) fn seat_all(alloc: Global, register: Register, parts: Parts) -> Result<Seats, Stop>
-    requires few { size_of (shares_of parts) < 2 ^ 32 }
-    ensures ready { IfOk result (λ s. CanWrite s.writing × CanAsk s.first × CanAsk s.second) }
-    ensures writer { IfOk result (λ s. s.writing.writer ≡ new_publisher register 2) }
-    ensures orders { IfOk result (λ s. s.writing.orders ≡ parts.writer) }
-    ensures reader_1 { IfOk result (λ s. s.first.analyst.reader ≡ new_pass (beginning_of register 2) 0) }
-    ensures reader_2 { IfOk result (λ s. s.second.analyst.reader ≡ new_pass (beginning_of register 2) 1) }
-    ensures asked { IfOk result (λ s. (s.first.asked ≡ parts.first) × (s.second.asked ≡ parts.second)) }
+// A board over a register, with its writer and its two readers.
+fn seat_board(alloc: Global, register: Register) -> Result<(Writer, Analyst, Analyst), Stop>
+    ensures writer { IfOk result (λ b. b.0 ≡ new_publisher register 2) }
+    ensures reader_1 { IfOk result (λ b. b.1.reader ≡ new_pass (beginning_of register 2) 0) }
+    ensures reader_2 { IfOk result (λ b. b.2.reader ≡ new_pass (beginning_of register 2) 1) }
     ensures memory { IsOkUnless result stop.OutOfMemory }
 {
-    let Parts {
-        writer: orders,
-        first: asked,
-        second: asked_too,
-    } = parts;
     let Ok((writer, readers)) = start(alloc, register, 2) else {
         return Err(Stop::OutOfMemory);
     };
     let (first, second) = pair(readers);
-    let Ok(room) = Written::with_room(alloc, orders.len()) else {
+    let (first, second) = analysts(alloc, first, second)?;
+    Ok((writer, first, second))
+}
+
+// The room for what each thread brings back.
+fn rooms(alloc: Global, parts: &Parts) -> Result<(Written, Readings, Readings), AllocError>
+    ensures journal { IfOk result (λ r. r.0.journal.items ≡ []) }
+    ensures answers { IfOk result (λ r. r.0.answers.items ≡ []) }
+    ensures cuts { IfOk result (λ r. r.0.cuts.items ≡ []) }
+    ensures writer { IfOk result (λ r. HasRoomToWrite r.0 (vec_len parts.now.writer)) }
+    ensures sheets { IfOk result (λ r. (r.1.sheets.items ≡ []) × (r.2.sheets.items ≡ [])) }
+    ensures winning { IfOk result (λ r. (r.1.winning.items ≡ []) × (r.2.winning.items ≡ [])) }
+    ensures reader_1 { IfOk result (λ r. HasRoomToRead r.1 (vec_len parts.now.first)) }
+    ensures reader_2 { IfOk result (λ r. HasRoomToRead r.2 (vec_len parts.now.second)) }
+{
+    Ok((
+        Written::with_room(alloc, parts.writer.len())?,
+        Readings::with_room(alloc, parts.first.len())?,
+        Readings::with_room(alloc, parts.second.len())?,
+    ))
+}
+
+// A board over a register, with the jobs of its threads.
+pub(crate) fn seat_all(alloc: Global, register: Register, parts: Parts) -> Result<Jobs, Stop>
+    requires few { size_of (shares_of parts) < 2 ^ 32 }
+    ensures ready { IfOk result AreReady }
+    ensures writer { IfOk result (λ j. j.writer.writer ≡ new_publisher register 2) }
+    ensures orders { IfOk result (λ j. j.writer.orders ≡ parts.writer) }
+    ensures reader_1 { IfOk result (λ j. j.first.analyst.reader ≡ new_pass (beginning_of register 2) 0) }
+    ensures reader_2 { IfOk result (λ j. j.second.analyst.reader ≡ new_pass (beginning_of register 2) 1) }
+    ensures asked { IfOk result (λ j. (j.first.asked ≡ parts.first) × (j.second.asked ≡ parts.second)) }
+    ensures memory { IsOkUnless result stop.OutOfMemory }
+{
+    let Ok((room, first_room, second_room)) = rooms(alloc, &parts) else {
         return Err(Stop::OutOfMemory);
     };
-    let first = seat_reader(alloc, first, 1, asked)?;
-    let second = seat_reader(alloc, second, 2, asked_too)?;
-    Ok(Seats {
-        writing: Writing {
-            writer,
-            orders,
-            room,
-        },
+    let (writer, first, second) = seat_board(alloc, register)?;
+    let writer = WriterJob {
+        writer,
+        orders: parts.writer,
+        room,
+    };
+    let first = ReaderJob {
+        analyst: first,
+        number: 1,
+        asked: parts.first,
+        room: first_room,
+    };
+    let second = ReaderJob {
+        analyst: second,
+        number: 2,
+        asked: parts.second,
+        room: second_room,
+    };
+    Ok(Jobs {
+        writer,
         first,
         second,
     })

@@ -1,174 +1,135 @@
 //! One writer thread and two reader threads.
-ghost use Rattle.std.specs.Prelude.{IfOk, IsOkUnless};
-ghost use Rattle.board_serve.specs.Threads.{CanAsk, CanWrite, HasAsked, HasWritten};
+ghost use Rattle.std.specs.Prelude.{◌≡◌, Ok, Err, IfOk, IfErr, IsOkUnless};
+ghost use Rattle.board_serve.specs.Jobs.{AreDone, AreReady, CanAsk, CanWrite, HasAsked, HasWritten};
+ghost use Rattle.board_serve.specs.Work.{IsClosed, IsHeldUp};
 ghost use Rattle.board_text.specs.declared.stops.Stop.TheVariants as stop;
 
 use crate::gates::Gate;
-use crate::orders::Order;
+use crate::jobs::{Done, Jobs, ReaderJob, WriterJob};
 use crate::readings::{Readings, ask_all};
 use crate::written::{Written, write_all};
-use board_share::{Analyst, Writer};
 use board_text::Stop;
-use majority_rule::Majority;
 use std::snapshot::Snapshot;
 use std::sync::Wait;
 use std::thread;
-use std::thread::{Promise, Threads};
+use std::thread::{Promise, PromisedHandle, Scope, Threads};
 
-/// The work of the writer's thread.
+/// The writer's thread brings back what its job asks.
 #[derive(Drop)]
-pub(crate) struct Writing {
-    pub(crate) writer: Writer,
-    pub(crate) orders: Vec<Order>,
-    pub(crate) room: Written,
-}
+struct WillWrite(Snapshot<WriterJob>);
 
-/// The work of a reader's thread.
-#[derive(Drop)]
-pub(crate) struct Asking {
-    pub(crate) analyst: Analyst,
-    pub(crate) number: u8,
-    pub(crate) asked: Vec<Majority>,
-    pub(crate) room: Readings,
-}
-
-/// What the writer's thread brings back.
-#[derive(Drop)]
-pub(crate) struct Wrote {
-    pub(crate) writer: Writer,
-    pub(crate) written: Written,
-    pub(crate) end: Result<(), Stop>,
-}
-
-/// What a reader's thread brings back.
-#[derive(Drop)]
-pub(crate) struct Asked {
-    pub(crate) analyst: Analyst,
-    pub(crate) readings: Readings,
-    pub(crate) end: Result<(), Stop>,
-}
-
-fn write<G: Gate, R: Wait>(rt: &R, gate: &G, work: Writing) -> Wrote
-    requires ready { CanWrite work }
-    ensures wrote { HasWritten work result }
-{
-    let Writing {
-        writer,
-        orders,
-        room,
-    } = work;
-    let (writer, written, end) = write_all(rt, gate, writer, orders.as_slice(), room);
-    Wrote {
-        writer,
-        written,
-        end,
-    }
-}
-
-fn ask<G: Gate>(gate: &G, work: Asking) -> Asked
-    requires ready { CanAsk work }
-    ensures asked { HasAsked work result }
-{
-    let Asking {
-        analyst,
-        number,
-        asked,
-        room,
-    } = work;
-    let (analyst, readings, end) = ask_all(gate, analyst, number, asked.as_slice(), room);
-    Asked {
-        analyst,
-        readings,
-        end,
-    }
-}
-
-/// The writer's thread brings back what its work is.
-#[derive(Drop)]
-struct WillWrite(Snapshot<Writing>);
-
-impl Promise<Wrote> for WillWrite {
+impl Promise<Result<Written, Stop>> for WillWrite {
     ghost kept_by = { λ p r. HasWritten p.0.value r };
 }
 
-/// A reader's thread brings back what its work is.
+/// A reader's thread brings back what its job asks.
 #[derive(Drop)]
-struct WillAsk(Snapshot<Asking>);
+struct WillAsk(Snapshot<ReaderJob>);
 
-impl Promise<Asked> for WillAsk {
+impl Promise<Result<Readings, Stop>> for WillAsk {
     ghost kept_by = { λ p r. HasAsked p.0.value r };
 }
 
-/// What the three threads bring back.
-#[derive(Drop)]
-pub(crate) struct Ended {
-    pub(crate) wrote: Wrote,
-    pub(crate) first: Asked,
-    pub(crate) second: Asked,
+// Starts the writer's thread.
+fn start_writer<'s, E, G: Gate, R: Wait + Sync>(
+    scope: &Scope<'s, E>,
+    rt: &'s R,
+    gate: &'s G,
+    job: WriterJob,
+) -> Result<PromisedHandle<Result<Written, Stop>, WillWrite>, Stop>
+    requires ready { CanWrite job }
+    ensures promise { IfOk result (λ h. h.promise.0.value ≡ job) }
+    ensures memory { IsOkUnless result stop.OutOfMemory }
+{
+    let promise = WillWrite(Snapshot::of(&job));
+    let work = move || -> Result<Written, Stop>
+        requires ready { CanWrite job }
+        ensures written { HasWritten job result }
+    { write_all(rt, gate, job) };
+    match scope.spawn_with(promise, work) {
+        Ok(handle) => Ok(handle),
+        Err(_) => Err(Stop::OutOfMemory),
+    }
 }
 
-// Runs the three at once, and answers once all have ended. Where one can't be started, it answers
-// out of memory once those that were started have ended.
+// Starts a reader's thread.
+fn start_reader<'s, E, G: Gate>(
+    scope: &Scope<'s, E>,
+    gate: &'s G,
+    job: ReaderJob,
+) -> Result<PromisedHandle<Result<Readings, Stop>, WillAsk>, Stop>
+    requires ready { CanAsk job }
+    ensures promise { IfOk result (λ h. h.promise.0.value ≡ job) }
+    ensures memory { IsOkUnless result stop.OutOfMemory }
+{
+    let promise = WillAsk(Snapshot::of(&job));
+    let work = move || -> Result<Readings, Stop>
+        requires ready { CanAsk job }
+        ensures asked { HasAsked job result }
+    { ask_all(gate, job) };
+    match scope.spawn_with(promise, work) {
+        Ok(handle) => Ok(handle),
+        Err(_) => Err(Stop::OutOfMemory),
+    }
+}
+
+// What all brought back, where none was held up; else why the first in this order was.
+fn all_done(
+    written: Result<Written, Stop>,
+    first: Result<Readings, Stop>,
+    second: Result<Readings, Stop>,
+) -> Result<Done, Stop>
+    requires writer { IfErr written IsHeldUp }
+    requires reader_1 { IfErr first IsClosed }
+    requires reader_2 { IfErr second IsClosed }
+    ensures written { IfOk result (λ d. written ≡ Ok d.written) }
+    ensures first { IfOk result (λ d. first ≡ Ok d.first) }
+    ensures second { IfOk result (λ d. second ≡ Ok d.second) }
+    ensures causes { IfErr result IsHeldUp }
+    ensures memory_first { written ≡ Err stop.OutOfMemory → result ≡ Err stop.OutOfMemory }
+{
+    Ok(Done {
+        written: written?,
+        first: first?,
+        second: second?,
+    })
+}
+
+// Starts all three threads, and waits for them. Where one can't be started, the scope waits for those that were.
+fn run_in<'s, E, G: Gate, R: Threads + Wait + Sync>(
+    scope: &Scope<'s, E>,
+    rt: &'s R,
+    gate: &'s G,
+    jobs: Jobs,
+) -> Result<Done, Stop>
+    requires ready { AreReady jobs }
+    ensures done { IfOk result (AreDone jobs) }
+    ensures causes { IfErr result IsHeldUp }
+{
+    let writer = start_writer(scope, rt, gate, jobs.writer);
+    let first = start_reader(scope, gate, jobs.first);
+    let second = start_reader(scope, gate, jobs.second);
+    all_done(writer?.join(rt), first?.join(rt), second?.join(rt))
+}
+
+// Runs the three threads at once, and answers once all that were started have ended: out of memory where one can't be
+// started.
 pub(crate) fn run_all<G: Gate, R: Threads + Wait + Sync>(
     rt: &R,
     gate: &G,
-    writing: Writing,
-    first: Asking,
-    second: Asking,
-) -> Result<Ended, Stop>
-    requires writer { CanWrite writing }
-    requires reader_1 { CanAsk first }
-    requires reader_2 { CanAsk second }
-    ensures wrote { IfOk result (λ e. HasWritten writing e.wrote) }
-    ensures reader_1 { IfOk result (λ e. HasAsked first e.first) }
-    ensures reader_2 { IfOk result (λ e. HasAsked second e.second) }
-    ensures memory { IsOkUnless result stop.OutOfMemory }
+    jobs: Jobs,
+) -> Result<Done, Stop>
+    requires ready { AreReady jobs }
+    ensures done { IfOk result (AreDone jobs) }
+    ensures causes { IfErr result IsHeldUp }
 {
     thread::scope(
         thread::scope_env(),
         rt,
-        |scope| -> Result<Ended, Stop>
-            requires ready { CanWrite writing × CanAsk first × CanAsk second }
-            ensures wrote { IfOk result (λ e. HasWritten writing e.wrote) }
-            ensures reader_1 { IfOk result (λ e. HasAsked first e.first) }
-            ensures reader_2 { IfOk result (λ e. HasAsked second e.second) }
-            ensures memory { IsOkUnless result stop.OutOfMemory }
-        {
-            let will_write = WillWrite(Snapshot::of(&writing));
-            let to_write = move || -> Wrote
-                requires ready { CanWrite writing }
-                ensures wrote { HasWritten writing result }
-            { write(rt, gate, writing) };
-            let Ok(writes) = scope.spawn_with(will_write, to_write) else {
-                return Err(Stop::OutOfMemory);
-            };
-            let will_ask = WillAsk(Snapshot::of(&first));
-            let to_ask = move || -> Asked
-                requires ready { CanAsk first }
-                ensures asked { HasAsked first result }
-            { ask(gate, first) };
-            let Ok(asks) = scope.spawn_with(will_ask, to_ask) else {
-                let _wrote = writes.join(rt);
-                return Err(Stop::OutOfMemory);
-            };
-            let will_ask_too = WillAsk(Snapshot::of(&second));
-            let to_ask_too = move || -> Asked
-                requires ready { CanAsk second }
-                ensures asked { HasAsked second result }
-            { ask(gate, second) };
-            let Ok(asks_too) = scope.spawn_with(will_ask_too, to_ask_too) else {
-                let _wrote = writes.join(rt);
-                let _asked = asks.join(rt);
-                return Err(Stop::OutOfMemory);
-            };
-            let wrote = writes.join(rt);
-            let first = asks.join(rt);
-            let second = asks_too.join(rt);
-            Ok(Ended {
-                wrote,
-                first,
-                second,
-            })
-        },
+        |scope| -> Result<Done, Stop>
+            requires ready { AreReady jobs }
+            ensures done { IfOk result (AreDone jobs) }
+            ensures causes { IfErr result IsHeldUp }
+        { run_in(scope, rt, gate, jobs) },
     )
 }

@@ -4,11 +4,13 @@ ghost use Rattle.std.specs.Prelude.{vec_len, IfOk, IfErr, OnOk, IsOkUnless};
 ghost use Rattle.std.specs.Vec.{vec_capacity};
 ghost use Rattle.council_core.specs.Sequential.{respond, submit};
 ghost use Rattle.board_text.specs.Replies.{reply_of};
+ghost use Rattle.board_serve.specs.Jobs.{CanWrite, HasWritten};
 ghost use Rattle.board_serve.specs.Parts.{call_of_order};
-ghost use Rattle.board_serve.specs.Work.{HasRoomToWrite, IsClosed, IsHeldUp, IsWritten, cuts_of_reply, register_of};
+ghost use Rattle.board_serve.specs.Work.{HasRoomToWrite, IsClosed, IsHeldUp, cuts_of_reply, register_of};
 ghost use Rattle.board_text.specs.declared.stops.Stop.TheVariants as stop;
 
 use crate::gates::{Gate, Place};
+use crate::jobs::WriterJob;
 use crate::orders::Order;
 use board_share::Writer;
 use board_text::{Answer, Stop};
@@ -16,9 +18,11 @@ use council_core::{Command, Refusal};
 use std::alloc::{AllocError, Global};
 use std::sync::Wait;
 
-/// The answers to the writer's records, and the numbers that its publications answered.
+/// The answers to the writer's records, the numbers that its publications answered, and, once all are carried out, the
+/// journal.
 #[derive(Drop)]
 pub(crate) struct Written {
+    pub(crate) journal: Vec<Command>,
     pub(crate) answers: Vec<Answer>,
     pub(crate) cuts: Vec<u32>,
 }
@@ -26,11 +30,13 @@ pub(crate) struct Written {
 impl Written {
     // Room for so many records.
     pub(crate) fn with_room(alloc: Global, orders: usize) -> Result<Written, AllocError>
+        ensures journal { IfOk result (λ w. w.journal.items ≡ []) }
         ensures answers { IfOk result (λ w. w.answers.items ≡ []) }
         ensures cuts { IfOk result (λ w. w.cuts.items ≡ []) }
         ensures room { IfOk result (λ w. HasRoomToWrite w orders) }
     {
         Ok(Written {
+            journal: Vec::new(alloc),
             answers: Vec::with_capacity(alloc, orders)?,
             cuts: Vec::with_capacity(alloc, orders)?,
         })
@@ -40,6 +46,7 @@ impl Written {
     fn add(&mut self, answer: Answer)
         requires answers_fit { vec_len self.old.answers < vec_capacity self.old.answers }
         requires cuts_fit { vec_len self.old.cuts < vec_capacity self.old.cuts }
+        ensures journal { self.new.journal ≡ self.old.journal }
         ensures answers { self.new.answers.items ≡ self.old.answers.items ++ answer ∷ [] }
         ensures cuts { self.new.cuts.items ≡ self.old.cuts.items ++ cuts_of_reply (reply_of answer) }
         ensures answers_count { vec_len self.new.answers ≡ vec_len self.old.answers + 1 }
@@ -117,26 +124,23 @@ pub(crate) fn pass<G: Gate>(gate: &G, at: Place) -> Result<(), Stop>
     }
 }
 
-// Carries out the writer's records in order.
-pub(crate) fn write_all<G: Gate, R: Wait>(
-    rt: &R,
-    gate: &G,
-    mut writer: Writer,
-    orders: &[Order],
-    mut written: Written,
-) -> (Writer, Written, Result<(), Stop>)
-    requires few { length orders.now < 2 ^ 32 }
-    requires none { (written.answers.items ≡ []) × (written.cuts.items ≡ []) }
-    requires room { HasRoomToWrite written (length orders.now) }
-    ensures done { OnOk result.2 (IsWritten writer orders.now result.0 result.1) }
-    ensures causes { IfErr result.2 IsHeldUp }
+// Does the writer's job: carries out its records in order.
+pub(crate) fn write_all<G: Gate, R: Wait>(rt: &R, gate: &G, job: WriterJob) -> Result<Written, Stop>
+    requires ready { CanWrite job }
+    ensures written { HasWritten job result }
 {
+    let WriterJob {
+        mut writer,
+        orders,
+        room: mut written,
+    } = job;
     let mut publications: u32 = 0;
-    for order in orders {
-        match obey_past(rt, gate, &mut writer, *order, &mut publications) {
-            Ok(answer) => written.add(answer),
-            Err(stop) => return (writer, written, Err(stop)),
-        }
+    for order in orders.as_slice() {
+        let answer = obey_past(rt, gate, &mut writer, *order, &mut publications)?;
+        written.add(answer);
     }
-    (writer, written, Ok(()))
+    match written.journal.extend_from_slice(writer.journal()) {
+        Ok(()) => Ok(written),
+        Err(_) => Err(Stop::OutOfMemory),
+    }
 }

@@ -1,8 +1,8 @@
--- One access of a seat to the words, and the deed that it does.
+-- One access of a seat to the words, and the action that it does.
 use Rattle.std.proofs.Common.{◌≡◌, ℕ}
 use mathlib.Core.Option as maybe
 use Rattle.atomic_table.specs.Table.{Step, step}
-use Rattle.two_copy_steps.specs.Deeds.{Deed}
+use Rattle.two_copy_steps.specs.Actions.{Action}
 
 -- the table's step, its word, and what that word becomes and what the seat is told, the last two by the number found there
 pub record SeatAccess : Type 0 where
@@ -18,7 +18,7 @@ load_of slots i = record { taken = step slots i 0 0 maybe.none; word = i; become
 abbrev pub store_of : ℕ → ℕ → ℕ → SeatAccess
 store_of slots i x = record { taken = step slots i x 0 maybe.none; word = i; becomes = λ _. x; told = λ _. x }
 
--- an access does what a deed does: its word becomes the same, and what is told leads where the number found does
-pub record Does {V : Type 0} (deed : Deed V) (access : SeatAccess) : Type 0 where
-  pub becomes : (n : ℕ) → access.becomes n ≡ deed.becomes n
-  pub leads : (n : ℕ) → deed.after (access.told n) ≡ deed.after n
+-- an access does what an action does: its word becomes the same, and what is told leads where the number found does
+pub record Does {V : Type 0} (action : Action V) (access : SeatAccess) : Type 0 where
+  pub becomes : (n : ℕ) → access.becomes n ≡ action.becomes n
+  pub leads : (n : ℕ) → action.after (access.told n) ≡ action.after n

@@ -9,15 +9,16 @@ use Rattle.two_copy_steps.specs.declared.events.Event.{Event}
 use Rattle.two_copy_steps.specs.declared.events.Event.TheVariants.{Writer}
 use Rattle.two_copy_steps.specs.declared.views.WriterView.{WriterView}
 use Rattle.two_copy_steps.specs.declared.views.Phase.TheVariants.{Filling, Swapping}
-use Rattle.two_copy_steps.specs.Deeds.{Deed, place, writer_deed}
+use Rattle.two_copy_steps.specs.Actions.{Action, place, writer_action}
+use Rattle.two_copy_steps.specs.declared.table.TheConstants.{COPY_WORDS}
 use Rattle.two_copy_steps.proofs.ReaderSteps.{place_low}
 use Rattle.board_share.specs.declared.views.View.{View}
 use Rattle.board_share.specs.Histories.{Adds, KnowsAfter, is_writers}
 use Rattle.board_share.specs.Steps.{WriterActed, with_writer}
-use Rattle.board_share.specs.Writers.{FilledTo, MayFill, MayWrite, at_word, next_deed, next_me, writer_or}
+use Rattle.board_share.specs.Writers.{FilledTo, MayFill, MayWrite, at_word, next_action, next_me, writer_or}
 use Rattle.board_share.proofs.Fronts.{adds_none, adds_then}
 
-module _ (table seat : TableId) (me : Me Unit View) (l : Ledger) (copy k : ℕ) (h : MayFill table seat me l copy k) (short : k < 34) where
+module _ (table seat : TableId) (me : Me Unit View) (l : Ledger) (copy k : ℕ) (h : MayFill table seat me l copy k) (short : k < COPY_WORDS) where
   abbrev w : Opening × WriterView
   w = writer_or me.0.writer
 
@@ -29,31 +30,31 @@ module _ (table seat : TableId) (me : Me Unit View) (l : Ledger) (copy k : ℕ) 
   at =
       h.next
       ∙ ap (λ (b : Bool). let m : Me Unit View = (with_writer me.0 w.0 (record w.1 { state = record w.1.state { phase = cond b Swapping (Filling k) } }) me.0.history, me.1) in m)
-      (ne_eqb k 34 (λ e. absurd (omega arith)))
+      (ne_eqb k COPY_WORDS (λ e. absurd (omega arith)))
 
-  deed_is : next_deed None me ≡ writer_deed 34 (sheet w.0) filling
-  deed_is = ap (next_deed None) at
+  action_is : next_action None me ≡ writer_action (sheet w.0) filling
+  action_is = ap (next_action None) at
 
-  pub may_store : (i : ℕ) → i ≡ place 34 copy k → MayWrite table seat me None i
+  pub may_store : (i : ℕ) → i ≡ place copy k → MayWrite table seat me None i
   may_store i e = record {
     same = h.same;
     within = let wide = h.within in let low = place_low copy k short in omega arith;
     writes = ap (λ (m : Me Unit View). m.0.writer) at ∙ sym (ap (λ (m : Me Unit View). Some (writer_or m.0.writer)) at);
     bare = h.bare;
     may_begin = tt;
-    word = e ∙ ap (λ (c : ℕ). place 34 c k) h.copy_is ∙ ap (λ (d : Deed WriterView). d.word) (sym deed_is);
+    word = e ∙ ap (λ (c : ℕ). place c k) h.copy_is ∙ ap (λ (d : Action WriterView). d.word) (sym action_is);
   }
 
-  pub word_becomes : (x : ℕ) → x ≡ get_or (sheet_of l) k 0 → (n : ℕ) → x ≡ (next_deed None me).becomes n
+  pub word_becomes : (x : ℕ) → x ≡ get_or (sheet_of l) k 0 → (n : ℕ) → x ≡ (next_action None me).becomes n
   word_becomes x e n =
-      e ∙ (λ i. get_or (sheet (sym h.opening i) (sym h.taken i)) k 0) ∙ ap (λ (d : Deed WriterView). d.becomes n) (sym deed_is)
+      e ∙ (λ i. get_or (sheet (sym h.opening i) (sym h.taken i)) k 0) ∙ ap (λ (d : Action WriterView). d.becomes n) (sym action_is)
 
-  pub same_after : (x n : ℕ) → (next_deed None me).after x ≡ (next_deed None me).after n
-  same_after x n = subst (λ (d : Deed WriterView). d.after x ≡ d.after n) (sym deed_is) refl
+  pub same_after : (x n : ℕ) → (next_action None me).after x ≡ (next_action None me).after n
+  same_after x n = subst (λ (d : Action WriterView). d.after x ≡ d.after n) (sym action_is) refl
 
   pub word_stored : (me' : Me Unit View) (x : ℕ) → me' ≡ next_me None me x me'.0.history → WriterActed None x me.0.history me'.0.history (writer_or me.0.writer).1 (writer_or me'.0.writer).1 → FilledTo 1 (k + 1) me me'
   word_stored me' x e acted =
-      record { next = e ∙ ap (λ (d : Deed WriterView). let m : Me Unit View = (with_writer me.0 w.0 (d.after x) me'.0.history, me.1) in m) deed_is; adds = acted.adds; knows = acted.knows }
+      record { next = e ∙ ap (λ (d : Action WriterView). let m : Me Unit View = (with_writer me.0 w.0 (d.after x) me'.0.history, me.1) in m) action_is; adds = acted.adds; knows = acted.knows }
 
 -- no word was stored yet
 pub filled_none : (table seat : TableId) (me : Me Unit View) (l : Ledger) (copy k : ℕ) → MayFill table seat me l copy k → FilledTo 0 k me me

@@ -17,9 +17,9 @@ use Rattle.two_copy_steps.specs.declared.events.Note.TheVariants.{Skipped}
 use Rattle.two_copy_steps.specs.declared.views.ReaderView.{ReaderView}
 use Rattle.two_copy_steps.specs.declared.views.Stage.{Stage}
 use Rattle.two_copy_steps.specs.declared.views.Stage.TheVariants.{AtRest}
-use Rattle.two_copy_steps.specs.Deeds.{begun}
+use Rattle.two_copy_steps.specs.Actions.{begun}
 use Rattle.two_copy_steps.specs.Lawful.{read_by, written_by, begun_by}
-use Rattle.two_copy_steps.specs.Turns.{TwoCopies, turn, after, notes, started, submitted, published_by, is_pending, is_idle, reader_turn, stage_note}
+use Rattle.two_copy_steps.specs.Turns.{MachineState, turn, after, notes, started, submitted, published_by, is_pending, is_idle, reader_turn, stage_note}
 use Rattle.two_copy_steps.specs.Passes.{Passes, passed, passes, opened, record_at, viewed, reader_passed, state_of}
 use Rattle.two_copy_steps.proofs.EventLists.{after_append, notes_append}
 use Rattle.two_copy_steps.proofs.Journals.{IsAccepted}
@@ -29,16 +29,16 @@ use Rattle.board_share.specs.declared.views.History.{History}
 use Rattle.board_share.specs.Histories.{machine_of, known_after, last_note, last_told, longer}
 
 -- the cuts and records after one list of events and then another
-pub passes_append : (events more : List Event) (m : TwoCopies) (p : Passes) → passes m p (events ++ more) ≡ passes (after m events) (passes m p events) more
+pub passes_append : (events more : List Event) (m : MachineState) (p : Passes) → passes m p (events ++ more) ≡ passes (after m events) (passes m p events) more
 passes_append [] more m p = refl
 passes_append (event ∷ events) more m p = passes_append events more (turn m event).0 (passed m p event)
 
 -- there is a record for each reader
-by_submit : (m : TwoCopies) (command : Command) (v : Result ⊤ Refusal) → (submitted m command v).0.readers ≡ m.readers
+by_submit : (m : MachineState) (command : Command) (v : Result ⊤ Refusal) → (submitted m command v).0.readers ≡ m.readers
 by_submit m command (Ok u) = refl
 by_submit m command (Err refusal) = refl
 
-even_turn : (m : TwoCopies) (p : Passes) → length p.records ≡ length m.readers → (event : Event) → length (passed m p event).records ≡ length (turn m event).0.readers
+even_turn : (m : MachineState) (p : Passes) → length p.records ≡ length m.readers → (event : Event) → length (passed m p event).records ≡ length (turn m event).0.readers
 even_turn m p e (Submit command) =
     elim (is_idle m.writer.phase) as (λ b. length p.records ≡ length (cond b (submitted m command (verdict_of m.ledger command)) (m, Skipped)).0.readers)
     [ true ↦ e ∙ ap (length {A = Stage}) (sym (by_submit m command (verdict_of m.ledger command))) | false ↦ e ]
@@ -55,7 +55,7 @@ even_turn m p e (Reader (suc r)) = even_reader (slice_get m.readers r)
     even_reader None = e
     even_reader (Some stage) = length-set p.records r _ ∙ (e ∙ sym (length-set m.readers r _))
 
-even_after : (events : List Event) (m : TwoCopies) (p : Passes) → length p.records ≡ length m.readers → length (passes m p events).records ≡ length (after m events).readers
+even_after : (events : List Event) (m : MachineState) (p : Passes) → length p.records ≡ length m.readers → length (passes m p events).records ≡ length (after m events).readers
 even_after [] m p e = e
 even_after (event ∷ events) m p e = even_after events (turn m event).0 (passed m p event) (even_turn m p e event)
 
@@ -87,7 +87,7 @@ told_last h events event =
     ap (λ (l : List Event). last_note (notes m l)) (sym (append_assoc h.events events (event ∷ [])))
     ∙ (ap last_note (notes_append (h.events ++ events) (event ∷ []) m)
     ∙ (last_pushed (notes m (h.events ++ events)) (turn (after m (h.events ++ events)) event).1
-    ∙ ap (λ (n : TwoCopies). Some (turn n event).1) (machine_longer h events)))
+    ∙ ap (λ (n : MachineState). Some (turn n event).1) (machine_longer h events)))
 
 pub longer_none : (h : History) → longer h [] ≡ h
 longer_none h = ap (λ (l : List Event). let x : History = record h { events = l } in x) (append-nil h.events)
@@ -120,7 +120,7 @@ module _ (h : History) (r : ℕ) (v : ReaderView) (there : slice_get (known_afte
 
   pub reader_register : (machine_of (longer h (Reader (suc r) ∷ []))).ledger ≡ (machine_of h).ledger
   reader_register =
-      ap (λ (m : TwoCopies). m.ledger) (machine_longer h (Reader (suc r) ∷ []))
+      ap (λ (m : MachineState). m.ledger) (machine_longer h (Reader (suc r) ∷ []))
       ∙ ap (λ (o : Option Stage). (reader_turn (machine_of h) r o).0.ledger) found_there.0
 
 -- the writer hands over commands that the register accepts
@@ -144,7 +144,7 @@ room_is : (ledger : Ledger) → length ledger.journal < ledger.limit → room_of
 room_is ledger h = ap (λ (b : Bool). let x : Result ⊤ Refusal = cond b (Err JournalFull) (Ok tt) in x) (ne_eqb (length ledger.journal) ledger.limit (λ e. omega arith))
 
 -- the register with more commands
-abbrev pub with_journal : TwoCopies → List Command → TwoCopies
+abbrev pub with_journal : MachineState → List Command → MachineState
 with_journal m journal = record m { ledger = record m.ledger { journal = journal } }
 
 -- more commands fit into a register
@@ -157,49 +157,49 @@ fits_on ledger command rest h =
     let e = sym (append_assoc ledger.journal (command ∷ []) rest) in
     record { accepted = subst (IsAccepted ledger.opening) e h.accepted; within = subst (λ (l : List Command). length l ≤ ledger.limit) e h.within }
 
-submit_turn : (m : TwoCopies) (command : Command) (rest : List Command) → is_idle m.writer.phase ≡ true → Fits m.ledger (command ∷ rest) → (turn m (Submit command)).0 ≡ record m { ledger = appended m.ledger command }
+submit_turn : (m : MachineState) (command : Command) (rest : List Command) → is_idle m.writer.phase ≡ true → Fits m.ledger (command ∷ rest) → (turn m (Submit command)).0 ≡ record m { ledger = appended m.ledger command }
 submit_turn m command rest idle h =
     let within = h.within in
     let ok : verdict_of m.ledger command ≡ Ok tt = verdict_is (step (roll_of m.ledger) command) (room_of m.ledger) (accepted_there (opening_roll m.ledger.opening) m.ledger.journal command rest h.accepted)
     ∙ room_is m.ledger (omega (arith, length-append m.ledger.journal (command ∷ rest))) in
     ap (λ (b : Bool). (cond b (submitted m command (verdict_of m.ledger command)) (m, Skipped)).0) idle ∙ ap (λ (v : Result ⊤ Refusal). (submitted m command v).0) ok
 
-pub submits_turn : (rest : List Command) (m : TwoCopies) (p : Passes) → is_idle m.writer.phase ≡ true → Fits m.ledger rest
+pub submits_turn : (rest : List Command) (m : MachineState) (p : Passes) → is_idle m.writer.phase ≡ true → Fits m.ledger rest
     → (after m (map Submit rest) ≡ with_journal m (m.ledger.journal ++ rest)) × (passes m p (map Submit rest) ≡ p)
 submits_turn [] m p idle h = (ap (with_journal m) (sym (append-nil m.ledger.journal)), refl)
 submits_turn (command ∷ rest) m p idle h =
-    let n : TwoCopies = record m { ledger = appended m.ledger command } in
+    let n : MachineState = record m { ledger = appended m.ledger command } in
     let e : (turn m (Submit command)).0 ≡ n = submit_turn m command rest idle h in
     let more = submits_turn rest n p idle (fits_on m.ledger command rest h) in
-    (ap (λ (k : TwoCopies). after k (map Submit rest)) e ∙ (more.0 ∙ ap (with_journal m) (append_assoc m.ledger.journal (command ∷ []) rest)), ap (λ (k : TwoCopies). passes k p (map Submit rest)) e ∙ more.1)
+    (ap (λ (k : MachineState). after k (map Submit rest)) e ∙ (more.0 ∙ ap (with_journal m) (append_assoc m.ledger.journal (command ∷ []) rest)), ap (λ (k : MachineState). passes k p (map Submit rest)) e ∙ more.1)
 
 -- the writer's next step
 pub writer_known : (h : History) → known_after (longer h (Writer ∷ [])) ≡ written_by (machine_of h).ledger.opening (known_after h)
 writer_known h = known_longer h (Writer ∷ [])
 
 pub writer_register : (h : History) → (machine_of (longer h (Writer ∷ []))).ledger ≡ (machine_of h).ledger
-writer_register h = ap (λ (m : TwoCopies). m.ledger) (machine_longer h (Writer ∷ []))
+writer_register h = ap (λ (m : MachineState). m.ledger) (machine_longer h (Writer ∷ []))
 
 -- a publication begins over a journal that extends what the register had
 module _ (h : History) (rest : List Command) (idle : is_idle (machine_of h).writer.phase ≡ true) (fits : Fits (machine_of h).ledger rest)
     (more : length (machine_of h).writer.published < length ((machine_of h).ledger.journal ++ rest)) where
-  abbrev m : TwoCopies
+  abbrev m : MachineState
   m = machine_of h
 
   abbrev journal : List Command
   journal = m.ledger.journal ++ rest
 
   -- the machine with all commands handed over
-  abbrev handed : TwoCopies
+  abbrev handed : MachineState
   handed = with_journal m journal
 
-  begun_turn : (turn handed Publish).0 ≡ record handed { writer = begun 34 journal m.writer }
+  begun_turn : (turn handed Publish).0 ≡ record handed { writer = begun journal m.writer }
   begun_turn =
       ap (λ (b : Bool). (cond b (published_by handed (is_pending handed)) (handed, Skipped)).0) idle
       ∙ ap (λ (b : Bool). (published_by handed b).0) (lt-ltb (length m.writer.published) (length journal) more)
 
-  begin_after : after m (map Submit rest ++ Publish ∷ []) ≡ record handed { writer = begun 34 journal m.writer }
-  begin_after = after_append (map Submit rest) (Publish ∷ []) m ∙ (ap (λ (n : TwoCopies). (turn n Publish).0) (submits_turn rest m (passes_of h) idle fits).0 ∙ begun_turn)
+  begin_after : after m (map Submit rest ++ Publish ∷ []) ≡ record handed { writer = begun journal m.writer }
+  begin_after = after_append (map Submit rest) (Publish ∷ []) m ∙ (ap (λ (n : MachineState). (turn n Publish).0) (submits_turn rest m (passes_of h) idle fits).0 ∙ begun_turn)
 
   begin_passes : passes m (passes_of h) (map Submit rest ++ Publish ∷ []) ≡ passes_of h
   begin_passes = passes_append (map Submit rest) (Publish ∷ []) m (passes_of h) ∙ (submits_turn rest m (passes_of h) idle fits).1
@@ -208,4 +208,4 @@ module _ (h : History) (rest : List Command) (idle : is_idle (machine_of h).writ
   begin_known = known_longer h (map Submit rest ++ Publish ∷ []) ∙ (λ i. state_of (begin_after i) (begin_passes i))
 
   pub begin_register : (machine_of (longer h (map Submit rest ++ Publish ∷ []))).ledger ≡ record m.ledger { journal = journal }
-  begin_register = ap (λ (n : TwoCopies). n.ledger) (machine_longer h (map Submit rest ++ Publish ∷ []) ∙ begin_after)
+  begin_register = ap (λ (n : MachineState). n.ledger) (machine_longer h (map Submit rest ++ Publish ∷ []) ∙ begin_after)

@@ -10,14 +10,14 @@ use Rattle.two_copy_steps.specs.declared.events.Note.TheVariants.{Busy, Moved, P
 use Rattle.two_copy_steps.specs.declared.views.WriterView.{WriterView}
 use Rattle.two_copy_steps.specs.declared.views.Phase.{Phase}
 use Rattle.two_copy_steps.specs.declared.views.Phase.TheVariants.{Idle, Seeing, Filling, Swapping}
-use Rattle.two_copy_steps.specs.Deeds.{all_true, first_false, seeing}
+use Rattle.two_copy_steps.specs.Actions.{all_true, first_false, seeing}
 use Rattle.two_copy_steps.specs.Publications.{StaySeen}
 use Rattle.board_share.specs.declared.views.History.{History}
 use Rattle.board_share.specs.Histories.{Adds, is_writers, last_told}
 use Rattle.board_share.specs.Steps.{begin_events, step_note}
 use Rattle.board_share.specs.Writers.{Desk, known_at, Went, Wrote, Underway, IsIdle, IsSeeing, unseen}
 use Rattle.board_share.proofs.Fronts.{adds_none, adds_then}
-use Rattle.board_share.proofs.Desks.{deed_in}
+use Rattle.board_share.proofs.Desks.{action_in}
 
 -- who is seen out, one by one
 pub first_at : (bs : List Bool) (r : ℕ) → slice_get bs r ≡ Some false → all_true (take r bs) ≡ true → (first_false bs ≡ r) × (all_true bs ≡ false)
@@ -54,8 +54,8 @@ all_there (true ∷ bs) (suc q) e h = all_there bs q e (omega arith)
 all_there (false ∷ bs) q e h = absurd cc
 
 -- what the writer knows after its step from a phase
-pub knows_after : (d d' : Desk) (found : ℕ) (p : Phase) → Wrote d d' found → (known_at d).state.phase ≡ p → known_at d' ≡ (deed_in d.ledger.opening (known_at d) p).after found
-knows_after d d' found p w e = w.knows ∙ ap (λ (q : Phase). (deed_in d.ledger.opening (known_at d) q).after found) e
+pub knows_after : (d d' : Desk) (found : ℕ) (p : Phase) → Wrote d d' found → (known_at d).state.phase ≡ p → known_at d' ≡ (action_in d.ledger.opening (known_at d) p).after found
+knows_after d d' found p w e = w.knows ∙ ap (λ (q : Phase). (action_in d.ledger.opening (known_at d) q).after found) e
 
 pub way_on : (a b c : Desk) → Underway a b → Underway b c → Underway a c
 way_on a b c x y = record { ledger = y.ledger ∙ x.ledger; side = y.side ∙ x.side; published = y.published ∙ x.published; taken = y.taken ∙ x.taken; cuts = y.cuts ∙ x.cuts }
@@ -74,7 +74,7 @@ way d d' found v w e a b c k =
 
 -- a pin was loaded
 abbrev looked : WriterView → Bool → WriterView
-looked v b = record { state = cond b (seeing 34 v.state (set v.state.seen_out (first_false v.state.seen_out) true)) (record v.state { phase = Idle }); cuts = v.cuts }
+looked v b = record { state = cond b (seeing v.state (set v.state.seen_out (first_false v.state.seen_out) true)) (record v.state { phase = Idle }); cuts = v.cuts }
 
 module _ (d d' : Desk) (found : ℕ) (w : Wrote d d' found) (e : (known_at d).state.phase ≡ Seeing) (out : Bool) (is : out ≡ eqb found 0) where
   after_look : known_at d' ≡ looked (known_at d) out

@@ -10,16 +10,16 @@ use Rattle.council_core.specs.declared.commands.Command.{Command}
 use Rattle.two_copy_steps.specs.declared.views.ReaderView.{ReaderView}
 use Rattle.two_copy_steps.specs.declared.views.Stage.{Stage}
 use Rattle.two_copy_steps.specs.declared.views.Stage.TheVariants.{AtRest, Arrived, Reading, Leaving}
-use Rattle.two_copy_steps.specs.Deeds.{recorded, stage_deed}
+use Rattle.two_copy_steps.specs.Actions.{recorded, stage_action}
 use Rattle.two_copy_steps.specs.Lawful.{last_front}
-use Rattle.two_copy_steps.specs.Stages.{IsReadable, sheet_read, steps_taken}
+use Rattle.two_copy_steps.specs.Stages.{IsReadable, sheet_read, steps_taken, last_step}
 use Rattle.two_copy_steps.specs.States.{EndsWith}
 use Rattle.board_share.specs.declared.readings.Reading as reading
 use Rattle.two_copy_steps.proofs.StageFacts as stages
 use Rattle.board_share.specs.Readers.{Pass, TookStep, HasLegalRecord, IsLegalSheet, last_of, last_read}
 
 -- the steps are counted one by one
-pub counted : (p p' : Pass) → TookStep p p' → IsReadable p.stage → steps_taken p'.stage ≡ cond (eqb (steps_taken p.stage) 36) 0 (steps_taken p.stage + 1)
+pub counted : (p p' : Pass) → TookStep p p' → IsReadable p.stage → steps_taken p'.stage ≡ cond (eqb (steps_taken p.stage) last_step) 0 (steps_taken p.stage + 1)
 counted p p' t h = ap (λ (v : ReaderView). steps_taken v.stage) t.knows ∙ stages.counted p.place t.found p.stage h
 
 -- the last of some readings, with one more
@@ -43,7 +43,7 @@ front_is low (x ∷ y ∷ rest) = front_after low (front_of x) y rest
 
 -- what is answered is the last sheet of the record
 ended_at : (r : ℕ) (st : Stage) (found : ℕ) (readings : List (List ℕ)) (words : List ℕ) → sheet_read st ≡ Some words → EndsWith readings st
-    → (earlier : List (List ℕ)) × (recorded st ((stage_deed 34 r st).after found) readings ≡ earlier ++ words ∷ [])
+    → (earlier : List (List ℕ)) × (recorded st ((stage_action r st).after found) readings ≡ earlier ++ words ∷ [])
 ended_at r AtRest found readings words e h = absurd (none-some words e)
 ended_at r Arrived found readings words e h = absurd (none-some words e)
 ended_at r (Reading s ws) found readings words e h = absurd (none-some words e)

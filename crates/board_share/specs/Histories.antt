@@ -8,14 +8,14 @@ use Rattle.two_copy_steps.specs.declared.events.Event.TheVariants.{Submit, Publi
 use Rattle.two_copy_steps.specs.declared.events.Note.{Note}
 use Rattle.two_copy_steps.specs.declared.views.WriterView.{WriterView}
 use Rattle.two_copy_steps.specs.Lawful.{State}
-use Rattle.two_copy_steps.specs.Turns.{TwoCopies, started, notes}
+use Rattle.two_copy_steps.specs.Turns.{MachineState, started, notes}
 use Rattle.two_copy_steps.specs.Passes.{state_of}
 use Rattle.two_copy_steps.specs.Runs.{machine_after, passes_after}
 use Rattle.board_share.specs.declared.views.Beginning.{Beginning}
 use Rattle.board_share.specs.declared.views.History.{History}
 
 -- the machine of one thread after the events
-abbrev pub machine_of : History → TwoCopies
+abbrev pub machine_of : History → MachineState
 machine_of h = machine_after h.begun.register h.begun.readers h.events
 
 -- the words, and what the writer and each reader know then

@@ -13,10 +13,11 @@ use Rattle.two_copy_steps.specs.declared.events.Note.TheVariants.{Read}
 use Rattle.two_copy_steps.specs.declared.views.ReaderView.{ReaderView}
 use Rattle.two_copy_steps.specs.declared.views.Stage.{Stage}
 use Rattle.two_copy_steps.specs.declared.views.Stage.TheVariants.{AtRest}
-use Rattle.two_copy_steps.specs.Deeds.{pin, reader_deed}
+use Rattle.two_copy_steps.specs.Actions.{pin, reader_action}
 use Rattle.two_copy_steps.specs.Stages.{reading_steps}
 use Rattle.two_copy_steps.specs.States.{IsKnown}
 use Rattle.two_copy_steps.specs.Turns.{stage_note}
+use Rattle.two_copy_steps.specs.declared.table.TheConstants.{READERS}
 use Rattle.board_share.specs.declared.views.View.{View}
 use Rattle.board_share.specs.declared.views.Beginning.{Beginning}
 use Rattle.board_share.specs.declared.views.History.{History}
@@ -50,7 +51,7 @@ new_pass begun r = record {
 -- the reader took one step of the machine, on some word found
 pub record TookStep (before after : Pass) : Type 0 where
   pub found : ℕ
-  pub knows : known_by after ≡ (reader_deed 34 before.place (known_by before)).after found
+  pub knows : known_by after ≡ (reader_action before.place (known_by before)).after found
 
 -- which reader it is, counted from 1
 abbrev pub number_of : Pass → ℕ
@@ -107,8 +108,8 @@ pass_of v r stage = record {
 -- a seat of the table is that of this reader alone
 pub record IsReader (table seat : TableId) (me : Me Unit View) (p : Pass) : Type 0 where
   pub same : seat ≡ table
-  pub within : pin 34 p.place < table.words
-  pub few : p.place < 4
+  pub within : pin p.place < table.words
+  pub few : p.place < READERS
   pub alone : me ≡ bare (reads p.history p.place (p.opening, known_by p))
   pub known : IsKnown p.opening (known_by p)
 

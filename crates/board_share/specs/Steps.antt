@@ -13,7 +13,7 @@ use Rattle.two_copy_steps.specs.declared.views.Writing.{Writing}
 use Rattle.two_copy_steps.specs.declared.views.Phase.{Phase}
 use Rattle.two_copy_steps.specs.declared.views.Phase.TheVariants.{Idle, Seeing, Filling, Swapping}
 use Rattle.two_copy_steps.specs.declared.views.WriterView.{WriterView}
-use Rattle.two_copy_steps.specs.Deeds.{first_false, reader_deed, writer_deed, begun}
+use Rattle.two_copy_steps.specs.Actions.{first_false, reader_action, writer_action, begun}
 use Rattle.two_copy_steps.specs.States.{IsKnown}
 use Rattle.two_copy_steps.specs.Turns.{stage_note}
 use Rattle.board_share.specs.declared.views.View.{View}
@@ -35,7 +35,7 @@ pub record ReaderActed (r : ℕ) (before after : History) (v w : ReaderView) : T
 abbrev pub IsStepOn : Me Unit View → ℕ → Me Unit View → Type 0
 IsStepOn me found me' =
     (r : ℕ) (opening : Opening) (v : ReaderView) (h : History) → me ≡ bare (reads h r (opening, v))
-    → let w = (reader_deed 34 r v).after found in
+    → let w = (reader_action r v).after found in
     (h' : History) × (me' ≡ bare (reads h' r (opening, w))) × IsKnown opening w × ReaderActed r h h' v w
 
 abbrev pub read_then : Step Unit → Me Unit View → ℕ → Me Unit View → Type 0
@@ -44,7 +44,7 @@ read_then st me found me' = IsStepOn me found me'
 -- the writer begins to publish these commands, if there are some
 abbrev pub begun_with : Option (List Command) → WriterView → WriterView
 begun_with None v = v
-begun_with (Some list) v = record v { state = begun 34 list v.state }
+begun_with (Some list) v = record v { state = begun list v.state }
 
 -- the seat with another writer, after a history
 abbrev pub with_writer : View → Opening → WriterView → History → View
@@ -74,6 +74,6 @@ pub record WriterActed (list : Option (List Command)) (found : ℕ) (before afte
 abbrev pub write_then : Option (List Command) → Step Unit → Me Unit View → ℕ → Me Unit View → Type 0
 write_then list st me found me' =
     (opening : Opening) (v : WriterView) → me.0.writer ≡ Some (opening, v)
-    → let w = (writer_deed 34 (sheet opening) (begun_with list v)).after found in
+    → let w = (writer_action (sheet opening) (begun_with list v)).after found in
     (me' ≡ (with_writer me.0 opening w me'.0.history, me.1))
     × WriterActed list found me.0.history me'.0.history v w

@@ -11,8 +11,9 @@ use Rattle.two_copy_steps.specs.declared.events.Event.{Event}
 use Rattle.two_copy_steps.specs.declared.events.Event.TheVariants.{Publish, Writer}
 use Rattle.two_copy_steps.specs.declared.views.WriterView.{WriterView}
 use Rattle.two_copy_steps.specs.declared.views.Phase.TheVariants.{Idle, Seeing, Filling, Swapping}
-use Rattle.two_copy_steps.specs.Deeds.{Deed, all_true, other, pin, writer_deed}
+use Rattle.two_copy_steps.specs.Actions.{Action, all_true, other, pin, writer_action}
 use Rattle.two_copy_steps.specs.Lawful.{IsPublishable}
+use Rattle.two_copy_steps.specs.declared.table.TheConstants.{COPY_WORDS, READERS}
 use Rattle.board_share.specs.declared.views.View.{View}
 use Rattle.board_share.specs.declared.views.History.{History}
 use Rattle.board_share.specs.Histories.{Adds, KnowsAfter, handed_over, is_writers, known_after, last_told, machine_of}
@@ -72,8 +73,8 @@ Begins list longer = (rest : List Command) × (list ++ rest ≡ longer)
 pub record IsWriter (table seat : TableId) (me : Me Unit View) (d : Desk) (side published : ℕ)
     (seen_out : List Bool) : Type 0 where
   pub same : seat ≡ table
-  pub within : pin 34 (length seen_out) ≤ table.words
-  pub few : length seen_out ≤ 4
+  pub within : pin (length seen_out) ≤ table.words
+  pub few : length seen_out ≤ READERS
   pub writes : me.0.writer ≡ Some (d.ledger.opening, d.held)
   pub bare : me.1 ≡ []
   pub two : side < 2
@@ -92,11 +93,11 @@ pub record Wrote (before after : Desk) (found : ℕ) : Type 0 where
   pub told : last_told after.history ≡ Some (step_note (known_at before).state (known_at before).state.phase found)
   pub ledger : after.ledger ≡ before.ledger
   pub due : after.due ≡ None
-  pub knows : known_at after ≡ (writer_deed 34 (sheet before.ledger.opening) (known_at before)).after found
+  pub knows : known_at after ≡ (writer_action (sheet before.ledger.opening) (known_at before)).after found
 
 -- the next step of a seat that is the writer's, where a publication of these commands begins with it, if there are some
-abbrev pub next_deed : Option (List Command) → Me Unit View → Deed WriterView
-next_deed list me = let w = writer_or me.0.writer in writer_deed 34 (sheet w.0) (begun_with list w.1)
+abbrev pub next_action : Option (List Command) → Me Unit View → Action WriterView
+next_action list me = let w = writer_or me.0.writer in writer_action (sheet w.0) (begun_with list w.1)
 
 -- what a step of the writer's seat asks: its word, and what becomes of it
 pub record MayWrite (table seat : TableId) (me : Me Unit View) (list : Option (List Command)) (place : ℕ)
@@ -106,23 +107,23 @@ pub record MayWrite (table seat : TableId) (me : Me Unit View) (list : Option (L
   pub writes : me.0.writer ≡ Some (writer_or me.0.writer)
   pub bare : me.1 ≡ []
   pub may_begin : MayBegin me.0.history (writer_or me.0.writer).0 (writer_or me.0.writer).1 list
-  pub word : place ≡ (next_deed list me).word
+  pub word : place ≡ (next_action list me).word
 
 -- and what it leaves, after a history
 abbrev pub next_me : Option (List Command) → Me Unit View → ℕ → History → Me Unit View
-next_me list me found h = (with_writer me.0 (writer_or me.0.writer).0 ((next_deed list me).after found) h, me.1)
+next_me list me found h = (with_writer me.0 (writer_or me.0.writer).0 ((next_action list me).after found) h, me.1)
 
 -- the writer's seat where word k of its sheet is stored next, after a history
 abbrev pub at_word : Me Unit View → ℕ → History → Me Unit View
 at_word me k h =
     let w = writer_or me.0.writer in
-    let phase = if k == 34 then Swapping else Filling k in
+    let phase = if k == COPY_WORDS then Swapping else Filling k in
     (with_writer me.0 w.0 (record w.1 { state = record w.1.state { phase = phase } }) h, me.1)
 
 -- what is asked of the writer's seat where it stores word k of a register's sheet, in this copy
 pub record MayFill (table seat : TableId) (me : Me Unit View) (ledger : Ledger) (copy k : ℕ) : Type 0 where
   pub same : seat ≡ table
-  pub within : pin 34 0 ≤ table.words
+  pub within : pin 0 ≤ table.words
   pub bare : me.1 ≡ []
   pub next : me ≡ at_word me k me.0.history
   pub opening : (writer_or me.0.writer).0 ≡ ledger.opening
@@ -165,7 +166,7 @@ pub record IsSeeing (d : Desk) : Type 0 where
 -- all commands are taken, and word k of their sheet is stored next
 pub record IsFilling (d : Desk) (k : ℕ) : Type 0 where
   pub taken : (known_at d).state.taken ≡ d.ledger.journal
-  pub phase : (known_at d).state.phase ≡ (if k == 34 then Swapping else Filling k)
+  pub phase : (known_at d).state.phase ≡ (if k == COPY_WORDS then Swapping else Filling k)
 
 -- what contracts see of the writer: its register, the commands published, the lengths of the lists published so far,
 -- who is seen out, and what happened on the board up to its last step
@@ -208,7 +209,7 @@ unseen seen_out = length (filter not seen_out)
 -- the steps of a publication: a load of the pin of each reader that isn't seen out, a store of each word, and one of
 -- side
 abbrev pub publication_steps : List Bool → ℕ
-publication_steps seen_out = unseen seen_out + (34 + 1)
+publication_steps seen_out = unseen seen_out + (COPY_WORDS + 1)
 
 -- the steps of one that is given up: a load for each reader that was seen out by it, and one for the reader in the way
 abbrev pub looks : List Bool → List Bool → ℕ

@@ -6,7 +6,7 @@ ghost use Rattle.two_copy_steps.specs.Machines.{IsFew};
 ghost use Rattle.board_share.specs.Openings.{IsSplitting, beginning_of, new_passes, new_publisher};
 
 use crate::readers::Reader;
-use crate::rule::{Board, Cut};
+use crate::rule::{Board, SplitOff};
 use crate::views::{Beginning, View};
 use crate::word_writers::WordWriter;
 use crate::writers::Writer;
@@ -18,7 +18,7 @@ use two_copy_steps::READERS;
 
 /// A board over this register, with readers numbered from 1. The register's sheet is published, and
 /// nobody has read. It is refused, and the register handed back, with `BadLimit` unless there are one
-/// to four readers, and then with `OutOfMemory`.
+/// to `READERS` readers, and then with `OutOfMemory`.
 pub fn start(
     alloc: Global,
     register: Register,
@@ -92,7 +92,7 @@ fn seat_readers(
 {
     let mut all = Vec::with_capacity(alloc, begun.readers as usize)?;
     for r in 0..begun.readers {
-        let mine = board.shared.split_seat::<Cut>(seat);
+        let mine = board.shared.split_seat::<SplitOff>(seat);
         all.push_reserved(Reader::new(Arc::try_clone(board)?, mine, r));
     }
     Ok(all)

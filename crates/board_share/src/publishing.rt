@@ -2,7 +2,7 @@
 ghost use Rattle.std.specs.Prelude.{◌≡◌, suc, ◌∷◌, ◌++◌, [], true, false, length};
 ghost use Rattle.std.specs.Prelude.{◌<◌, ◌+◌, Some, replicate, OnOk, IfOk, OnErr, IfErr, IsOk};
 ghost use Rattle.two_copy_steps.specs.declared.events.Note.TheVariants.{Busy as BusyAt, Published};
-ghost use Rattle.two_copy_steps.specs.Deeds.{all_true, first_false};
+ghost use Rattle.two_copy_steps.specs.Actions.{all_true, first_false};
 ghost use Rattle.two_copy_steps.specs.Publications.{StaySeen};
 ghost use Rattle.board_share.specs.Histories.{Adds, KnowsAfter, is_writers, last_told};
 ghost use Rattle.board_share.specs.Writers.{Underway, IsIdle, IsSeeing, IsFilling, Went, known_at, looks, publication};

@@ -4,7 +4,7 @@ ghost use Rattle.std.specs.Prelude.{IsSome, IfSome, IsTrue, if◌then◌else◌}
 ghost use Rattle.std.specs.Option.{option_map};
 ghost use Rattle.std.specs.Arc.{arc_value};
 ghost use Rattle.council_core.specs.Sheets.{front_of};
-ghost use Rattle.two_copy_steps.specs.Stages.{reading_steps, sheet_read, steps_taken};
+ghost use Rattle.two_copy_steps.specs.Stages.{last_step, reading_steps, sheet_read, steps_taken};
 ghost use Rattle.two_copy_steps.specs.declared.views.Stage.TheVariants.{AtRest};
 ghost use Rattle.board_share.specs.Readers.{HasLegalRecord, IsLegalSheet, IsReader, TookStep, last_front_of, last_of};
 ghost use Rattle.board_share.specs.Readers.{TookSteps, WasTold, number_of, pass_of};
@@ -78,8 +78,8 @@ impl Reader {
         ensures steps { TookSteps 1 self.old self.new }
         ensures told { IfSome result (λ x. WasTold self.new x.sheet) }
         ensures count { steps_taken self.new.stage
-            ≡ (if steps_taken self.old.stage == 36 then 0 else steps_taken self.old.stage + 1) }
-        ensures answer { IsSome result ↔ (steps_taken self.old.stage ≡ 36) }
+            ≡ (if steps_taken self.old.stage == last_step then 0 else steps_taken self.old.stage + 1) }
+        ensures answer { IsSome result ↔ (steps_taken self.old.stage ≡ last_step) }
         ensures words { option_map (λ x. x.sheet) result ≡ sheet_read self.old.stage }
         ensures last { IfSome result (λ x. last_of self.new ≡ Some x.sheet) }
         ensures record_legal { HasLegalRecord self.new }

@@ -2,7 +2,7 @@
 ghost use Rattle.std.specs.Prelude.{◌≡◌, ◌+◌, ◌<◌, [], take};
 ghost use Rattle.std.specs.Option.{option_map};
 ghost use Rattle.two_copy_steps.specs.declared.views.Stage.TheVariants.{AtRest, Arrived, Leaving};
-ghost use Rattle.two_copy_steps.specs.Deeds.{loaded};
+ghost use Rattle.two_copy_steps.specs.Actions.{loaded};
 ghost use Rattle.two_copy_steps.specs.Stages.{sheet_read};
 ghost use Rattle.board_share.specs.Steps.{IsStepOn};
 ghost use Rattle.board_share.specs.Readers.{IsReader, Stepped, HasRead, pass_of};
@@ -97,7 +97,7 @@ fn load_word(
         (pass_of seat.old.me.0 r (Stage.Reading side (take k words.old))) }
     requires few { k < COPY_WORDS }
     ensures { Stepped board.now.shared.table_id (pass_of seat.old.me.0 r (Stage.Reading side (take k words.old)))
-        seat.new.table_id seat.new.me (loaded COPY_WORDS side (take (k + 1) words.new)) }
+        seat.new.table_id seat.new.me (loaded side (take (k + 1) words.new)) }
 {
     words[k] = board.shared.load::<Reads>(seat, place(side, k));
 }

@@ -10,7 +10,7 @@ ghost use Rattle.council_core.specs.Verdicts.{Follows};
 ghost use Rattle.council_core.specs.declared.refusals.Refusal.TheVariants.{OutOfMemory};
 ghost use Rattle.two_copy_steps.specs.declared.events.Event.TheVariants.{Publish};
 ghost use Rattle.two_copy_steps.specs.declared.views.Phase.TheVariants.{Seeing, Filling, Swapping};
-ghost use Rattle.two_copy_steps.specs.Deeds.{all_true, first_false};
+ghost use Rattle.two_copy_steps.specs.Actions.{all_true, first_false};
 ghost use Rattle.two_copy_steps.specs.Publications.{seen_out_at};
 ghost use Rattle.board_share.specs.Histories.{KnowsAfter, handed_over, machine_of};
 ghost use Rattle.board_share.specs.Steps.{begin_events, begun_with};
@@ -93,7 +93,7 @@ impl WordWriter {
         self.published
     }
 
-    // How many readers there are, at most four.
+    // How many readers there are, at most `READERS`.
     pub(crate) fn readers(&self) -> usize
         ensures number { result ≡ length (known_at self.now).state.seen_out }
         ensures few { result ≤ READERS }

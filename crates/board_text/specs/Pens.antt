@@ -1,13 +1,18 @@
 -- What contracts see of the output.
-use Rattle.std.specs.Prelude.{◌≡◌, ℕ, ◌≤◌, List, Option}
+use Rattle.std.specs.Prelude.{◌≡◌, ℕ, ◌+◌, ◌≤◌, List, Option}
 
--- whose writer it lends, the bytes that the writer holds, where they are known, and how many interruptions were asked
--- again so far
+-- whose writer it lends, the bytes that the writer holds, where they are known, how many interruptions were asked
+-- again so far, and how many writes the writer was asked for
 pub record Pen : Type 0 where
   pub lender : ℕ
   pub held : Option (List ℕ)
   pub interrupted : ℕ
+  pub asks : ℕ
 
 -- from one moment of a run to a later one: the writer is the same, and no interruption is forgotten
 abbrev pub GoesOn : Pen → Pen → Type 0
 GoesOn before after = (after.lender ≡ before.lender) × (before.interrupted ≤ after.interrupted)
+
+-- so many writes were asked for at most, and one more for each interruption that was retried
+abbrev pub AsksAtMost : Pen → Pen → ℕ → Type 0
+AsksAtMost before after count = after.asks + before.interrupted ≤ before.asks + count + after.interrupted

@@ -7,9 +7,11 @@ use Rattle.council_core.specs.Ledgers.{Ledger, start_verdict}
 use Rattle.council_core.specs.Refusals.{code_of}
 use Rattle.council_core.specs.Rolls.{Opening}
 use Rattle.council_core.specs.Sequential.{Sequential}
+use Rattle.council_core.specs.declared.limits.TheConstants.{MAX_COMMANDS}
 use Rattle.council_core.specs.declared.refusals.Refusal.{Refusal}
 use Rattle.council_core.specs.declared.refusals.Refusal.TheVariants.{BadHeader, BadLimit, BadRecord}
 use Rattle.council_core.specs.declared.refusals.Refusal.TheVariants.{NoScript, TooLong, TooManyMembers}
+use Rattle.two_copy_steps.specs.declared.table.TheConstants.{READERS}
 use Rattle.board_text.specs.Lines.{Line, fault_line}
 use Rattle.board_text.specs.Requests.{Row, is_header, is_mark, member_of}
 use Rattle.board_text.specs.declared.bounds.Limits.{Limits}
@@ -92,9 +94,10 @@ abbrev pub opened_of : List Row → Result Opened Fault
 opened_of [] = Err (fault_at BadHeader 0)
 opened_of (r ∷ rs) = if is_header r then opening_of [] 2 rs else Err (fault_at BadHeader 0)
 
--- one to four readers, and a journal of one to a million commands
+-- readers and a journal's commands: one at least, and no more than there may be
 abbrev pub in_range : Limits → Bool
-in_range lim = nat_le 1 lim.readers && nat_le lim.readers 4 && nat_le 1 lim.journal && nat_le lim.journal 1000000
+in_range lim =
+    nat_le 1 lim.readers && nat_le lim.readers READERS && nat_le 1 lim.journal && nat_le lim.journal MAX_COMMANDS
 
 -- what the script of these bytes begins with, or the fault before it
 unfoldable pub begun_of : Limits → List ℕ → Result Begun Fault

@@ -5,8 +5,7 @@ ghost use Rattle.board_text.specs.Text.{in_range, is_reader};
 use council_core::MAX_COMMANDS;
 use two_copy_steps::READERS;
 
-/// How many readers there are, from 1 to 4, and how many commands the journal takes, from 1 to
-/// 1,000,000.
+/// How many readers there are, from 1 to `READERS`, and how many commands the journal takes, from 1 to `MAX_COMMANDS`.
 #[derive(Clone, Copy, Debug, PartialEq, Eq)]
 pub struct Limits {
     pub readers: u8,

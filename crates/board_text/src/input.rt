@@ -21,7 +21,7 @@ pub const INPUT_LIMIT: usize = 4_194_304;
 /// The most interrupted reads, and the most interrupted writes, that are retried in one run.
 pub(crate) const INTERRUPTIONS: u32 = 1000;
 
-// Each read but the last gives a byte or is an interruption.
+// The most reads: each but the last gives a byte or is an interruption, and none is asked for after one that failed.
 const READS: u32 = INPUT_LIMIT as u32 + INTERRUPTIONS + 1;
 
 // One read: how many bytes it gave, or nothing where it was interrupted and may be retried. After an error nothing is
@@ -55,6 +55,7 @@ pub(crate) fn read_input<R: Read + Drop>(
     ensures whole { IfOk result (λ text. OfInput input.old input.new (λ bytes. text.items ≡ bytes)) }
     ensures causes { IfErr result
         (λ e. (e ≡ Stop.OutOfMemory) ⊎ (e ≡ Stop.ReadFault) ⊎ (e ≡ Stop.Told (fault_at why.TooLong 0))) }
+    ensures asks { input.new.asks ≤ input.old.asks + READS }
     ensures fits { IfOk result (λ text. length text.items ≤ INPUT_LIMIT) }
     ensures too_long { IsErrOf result (Stop.Told (fault_at why.TooLong 0))
         → OfInput input.old input.new (λ bytes. INPUT_LIMIT < length bytes) }

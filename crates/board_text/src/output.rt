@@ -1,7 +1,7 @@
 //! Writing a text whole.
 ghost use Rattle.std.specs.Prelude.{◌≡◌, ◌≤◌, ◌+◌, length, IfOk};
 ghost use Rattle.board_text.specs.Output.{AppendsFront, Writes, WritesSome};
-ghost use Rattle.board_text.specs.Pens.{GoesOn};
+ghost use Rattle.board_text.specs.Pens.{AsksAtMost, GoesOn};
 ghost use Rattle.board_text.specs.Text.{line_text};
 
 use crate::input::INTERRUPTIONS;
@@ -9,12 +9,13 @@ use crate::line::{LINE, Line};
 use crate::stops::Stop;
 use std::io::{ErrorKind, Write};
 use std::marker::Model;
+use told_streams::Told;
 
 /// A writer, with how many of its interruptions were retried so far. At most 1,000 are, in a
 /// whole run.
 #[derive(Drop)]
 pub struct Output<'a, W: Write> {
-    out: &'a mut W,
+    out: Told<'a, W>,
     interrupted: u32,
 }
 
@@ -25,12 +26,13 @@ impl<'a, W: Write> Model for Output<'a, W> {
     ghost Value = { Pen };
 
     ghost view = { λ o. record {
-      lender = o.out.ghost_name;
-      held = W.contents o.out.now;
+      lender = o.out.lender;
+      held = o.out.held;
       interrupted = o.interrupted;
+      asks = o.out.asks;
     } };
 
-    ghost invariant = { λ o. o.interrupted ≤ 1000 };
+    ghost invariant = { λ o. (o.interrupted ≤ 1000) × (o.interrupted ≤ o.out.interruptions) };
 }
 
 impl<'a, W: Write> Output<'a, W> {
@@ -39,7 +41,7 @@ impl<'a, W: Write> Output<'a, W> {
         ensures held { result.held ≡ W.contents out.entry.now }
     {
         Output {
-            out,
+            out: Told::new(out),
             interrupted: 0,
         }
     }
@@ -49,11 +51,12 @@ impl<'a, W: Write> Output<'a, W> {
         ensures lender { result.ghost_name ≡ self.entry.lender }
         ensures held { W.contents result.now ≡ self.entry.held }
     {
-        self.out
+        self.out.finish()
     }
 
     // One write: how many bytes of a text it took, which is none where it was interrupted.
     fn write_some(&mut self, text: &[u8]) -> Result<usize, Stop>
+        ensures once { self.new.asks ≡ self.old.asks + 1 }
         ensures taken { WritesSome self.old.held self.new.held result text.now }
         ensures turn { IfOk result (λ n. self.old.interrupted + 1 ≤ n + self.new.interrupted) }
         ensures few { self.new.interrupted ≤ INTERRUPTIONS }
@@ -69,9 +72,11 @@ impl<'a, W: Write> Output<'a, W> {
         }
     }
 
-    // Writes all of a text. Each turn takes a byte or is an interruption that is retried.
+    // Writes all of a text. Each turn asks for one write, which takes a byte or is an interruption that is retried: so
+    // there are no more writes than bytes and retries, and none after one that failed or took nothing.
     pub(crate) fn write_text(&mut self, text: &[u8]) -> Result<(), Stop>
         ensures written { Writes self.old.held self.new.held result text.now }
+        ensures asks { AsksAtMost self.old self.new (length text.now) }
         ensures on { GoesOn self.old self.new }
     {
         let mut at = 0;
@@ -88,6 +93,7 @@ impl<'a, W: Write> Output<'a, W> {
     // Writes a text, or a front of it where the writer fails.
     fn write_front(&mut self, text: &[u8])
         ensures front { AppendsFront self.old.held self.new.held text.now }
+        ensures asks { AsksAtMost self.old self.new (length text.now) }
         ensures on { GoesOn self.old self.new }
     {
         let _ = self.write_text(text);
@@ -97,6 +103,7 @@ impl<'a, W: Write> Output<'a, W> {
     pub fn write_line(&mut self, mut line: Line) -> Result<(), Stop>
         requires room { length line + 1 ≤ LINE }
         ensures written { Writes self.old.held self.new.held result (line_text line) }
+        ensures asks { AsksAtMost self.old self.new (length (line_text line)) }
         ensures on { GoesOn self.old self.new }
     {
         line.end();

@@ -1,10 +1,10 @@
 -- What the laws of rolls and sheets rest on.
-use Rattle.std.proofs.Common.{◌≡◌, ℕ, ◌+◌, ◌-◌, ◌^◌, ◌<◌, ◌≤◌, Bool, true, false, cond, List, [], ◌∷◌, ◌++◌, length, map, take, sum_by, Option, None, Some, Result, Ok, Err, refl, sym, ap, ◌∙◌, subst, arith, All, if◌then◌else◌, slice_index, is_some, length-append}
+use Rattle.std.proofs.Common.{◌≡◌, ℕ, ◌+◌, ◌-◌, ◌^◌, ◌<◌, ◌≤◌, Bool, true, false, cond, List, [], ◌∷◌, length, map, take, sum_by, Option, None, Some, Result, Ok, Err, refl, sym, ap, ◌∙◌, subst, arith, All, if◌then◌else◌, slice_index, is_some, length-append}
 use Rattle.std.specs.Prelude.{nat_le}
 use Rattle.std.specs.List.{AllByRecursion}
 use Rattle.std.specs.Result.{result_unwrap_or}
 use Rattle.std.specs.Option.{option_map_or}
-use Rattle.std.proofs.lemmas.List.{length-take-le, take-append-le, take_at, length-map}
+use Rattle.std.proofs.lemmas.List.{length-take-le, take_at, length-map}
 use Rattle.std.proofs.lemmas.List.FromFn.{get_or-map-range_with_len}
 use Rattle.std.proofs.lemmas.Bool.Decides.{nat_tests}
 use Rattle.std.proofs.lemmas.List.Elements.{All-append, All-from_recursion, recursion_from_All}
@@ -35,10 +35,6 @@ words_cast roll (c ∷ ns) = omega (arith, word_of_open roll c, words_cast roll 
 pub cast-sheet : (roll : Roll) (front : ℕ) → cast roll ≡ cast_of (words_of roll front)
 cast-sheet roll front =
     words_cast roll chair_numbers ∙ sym (ap (sum_by weight_in) (take_at (map (chair_word roll) chair_numbers) (total roll ∷ front ∷ []) 32 refl))
-
-pub sheet_of_first : (opening : Opening) (commands : List Command) (command : Command) (front : ℕ) → front ≤ length commands
-    → sheet opening (take front (commands ++ command ∷ [])) ≡ sheet opening (take front commands)
-sheet_of_first opening commands command front within = ap (sheet opening) (take-append-le front commands (command ∷ []) within)
 
 -- the last of a sheet's numbers
 pub front-sheet : (opening : Opening) (commands : List Command) → front_of (sheet opening commands) ≡ length commands

@@ -4,11 +4,9 @@ use Rattle.std.specs.List.{sum_by, All, IsDistinct}
 use Rattle.std.proofs.lemmas.Bool.{eq-eqb, ne_eqb, cases_eq}
 use Rattle.std.proofs.lemmas.List.{append-nil, take_more, length-append, length-take, append_assoc, map-append}
 use Rattle.std.proofs.lemmas.List.Elements.{All-cons, All-nil, All-append, All-map, All-weaker, recursion_from_All}
-use Rattle.std.proofs.lemmas.List.Folds.{list_any_none}
 use Rattle.std.proofs.lemmas.List.Sums.{sum_by-cons, sum_by-append}
 use Rattle.std.proofs.lemmas.Map.Keys.{IsDistinct-cons}
 use Rattle.council_core.specs.Sheets.{Chair, open_from, weight_of, weight_in}
-use Rattle.council_core.specs.Coalitions.{has_chair}
 
 -- the chair of one word, if it is open
 abbrev pub chair_of : ℕ → ℕ → List Chair
@@ -105,14 +103,6 @@ numbers_within c (x ∷ xs) =
     rw (open_from-cons c x xs)
     (All-append P (chair_of c x) (open_from (c + 1) xs) (all_one P c x (omega arith, omega arith))
     (All-weaker (λ (ch : Chair). (c + 1 ≤ ch.0) × (ch.0 < c + 1 + length xs)) P (λ ch h. (omega (arith, h.0), omega (arith, h.1))) (open_from (c + 1) xs) (numbers_within (c + 1) xs)))
-
-pub absent_below : (n c : ℕ) (words : List ℕ) → n < c → has_chair n (open_from c words) ≡ false
-absent_below n c words h = list_any_none (λ ch. eqb ch.0 n) (open_from c words)
-    (All-weaker (λ (ch : Chair). (c ≤ ch.0) × (ch.0 < c + length words)) (λ ch. eqb ch.0 n ≡ false) (λ ch u. ne_eqb ch.0 n (λ e. absurd (omega (arith, u.0)))) (open_from c words) (numbers_within c words))
-
-pub absent_above : (n c : ℕ) (words : List ℕ) → c + length words ≤ n → has_chair n (open_from c words) ≡ false
-absent_above n c words h = list_any_none (λ ch. eqb ch.0 n) (open_from c words)
-    (All-weaker (λ (ch : Chair). (c ≤ ch.0) × (ch.0 < c + length words)) (λ ch. eqb ch.0 n ≡ false) (λ ch u. ne_eqb ch.0 n (λ e. absurd (omega (arith, u.1)))) (open_from c words) (numbers_within c words))
 
 length_one : (c word : ℕ) → length (chair_of c word) ≤ 1
 length_one c word = by_word (λ l. length l ≤ 1) c word (λ e. omega arith) (λ n. omega arith)

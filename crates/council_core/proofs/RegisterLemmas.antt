@@ -178,8 +178,3 @@ module _ (l : Ledger) (command : Command) (a : Accepts l command) where
       let same : now.entries ≡ without code es = put ∙ sym (remove_entry-first (same_code code) es place first) ∙ sym (without-removed code es) in
       let m = Mirrors-withdraw (roll_of l) a.kept a.beside.mirrors code old leaving.known leaving.unseated now.totals loss in
       written (withdrawn (roll_of l) code) leaving.effect now (subst (λ (e : List Entry). IsMirror (withdrawn (roll_of l) code) (record { entries = e; totals = now.totals })) (sym same) m)
-
-  -- the place of a member is one of theirs
-  pub place_within : (place : ℕ) (old new : Standing) → (code : List ℕ) × (place_among code (roll_of l).members ≡ Some place) × IsChange (roll_of l) command code old new → place < length a.kept.entries
-  place_within place old new planned =
-      (Found-position (same_code planned.0) a.kept.entries place (ap (place_among planned.0) a.beside.mirrors.same_members ∙ planned.1)).within

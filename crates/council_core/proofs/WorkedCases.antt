@@ -1,9 +1,10 @@
 -- Worked cases, computed by the definitions.
-use Rattle.std.proofs.Common.{◌≡◌, ℕ, List, [], ◌∷◌, ◌++◌, map, Some, None, Err, refl, replicate}
+use Rattle.std.proofs.Common.{◌≡◌, ◌^◌, ℕ, List, [], ◌∷◌, ◌++◌, map, Some, None, Err, refl, replicate}
 use Rattle.council_core.specs.Rolls.{Roll, Opening, entered, admit_member, sheet, cast, roll_after}
 use Rattle.council_core.specs.Coalitions.{eta_of, omega_of, reaching}
 use Rattle.council_core.specs.Sheets.{Chair}
 use Rattle.council_core.specs.Sequential.{Sequential, submit, publish, read, accepted, refused, published, reading, replies_of}
+use Rattle.council_core.specs.declared.limits.TheConstants.{MAX_COMMANDS, MAX_MEMBERS, MAX_TOTAL, MAX_VOTES}
 use Rattle.council_core.specs.declared.refusals.Refusal.TheVariants.{ChairOpen, JournalFull, MemberSuspended, ChairHasMembers, ChairNotOpen, UnknownMember, TooManyMembers, MemberExists, MemberSeated}
 use Rattle.council_core.specs.declared.commands.Command.{Command}
 use Rattle.council_core.specs.declared.commands.Command.TheVariants.{Open, Close, Move, SetVotes, Suspend, Restore, Admit, Withdraw}
@@ -93,3 +94,7 @@ swings_of_second = refl
 
 pub swings_of_third : eta_of (reaching 51 0) (3, 1) three ≡ 1
 swings_of_third = refl
+
+-- the limits by number, which definitions name
+pub limits : (MAX_MEMBERS ≡ 256) × (MAX_COMMANDS ≡ 1000000) × (MAX_VOTES ≡ 2 ^ 40) × (MAX_TOTAL ≡ 2 ^ 48)
+limits = (refl, refl, refl, refl)

@@ -3,6 +3,7 @@ use Rattle.std.specs.Prelude.{◌≡◌, ℕ, ◌^◌, ◌≤◌, ◌++◌, ◌�
 use Rattle.std.specs.Prelude.{map, filter, take, count_by, All, nat_eq}
 use Rattle.std.specs.List.{IsDistinct}
 use Rattle.std.specs.Cmp.Lexicographic.{pointwise}
+use Rattle.council_core.specs.declared.limits.TheConstants.{MAX_MEMBERS, MAX_VOTES}
 use Rattle.council_core.specs.Coalitions.{subsets}
 use Rattle.council_core.specs.Ledgers.{has_duplicate}
 use Rattle.council_core.specs.Rolls.{Opening, Roll, IsLegal, cast, sheet, words_of}
@@ -43,21 +44,21 @@ abbrev pub FrontLaw : Type 0
 FrontLaw = (opening : Opening) (commands : List Command) (front : ℕ) → front ≤ length commands
     → front_of (sheet opening (take front commands)) ≡ front
 
--- members that a register can start with: at most 256, no code twice, and votes in range
+-- members that a register can start with: no more than there may be, no code twice, and votes in range
 pub record IsOpening (opening : Opening) : Type 0 where
-  pub few : length opening ≤ 256
+  pub few : length opening ≤ MAX_MEMBERS
   pub apart : has_duplicate opening ≡ false
-  pub small : All (λ m. m.1 ≤ 2 ^ 40) opening
+  pub small : All (λ m. m.1 ≤ MAX_VOTES) opening
 
 -- the votes that a command sets, where it sets any, are in range
 abbrev pub SetsInRange : Command → Type 0
 SetsInRange (Open c) = Unit {0}
 SetsInRange (Close c) = Unit {0}
 SetsInRange (Move code to) = Unit {0}
-SetsInRange (SetVotes code n) = n ≤ 2 ^ 40
+SetsInRange (SetVotes code n) = n ≤ MAX_VOTES
 SetsInRange (Suspend code) = Unit {0}
 SetsInRange (Restore code) = Unit {0}
-SetsInRange (Admit code n) = n ≤ 2 ^ 40
+SetsInRange (Admit code n) = n ≤ MAX_VOTES
 SetsInRange (Withdraw code) = Unit {0}
 
 -- the sheet of a legal list of commands has the numbers of a sheet

@@ -2,6 +2,7 @@
 use Rattle.std.specs.Prelude.{ℕ, ◌≤◌, ◌==◌, if◌then◌else◌, List, [], ◌∷◌, ◌++◌, length}
 use Rattle.std.specs.Prelude.{Result, Ok, Err, ⊤, Bool, false, ◌||◌, nat_lt}
 use Rattle.std.specs.List.{list_any}
+use Rattle.council_core.specs.declared.limits.TheConstants.{MAX_COMMANDS, MAX_MEMBERS}
 use Rattle.council_core.specs.Rolls.{Roll, Opening, IsLegal, roll_after, same_code, step, sheet}
 use Rattle.council_core.specs.declared.refusals.Refusal.{Refusal}
 use Rattle.council_core.specs.declared.refusals.Refusal.TheVariants.{JournalFull, BadLimit, TooManyMembers}
@@ -17,7 +18,7 @@ pub record Ledger : Type 0 where
 pub record IsLedger (ledger : Ledger) : Type 0 where
   pub legal : IsLegal ledger.opening ledger.journal
   pub within : length ledger.journal ≤ ledger.limit
-  pub small : ledger.limit ≤ 1000000
+  pub small : ledger.limit ≤ MAX_COMMANDS
 
 abbrev pub roll_of : Ledger → Roll
 roll_of l = roll_after l.opening l.journal
@@ -50,6 +51,6 @@ has_duplicate (m ∷ ms) = list_any (λ n. same_code n.0 m.0) ms || has_duplicat
 -- what is answered to a start, out of memory aside
 abbrev pub start_verdict : Opening → ℕ → Result ⊤ Refusal
 start_verdict opening limit =
-    if limit == 0 || nat_lt 1000000 limit then Err BadLimit
-    else (if nat_lt 256 (length opening) then Err TooManyMembers
+    if limit == 0 || nat_lt MAX_COMMANDS limit then Err BadLimit
+    else (if nat_lt MAX_MEMBERS (length opening) then Err TooManyMembers
     else (if has_duplicate opening then Err DuplicateMember else Ok tt))

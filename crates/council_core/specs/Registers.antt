@@ -1,9 +1,10 @@
 -- What a register keeps beside its journal, and that it is what the roll says.
-use Rattle.std.specs.Prelude.{◌≡◌, ℕ, ◌+◌, ◌^◌, ◌≤◌, ◌<◌, true, false, if◌then◌else◌}
+use Rattle.std.specs.Prelude.{◌≡◌, ℕ, ◌+◌, ◌≤◌, ◌<◌, true, false, if◌then◌else◌}
 use Rattle.std.specs.Prelude.{List, length, sum_by, All, slice_index, None, Some, Ok}
 use Rattle.council_core.specs.Rolls.{Roll, Entry, chair_word, sits_in, total, is_open, can_receive, standing_among}
 use Rattle.council_core.specs.Rolls.{place_among, has_members, opened, closed, admitted, withdrawn, max_members, step}
 use Rattle.council_core.specs.Rolls.{update, all_accepted, opening_roll}
+use Rattle.council_core.specs.declared.limits.TheConstants.{CHAIRS, MAX_COMMANDS, MAX_VOTES}
 use Rattle.council_core.specs.declared.changes.Change.{Change}
 use Rattle.council_core.specs.declared.changes.Change.TheVariants as change
 use Rattle.council_core.specs.declared.commands.Command.{Command}
@@ -21,18 +22,18 @@ seated members c = sum_by (λ m. sits_as c m.1) members
 -- the members kept are the roll's, and so are a word and a number of members for each chair, and the total
 pub record Mirrors (roll : Roll) (entries : List Entry) (words counts : List ℕ) (sum : ℕ) : Type 0 where
   pub same_members : entries ≡ roll.members
-  pub each_word : (k : ℕ) → k < 32 → slice_index words k ≡ chair_word roll (k + 1)
-  pub each_count : (k : ℕ) → k < 32 → slice_index counts k ≡ seated roll.members (k + 1)
+  pub each_word : (k : ℕ) → k < CHAIRS → slice_index words k ≡ chair_word roll (k + 1)
+  pub each_count : (k : ℕ) → k < CHAIRS → slice_index counts k ≡ seated roll.members (k + 1)
   pub same_total : sum ≡ total roll
   pub closed_empty : (c : ℕ) → is_open roll c ≡ false → seated roll.members c ≡ 0
   pub few : length entries ≤ max_members
-  pub small : All (λ m. m.1.votes ≤ 2 ^ 40) entries
+  pub small : All (λ m. m.1.votes ≤ MAX_VOTES) entries
 
 -- what holds of every register: a legal journal within its limit, beside which stands what the roll after it says
 pub record IsKept (ledger : Ledger) (entries : List Entry) (words counts : List ℕ) (sum : ℕ) : Type 0 where
   pub legal : all_accepted (opening_roll ledger.opening) ledger.journal ≡ true
   pub within : length ledger.journal ≤ ledger.limit
-  pub small_limit : ledger.limit ≤ 1000000
+  pub small_limit : ledger.limit ≤ MAX_COMMANDS
   pub mirrors : Mirrors (roll_of ledger) entries words counts sum
 
 -- the command opens a chair that is closed

@@ -7,6 +7,7 @@ use Rattle.std.specs.Option.{option_map_or}
 use Rattle.std.specs.Map.{keys_of, lookup}
 use Rattle.std.specs.Cmp.Lexicographic.{pointwise}
 use Rattle.std.specs.Result.{result_unwrap_or}
+use Rattle.council_core.specs.declared.limits.TheConstants.{CHAIRS, MAX_COMMANDS, MAX_MEMBERS}
 use Rattle.council_core.specs.declared.refusals.Refusal.{Refusal}
 use Rattle.council_core.specs.declared.refusals.Refusal.TheVariants.{ChairOpen, ChairNotOpen, ChairHasMembers}
 use Rattle.council_core.specs.declared.refusals.Refusal.TheVariants.{UnknownMember, MemberSuspended, AlreadyThere}
@@ -118,7 +119,7 @@ with_member r code f = option_map_or f (standing_among code r.members) (Err Unkn
 
 -- how many members there may be at any moment
 abbrev pub max_members : ℕ
-max_members = 256
+max_members = MAX_MEMBERS
 
 -- with one more member, the last in order of entry
 abbrev pub admitted : Roll → List ℕ → ℕ → Roll
@@ -165,7 +166,7 @@ all_accepted r (command ∷ rest) = is_ok (step r command) && all_accepted (afte
 
 -- each command is accepted in its turn, and there are no more than a million
 abbrev pub IsLegal : Opening → List Command → Type 0
-IsLegal opening commands = IsTrue (all_accepted (opening_roll opening) commands) × (length commands ≤ 1000000)
+IsLegal opening commands = IsTrue (all_accepted (opening_roll opening) commands) × (length commands ≤ MAX_COMMANDS)
 
 -- a member's votes, unless it is suspended
 abbrev pub counted : Standing → ℕ
@@ -182,7 +183,7 @@ total r = sum_by (λ m. counted m.1) r.members
 
 -- the numbers of all chairs
 abbrev pub chair_numbers : List ℕ
-chair_numbers = range_with_len 1 32
+chair_numbers = range_with_len 1 CHAIRS
 
 abbrev pub cast : Roll → ℕ
 cast r = sum_by (λ c. if is_open r c then weight r c else 0) chair_numbers
@@ -191,7 +192,7 @@ cast r = sum_by (λ c. if is_open r c then weight r c else 0) chair_numbers
 abbrev pub chair_word : Roll → ℕ → ℕ
 chair_word r c = if is_open r c then weight r c + 1 else 0
 
--- the 34 numbers of a roll after so many commands
+-- the numbers of a roll's sheet after so many commands
 abbrev pub words_of : Roll → ℕ → List ℕ
 words_of r front = map (chair_word r) chair_numbers ++ total r ∷ front ∷ []
 

@@ -1,6 +1,7 @@
--- A sheet's 34 numbers: a word for each chair, the total, and the front.
-use Rattle.std.specs.Prelude.{ℕ, ◌+◌, ◌-◌, ◌^◌, ◌≤◌, ◌<◌, ◌==◌, Option, None, Some}
+-- A sheet's numbers: a word for each chair, the total, and the front.
+use Rattle.std.specs.Prelude.{ℕ, ◌+◌, ◌-◌, ◌≤◌, ◌<◌, ◌==◌, Option, None, Some}
 use Rattle.std.specs.Prelude.{if◌then◌else◌, List, [], ◌∷◌, sum_by, take, slice_index}
+use Rattle.council_core.specs.declared.limits.TheConstants.{CHAIRS, TOTAL, FRONT, MAX_TOTAL, MAX_COMMANDS}
 
 -- an open chair: its number and its weight
 abbrev pub Chair : Type 0
@@ -13,7 +14,7 @@ open_from c (word ∷ rest) = if word == 0 then open_from (c + 1) rest else (c, 
 
 -- the open chairs of a sheet, by number
 abbrev pub open_chairs : List ℕ → List Chair
-open_chairs words = open_from 1 (take 32 words)
+open_chairs words = open_from 1 (take CHAIRS words)
 
 -- the weight of a set of chairs
 abbrev pub weight_of : List Chair → ℕ
@@ -25,19 +26,19 @@ weight_in word = word - 1
 
 -- the votes of the open chairs
 abbrev pub cast_of : List ℕ → ℕ
-cast_of words = sum_by weight_in (take 32 words)
+cast_of words = sum_by weight_in (take CHAIRS words)
 
 abbrev pub total_of : List ℕ → ℕ
-total_of words = slice_index words 32
+total_of words = slice_index words TOTAL
 
 abbrev pub front_of : List ℕ → ℕ
-front_of words = slice_index words 33
+front_of words = slice_index words FRONT
 
 abbrev pub weight_word : List ℕ → ℕ → Option ℕ
 weight_word words c = let word = slice_index words (c - 1) in if word == 0 then None else Some (word - 1)
 
 pub record IsSheet (words : List ℕ) : Type 0 where
-  pub chairs : (k : ℕ) → k < 32 → slice_index words k ≤ 2 ^ 48 + 1
+  pub chairs : (k : ℕ) → k < CHAIRS → slice_index words k ≤ MAX_TOTAL + 1
   pub cast : cast_of words ≤ total_of words
-  pub total : total_of words ≤ 2 ^ 48
-  pub front : front_of words ≤ 1000000
+  pub total : total_of words ≤ MAX_TOTAL
+  pub front : front_of words ≤ MAX_COMMANDS

@@ -6,7 +6,7 @@ use crate::limits::MAX_VOTES;
 use crate::values::{ChairId, MemberCode, Votes};
 
 /// A change of the register. `Register::apply` says which are refused, and why.
-#[derive(Clone, Copy, Debug, PartialEq, Eq)]
+#[derive(Clone, Copy, Debug, PartialEq, Eq, Hash)]
 pub enum Command {
     /// Opens a chair that is closed.
     Open(ChairId),
@@ -31,7 +31,7 @@ pub enum Command {
 }
 
 /// What the register knows of a member beside its code.
-#[derive(Clone, Copy, Debug, PartialEq, Eq)]
+#[derive(Clone, Copy, Debug, PartialEq, Eq, Hash)]
 pub struct Standing {
     /// The member's votes, whether they count or not.
     pub votes: Votes,
@@ -58,7 +58,7 @@ impl Standing {
 }
 
 /// A member as it stands after the commands accepted.
-#[derive(Clone, Copy, Debug, PartialEq, Eq)]
+#[derive(Clone, Copy, Debug, PartialEq, Eq, Hash)]
 pub struct MemberRow {
     /// The member.
     pub code: MemberCode,

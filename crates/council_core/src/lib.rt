@@ -1,4 +1,5 @@
-//! The register of members, their votes and the chairs that cast them.
+//! An event-sourced register of members, their votes and the chairs that cast them: its state is the fold of its
+//! journal.
 #![tactic(auto)]
 
 mod changes;

@@ -4,13 +4,13 @@
 pub const CHAIRS: usize = 32;
 
 /// The place of the total among the numbers of a sheet: it stands behind a word for each chair.
-pub const TOTAL: usize = 32;
+pub const TOTAL: usize = CHAIRS;
 
 /// The place of the front among the numbers of a sheet.
-pub const FRONT: usize = 33;
+pub const FRONT: usize = TOTAL + 1;
 
 /// How many numbers a sheet has.
-pub const SHEET_WORDS: usize = 34;
+pub const SHEET_WORDS: usize = FRONT + 1;
 
 /// How many members there may be at any moment.
 pub const MAX_MEMBERS: usize = 256;

@@ -1,12 +1,14 @@
 //! Why a call is refused.
 ghost use Rattle.std.specs.Prelude.{◌≡◌, ◌≤◌, ◌==◌, length, find};
 ghost use Rattle.council_core.specs.Refusals.{code_of, name_of, refusal_of};
+ghost use Rattle.council_core.specs.declared.refusals.Refusal.TheVariants.{OutOfMemory};
 
+use std::alloc::{AllocError, AllocFailed};
 use thiserror::Error;
 
 /// Every refusal and fault of the workspace. Its number is `code`, its name is `name`, and its
 /// text, by `Display`, says the reason in words.
-#[derive(Clone, Copy, Debug, PartialEq, Eq, Error)]
+#[derive(Clone, Copy, Debug, PartialEq, Eq, Hash, Error)]
 pub enum Refusal {
     #[error("the chair is open already")]
     ChairOpen = 1,
@@ -133,6 +135,25 @@ impl Refusal {
     }
 }
 
+impl From<AllocError> for Refusal {
+    ghost from_gives = { λ _ refusal. refusal ≡ OutOfMemory };
+
+    /// A growth of memory that was not granted.
+    fn from(_: AllocError) -> Refusal {
+        Refusal::OutOfMemory
+    }
+}
+
+impl<T: Drop> From<AllocFailed<T>> for Refusal {
+    ghost from_gives = { λ _ refusal. refusal ≡ OutOfMemory };
+
+    /// A growth of memory that was not granted; the value that had no room is let go.
+    fn from(_: AllocFailed<T>) -> Refusal {
+        Refusal::OutOfMemory
+    }
+}
+
+// The first of these refusals that has a code, where there is one.
 fn first_of_code(refusals: &[Refusal], code: u8) -> Option<Refusal>
     ensures { result ≡ find (λ r. code_of r == code) refusals.now }
 {

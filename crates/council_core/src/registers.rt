@@ -50,12 +50,14 @@ impl Model for Register {
         r.members.entries r.totals.words r.totals.counts r.totals.total };
 }
 
+// Whether one of the members has this code.
 fn has_code(members: &[(MemberCode, Votes)], code: MemberCode) -> bool
     ensures { result ≡ list_any (λ n. same_code n.0 code) members.now }
 {
     members.iter().any(|other| other.0 == code)
 }
 
+// Whether two of the members have the same code.
 fn has_duplicate(members: &[(MemberCode, Votes)]) -> bool
     ensures { result ≡ has_duplicate members.now }
 {
@@ -160,18 +162,21 @@ impl Register {
         }
     }
 
+    // Whether a chair is open: its word is not 0.
     fn is_open(&self, chair: ChairId) -> bool
         ensures { result ≡ is_open (roll_of self.now) chair }
     {
         self.totals.words[place_of(chair)] != 0
     }
 
+    // Whether members sit in a chair, suspended ones counted.
     fn has_members(&self, chair: ChairId) -> bool
         ensures { result ≡ has_members (roll_of self.now) chair }
     {
         self.totals.counts[place_of(chair)] != 0
     }
 
+    // Whether a member may be seated there: in no chair, or in one that is open.
     fn can_receive(&self, to: Option<ChairId>) -> bool
         ensures { result ≡ can_receive (roll_of self.now) to }
     {
@@ -195,6 +200,7 @@ impl Register {
         }
     }
 
+    // What `Open` changes, or why it is refused.
     fn plan_open(&self, chair: ChairId) -> Result<Change, Refusal>
         ensures refused { IfErr result (λ e. step (roll_of self.now) (Open chair) ≡ Err e) }
         ensures planned { IfOk result (IsPlanned (roll_of self.now) (Open chair)) }
@@ -205,6 +211,7 @@ impl Register {
         Ok(Change::Open(chair))
     }
 
+    // What `Close` changes, or why it is refused.
     fn plan_close(&self, chair: ChairId) -> Result<Change, Refusal>
         ensures refused { IfErr result (λ e. step (roll_of self.now) (Close chair) ≡ Err e) }
         ensures planned { IfOk result (IsPlanned (roll_of self.now) (Close chair)) }
@@ -218,6 +225,7 @@ impl Register {
         Ok(Change::Close(chair))
     }
 
+    // What `Move` changes, or why it is refused.
     fn plan_move(&self, code: MemberCode, to: Option<ChairId>) -> Result<Change, Refusal>
         ensures refused { IfErr result (λ e. step (roll_of self.now) (Move code to) ≡ Err e) }
         ensures planned { IfOk result (IsPlanned (roll_of self.now) (Move code to)) }
@@ -236,6 +244,7 @@ impl Register {
         Ok(Change::Stand { place, old, new })
     }
 
+    // What `SetVotes` changes, or why it is refused.
     fn plan_set_votes(&self, code: MemberCode, votes: Votes) -> Result<Change, Refusal>
         ensures refused { IfErr result (λ e. step (roll_of self.now) (SetVotes code votes) ≡ Err e) }
         ensures planned { IfOk result (IsPlanned (roll_of self.now) (SetVotes code votes)) }
@@ -245,6 +254,7 @@ impl Register {
         Ok(Change::Stand { place, old, new })
     }
 
+    // What `Suspend` changes, or why it is refused.
     fn plan_suspend(&self, code: MemberCode) -> Result<Change, Refusal>
         ensures refused { IfErr result (λ e. step (roll_of self.now) (Suspend code) ≡ Err e) }
         ensures planned { IfOk result (IsPlanned (roll_of self.now) (Suspend code)) }
@@ -260,6 +270,7 @@ impl Register {
         Ok(Change::Stand { place, old, new })
     }
 
+    // What `Restore` changes, or why it is refused.
     fn plan_restore(&self, code: MemberCode) -> Result<Change, Refusal>
         ensures refused { IfErr result (λ e. step (roll_of self.now) (Restore code) ≡ Err e) }
         ensures planned { IfOk result (IsPlanned (roll_of self.now) (Restore code)) }
@@ -275,6 +286,7 @@ impl Register {
         Ok(Change::Stand { place, old, new })
     }
 
+    // What `Admit` changes, or why it is refused.
     fn plan_admit(&self, code: MemberCode, votes: Votes) -> Result<Change, Refusal>
         ensures refused { IfErr result (λ e. step (roll_of self.now) (Admit code votes) ≡ Err e) }
         ensures planned { IfOk result (IsPlanned (roll_of self.now) (Admit code votes)) }
@@ -288,6 +300,7 @@ impl Register {
         Ok(Change::Enter(code, votes))
     }
 
+    // What `Withdraw` changes, or why it is refused.
     fn plan_withdraw(&self, code: MemberCode) -> Result<Change, Refusal>
         ensures refused { IfErr result (λ e. step (roll_of self.now) (Withdraw code) ≡ Err e) }
         ensures planned { IfOk result (IsPlanned (roll_of self.now) (Withdraw code)) }
@@ -316,6 +329,7 @@ impl Register {
         }
     }
 
+    // Whether the journal limit leaves room for one more command.
     fn check_room(&self) -> Result<(), Refusal>
         ensures { result ≡ room_of self.now }
     {

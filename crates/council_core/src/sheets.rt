@@ -12,7 +12,7 @@ use std::marker::Model;
 /// The 34 numbers that readers see: for each chair a word, 0 where it is closed and its weight
 /// plus 1 where it is open; then the total voting power; then the front, the number of commands
 /// accepted. Weights and the total are in votes.
-#[derive(Clone, Copy, Debug, PartialEq, Eq)]
+#[derive(Clone, Copy, Debug, PartialEq, Eq, Hash)]
 pub struct Sheet {
     words: [u64; SHEET_WORDS],
 }

@@ -19,10 +19,7 @@ pub(crate) fn make_room(journal: &mut Vec<Command>) -> Result<(), Refusal>
     ensures room { OnOk result (vec_len journal.new < vec_capacity journal.new) }
     ensures memory { IsOkUnless result OutOfMemory }
 {
-    match journal.reserve(1) {
-        Ok(()) => Ok(()),
-        Err(_) => Err(Refusal::OutOfMemory),
-    }
+    Ok(journal.reserve(1)?)
 }
 
 // Writes a command down, in the room made for it.
@@ -53,6 +50,7 @@ pub(crate) fn take_out(members: &mut IndexMap<MemberCode, Standing>, place: usiz
     let _gone = members.shift_remove_index(place);
 }
 
+// The members given, in a list of their own.
 pub(crate) fn copied(
     alloc: Global,
     members: &[(MemberCode, Votes)],
@@ -60,10 +58,7 @@ pub(crate) fn copied(
     ensures ok { IfOk result (λ v. v.items ≡ members.now) }
     ensures memory { IsOkUnless result OutOfMemory }
 {
-    match Vec::from_slice(alloc, members) {
-        Ok(opening) => Ok(opening),
-        Err(_) => Err(Refusal::OutOfMemory),
-    }
+    Ok(Vec::from_slice(alloc, members)?)
 }
 
 // The members as they begin, in the order given.
@@ -95,8 +90,6 @@ pub(crate) fn enter_new(
 {
     // The prover asks for this line: a standing has a chair.
     let _nowhere: Option<ChairId> = None;
-    match members.insert(code, Standing::fresh(votes)) {
-        Ok(_) => Ok(()),
-        Err(_) => Err(Refusal::OutOfMemory),
-    }
+    members.insert(code, Standing::fresh(votes))?;
+    Ok(())
 }

@@ -10,7 +10,7 @@ use std::marker::Model;
 
 /// A chair: the Executive Director, by number from 1 to 32, who casts the votes of its members
 /// as one block (Articles of Agreement, Article XII, Section 3(i)).
-#[derive(Clone, Copy, Debug, PartialEq, Eq)]
+#[derive(Clone, Copy, Debug, PartialEq, Eq, Hash)]
 pub struct ChairId {
     number: u8,
 }
@@ -62,7 +62,7 @@ impl ChairId {
 
 /// The votes of one member, basic and quota-based votes together, from 0 to 2^40 votes (Articles
 /// of Agreement, Article XII, Section 5(a)).
-#[derive(Clone, Copy, Debug, PartialEq, Eq)]
+#[derive(Clone, Copy, Debug, PartialEq, Eq, Hash)]
 pub struct Votes {
     count: u64,
 }

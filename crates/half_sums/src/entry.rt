@@ -1,7 +1,7 @@
 //! Entries: sets of a half's chairs.
 
 /// A set of chairs of one half: a subset sum in the terms of Horowitz and Sahni (1974).
-#[derive(Clone, Copy, PartialEq, Eq, Debug)]
+#[derive(Clone, Copy, Debug, PartialEq, Eq, Hash)]
 pub struct Entry {
     /// The votes of its chairs together.
     pub sum: u64,

@@ -1,4 +1,4 @@
-//! The weights of all sets of up to sixteen chairs, in ascending order, by merging (Horowitz and Sahni 1974).
+//! Subset sums by meeting in the middle (Horowitz and Sahni 1974): a half's, for up to sixteen chairs, ascending.
 #![tactic(auto)]
 
 mod entry;

@@ -18,10 +18,10 @@ use std::marker::Model;
 use std::mem;
 
 /// The subset sums of a half of up to sixteen chairs, ascending (Horowitz and Sahni 1974).
-#[derive(Drop)]
+#[derive(Debug, Drop)]
 pub struct OrderedSums {
     ascending: SumList,
-    /// What stands here has no meaning between two calls.
+    // What stands here has no meaning between two calls.
     scratch: SumList,
 }
 
@@ -65,7 +65,7 @@ impl OrderedSums {
     }
 }
 
-/// Lists the sets of these chairs, ascending by sum. What stands in either list before is lost.
+// Lists the sets of these chairs, ascending by sum. What stands in either list before is lost.
 pub(crate) fn list(chairs: &[(u8, u64)], ascending: &mut SumList, scratch: &mut SumList)
     requires slots { All (λ chair. chair.0 < SLOTS) chairs.now }
     requires distinct { IsDistinct (λ a b. a == b) (map (λ chair. chair.0) chairs.now) }
@@ -80,13 +80,17 @@ pub(crate) fn list(chairs: &[(u8, u64)], ascending: &mut SumList, scratch: &mut 
     }
 }
 
-/// Adds a chair: each set as it was, and each set with the chair.
+// Adds a chair: each set as it was, and each set with the chair.
 fn add(ascending: &mut SumList, scratch: &mut SumList, weight: u64, bit: u16)
     requires half { IsHalf ascending.old }
     requires mirror { IsMirror ascending.old }
+
+    // The chair is new, and has room.
     requires free { All (λ e. bit_and e.mask bit ≡ 0) ascending.old }
     requires few { 2 * length ascending.old ≤ ROOM }
     requires small { All (λ e. e.sum + weight ≤ 2 ^ 48) ascending.old }
+
+    // The list after.
     ensures each_once { IsPermutation (ascending.old ++ map (joined weight bit) ascending.old) ascending.new }
     ensures half { IsHalf ascending.new }
     ensures mirror { IsMirror ascending.new }

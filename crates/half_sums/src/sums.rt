@@ -17,14 +17,14 @@ use council_core::Refusal;
 use std::alloc::Global;
 use std::marker::Model;
 
-/// The set of no chair.
+// The set of no chair.
 const NO_CHAIR: Entry = Entry { sum: 0, mask: 0 };
 
 /// The subset sums of a half of up to sixteen chairs, ascending, and the same by size (Horowitz and Sahni 1974).
-#[derive(Drop)]
+#[derive(Debug, Drop)]
 pub struct HalfSums {
     ordered: OrderedSums,
-    /// The same sets by size, and behind them those of earlier halves.
+    // The same sets by size, and behind them those of earlier halves.
     groups: Vec<Entry>,
     starts: [usize; STARTS],
 }
@@ -46,17 +46,13 @@ impl HalfSums {
         ensures memory { IsOkUnless result OutOfMemory }
     {
         let ordered = OrderedSums::new(alloc)?;
-        match Vec::from_elem(alloc, NO_CHAIR, ROOM) {
-            Ok(mut groups) => {
-                let starts = regroup(ordered.ascending(), &mut groups);
-                Ok(HalfSums {
-                    ordered,
-                    groups,
-                    starts,
-                })
-            }
-            Err(_) => Err(Refusal::OutOfMemory),
-        }
+        let mut groups = Vec::from_elem(alloc, NO_CHAIR, ROOM)?;
+        let starts = regroup(ordered.ascending(), &mut groups);
+        Ok(HalfSums {
+            ordered,
+            groups,
+            starts,
+        })
     }
 
     /// The sets of the half's chairs, ascending by sum; sets of equal sums stand in any order.
@@ -101,7 +97,7 @@ impl HalfSums {
     }
 }
 
-/// The entries from a place on, up to another.
+// The entries from a place on, up to another.
 fn part(entries: &[Entry], from: usize, to: usize) -> &[Entry]
     requires ordered { from ≤ to }
     requires within { to ≤ length entries.now }

@@ -1,4 +1,4 @@
-//! Which coalitions win, by the majorities of the Articles of Agreement.
+//! Weighted voting rules: which coalitions win, by the majorities of the Articles of Agreement.
 #![tactic(auto)]
 
 mod majorities;

@@ -1,7 +1,7 @@
 //! The kinds of majority.
 
 /// A kind of majority: which coalitions win by their weight, in votes, and their size, in chairs.
-#[derive(Clone, Copy, Debug, PartialEq, Eq)]
+#[derive(Clone, Copy, Debug, PartialEq, Eq, Hash)]
 pub enum Majority {
     /// More than half of the votes cast, all open chairs voting (Articles of Agreement, Article
     /// XII, Section 5(c)).

@@ -22,7 +22,7 @@ use swing_walk::{Counts, count_lists, swings};
 ///
 /// It takes memory once, in `new`: for each half a list of 65,536 sets of ten bytes, and as much scratch. No other
 /// call takes any.
-#[derive(Drop)]
+#[derive(Debug, Drop)]
 pub struct Evaluator {
     sheet: Sheet,
     left: OrderedSums,
@@ -107,8 +107,8 @@ impl Evaluator {
         }
     }
 
-    /// The winning coalitions of the sheet held, and the swings of each place, by the quota and the least size of a
-    /// majority.
+    // The winning coalitions of the sheet held, and the swings of each place, by the quota and the least size of a
+    // majority.
     fn tally(&self, majority: Majority, quota: u64, least_size: u8) -> SwingTally
         requires quota { (w k : ℕ) → ((quota ≤ w) × (least_size ≤ k)) ↔ IsTrue (wins majority self.now w k) }
         ensures counts { IsSwingTally self.now result }
@@ -123,7 +123,7 @@ impl Evaluator {
         }
     }
 
-    /// The pairs of the two halves that reach a quota and a least size.
+    // The pairs of the two halves that reach a quota and a least size.
     fn counts(&self, quota: u64, least_size: u8) -> Counts
         ensures counts { AreCounts quota least_size self.now result.winning
             (λ place. slice_index result.with_chair place) }
@@ -139,7 +139,7 @@ impl Evaluator {
     }
 }
 
-/// The sheet of zeros.
+// The sheet of zeros.
 fn blank() -> Sheet
     ensures zeros { result ≡ replicate SHEET_WORDS 0 }
 {

@@ -8,7 +8,7 @@ use arrayvec::ArrayVec;
 use council_core::{CHAIRS, SHEET_WORDS};
 use half_sums::{OrderedSums, SLOTS};
 
-/// The weights of the open chairs, by number.
+// The weights of the open chairs, by number.
 pub(crate) fn weights_of(words: &[u64; SHEET_WORDS]) -> ArrayVec<u64, CHAIRS>
     ensures weights { result.items ≡ weights words.now }
     ensures count { length result.items ≡ length (open_chairs words.now) }
@@ -23,7 +23,7 @@ pub(crate) fn weights_of(words: &[u64; SHEET_WORDS]) -> ArrayVec<u64, CHAIRS>
     weights
 }
 
-/// How many of so many open chairs stand on the left.
+// How many of so many open chairs stand on the left.
 pub(crate) fn on_left(chairs: usize) -> usize
     requires few { chairs ≤ CHAIRS }
     ensures half { result ≡ left_count chairs }
@@ -31,7 +31,7 @@ pub(crate) fn on_left(chairs: usize) -> usize
     chairs.div_ceil(2)
 }
 
-/// The chairs of these weights, by slot.
+// The chairs of these weights, by slot.
 fn chairs_of(weights: &[u64]) -> ArrayVec<(u8, u64), SLOTS>
     requires few { length weights.now ≤ SLOTS }
     ensures chairs { result.items ≡ slotted 0 weights.now }
@@ -43,7 +43,7 @@ fn chairs_of(weights: &[u64]) -> ArrayVec<(u8, u64), SLOTS>
     chairs
 }
 
-/// 1 where the sixteen chairs from a place on have other words, else 0.
+// 1 where the sixteen chairs from a place on have other words, else 0.
 pub(crate) fn differ(old: &[u64; SHEET_WORDS], new: &[u64; SHEET_WORDS], from: usize) -> u8
     requires place { from ≤ SLOTS }
     ensures few { result ≤ 1 }
@@ -56,7 +56,7 @@ pub(crate) fn differ(old: &[u64; SHEET_WORDS], new: &[u64; SHEET_WORDS], from: u
     }
 }
 
-/// Rebuilds a half where its weights differ.
+// Rebuilds a half where its weights differ.
 pub(crate) fn refresh(half: &mut OrderedSums, old: &[u64], new: &[u64])
     requires few { length new.now ≤ SLOTS }
     requires small { sum_by (λ n. n) new.now ≤ 2 ^ 48 }
@@ -69,7 +69,7 @@ pub(crate) fn refresh(half: &mut OrderedSums, old: &[u64], new: &[u64])
     half.rebuild(chairs_of(new).as_slice());
 }
 
-/// What stands at the seats of the open chairs, by place; 0 where a chair is closed.
+// What stands at the seats of the open chairs, by place; 0 where a chair is closed.
 pub(crate) fn by_place(
     words: &[u64; SHEET_WORDS],
     chairs: u8,
@@ -91,7 +91,7 @@ pub(crate) fn by_place(
     each
 }
 
-/// The seat of an open chair with so many before it.
+// The seat of an open chair with so many before it.
 fn seat_at(half: usize, before: usize) -> usize
     requires half { half ≤ SLOTS }
     requires before { before < half + SLOTS }

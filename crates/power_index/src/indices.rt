@@ -4,7 +4,7 @@ use council_core::{CHAIRS, ChairId};
 use majority_rule::Majority;
 
 /// An exact fraction of two whole numbers, not reduced.
-#[derive(Clone, Copy, PartialEq, Eq, Debug, Default)]
+#[derive(Clone, Copy, Debug, PartialEq, Eq, Hash, Default)]
 pub struct Fraction {
     /// The numerator.
     pub num: u64,
@@ -15,7 +15,7 @@ pub struct Fraction {
 /// The power of one open chair.
 ///
 /// A swing of a chair is a set of other open chairs that loses, and that wins once the chair is added (Banzhaf 1965).
-#[derive(Clone, Copy, PartialEq, Eq, Default)]
+#[derive(Clone, Copy, Debug, PartialEq, Eq, Hash, Default)]
 pub struct ChairPower {
     /// The chair.
     pub chair: ChairId,
@@ -36,7 +36,7 @@ pub struct ChairPower {
 /// The indices of a sheet under a majority.
 ///
 /// Names and fractions are those of Felsenthal and Machover (1998). Votes are at most 2^48, counts at most 2^32.
-#[derive(Drop)]
+#[derive(Debug, PartialEq, Eq, Drop)]
 pub struct Indices {
     /// The majority by which a coalition wins.
     pub majority: Majority,

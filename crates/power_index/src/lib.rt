@@ -1,4 +1,4 @@
-//! The exact voting power indices of a sheet, counted over all coalitions of its open chairs.
+//! The Banzhaf and Coleman indices of voting power of a sheet, exactly, over all coalitions of its open chairs.
 //!
 //! An [`Evaluator`] holds one sheet and the ordered subset sums of the two halves of its open chairs. A new sheet
 //! rebuilds only the halves whose weights differ, and an evaluation is one walk over the two lists (Horowitz and Sahni

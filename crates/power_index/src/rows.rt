@@ -10,7 +10,7 @@ use arrayvec::ArrayVec;
 use council_core::{CHAIRS, ChairId, SHEET_WORDS};
 use majority_rule::Majority;
 
-/// The winning coalitions of a sheet under a majority, and the swings of each place.
+// The winning coalitions of a sheet under a majority, and the swings of each place.
 #[derive(Clone, Copy)]
 pub(crate) struct SwingTally {
     pub(crate) majority: Majority,
@@ -18,7 +18,7 @@ pub(crate) struct SwingTally {
     pub(crate) swings: [u64; CHAIRS],
 }
 
-/// What the rows of a sheet share: the open chairs, the winning coalitions, and the swings of all chairs.
+// What the rows of a sheet share: the open chairs, the winning coalitions, and the swings of all chairs.
 #[derive(Clone, Copy)]
 struct Totals {
     chairs: u8,
@@ -26,7 +26,7 @@ struct Totals {
     swings: u64,
 }
 
-/// The number of coalitions of so many chairs.
+// The number of coalitions of so many chairs.
 pub(crate) fn coalition_count(chairs: u8) -> u64
     requires chairs { chairs ≤ CHAIRS }
     ensures same { result ≡ 2 ^ chairs }
@@ -35,7 +35,7 @@ pub(crate) fn coalition_count(chairs: u8) -> u64
     1 << chairs
 }
 
-/// A fraction, absent where its denominator is 0.
+// A fraction, absent where its denominator is 0.
 fn unless_zero(num: u64, den: u64) -> Option<Fraction>
     ensures ratio { result ≡ ratio_unless_zero num den }
 {
@@ -46,7 +46,7 @@ fn unless_zero(num: u64, den: u64) -> Option<Fraction>
     }
 }
 
-/// The chair of a place.
+// The chair of a place.
 fn chair_at(place: usize) -> ChairId
     requires place { place < CHAIRS }
     ensures number { result ≡ place + 1 }
@@ -57,7 +57,7 @@ fn chair_at(place: usize) -> ChairId
     }
 }
 
-/// The row of one chair.
+// The row of one chair.
 fn row(totals: &Totals, chair: ChairId, weight: u64, swings: u64) -> ChairPower
     requires chairs { totals.now.chairs ≤ CHAIRS }
     requires winning { totals.now.winning ≤ 2 ^ totals.now.chairs }
@@ -80,7 +80,7 @@ fn row(totals: &Totals, chair: ChairId, weight: u64, swings: u64) -> ChairPower
     }
 }
 
-/// The swings of all open chairs.
+// The swings of all open chairs.
 fn swing_sum(words: &[u64; SHEET_WORDS], tally: &SwingTally) -> u64
     requires tally { IsSwingTally words.now tally.now }
     ensures sum { result ≡ swings_among (rule_of tally.now.majority words.now) (open_chairs words.now)
@@ -95,7 +95,7 @@ fn swing_sum(words: &[u64; SHEET_WORDS], tally: &SwingTally) -> u64
     sum
 }
 
-/// A row for each open chair, by number.
+// A row for each open chair, by number.
 pub(crate) fn rows(
     words: &[u64; SHEET_WORDS],
     tally: &SwingTally,

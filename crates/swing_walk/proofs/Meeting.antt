@@ -19,126 +19,124 @@ use Rattle.swing_walk.proofs.Counting.{Splits, count_partners, count_marked, pai
 use Rattle.swing_walk.proofs.Steps.{pairs_swap, pairs_agree, turned}
 
 -- where a walk stands, over two lists that ascend
-pub record At (quota up down : ℕ) (rising falling : List Entry) : Type 0 where
+pub record At (quota up rest : ℕ) (rising falling : List Entry) : Type 0 where
   pub rising_up : IsNonDecreasingBy (λ e. e.sum) rising
   pub falling_up : IsNonDecreasingBy (λ e. e.sum) falling
-  pub between : IsBetween quota up down rising falling
+  pub between : IsBetween quota up rest rising falling
 
 -- the next rising entry is passed
-pub record Rises (quota up down : ℕ) (rising falling : List Entry) : Type 0 where
-  pub between : IsBetween quota (up + 1) down rising falling
-  pub total : pairs_where (reaches quota) (take (up + 1) rising) falling ≡ pairs_where (reaches quota) (take up rising) falling + down
+pub record Rises (quota up rest : ℕ) (rising falling : List Entry) : Type 0 where
+  pub between : IsBetween quota (up + 1) rest rising falling
+  pub total : pairs_where (reaches quota) (take (up + 1) rising) falling ≡ pairs_where (reaches quota) (take up rising) falling + (length falling - rest)
   pub marks : (slot : ℕ) → pairs_where (λ a b. reaches quota a b && has slot a) (take (up + 1) rising) falling
-      ≡ pairs_where (λ a b. reaches quota a b && has slot a) (take up rising) falling + bit_at (get_or rising up zero_entry).mask slot * down
+      ≡ pairs_where (λ a b. reaches quota a b && has slot a) (take up rising) falling + bit_at (get_or rising up zero_entry).mask slot * (length falling - rest)
 
 -- the next falling entry is passed
-pub record Falls (quota up down : ℕ) (rising falling : List Entry) : Type 0 where
-  pub between : IsBetween quota up (down + 1) rising falling
-  pub total : pairs_where (reaches quota) (drop (length falling - (down + 1)) falling) rising ≡ pairs_where (reaches quota) (drop (length falling - down) falling) rising + (length rising - up)
-  pub marks : (slot : ℕ) → pairs_where (λ a b. reaches quota a b && has slot a) (drop (length falling - (down + 1)) falling) rising
-      ≡ pairs_where (λ a b. reaches quota a b && has slot a) (drop (length falling - down) falling) rising + bit_at (get_or falling (length falling - 1 - down) zero_entry).mask slot * (length rising - up)
+pub record Falls (quota up rest : ℕ) (rising falling : List Entry) : Type 0 where
+  pub between : IsBetween quota up (rest - 1) rising falling
+  pub total : pairs_where (reaches quota) (drop (rest - 1) falling) rising ≡ pairs_where (reaches quota) (drop (rest) falling) rising + (length rising - up)
+  pub marks : (slot : ℕ) → pairs_where (λ a b. reaches quota a b && has slot a) (drop (rest - 1) falling) rising
+      ≡ pairs_where (λ a b. reaches quota a b && has slot a) (drop (rest) falling) rising + bit_at (get_or falling (rest - 1) zero_entry).mask slot * (length rising - up)
 
 -- the rising entry falls short with all falling ones but those that are passed
-rising_splits : (quota up down : ℕ) (rising falling : List Entry) → At quota up down rising falling → up < length rising →
-    (down < length falling → (get_or rising up zero_entry).sum + (get_or falling (length falling - 1 - down) zero_entry).sum < quota) →
-    Splits quota (get_or rising up zero_entry).sum (length falling - down) falling
-rising_splits quota up down rising falling s inside low =
+rising_splits : (quota up rest : ℕ) (rising falling : List Entry) → At quota up rest rising falling → up < length rising →
+    (0 < rest → (get_or rising up zero_entry).sum + (get_or falling (rest - 1) zero_entry).sum < quota) →
+    Splits quota (get_or rising up zero_entry).sum (rest) falling
+rising_splits quota up rest rising falling s inside low =
     let n : ℕ = length falling in
     record {
       within = omega arith;
       short = λ k d h.
-          let below : k < n - down = omega (arith, length-take (n - down) falling) in
-          rw (get_or-take (n - down) falling k d below) (omega (arith, low (omega arith), s.falling_up k (n - 1 - down) zero_entry (omega arith) (omega arith), sum_default falling k d zero_entry (omega arith)));
+          let below : k < rest = omega (arith, length-take rest falling) in
+          rw (get_or-take rest falling k d below) (omega (arith, low (omega arith), s.falling_up k (rest - 1) zero_entry (omega arith) (omega arith), sum_default falling k d zero_entry (omega arith)));
       reached = λ k d h.
-          let within : n - down + k < n = omega (arith, length-drop (n - down) falling) in
-          rw (get_or-drop (n - down) falling k d) (omega (arith, s.between.reached up (n - down + k) (omega arith) inside (omega arith) within, sum_default falling (n - down + k) d zero_entry within));
+          let within : rest + k < n = omega (arith, length-drop rest falling) in
+          rw (get_or-drop rest falling k d) (omega (arith, s.between.reached up (rest + k) (omega arith) inside (omega arith) within, sum_default falling (rest + k) d zero_entry within));
     }
 
 -- the falling entry reaches with all rising ones but those that are passed
-falling_splits : (quota up down : ℕ) (rising falling : List Entry) → At quota up down rising falling → down < length falling →
-    (up < length rising → quota ≤ (get_or rising up zero_entry).sum + (get_or falling (length falling - 1 - down) zero_entry).sum) →
-    Splits quota (get_or falling (length falling - 1 - down) zero_entry).sum up rising
-falling_splits quota up down rising falling s inside high =
+falling_splits : (quota up rest : ℕ) (rising falling : List Entry) → At quota up rest rising falling → 0 < rest →
+    (up < length rising → quota ≤ (get_or rising up zero_entry).sum + (get_or falling (rest - 1) zero_entry).sum) →
+    Splits quota (get_or falling (rest - 1) zero_entry).sum up rising
+falling_splits quota up rest rising falling s inside high =
     let n : ℕ = length falling in
     let up_in : up ≤ length rising = s.between.up_in in
     record {
       within = up_in;
       short = λ k d h.
           let before : k < up = omega (arith, length-take up rising) in
-          rw (get_or-take up rising k d before) (omega (arith, s.between.apart k (n - 1 - down) before (omega arith), sum_default rising k d zero_entry (omega arith)));
+          rw (get_or-take up rising k d before) (omega (arith, s.between.apart k (rest - 1) before (omega arith), sum_default rising k d zero_entry (omega arith)));
       reached = λ k d h.
           let within : up + k < length rising = omega (arith, length-drop up rising) in
           rw (get_or-drop up rising k d) (omega (arith, high (omega arith), s.rising_up up (up + k) zero_entry (omega arith) within, sum_default rising (up + k) d zero_entry within));
     }
 
-pub rises : (quota up down : ℕ) (rising falling : List Entry) → At quota up down rising falling → up < length rising →
-    (down < length falling → (get_or rising up zero_entry).sum + (get_or falling (length falling - 1 - down) zero_entry).sum < quota) →
-    Rises quota up down rising falling
-rises quota up down rising falling s inside low =
+pub rises : (quota up rest : ℕ) (rising falling : List Entry) → At quota up rest rising falling → up < length rising →
+    (0 < rest → (get_or rising up zero_entry).sum + (get_or falling (rest - 1) zero_entry).sum < quota) →
+    Rises quota up rest rising falling
+rises quota up rest rising falling s inside low =
     let n : ℕ = length falling in
     let r : Entry = get_or rising up zero_entry in
-    let b : IsBetween quota up down rising falling = s.between in
-    let split : Splits quota r.sum (n - down) falling = rising_splits quota up down rising falling s inside low in
-    let partners : n - (n - down) ≡ down = omega (arith, b.down_in) in
+    let b : IsBetween quota up rest rising falling = s.between in
+    let split : Splits quota r.sum rest falling = rising_splits quota up rest rising falling s inside low in
     record {
       between = record {
         up_in = omega arith;
-        down_in = b.down_in;
-        apart = λ k m before below. omega (arith, low (omega arith), s.rising_up k up zero_entry (omega arith) inside, s.falling_up m (n - 1 - down) zero_entry (omega arith) (omega arith));
+        rest_in = b.rest_in;
+        apart = λ k m before below. omega (arith, low (omega arith), s.rising_up k up zero_entry (omega arith) inside, s.falling_up m (rest - 1) zero_entry (omega arith) (omega arith));
         reached = λ k m from within above below. b.reached k m (omega arith) within above below;
       };
       total = pairs_more (reaches quota) rising falling up zero_entry inside
-          ∙ ap (λ c. pairs_where (reaches quota) (take up rising) falling + c) (count_partners quota (n - down) r falling split ∙ partners);
+          ∙ ap (λ c. pairs_where (reaches quota) (take up rising) falling + c) (count_partners quota rest r falling split);
       marks = λ slot. pairs_more (λ a b. reaches quota a b && has slot a) rising falling up zero_entry inside
-          ∙ ap (λ c. pairs_where (λ a b. reaches quota a b && has slot a) (take up rising) falling + c) (count_marked quota (n - down) slot r falling split ∙ ap (λ c. bit_at r.mask slot * c) partners);
+          ∙ ap (λ c. pairs_where (λ a b. reaches quota a b && has slot a) (take up rising) falling + c) (count_marked quota rest slot r falling split);
     }
 
-pub falls_at : (quota up down : ℕ) (rising falling : List Entry) → At quota up down rising falling → down < length falling →
-    (up < length rising → quota ≤ (get_or rising up zero_entry).sum + (get_or falling (length falling - 1 - down) zero_entry).sum) →
-    Falls quota up down rising falling
-falls_at quota up down rising falling s inside high =
+pub falls_at : (quota up rest : ℕ) (rising falling : List Entry) → At quota up rest rising falling → 0 < rest →
+    (up < length rising → quota ≤ (get_or rising up zero_entry).sum + (get_or falling (rest - 1) zero_entry).sum) →
+    Falls quota up rest rising falling
+falls_at quota up rest rising falling s inside high =
     let n : ℕ = length falling in
-    let at : ℕ = n - 1 - down in
+    let at : ℕ = rest - 1 in
     let f : Entry = get_or falling at zero_entry in
-    let b : IsBetween quota up down rising falling = s.between in
-    let split : Splits quota f.sum up rising = falling_splits quota up down rising falling s inside high in
-    let here : n - (down + 1) ≡ at = omega arith in
-    let behind : at + 1 ≡ n - down = omega arith in
+    let b : IsBetween quota up rest rising falling = s.between in
+    let split : Splits quota f.sum up rising = falling_splits quota up rest rising falling s inside high in
+    let behind : at + 1 ≡ rest = omega arith in
     let test : ℕ → Entry → Entry → Bool = λ slot a b. reaches quota a b && has slot a in
     record {
       between = record {
         up_in = b.up_in;
-        down_in = omega arith;
+        rest_in = omega arith;
         apart = λ k m before below. b.apart k m before (omega arith);
-        reached = λ k m from within above below. elim (cases_lt m (n - down)) as (λ _. quota ≤ (get_or rising k zero_entry).sum + (get_or falling m zero_entry).sum) [
+        reached = λ k m from within above below. elim (cases_lt m rest) as (λ _. quota ≤ (get_or rising k zero_entry).sum + (get_or falling m zero_entry).sum) [
           | inl fresh ↦ (let same : at ≡ m = omega arith in omega (arith, ap (λ i. (get_or falling i zero_entry).sum) same, high (omega arith), s.rising_up up k zero_entry from within))
           | inr passed ↦ b.reached k m from within passed below
         ];
       };
-      total = rw here (omega (arith, sum_by-drop_more (λ b. count_by (λ a. reaches quota b a) rising) falling at zero_entry (omega arith), ap (λ i. pairs_where (reaches quota) (drop i falling) rising) behind, count_partners quota up f rising split));
-      marks = λ slot. rw here (omega (arith, sum_by-drop_more (λ b. count_by (λ a. reaches quota b a && has slot b) rising) falling at zero_entry (omega arith), ap (λ i. pairs_where (test slot) (drop i falling) rising) behind, count_marked quota up slot f rising split));
+      total = omega (arith, sum_by-drop_more (λ b. count_by (λ a. reaches quota b a) rising) falling at zero_entry (omega arith), ap (λ i. pairs_where (reaches quota) (drop i falling) rising) behind, count_partners quota up f rising split);
+      marks = λ slot. omega (arith, sum_by-drop_more (λ b. count_by (λ a. reaches quota b a && has slot b) rising) falling at zero_entry (omega arith), ap (λ i. pairs_where (test slot) (drop i falling) rising) behind, count_marked quota up slot f rising split);
     }
 
 -- two walks from both ends, which have passed all entries between them
-pub record Ends (quota up down back_up back_down : ℕ) (left right : List Entry) : Type 0 where
-  pub front : IsBetween quota up down left right
-  pub back : IsBetween quota back_up back_down right left
-  pub all : up + down + (back_up + back_down) ≡ length left + length right
+pub record Ends (quota up rest back_up back_rest : ℕ) (left right : List Entry) : Type 0 where
+  pub front : IsBetween quota up rest left right
+  pub back : IsBetween quota back_up back_rest right left
+  pub all : up + back_up ≡ rest + back_rest
 
--- they meet: the back walk has passed just the left entries that the front one has not
-pub meet : (quota up down back_up back_down : ℕ) (left right : List Entry) → Ends quota up down back_up back_down left right → (up + back_down ≡ length left) × (down + back_up ≡ length right)
-meet quota up down back_up back_down left right e =
+-- they meet: the back walk has left just the left entries that the front one has passed
+pub meet : (quota up rest back_up back_rest : ℕ) (left right : List Entry) → Ends quota up rest back_up back_rest left right → (up ≡ back_rest) × (back_up ≡ rest)
+meet quota up rest back_up back_rest left right e =
     let up_in : up ≤ length left = e.front.up_in in
-    let down_in : down ≤ length right = e.front.down_in in
+    let rest_in : rest ≤ length right = e.front.rest_in in
     let back_up_in : back_up ≤ length right = e.back.up_in in
-    let back_down_in : back_down ≤ length left = e.back.down_in in
-    let all : up + down + (back_up + back_down) ≡ length left + length right = e.all in
-    let lefts : up + back_down ≡ length left = elim (cases_lt (up + back_down) (length left)) as (λ _. up + back_down ≡ length left) [
-      | inl fewer ↦ (let k : ℕ = up in let m : ℕ = length right - down in
+    let back_rest_in : back_rest ≤ length left = e.back.rest_in in
+    let all : up + back_up ≡ rest + back_rest = e.all in
+    let lefts : up ≡ back_rest = elim (cases_lt up back_rest) as (λ _. up ≡ back_rest) [
+      | inl fewer ↦ (
           -- a pair that reaches by the front walk, and falls short by the back one
-          absurd (omega (arith, e.front.reached k m (omega arith) (omega arith) (omega arith) (omega arith), e.back.apart m k (omega arith) (omega arith))))
-      | inr most ↦ elim (cases_lt (length left) (up + back_down)) as (λ _. up + back_down ≡ length left) [
-        | inl more ↦ (let k : ℕ = up - 1 in let m : ℕ = length right - down - 1 in
+          absurd (omega (arith, e.front.reached up rest (omega arith) (omega arith) (omega arith) (omega arith), e.back.apart rest up (omega arith) (omega arith))))
+      | inr most ↦ elim (cases_lt back_rest up) as (λ _. up ≡ back_rest) [
+        | inl more ↦ (let k : ℕ = up - 1 in let m : ℕ = rest - 1 in
             absurd (omega (arith, e.front.apart k m (omega arith) (omega arith), e.back.reached m k (omega arith) (omega arith) (omega arith) (omega arith))))
         | inr least ↦ omega arith
       ]
@@ -146,11 +144,10 @@ meet quota up down back_up back_down left right e =
     (lefts, omega arith)
 
 -- what the first entries and those from there on come to is what all do
-pub both_parts : (test : Entry → Entry → Bool) (entries others : List Entry) (up down : ℕ) → up + down ≡ length entries →
-    pairs_where test (take up entries) others + pairs_where test (drop (length entries - down) entries) others ≡ pairs_where test entries others
-both_parts test entries others up down all =
-    let at : length entries - down ≡ up = omega arith in
-    rw at (sum_by-take-drop (λ l. count_by (test l) others) entries up)
+pub both_parts : (test : Entry → Entry → Bool) (entries others : List Entry) (up rest : ℕ) → up ≡ rest →
+    pairs_where test (take up entries) others + pairs_where test (drop rest entries) others ≡ pairs_where test entries others
+both_parts test entries others up rest same =
+    rw same (sum_by-take-drop (λ l. count_by (test l) others) entries rest)
 
 pub cond_most : (t : Bool) (m n most : ℕ) → m ≤ most → n ≤ most → cond t m n ≤ most
 cond_most true m n most first second = first
@@ -161,117 +158,127 @@ one_of true = refl
 one_of false = refl
 
 -- a step: which entry is passed, and what the tallies of the two lists have then
-pub record Pass (quota up down p q : ℕ) (rising falling : List Entry) (low high : Entry) (old new : List MaskTally) (falls : Bool) : Type 0 where
-  pub at : At quota up down rising falling
-  pub some : up + down < length rising + length falling
-  pub credited : HasCredited quota up down rising falling old
+pub record Pass (quota up rest p q : ℕ) (rising falling : List Entry) (low high : Entry) (old new : List MaskTally) (falls : Bool) : Type 0 where
+  pub at : At quota up rest rising falling
+  pub some : up < length rising + rest
+  pub credited : HasCredited quota up rest rising falling old
   pub low_is : up < length rising → low ≡ get_or rising up zero_entry
-  pub high_is : down < length falling → high ≡ get_or falling (length falling - 1 - down) zero_entry
-  pub test : falls ≡ (not (ltb up (length rising)) || (ltb down (length falling) && nat_le quota (low.sum + high.sum)))
+  pub high_is : 0 < rest → high ≡ get_or falling (rest - 1) zero_entry
+  pub test : falls ≡ (not (ltb up (length rising)) || (ltb 0 rest && nat_le quota (low.sum + high.sum)))
   pub rising_even : IsEven (side 0 new)
-  pub rising_total : total (side 0 new) ≡ total (side 0 old) + cond falls 0 (cond falls (length rising - up) down)
-  pub rising_marked : (slot : ℕ) → marked slot (side 0 new) ≡ marked slot (side 0 old) + bit_at (cond falls high.mask low.mask) slot * cond falls 0 (cond falls (length rising - up) down)
+  pub rising_total : total (side 0 new) ≡ total (side 0 old) + cond falls 0 (cond falls (length rising - p) (length falling - q))
+  pub rising_marked : (slot : ℕ) → marked slot (side 0 new) ≡ marked slot (side 0 old) + bit_at (cond falls high.mask low.mask) slot * cond falls 0 (cond falls (length rising - p) (length falling - q))
   pub falling_even : IsEven (side 1 new)
-  pub falling_total : total (side 1 new) ≡ total (side 1 old) + cond falls (cond falls (length rising - up) down) 0
-  pub falling_marked : (slot : ℕ) → marked slot (side 1 new) ≡ marked slot (side 1 old) + bit_at (cond falls high.mask low.mask) slot * cond falls (cond falls (length rising - up) down) 0
+  pub falling_total : total (side 1 new) ≡ total (side 1 old) + cond falls (cond falls (length rising - p) (length falling - q)) 0
+  pub falling_marked : (slot : ℕ) → marked slot (side 1 new) ≡ marked slot (side 1 old) + bit_at (cond falls high.mask low.mask) slot * cond falls (cond falls (length rising - p) (length falling - q)) 0
   pub next_up : p ≡ up + cond (not falls) 1 0
-  pub next_down : q ≡ down + cond falls 1 0
+  pub next_rest : rest ≡ q + cond falls 1 0
 
-pub record Passed (quota p q : ℕ) (rising falling : List Entry) (new : List MaskTally) : Type 0 where
+pub record Passed (quota up rest p q : ℕ) (rising falling : List Entry) (new : List MaskTally) : Type 0 where
+  pub next : p + rest ≡ up + q + 1
   pub between : IsBetween quota p q rising falling
   pub credited : HasCredited quota p q rising falling new
 
 -- there is a falling entry to pass, and it reaches with the next rising one
-falling_next : (quota up down : ℕ) (rising falling : List Entry) (low high : Entry) → up ≤ length rising → up + down < length rising + length falling → (not (ltb up (length rising)) || (ltb down (length falling) && nat_le quota (low.sum + high.sum))) ≡ true →
-    (down < length falling) × (up < length rising → quota ≤ low.sum + high.sum)
-falling_next quota up down rising falling low high within some test = elim (cases_lt up (length rising)) [
+pub falling_next : (quota up rest : ℕ) (rising : List Entry) (low high : Entry) → up ≤ length rising → up < length rising + rest → (not (ltb up (length rising)) || (ltb 0 rest && nat_le quota (low.sum + high.sum))) ≡ true →
+    (0 < rest) × (up < length rising → quota ≤ low.sum + high.sum)
+falling_next quota up rest rising low high within some test = elim (cases_lt up (length rising)) [
   | inl before ↦ (
-      let more : (ltb down (length falling) && nat_le quota (low.sum + high.sum)) ≡ true = sym (ap (λ b. not b || (ltb down (length falling) && nat_le quota (low.sum + high.sum))) (lt-ltb up (length rising) before)) ∙ test in
-      (ltb-true down (length falling) (and_parts (ltb down (length falling)) (nat_le quota (low.sum + high.sum)) more).0, λ h. leb-true _ _ (and_parts _ _ more).1))
+      let more : (ltb 0 rest && nat_le quota (low.sum + high.sum)) ≡ true = sym (ap (λ b. not b || (ltb 0 rest && nat_le quota (low.sum + high.sum))) (lt-ltb up (length rising) before)) ∙ test in
+      (ltb-true 0 rest (and_parts (ltb 0 rest) (nat_le quota (low.sum + high.sum)) more).0, λ h. leb-true _ _ (and_parts _ _ more).1))
   | inr end ↦ (omega arith, λ h. absurd (omega arith))
 ]
 
+-- and so one is left
+pub one_left : (falls : Bool) (rest : ℕ) → (falls ≡ true → 0 < rest) → cond falls 1 0 ≤ rest
+one_left true rest some = omega (arith, some refl)
+one_left false rest some = omega arith
+
 -- there is a rising entry to pass, and it falls short with the next falling one
-rising_next : (quota up down : ℕ) (rising falling : List Entry) (low high : Entry) → up ≤ length rising → (not (ltb up (length rising)) || (ltb down (length falling) && nat_le quota (low.sum + high.sum))) ≡ false →
-    (up < length rising) × (down < length falling → low.sum + high.sum < quota)
-rising_next quota up down rising falling low high within test =
-    let rest : (ltb down (length falling) && nat_le quota (low.sum + high.sum)) ≡ false = (or_parts _ _ test).1 in (
+rising_next : (quota up rest : ℕ) (rising : List Entry) (low high : Entry) → up ≤ length rising → (not (ltb up (length rising)) || (ltb 0 rest && nat_le quota (low.sum + high.sum))) ≡ false →
+    (up < length rising) × (0 < rest → low.sum + high.sum < quota)
+rising_next quota up rest rising low high within test =
+    let short : (ltb 0 rest && nat_le quota (low.sum + high.sum)) ≡ false = (or_parts _ _ test).1 in (
       elim (cases_lt up (length rising)) as (λ _. up < length rising) [
         | inl before ↦ before
         | inr end ↦ absurd (let bad : true ≡ false = sym (ap not (le-ltb up (length rising) end)) ∙ (or_parts _ _ test).0 in cc)
       ],
-      λ h. leb-false _ _ (sym (ap (λ b. b && nat_le quota (low.sum + high.sum)) (lt-ltb down (length falling) h)) ∙ rest),
+      λ h. leb-false _ _ (sym (ap (λ b. b && nat_le quota (low.sum + high.sum)) (lt-ltb 0 rest h)) ∙ short),
     )
+
+-- where neither list has ended, the sums alone say which entry is next
+pub both_last : (up n rest : ℕ) (reach : Bool) → up < n → 0 < rest → reach ≡ (not (ltb up n) || (ltb 0 rest && reach))
+both_last up n rest reach before some = sym (ap (λ b. not b || (ltb 0 rest && reach)) (lt-ltb up n before) ∙ ap (λ b. b && reach) (lt-ltb 0 rest some))
 
 zero_times : (m : ℕ) → m * 0 ≡ 0
 zero_times m = omega arith
 
-pub pass : (quota up down p q : ℕ) (rising falling : List Entry) (low high : Entry) (old new : List MaskTally) (falls : Bool) → Pass quota up down p q rising falling low high old new falls → Passed quota p q rising falling new
-pass quota up down p q rising falling low high old new true s =
-    let n : ℕ = length falling in
-    let at : At quota up down rising falling = s.at in
-    let next = falling_next quota up down rising falling low high at.between.up_in s.some (sym s.test) in
-    let inside : down < n = next.0 in
-    let high_is : high ≡ get_or falling (n - 1 - down) zero_entry = s.high_is inside in
-    let step : Falls quota up down rising falling = falls_at quota up down rising falling at inside (λ h. omega (arith, next.1 h, ap (λ (e : Entry). e.sum) (s.low_is h), ap (λ (e : Entry). e.sum) high_is)) in
+pub pass : (quota up rest p q : ℕ) (rising falling : List Entry) (low high : Entry) (old new : List MaskTally) (falls : Bool) → Pass quota up rest p q rising falling low high old new falls → Passed quota up rest p q rising falling new
+pass quota up rest p q rising falling low high old new true s =
+    let at : At quota up rest rising falling = s.at in
+    let next = falling_next quota up rest rising low high at.between.up_in s.some (sym s.test) in
+    let inside : 0 < rest = next.0 in
+    let high_is : high ≡ get_or falling (rest - 1) zero_entry = s.high_is inside in
+    let step : Falls quota up rest rising falling = falls_at quota up rest rising falling at inside (λ h. omega (arith, next.1 h, ap (λ (e : Entry). e.sum) (s.low_is h), ap (λ (e : Entry). e.sum) high_is)) in
     let same_up : p ≡ up = omega (arith, s.next_up) in
-    let same_down : q ≡ down + 1 = omega (arith, s.next_down) in
-    rw (same_up, same_down) (record {
-      between = step.between;
-      credited = record {
+    let same_rest : q ≡ rest - 1 = omega (arith, s.next_rest) in
+    record {
+      next = omega (arith, s.next_up, s.next_rest);
+      between = rw (same_up, same_rest) step.between;
+      credited = rw (same_up, same_rest) (record {
         rising_even = s.rising_even;
         rising_total = omega (arith, s.rising_total, s.credited.rising_total);
         rising_marked = λ slot. omega (arith, s.rising_marked slot, s.credited.rising_marked slot, zero_times (bit_at high.mask slot));
         falling_even = s.falling_even;
-        falling_total = omega (arith, s.falling_total, s.credited.falling_total, step.total);
-        falling_marked = λ slot. omega (arith, s.falling_marked slot, s.credited.falling_marked slot, step.marks slot, ap (λ (e : Entry). bit_at e.mask slot * (length rising - up)) high_is);
-      };
-    })
-pass quota up down p q rising falling low high old new false s =
-    let n : ℕ = length falling in
-    let at : At quota up down rising falling = s.at in
-    let next = rising_next quota up down rising falling low high at.between.up_in (sym s.test) in
+        falling_total = omega (arith, same_up, s.falling_total, s.credited.falling_total, step.total);
+        falling_marked = λ slot. omega (arith, s.falling_marked slot, s.credited.falling_marked slot, step.marks slot, ap (λ (e : Entry). bit_at e.mask slot * (length rising - up)) high_is, ap (λ i. bit_at high.mask slot * (length rising - i)) same_up);
+      });
+    }
+pass quota up rest p q rising falling low high old new false s =
+    let at : At quota up rest rising falling = s.at in
+    let next = rising_next quota up rest rising low high at.between.up_in (sym s.test) in
     let inside : up < length rising = next.0 in
     let low_is : low ≡ get_or rising up zero_entry = s.low_is inside in
-    let step : Rises quota up down rising falling = rises quota up down rising falling at inside (λ h. omega (arith, next.1 h, ap (λ (e : Entry). e.sum) low_is, ap (λ (e : Entry). e.sum) (s.high_is h))) in
+    let step : Rises quota up rest rising falling = rises quota up rest rising falling at inside (λ h. omega (arith, next.1 h, ap (λ (e : Entry). e.sum) low_is, ap (λ (e : Entry). e.sum) (s.high_is h))) in
     let same_up : p ≡ up + 1 = omega (arith, s.next_up) in
-    let same_down : q ≡ down = omega (arith, s.next_down) in
-    rw (same_up, same_down) (record {
-      between = step.between;
-      credited = record {
+    let same_rest : q ≡ rest = omega (arith, s.next_rest) in
+    record {
+      next = omega (arith, s.next_up, s.next_rest);
+      between = rw (same_up, same_rest) step.between;
+      credited = rw (same_up, same_rest) (record {
         rising_even = s.rising_even;
-        rising_total = omega (arith, s.rising_total, s.credited.rising_total, step.total);
-        rising_marked = λ slot. omega (arith, s.rising_marked slot, s.credited.rising_marked slot, step.marks slot, ap (λ (e : Entry). bit_at e.mask slot * down) low_is);
+        rising_total = omega (arith, same_rest, s.rising_total, s.credited.rising_total, step.total);
+        rising_marked = λ slot. omega (arith, s.rising_marked slot, s.credited.rising_marked slot, step.marks slot, ap (λ (e : Entry). bit_at e.mask slot * (length falling - rest)) low_is, ap (λ i. bit_at low.mask slot * (length falling - i)) same_rest);
         falling_even = s.falling_even;
         falling_total = omega (arith, s.falling_total, s.credited.falling_total);
         falling_marked = λ slot. omega (arith, s.falling_marked slot, s.credited.falling_marked slot, zero_times (bit_at low.mask slot));
-      };
-    })
+      });
+    }
 
 -- both walks with what they have credited, once they have passed all entries between them
-pub record Walked (quota up down back_up back_down : ℕ) (left right : List Entry) (front back : List MaskTally) : Type 0 where
-  pub ends : Ends quota up down back_up back_down left right
-  pub front_credits : HasCredited quota up down left right front
-  pub back_credits : HasCredited quota back_up back_down right left back
+pub record Walked (quota up rest back_up back_rest : ℕ) (left right : List Entry) (front back : List MaskTally) : Type 0 where
+  pub ends : Ends quota up rest back_up back_rest left right
+  pub front_credits : HasCredited quota up rest left right front
+  pub back_credits : HasCredited quota back_up back_rest right left back
 
-pub lefts_credited : (quota up down back_up back_down : ℕ) (left right : List Entry) (front back : List MaskTally) → Walked quota up down back_up back_down left right front back → CreditsEach (reaches quota) left right (side 0 front) (side 1 back)
-lefts_credited quota up down back_up back_down left right front back w =
-    let all : up + back_down ≡ length left = (meet quota up down back_up back_down left right w.ends).0 in
+pub lefts_credited : (quota up rest back_up back_rest : ℕ) (left right : List Entry) (front back : List MaskTally) → Walked quota up rest back_up back_rest left right front back → CreditsEach (reaches quota) left right (side 0 front) (side 1 back)
+lefts_credited quota up rest back_up back_rest left right front back w =
+    let same : up ≡ back_rest = (meet quota up rest back_up back_rest left right w.ends).0 in
     record {
       one_even = w.front_credits.rising_even;
       two_even = w.back_credits.falling_even;
-      totals = omega (arith, w.front_credits.rising_total, w.back_credits.falling_total, both_parts (reaches quota) left right up back_down all);
-      marks = λ slot. omega (arith, w.front_credits.rising_marked slot, w.back_credits.falling_marked slot, both_parts (λ a b. reaches quota a b && has slot a) left right up back_down all);
+      totals = omega (arith, w.front_credits.rising_total, w.back_credits.falling_total, both_parts (reaches quota) left right up back_rest same);
+      marks = λ slot. omega (arith, w.front_credits.rising_marked slot, w.back_credits.falling_marked slot, both_parts (λ a b. reaches quota a b && has slot a) left right up back_rest same);
     }
 
-pub rights_credited : (quota up down back_up back_down : ℕ) (left right : List Entry) (front back : List MaskTally) → Walked quota up down back_up back_down left right front back → CreditsEach (reaches quota) right left (side 0 back) (side 1 front)
-rights_credited quota up down back_up back_down left right front back w =
-    let all : back_up + down ≡ length right = omega (arith, (meet quota up down back_up back_down left right w.ends).1) in
+pub rights_credited : (quota up rest back_up back_rest : ℕ) (left right : List Entry) (front back : List MaskTally) → Walked quota up rest back_up back_rest left right front back → CreditsEach (reaches quota) right left (side 0 back) (side 1 front)
+rights_credited quota up rest back_up back_rest left right front back w =
+    let same : back_up ≡ rest = (meet quota up rest back_up back_rest left right w.ends).1 in
     record {
       one_even = w.back_credits.rising_even;
       two_even = w.front_credits.falling_even;
-      totals = omega (arith, w.back_credits.rising_total, w.front_credits.falling_total, both_parts (reaches quota) right left back_up down all);
-      marks = λ slot. omega (arith, w.back_credits.rising_marked slot, w.front_credits.falling_marked slot, both_parts (λ a b. reaches quota a b && has slot a) right left back_up down all);
+      totals = omega (arith, w.back_credits.rising_total, w.front_credits.falling_total, both_parts (reaches quota) right left back_up rest same);
+      marks = λ slot. omega (arith, w.back_credits.rising_marked slot, w.front_credits.falling_marked slot, both_parts (λ a b. reaches quota a b && has slot a) right left back_up rest same);
     }
 
 -- the pairs seen from the right entries

@@ -1,5 +1,5 @@
 -- Where a walk stands between a rising and a falling list, and what it has credited.
-use Rattle.std.specs.Prelude.{ℕ, ◌≡◌, ◌+◌, ◌-◌, ◌<◌, ◌≤◌, List, length, take, drop, slice_index_or, ◌&&◌}
+use Rattle.std.specs.Prelude.{ℕ, ◌≡◌, ◌+◌, ◌<◌, ◌≤◌, List, length, take, drop, slice_index_or, ◌&&◌}
 use Rattle.half_sums.specs.declared.entry.Entry.{Entry}
 use Rattle.half_sums.specs.Entries.{zero_entry}
 use Rattle.swing_walk.specs.Pairs.{pairs_where, reaches, has}
@@ -17,24 +17,29 @@ abbrev pub AllReach : ℕ → ℕ → ℕ → List Entry → List Entry → Type
 AllReach quota i j left right = (k m : ℕ) → i ≤ k → k < length left → j ≤ m → m < length right
     → quota ≤ (slice_index_or left k zero_entry).sum + (slice_index_or right m zero_entry).sum
 
--- a walk has passed the first `up` rising entries and the last `down` falling ones: the rising ones that it has passed
--- fall short with the falling ones that are left, and the falling ones that it has passed reach with the rising ones
--- that are left
-pub record IsBetween (quota up down : ℕ) (rising falling : List Entry) : Type 0 where
+-- a walk has passed the first `up` rising entries and all falling ones but the first `rest`: the rising ones that it
+-- has passed fall short with the falling ones that are left, and the falling ones that it has passed reach with the
+-- rising ones that are left
+pub record IsBetween (quota up rest : ℕ) (rising falling : List Entry) : Type 0 where
   pub up_in : up ≤ length rising
-  pub down_in : down ≤ length falling
-  pub apart : NoneReach quota up (length falling - down) rising falling
-  pub reached : AllReach quota up (length falling - down) rising falling
+  pub rest_in : rest ≤ length falling
+  pub apart : NoneReach quota up rest rising falling
+  pub reached : AllReach quota up rest rising falling
 
 -- the first tally has what the passed rising entries come to, each as often as there are falling ones that reach the
 -- quota with it, and the second one likewise what the passed falling entries come to
-pub record HasCredited (quota up down : ℕ) (rising falling : List Entry) (tallies : List MaskTally) : Type 0 where
+pub record HasCredited (quota up rest : ℕ) (rising falling : List Entry) (tallies : List MaskTally) : Type 0 where
   pub rising_even : IsEven (side 0 tallies)
   pub rising_total : total (side 0 tallies) ≡ pairs_where (reaches quota) (take up rising) falling
   pub rising_marked : (slot : ℕ) → marked slot (side 0 tallies)
       ≡ pairs_where (λ a b. reaches quota a b && has slot a) (take up rising) falling
   pub falling_even : IsEven (side 1 tallies)
-  pub falling_total : total (side 1 tallies)
-      ≡ pairs_where (reaches quota) (drop (length falling - down) falling) rising
+  pub falling_total : total (side 1 tallies) ≡ pairs_where (reaches quota) (drop rest falling) rising
   pub falling_marked : (slot : ℕ) → marked slot (side 1 tallies)
-      ≡ pairs_where (λ a b. reaches quota a b && has slot a) (drop (length falling - down) falling) rising
+      ≡ pairs_where (λ a b. reaches quota a b && has slot a) (drop rest falling) rising
+
+-- a walk has taken so many steps, each past one entry, and has credited them
+pub record HasWalked (quota taken up rest : ℕ) (rising falling : List Entry) (tallies : List MaskTally) : Type 0 where
+  pub between : IsBetween quota up rest rising falling
+  pub credited : HasCredited quota up rest rising falling tallies
+  pub steps : up + length falling ≡ taken + rest

@@ -12,24 +12,24 @@ use crate::sizes::SizeTally;
 use crate::tally::MaskTally;
 use half_sums::SumList;
 
-/// What a pair must have: votes and chairs.
+// What a pair must have: votes and chairs.
 #[derive(Clone, Copy)]
 struct Asked {
     quota: u64,
     least_size: u8,
 }
 
-/// Where a walk stands, by size.
+// Where a walk stands, by size.
 #[derive(Drop)]
 struct Sizes {
-    /// The left entries that it has still to pass.
+    // The left entries that it has still to pass.
     lefts: SizeTally,
-    /// The right entries that reach the quota with the next left one.
+    // The right entries that reach the quota with the next left one.
     rights: SizeTally,
 }
 
-/// The first right entry that reaches the quota with the next left entry, sought downwards. Each right entry that
-/// begins to reach is credited with the left entries from there on that are large enough with it.
+// The first right entry that reaches the quota with the next left entry, sought downwards. Each right entry that
+// begins to reach is credited with the left entries from there on that are large enough with it.
 fn lower_by_size(
     left: &SumList,
     next: usize,
@@ -43,17 +43,25 @@ fn lower_by_size(
     requires right { IsHalf right.now }
     requires next { next < length left.now }
     requires from { from ≤ length right.now }
+
+    // Where the walk stands.
     requires apart { NoneReach asked.quota next from left.now right.now }
     requires reached { All (λ e. asked.quota ≤ (slice_index_or left.now next zero_entry).sum + e.sum)
         (drop from right.now) }
+
+    // The tallies before.
     requires lefts { IsSizeTally (drop next left.now) sizes.old.lefts }
     requires rights { IsSizeTally (drop from right.now) sizes.old.rights }
     requires even { IsEven tally.old }
     requires room { total tally.old ≤ 2 ^ 63 }
+
+    // The place found.
     ensures within { result ≤ length right.now }
     ensures apart { NoneReach asked.quota (next + 1) result left.now right.now }
     ensures reached { All (λ e. asked.quota ≤ (slice_index_or left.now next zero_entry).sum + e.sum)
         (drop result right.now) }
+
+    // The tallies after.
     ensures lefts { IsSizeTally (drop next left.now) sizes.new.lefts }
     ensures rights { IsSizeTally (drop result right.now) sizes.new.rights }
     ensures even { IsEven tally.new }
@@ -78,7 +86,7 @@ fn lower_by_size(
     at
 }
 
-/// Adds the pairs that reach the quota and the least size to the tallies, and answers how many there are.
+// Adds the pairs that reach the quota and the least size to the tallies, and answers how many there are.
 pub(crate) fn walk_by_size(
     left: &SumList,
     right: &SumList,
@@ -89,10 +97,14 @@ pub(crate) fn walk_by_size(
 ) -> u64
     requires left { IsHalf left.now }
     requires right { IsHalf right.now }
+
+    // The tallies before.
     requires left_even { IsEven lefts.old }
     requires left_room { total lefts.old ≤ 2 ^ 62 }
     requires right_even { IsEven rights.old }
     requires right_room { total rights.old ≤ 2 ^ 62 }
+
+    // What is counted.
     ensures winning { result ≡ large_pairs quota least_size left.now right.now }
     ensures lefts { CreditsLefts (is_enough quota least_size) left.now right.now lefts.old lefts.new }
     ensures rights { CreditsRights (is_enough quota least_size) left.now right.now rights.old rights.new }

@@ -1,5 +1,5 @@
-//! How many pairs of sets of a left and a right half reach a quota and a least size, and how many of these have each
-//! chair.
+//! The two-pointer count of winning pairs: how many pairs of a left and a right half's sets reach a quota and a least
+//! size, and how many of these have each chair.
 #![tactic(auto)]
 
 mod by_size;

@@ -12,7 +12,7 @@ use half_sums::{HalfSums, OrderedSums, SLOTS, SumList};
 
 /// The winning pairs of the sets of a left and a right half. Where these are the halves of a board, the pairs are its
 /// coalitions.
-#[derive(Clone, Copy)]
+#[derive(Clone, Copy, Debug, PartialEq, Eq, Hash)]
 pub struct Counts {
     /// How many pairs have weight and chairs enough together: omega (Coleman 1971).
     pub winning: u64,
@@ -42,7 +42,7 @@ pub fn count_lists(left: &OrderedSums, right: &OrderedSums, quota: u64, least_si
     count_entries(left.ascending(), right.ascending(), quota, least_size)
 }
 
-/// Counts the pairs of two ascending lists.
+// Counts the pairs of two ascending lists.
 fn count_entries(left: &SumList, right: &SumList, quota: u64, least_size: u8) -> Counts
     requires left { IsHalf left.now }
     requires right { IsHalf right.now }
@@ -58,7 +58,7 @@ fn count_entries(left: &SumList, right: &SumList, quota: u64, least_size: u8) ->
     }
 }
 
-/// Adds the pairs that reach the quota and the least size to the tallies, and answers how many there are.
+// Adds the pairs that reach the quota and the least size to the tallies, and answers how many there are.
 fn credit_pairs(
     left: &SumList,
     right: &SumList,
@@ -69,10 +69,14 @@ fn credit_pairs(
 ) -> u64
     requires left { IsHalf left.now }
     requires right { IsHalf right.now }
+
+    // The tallies before.
     requires left_even { IsEven lefts.old }
     requires left_room { total lefts.old ≤ 2 ^ 62 }
     requires right_even { IsEven rights.old }
     requires right_room { total rights.old ≤ 2 ^ 62 }
+
+    // What is counted.
     ensures winning { result ≡ large_pairs quota least_size left.now right.now }
     ensures lefts { CreditsLefts (is_enough quota least_size) left.now right.now lefts.old lefts.new }
     ensures rights { CreditsRights (is_enough quota least_size) left.now right.now rights.old rights.new }
@@ -83,7 +87,7 @@ fn credit_pairs(
     walk_by_size(left, right, quota, least_size, lefts, rights)
 }
 
-/// The left totals and then the right ones.
+// The left totals and then the right ones.
 fn both(left: &[u64; SLOTS], right: &[u64; SLOTS]) -> [u64; CHAIRS]
     ensures left { (slot : ℕ) → slot < SLOTS → slice_index result slot ≡ slice_index left.now slot }
     ensures right { (slot : ℕ) → slot < SLOTS → slice_index result (SLOTS + slot) ≡ slice_index right.now slot }

@@ -7,17 +7,21 @@ ghost use Rattle.swing_walk.specs.Sides.{side};
 
 use crate::tally::MaskTally;
 
-/// Takes in an amount on the right side, or else on the left one.
+// Takes in an amount on the right side, or else on the left one.
 pub(crate) fn add_to(sides: &mut [MaskTally; 2], to_right: bool, mask: u16, amount: u64)
     requires left_even { IsEven (side 0 sides.old) }
     requires right_even { IsEven (side 1 sides.old) }
     requires left_room { total (side 0 sides.old) + amount < 2 ^ 64 }
     requires right_room { total (side 1 sides.old) + amount < 2 ^ 64 }
+
+    // The left tally.
     ensures left_even { IsEven (side 0 sides.new) }
     ensures left_total { total (side 0 sides.new) ≡ total (side 0 sides.old) + cond to_right 0 amount }
     ensures left_marked { (slot : ℕ)
         → marked slot (side 0 sides.new)
         ≡ marked slot (side 0 sides.old) + bit_at mask slot * cond to_right 0 amount }
+
+    // The right tally.
     ensures right_even { IsEven (side 1 sides.new) }
     ensures right_total { total (side 1 sides.new) ≡ total (side 1 sides.old) + cond to_right amount 0 }
     ensures right_marked { (slot : ℕ)
@@ -27,7 +31,7 @@ pub(crate) fn add_to(sides: &mut [MaskTally; 2], to_right: bool, mask: u16, amou
     sides[usize::from(to_right)].add(mask, amount);
 }
 
-/// The first mask or the second.
+// The first mask or the second.
 pub(crate) fn either_mask(first: bool, a: u16, b: u16) -> u16
     ensures chosen { result ≡ cond first a b }
 {

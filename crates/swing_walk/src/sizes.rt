@@ -6,21 +6,21 @@ ghost use Rattle.swing_walk.specs.Sizes.{counted, one_at, IsSizeTally};
 
 use half_sums::{ROOM, SIZES, SLOTS, SumList};
 
-/// A 1 for each of the 17 sizes, and a 0 for each size but one: a set of so many chairs has its own 17 of these from 16
-/// less than its size on.
+// A 1 for each of the 17 sizes, and a 0 for each size but one: a set of so many chairs has its own 17 of these from 16
+// less than its size on.
 const STEPS: [u32; 33] = [
     1, 1, 1, 1, 1, 1, 1, 1, 1, 1, 1, 1, 1, 1, 1, 1, 1, 0, 0, 0, 0, 0, 0, 0, 0, 0, 0, 0, 0, 0, 0, 0,
     0,
 ];
 
-/// Sets counted by size: at each size how many have at least so many chairs.
+// Sets counted by size: at each size how many have at least so many chairs.
 #[derive(Clone, Copy)]
 pub(crate) struct SizeTally {
     pub(crate) at_least: [u32; SIZES],
 }
 
 impl SizeTally {
-    /// No set.
+    // No set.
     pub(crate) fn new() -> SizeTally
         ensures none { (size : ℕ) → counted size result ≡ 0 }
     {
@@ -29,7 +29,7 @@ impl SizeTally {
         }
     }
 
-    /// The sets of a list.
+    // The sets of a list.
     pub(crate) fn of(entries: &SumList) -> SizeTally
         requires half { IsHalf entries.now }
         ensures all { IsSizeTally entries.now result }
@@ -41,7 +41,7 @@ impl SizeTally {
         tally
     }
 
-    /// Takes in the set of a mask.
+    // Takes in the set of a mask.
     pub(crate) fn add(&mut self, mask: u16)
         requires room { (size : ℕ) → counted size self.old ≤ ROOM }
         ensures more { (size : ℕ) → counted size self.new ≡ counted size self.old + one_at size mask }
@@ -52,7 +52,7 @@ impl SizeTally {
         }
     }
 
-    /// Lets the set of a mask go.
+    // Lets the set of a mask go.
     pub(crate) fn remove(&mut self, mask: u16)
         requires there { (size : ℕ) → one_at size mask ≤ counted size self.old }
         ensures less { (size : ℕ) → counted size self.new + one_at size mask ≡ counted size self.old }
@@ -63,7 +63,7 @@ impl SizeTally {
         }
     }
 
-    /// How many of the sets have chairs enough together with the set of a mask.
+    // How many of the sets have chairs enough together with the set of a mask.
     pub(crate) fn partners(&self, mask: u16, least_size: u8) -> u64
         ensures partners { result ≡ counted (least_size - count_ones mask) self.now }
     {
@@ -76,7 +76,7 @@ impl SizeTally {
     }
 }
 
-/// What the set of a mask comes to at each size.
+// What the set of a mask comes to at each size.
 fn steps_of(mask: u16) -> &'static [u32]
     ensures long { length result.now ≡ SIZES }
     ensures each { (size : ℕ) → slice_index_or result.now size 0 ≡ one_at size mask }
@@ -85,7 +85,7 @@ fn steps_of(mask: u16) -> &'static [u32]
     part(&STEPS, first, first + SIZES)
 }
 
-/// The steps from a place on, up to another.
+// The steps from a place on, up to another.
 fn part(steps: &'static [u32], from: usize, to: usize) -> &'static [u32]
     requires ordered { from ≤ to }
     requires within { to ≤ length steps.now }
@@ -94,7 +94,7 @@ fn part(steps: &'static [u32], from: usize, to: usize) -> &'static [u32]
     &steps[from..to]
 }
 
-/// How many chairs a set has.
+// How many chairs a set has.
 fn size(mask: u16) -> usize
     ensures size { result ≡ count_ones mask }
     ensures few { result ≤ SLOTS }

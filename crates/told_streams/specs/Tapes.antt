@@ -1,35 +1,47 @@
 -- What contracts see of a writer and of a reader with a tape.
 use Rattle.std.specs.Prelude.{◌≡◌, ℕ, ◌+◌, Bool, true, ◌&&◌, nat_eq, nat_lt, ◌⊎◌, List, [], ◌++◌, length, take, drop}
-use Rattle.std.specs.Prelude.{Option, Some, Result, MatchResult}
+use Rattle.std.specs.Prelude.{Option, Some, Result, Ok, Err, MatchResult, ◌≢◌}
+use Rattle.std.specs.IoError.{error_kind}
+use Rattle.std.specs.declared.io.Error.{Error}
+use Rattle.std.specs.declared.io.ErrorKind.TheVariants.{Interrupted}
 use Rattle.std.specs.Io.KnownBytes.{Consumes, IsAtEnd}
 
 -- whether a count of bytes says that no more can go past: none did, though there was room
 abbrev pub is_last : List ℕ → ℕ → Bool
 is_last room count = nat_eq count 0 && nat_lt 0 (length room)
 
--- of a writer: what it holds by its own account; and since it was wrapped what its writes said were taken, and how many
--- writes it was asked for
+-- of a writer that is lent: whose it is, and what it holds by its own account; and since it was wrapped what its writes
+-- said were taken, how many writes it was asked for, and how many of these were interrupted
 pub record Taking : Type 0 where
+  pub lender : ℕ
   pub held : Option (List ℕ)
   pub took : List ℕ
   pub asks : ℕ
+  pub interruptions : ℕ
 
 -- of a reader: what it will give by its own account; and since it was wrapped what its reads gave, whether the last one
--- said that this is all, and how many reads it was asked for
+-- said that this is all, how many reads it was asked for, and how many of these were interrupted
 pub record Giving : Type 0 where
   pub left : Option (List ℕ)
   pub gave : List ℕ
   pub ended : Bool
   pub asks : ℕ
+  pub interruptions : ℕ
+
+-- how many interruptions there were before a call, and after it answered so
+abbrev pub CountsInterruptions : ℕ → ℕ → Result ℕ Error → Type 0
+CountsInterruptions before after (Ok n) = after ≡ before
+CountsInterruptions before after (Err e) =
+    (error_kind e ≡ Interrupted → after ≡ before + 1) × (error_kind e ≢ Interrupted → after ≡ before)
 
 -- one write: at `Ok` what was taken, and at `Err` nothing
-abbrev pub Takes : {E : Type 0} → Taking → Taking → Result ℕ E → List ℕ → Type 0
-Takes old new r buf = (new.asks ≡ old.asks + 1)
+abbrev pub Takes : Taking → Taking → Result ℕ Error → List ℕ → Type 0
+Takes old new r buf = (new.asks ≡ old.asks + 1) × CountsInterruptions old.interruptions new.interruptions r
     × MatchResult r (λ n. new.took ≡ old.took ++ take n buf) (λ _. new.took ≡ old.took)
 
 -- one read: at `Ok` what was given and whether that is all, and at `Err` nothing
-abbrev pub Gives : {E : Type 0} → Giving → Giving → Result ℕ E → List ℕ → Type 0
-Gives old new r buf = (new.asks ≡ old.asks + 1)
+abbrev pub Gives : Giving → Giving → Result ℕ Error → List ℕ → Type 0
+Gives old new r buf = (new.asks ≡ old.asks + 1) × CountsInterruptions old.interruptions new.interruptions r
     × MatchResult r
     (λ n. (new.gave ≡ old.gave ++ take n buf) × (new.ended ≡ is_last buf n))
     (λ _. new.gave ≡ old.gave)

@@ -6,7 +6,7 @@ ghost use Rattle.told_streams.specs.Tapes.{Gives};
 
 use crate::tape::Tape;
 use std::io;
-use std::io::Read;
+use std::io::{ErrorKind, Read};
 use std::marker::Model;
 
 /// A reader, with the bytes that its reads gave.
@@ -14,6 +14,8 @@ use std::marker::Model;
 pub struct Given<R: Read + Drop> {
     from: R,
     tape: Tape,
+    // one call for each interruption
+    interruptions: Tape,
 }
 
 impl<R: Read + Drop> Model for Given<R> {
@@ -26,6 +28,7 @@ impl<R: Read + Drop> Model for Given<R> {
       gave = g.tape.bytes;
       ended = g.tape.ended;
       asks = g.tape.asks;
+      interruptions = g.interruptions.asks;
     } };
 }
 
@@ -36,10 +39,12 @@ impl<R: Read + Drop> Given<R> {
         ensures gave { result.gave ≡ [] }
         ensures ended { result.ended ≡ false }
         ensures asks { result.asks ≡ 0 }
+        ensures interruptions { result.interruptions ≡ 0 }
     {
         Given {
             from,
             tape: Tape::new(),
+            interruptions: Tape::new(),
         }
     }
 }
@@ -59,6 +64,9 @@ impl<R: Read + Drop> Read for Given<R> {
             }
             Err(e) => {
                 self.tape.note(&[], 0);
+                if e.kind() == ErrorKind::Interrupted {
+                    self.interruptions.note(&[], 0);
+                }
                 Err(e)
             }
         }

@@ -16,8 +16,8 @@ use Rattle.two_copy_steps.specs.declared.views.Writing.{Writing}
 use Rattle.two_copy_steps.specs.declared.views.Stage.{Stage}
 use Rattle.two_copy_steps.specs.declared.views.Phase.{Phase}
 use Rattle.two_copy_steps.specs.declared.views.Phase.TheVariants.{Idle, Seeing, Filling, Swapping}
-use Rattle.two_copy_steps.specs.Deeds.{cuts_after, first_false, phase_deed, seeing}
-use Rattle.two_copy_steps.specs.Turns.{TwoCopies, turn, started, after, submitted, published_by, is_pending, is_idle, reader_turn}
+use Rattle.two_copy_steps.specs.Actions.{cuts_after, first_false, phase_action, seeing}
+use Rattle.two_copy_steps.specs.Turns.{MachineState, turn, started, after, submitted, published_by, is_pending, is_idle, reader_turn}
 use Rattle.two_copy_steps.specs.Passes.{Passes, opened, passed, passes, reader_passed}
 
 last_behind : (o : Option ℕ) (xs : List ℕ) (x : ℕ) → last_or o (xs ++ x ∷ []) ≡ Some x
@@ -55,11 +55,11 @@ pub record HasCuts (w : Writing) (cuts : List ℕ) : Type 0 where
   pub longer : is_idle w.phase ≡ false → length w.published < length w.taken
 
 -- a step of the writer
-cuts_stepped : (opening : Opening) (w : Writing) (p : Phase) (found : ℕ) (cuts : List ℕ) → w.phase ≡ p → HasCuts w cuts → HasCuts ((phase_deed 34 (sheet opening) w p).after found) (cuts_after p w.taken cuts)
+cuts_stepped : (opening : Opening) (w : Writing) (p : Phase) (found : ℕ) (cuts : List ℕ) → w.phase ≡ p → HasCuts w cuts → HasCuts ((phase_action (sheet opening) w p).after found) (cuts_after p w.taken cuts)
 cuts_stepped opening w Idle found cuts e h = h
 cuts_stepped opening w Seeing found cuts e h =
     let more : length w.published < length w.taken = h.longer (ap is_idle e) in
-    elim (eqb found 0) as (λ b. HasCuts (cond b (seeing 34 w (set w.seen_out (first_false w.seen_out) true)) (record w { phase = Idle })) cuts) [
+    elim (eqb found 0) as (λ b. HasCuts (cond b (seeing w (set w.seen_out (first_false w.seen_out) true)) (record w { phase = Idle })) cuts) [
       | true ↦ record { ascending = h.ascending; last = h.last; longer = λ _. more }
       | false ↦ record { ascending = h.ascending; last = h.last; longer = λ busy. absurd (true≢false busy) }
     ]
@@ -72,34 +72,34 @@ cuts_stepped opening w Swapping found cuts e h =
     }
 
 -- a publication begins, if something is pending
-cuts_begun : (m : TwoCopies) (cuts : List ℕ) → HasCuts m.writer cuts → HasCuts (published_by m (is_pending m)).0.writer cuts
+cuts_begun : (m : MachineState) (cuts : List ℕ) → HasCuts m.writer cuts → HasCuts (published_by m (is_pending m)).0.writer cuts
 cuts_begun m cuts h =
     elim (is_pending m) as (λ b. is_pending m ≡ b → HasCuts (published_by m b).0.writer cuts) [
       | true ↦ λ pending. record { ascending = h.ascending; last = h.last; longer = λ _. ltb-true (length m.writer.published) (length m.ledger.journal) pending }
       | false ↦ λ _. h
     ] refl
 
-by_submit : (m : TwoCopies) (command : Command) (v : Result ⊤ Refusal) (cuts : List ℕ) → HasCuts m.writer cuts → HasCuts (submitted m command v).0.writer cuts
+by_submit : (m : MachineState) (command : Command) (v : Result ⊤ Refusal) (cuts : List ℕ) → HasCuts m.writer cuts → HasCuts (submitted m command v).0.writer cuts
 by_submit m command (Ok u) cuts h = h
 by_submit m command (Err refusal) cuts h = h
 
-by_reader : (m : TwoCopies) (p : Passes) (r : ℕ) (o : Option Stage) → HasCuts m.writer p.cuts → HasCuts (reader_turn m r o).0.writer (reader_passed m p r o).cuts
+by_reader : (m : MachineState) (p : Passes) (r : ℕ) (o : Option Stage) → HasCuts m.writer p.cuts → HasCuts (reader_turn m r o).0.writer (reader_passed m p r o).cuts
 by_reader m p r None h = h
 by_reader m p r (Some stage) h = h
 
 -- whatever the event
-cuts_turned : (m : TwoCopies) (p : Passes) → HasCuts m.writer p.cuts → (event : Event) → HasCuts (turn m event).0.writer (passed m p event).cuts
+cuts_turned : (m : MachineState) (p : Passes) → HasCuts m.writer p.cuts → (event : Event) → HasCuts (turn m event).0.writer (passed m p event).cuts
 cuts_turned m p h (Submit command) =
     elim (is_idle m.writer.phase) as (λ b. HasCuts (cond b (submitted m command (verdict_of m.ledger command)) (m, Skipped)).0.writer p.cuts)
     [ true ↦ by_submit m command (verdict_of m.ledger command) p.cuts h | false ↦ h ]
 cuts_turned m p h Publish =
     elim (is_idle m.writer.phase) as (λ b. HasCuts (cond b (published_by m (is_pending m)) (m, Skipped)).0.writer p.cuts) [ true ↦ cuts_begun m p.cuts h | false ↦ h ]
 cuts_turned m p h Writer =
-    cuts_stepped m.ledger.opening m.writer m.writer.phase (get_or m.words (phase_deed 34 (sheet m.ledger.opening) m.writer m.writer.phase).word 0) p.cuts refl h
+    cuts_stepped m.ledger.opening m.writer m.writer.phase (get_or m.words (phase_action (sheet m.ledger.opening) m.writer m.writer.phase).word 0) p.cuts refl h
 cuts_turned m p h (Reader zero) = h
 cuts_turned m p h (Reader (suc r)) = by_reader m p r (slice_get m.readers r) h
 
-cuts_along : (events : List Event) (m : TwoCopies) (p : Passes) → HasCuts m.writer p.cuts → HasCuts (after m events).writer (passes m p events).cuts
+cuts_along : (events : List Event) (m : MachineState) (p : Passes) → HasCuts m.writer p.cuts → HasCuts (after m events).writer (passes m p events).cuts
 cuts_along [] m p h = h
 cuts_along (event ∷ events) m p h = cuts_along events (turn m event).0 (passed m p event) (cuts_turned m p h event)
 

@@ -2,7 +2,7 @@
 use Rattle.std.proofs.Common.{◌≡◌, List, [], ◌∷◌, ◌++◌, refl, ap, ◌∙◌}
 use Rattle.council_core.specs.Sequential.{Sequential, Call, Reply, respond, replies_of, state_after}
 use Rattle.two_copy_steps.specs.declared.events.Event.{Event}
-use Rattle.two_copy_steps.specs.Turns.{TwoCopies, turn}
+use Rattle.two_copy_steps.specs.Turns.{MachineState, turn}
 use Rattle.two_copy_steps.specs.Effects.{Thread, beside, beside_all, effect, effects, replies_beside}
 
 -- calls after calls
@@ -15,7 +15,7 @@ replies_of-append s [] more = refl
 replies_of-append s (call ∷ calls) more = ap (λ (rs : List Reply). (respond s call).1 ∷ rs) (replies_of-append (respond s call).0 calls more)
 
 -- the run over the list of effects, event by event
-pub one_run : (events : List Event) (t : Thread) (m : TwoCopies) → (replies_of t.register (effects m events) ≡ replies_beside t m events) × (state_after t.register (effects m events) ≡ (beside_all t m events).register)
+pub one_run : (events : List Event) (t : Thread) (m : MachineState) → (replies_of t.register (effects m events) ≡ replies_beside t m events) × (state_after t.register (effects m events) ≡ (beside_all t m events).register)
 one_run [] t m = (refl, refl)
 one_run (event ∷ events) t m =
     let later = one_run events (beside t m event) (turn m event).0 in

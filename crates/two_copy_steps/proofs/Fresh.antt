@@ -15,20 +15,21 @@ use Rattle.two_copy_steps.specs.declared.views.Stage.{Stage}
 use Rattle.two_copy_steps.specs.declared.views.Stage.TheVariants.{AtRest, Arrived, Reading, Leaving}
 use Rattle.two_copy_steps.specs.declared.views.Phase.{Phase}
 use Rattle.two_copy_steps.specs.declared.views.Phase.TheVariants.{Idle, Seeing, Filling, Swapping}
-use Rattle.two_copy_steps.specs.Deeds.{stage_deed, phase_deed, seeing, first_false}
-use Rattle.two_copy_steps.specs.Turns.{TwoCopies, turn, submitted, published_by, is_pending, is_idle, reader_turn, started, after}
+use Rattle.two_copy_steps.specs.declared.table.TheConstants.{COPY_WORDS}
+use Rattle.two_copy_steps.specs.Actions.{stage_action, phase_action, seeing, first_false}
+use Rattle.two_copy_steps.specs.Turns.{MachineState, turn, submitted, published_by, is_pending, is_idle, reader_turn, started, after}
 use Rattle.two_copy_steps.specs.Passes.{Passes, opened, passed, passes, IsLawful}
 use Rattle.two_copy_steps.specs.Effects.{Thread, thread_of, replied_at, replied_to, beside}
 use Rattle.two_copy_steps.proofs.Lists.{at_set}
 use Rattle.two_copy_steps.proofs.Journals.{IsAccepted}
 use Rattle.two_copy_steps.proofs.EventLists.{Together, together_on, together_after, start_together, after_append}
 
-looked_published : (w : Writing) (r : ℕ) (b : Bool) → (cond b (seeing 34 w (set w.seen_out r true)) (record w { phase = Idle })).published ≡ w.published
+looked_published : (w : Writing) (r : ℕ) (b : Bool) → (cond b (seeing w (set w.seen_out r true)) (record w { phase = Idle })).published ≡ w.published
 looked_published w r true = refl
 looked_published w r false = refl
 
 -- what is published never gets shorter
-published_grows : (m : TwoCopies) (p : Passes) → IsLawful IsAccepted m p → (event : Event) → length m.writer.published ≤ length (turn m event).0.writer.published
+published_grows : (m : MachineState) (p : Passes) → IsLawful IsAccepted m p → (event : Event) → length m.writer.published ≤ length (turn m event).0.writer.published
 published_grows m p l (Submit command) =
     elim (is_idle m.writer.phase) as (λ b. length m.writer.published ≤ length (cond b (submitted m command (verdict_of m.ledger command)) (m, Skipped)).0.writer.published) [ true ↦ omega arith | false ↦ omega arith ]
 published_grows m p l Publish =
@@ -38,11 +39,11 @@ published_grows m p l Publish =
     ]
 published_grows m p l Writer = by_phase m.writer.phase
   where
-    by_phase : (phase : Phase) → length m.writer.published ≤ length ((phase_deed 34 (sheet m.ledger.opening) m.writer phase).after (get_or m.words (phase_deed 34 (sheet m.ledger.opening) m.writer phase).word 0)).published
+    by_phase : (phase : Phase) → length m.writer.published ≤ length ((phase_action (sheet m.ledger.opening) m.writer phase).after (get_or m.words (phase_action (sheet m.ledger.opening) m.writer phase).word 0)).published
     by_phase Idle = omega arith
     by_phase Seeing =
         let r : ℕ = first_false m.writer.seen_out in
-        let same = ap (length {A = Command}) (looked_published m.writer r (eqb (get_or m.words (phase_deed 34 (sheet m.ledger.opening) m.writer Seeing).word 0) 0)) in
+        let same = ap (length {A = Command}) (looked_published m.writer r (eqb (get_or m.words (phase_action (sheet m.ledger.opening) m.writer Seeing).word 0) 0)) in
         omega arith
     by_phase (Filling k) = omega arith
     by_phase Swapping = let b = l.state.writer.begins in let longer = ap (length {A = Command}) b.1 in omega (arith, length-append m.writer.published b.0)
@@ -57,19 +58,19 @@ FreshAt low given Arrived = Unit {0}
 FreshAt low given (Reading side words) = (numbers : List ℕ) × (given ≡ Some (reading numbers)) × (low ≤ front_of numbers)
 FreshAt low given (Leaving side words) = (numbers : List ℕ) × (given ≡ Some (reading numbers)) × (low ≤ front_of numbers)
 
-abbrev Fresh : ℕ → ℕ → Thread → TwoCopies → Type 0
+abbrev Fresh : ℕ → ℕ → Thread → MachineState → Type 0
 Fresh low r t m = (low ≤ length m.writer.published) × ((stage : Stage) → slice_get m.readers r ≡ Some stage → FreshAt low (t.replied (suc r)) stage)
 
-shown_front : (m : TwoCopies) (p : Passes) → IsLawful IsAccepted m p → front_of (sheet m.ledger.opening (take (length m.writer.published) m.ledger.journal)) ≡ length m.writer.published
+shown_front : (m : MachineState) (p : Passes) → IsLawful IsAccepted m p → front_of (sheet m.ledger.opening (take (length m.writer.published) m.ledger.journal)) ≡ length m.writer.published
 shown_front m p l =
     let begins = ap (length {A = Command}) l.state.writer.begins.1 in
     let extends = ap (length {A = Command}) l.extends.1 in
     let kept = length-take (length m.writer.published) m.ledger.journal in
     omega (arith, length-append m.writer.published l.state.writer.begins.0, length-append m.writer.taken l.extends.0)
 
-module _ (low r : ℕ) (t : Thread) (m : TwoCopies) (p : Passes) (h : Together t m p) (f : Fresh low r t m) where
+module _ (low r : ℕ) (t : Thread) (m : MachineState) (p : Passes) (h : Together t m p) (f : Fresh low r t m) where
   -- the reader's own step
-  own : (stage : Stage) → slice_get m.readers r ≡ Some stage → FreshAt low (replied_at t (suc r) stage (suc r)) ((stage_deed 34 r stage).after (get_or m.words (stage_deed 34 r stage).word 0))
+  own : (stage : Stage) → slice_get m.readers r ≡ Some stage → FreshAt low (replied_at t (suc r) stage (suc r)) ((stage_action r stage).after (get_or m.words (stage_action r stage).word 0))
   own AtRest at = tt
   own Arrived at =
       let given : Option Reply = Some (respond t.register sequential.read).1 in
@@ -79,8 +80,8 @@ module _ (low r : ℕ) (t : Thread) (m : TwoCopies) (p : Passes) (h : Together t
       let short = f.0 in
       (sheet m.ledger.opening (take (length m.writer.published) m.ledger.journal), here ∙ is, omega arith)
   own (Reading side words) at =
-      elim (eqb (length (words ++ get_or m.words (stage_deed 34 r (Reading side words)).word 0 ∷ [])) 34)
-      as (λ b. FreshAt low (t.replied (suc r)) (cond b (Leaving side (words ++ get_or m.words (stage_deed 34 r (Reading side words)).word 0 ∷ [])) (Reading side (words ++ get_or m.words (stage_deed 34 r (Reading side words)).word 0 ∷ []))))
+      elim (eqb (length (words ++ get_or m.words (stage_action r (Reading side words)).word 0 ∷ [])) COPY_WORDS)
+      as (λ b. FreshAt low (t.replied (suc r)) (cond b (Leaving side (words ++ get_or m.words (stage_action r (Reading side words)).word 0 ∷ [])) (Reading side (words ++ get_or m.words (stage_action r (Reading side words)).word 0 ∷ []))))
       [ true ↦ f.1 (Reading side words) at | false ↦ f.1 (Reading side words) at ]
   own (Leaving side words) at = tt
 
@@ -95,11 +96,11 @@ module _ (low r : ℕ) (t : Thread) (m : TwoCopies) (p : Passes) (h : Together t
   fresh_reader q None is stage at = f.1 stage at
   fresh_reader q (Some s) is stage at =
       ⊎_elim
-      (λ (h : (r ≡ q) × ((stage_deed 34 q s).after (get_or m.words (stage_deed 34 q s).word 0) ≡ stage)).
+      (λ (h : (r ≡ q) × ((stage_action q s).after (get_or m.words (stage_action q s).word 0) ≡ stage)).
       subst (FreshAt low (replied_at t (suc q) s (suc r))) h.1
-      (subst (λ (k : ℕ). FreshAt low (replied_at t (suc k) s (suc r)) ((stage_deed 34 k s).after (get_or m.words (stage_deed 34 k s).word 0))) h.0 (own s (ap (slice_get m.readers) h.0 ∙ is))))
+      (subst (λ (k : ℕ). FreshAt low (replied_at t (suc k) s (suc r)) ((stage_action k s).after (get_or m.words (stage_action k s).word 0))) h.0 (own s (ap (slice_get m.readers) h.0 ∙ is))))
       (λ (h : (r ≢ q) × (slice_get m.readers r ≡ Some stage)). subst (λ (g : Option Reply). FreshAt low g stage) (sym (apart q s h.0)) (f.1 stage h.1))
-      (at_set m.readers q r ((stage_deed 34 q s).after (get_or m.words (stage_deed 34 q s).word 0)) stage at)
+      (at_set m.readers q r ((stage_action q s).after (get_or m.words (stage_action q s).word 0)) stage at)
 
   fresh_stage : (event : Event) (stage : Stage) → slice_get (turn m event).0.readers r ≡ Some stage → FreshAt low ((beside t m event).replied (suc r)) stage
   fresh_stage (Submit command) =
@@ -138,7 +139,7 @@ module _ (low r : ℕ) (t : Thread) (m : TwoCopies) (p : Passes) (h : Together t
           subst (λ (x : List ℕ). low ≤ front_of x) is g.2
 
 -- whatever follows
-fresh_read : (low r : ℕ) (more : List Event) (t : Thread) (m : TwoCopies) (p : Passes) → Together t m p → Fresh low r t m → (words : List ℕ) → (turn (after m more) (Reader (suc r))).1 ≡ Read (suc r) words
+fresh_read : (low r : ℕ) (more : List Event) (t : Thread) (m : MachineState) (p : Passes) → Together t m p → Fresh low r t m → (words : List ℕ) → (turn (after m more) (Reader (suc r))).1 ≡ Read (suc r) words
     → low ≤ front_of words
 fresh_read low r [] t m p h f words told = reads_fresh low r t m p h f words told
 fresh_read low r (event ∷ more) t m p h f words told =
@@ -149,10 +150,10 @@ module _ (ledger : Ledger) (readers : ℕ) (accepted : IsAccepted ledger.opening
   pub run_fresh : (events more : List Event) (r : ℕ) (words : List ℕ) → slice_get (after (started ledger readers) events).readers r ≡ Some AtRest
       → (turn (after (started ledger readers) (events ++ more)) (Reader (suc r))).1 ≡ Read (suc r) words → length (after (started ledger readers) events).writer.published ≤ front_of words
   run_fresh events more r words rest told =
-      let start : TwoCopies = started ledger readers in
-      let m : TwoCopies = after start events in
+      let start : MachineState = started ledger readers in
+      let m : MachineState = after start events in
       let t = together_after events (thread_of ledger) start (opened ledger readers) (start_together ledger readers accepted) in
       let low : ℕ = length m.writer.published in
       fresh_read low r more t.0 m (passes start (opened ledger readers) events) t.1
       (le_refl low, λ stage at. subst (FreshAt low (t.0.replied (suc r))) (same_Some AtRest stage (sym rest ∙ at)) tt)
-      words (ap (λ (x : TwoCopies). (turn x (Reader (suc r))).1) (sym (after_append events more start)) ∙ told)
+      words (ap (λ (x : MachineState). (turn x (Reader (suc r))).1) (sym (after_append events more start)) ∙ told)

@@ -6,14 +6,14 @@ use Rattle.council_core.specs.Laws.{SetsInRange}
 use Rattle.council_core.specs.declared.commands.Command.{Command}
 use Rattle.council_core.specs.declared.refusals.Refusal.{Refusal}
 use Rattle.council_core.specs.declared.refusals.Refusal.TheVariants.{JournalFull}
-use Rattle.council_core.specs.Rolls.{Roll, Opening, opening_roll, fold_from, after, step, all_accepted, IsLegal}
+use Rattle.council_core.specs.Rolls.{Roll, Opening, opening_roll, fold_from, after, step, all_accepted}
 use Rattle.council_core.specs.Ledgers.{Ledger, roll_of, room_of, verdict, verdict_of, appended}
 use Rattle.two_copy_steps.specs.declared.events.Event.{Event}
 use Rattle.two_copy_steps.specs.declared.events.Event.TheVariants.{Submit, Publish, Writer, Reader}
 use Rattle.two_copy_steps.specs.declared.events.Note.TheVariants.{Skipped}
 use Rattle.two_copy_steps.specs.declared.views.Stage.{Stage}
 use Rattle.two_copy_steps.specs.Laws.{HandsInRange, HasVotesInRange}
-use Rattle.two_copy_steps.specs.Turns.{TwoCopies, turn, submitted, published_by, is_pending, is_idle, reader_turn}
+use Rattle.two_copy_steps.specs.Turns.{MachineState, turn, submitted, published_by, is_pending, is_idle, reader_turn}
 
 -- each command is accepted in its turn
 abbrev pub IsAccepted : Opening → List Command → Type 0
@@ -39,12 +39,6 @@ accepted_first r [] rest h = refl
 accepted_first r (c ∷ cs) rest h =
     and_on (is_ok (step r c)) (all_accepted (after r c) (cs ++ rest)) (all_accepted (after r c) cs) (λ q. accepted_first (after r c) cs rest q) h
 
--- the first commands of a legal list are legal
-pub legal_first : (opening : Opening) (commands rest : List Command) → IsLegal opening (commands ++ rest) → IsLegal opening commands
-legal_first opening commands rest h =
-    let few = h.1 in
-    (accepted_first (opening_roll opening) commands rest h.0, omega (arith, length-append commands rest))
-
 step_ok : (v : Result Roll Refusal) (room : Result ⊤ Refusal) → verdict v room ≡ Ok tt → IsTrue (is_ok v) × (room ≡ Ok tt)
 step_ok (Ok r) room e = (refl, e)
 step_ok (Err refusal) room e = absurd (true≢false (sym (ap is_ok e)))
@@ -62,15 +56,15 @@ room_there ledger h e = full_room (eqb (length ledger.journal) ledger.limit) (eq
 
 -- a fact of the journal and its limit that each accepted command keeps
 module _ (P : Ledger → Type 0) (more : (ledger : Ledger) (command : Command) → P ledger → verdict_of ledger command ≡ Ok tt → P (appended ledger command)) where
-  by_verdict : (m : TwoCopies) (command : Command) (v : Result ⊤ Refusal) → verdict_of m.ledger command ≡ v → P m.ledger → P (submitted m command v).0.ledger
+  by_verdict : (m : MachineState) (command : Command) (v : Result ⊤ Refusal) → verdict_of m.ledger command ≡ v → P m.ledger → P (submitted m command v).0.ledger
   by_verdict m command (Ok u) e h = more m.ledger command h e
   by_verdict m command (Err refusal) e h = h
 
-  by_reader : (m : TwoCopies) (r : ℕ) (o : Option Stage) → P m.ledger → P (reader_turn m r o).0.ledger
+  by_reader : (m : MachineState) (r : ℕ) (o : Option Stage) → P m.ledger → P (reader_turn m r o).0.ledger
   by_reader m r None h = h
   by_reader m r (Some stage) h = h
 
-  pub ledger_keeps : (m : TwoCopies) → P m.ledger → (event : Event) → P (turn m event).0.ledger
+  pub ledger_keeps : (m : MachineState) → P m.ledger → (event : Event) → P (turn m event).0.ledger
   ledger_keeps m h (Submit command) =
       elim (is_idle m.writer.phase) as (λ b. P (cond b (submitted m command (verdict_of m.ledger command)) (m, Skipped)).0.ledger)
       [ true ↦ by_verdict m command (verdict_of m.ledger command) refl h | false ↦ h ]
@@ -84,18 +78,18 @@ module _ (P : Ledger → Type 0) (more : (ledger : Ledger) (command : Command) �
   ledger_keeps m h (Reader (suc r)) = by_reader m r (slice_get m.readers r) h
 
 -- the journal keeps being accepted
-pub journal_accepted : (m : TwoCopies) → IsAccepted m.ledger.opening m.ledger.journal → (event : Event) → IsAccepted (turn m event).0.ledger.opening (turn m event).0.ledger.journal
+pub journal_accepted : (m : MachineState) → IsAccepted m.ledger.opening m.ledger.journal → (event : Event) → IsAccepted (turn m event).0.ledger.opening (turn m event).0.ledger.journal
 journal_accepted = ledger_keeps (λ l. IsAccepted l.opening l.journal) accepted_more
 
 -- it never gets shorter
-pub journal_grows : (n : ℕ) (m : TwoCopies) → n ≤ length m.ledger.journal → (event : Event) → n ≤ length (turn m event).0.ledger.journal
+pub journal_grows : (n : ℕ) (m : MachineState) → n ≤ length m.ledger.journal → (event : Event) → n ≤ length (turn m event).0.ledger.journal
 journal_grows n = ledger_keeps (λ l. n ≤ length l.journal) (λ l command h v. omega (arith, length-append l.journal (command ∷ [])))
 
 -- a journal within its limit, which is at most a million
 abbrev pub IsWithin : Ledger → Type 0
 IsWithin ledger = (length ledger.journal ≤ ledger.limit) × (ledger.limit ≤ 1000000)
 
-pub journal_within : (m : TwoCopies) → IsWithin m.ledger → (event : Event) → IsWithin (turn m event).0.ledger
+pub journal_within : (m : MachineState) → IsWithin m.ledger → (event : Event) → IsWithin (turn m event).0.ledger
 journal_within =
     ledger_keeps IsWithin (λ l command h v.
     let below = h.0 in
@@ -106,11 +100,11 @@ journal_within =
 in_range_more : (ledger : Ledger) (command : Command) → HasVotesInRange ledger → SetsInRange command → HasVotesInRange (appended ledger command)
 in_range_more ledger command h c = (h.0, All-push SetsInRange ledger.journal command h.1 c)
 
-in_range_by : (m : TwoCopies) (command : Command) (v : Result ⊤ Refusal) → HasVotesInRange m.ledger → SetsInRange command → HasVotesInRange (submitted m command v).0.ledger
+in_range_by : (m : MachineState) (command : Command) (v : Result ⊤ Refusal) → HasVotesInRange m.ledger → SetsInRange command → HasVotesInRange (submitted m command v).0.ledger
 in_range_by m command (Ok u) h c = in_range_more m.ledger command h c
 in_range_by m command (Err refusal) h c = h
 
-pub stays_in_range : (m : TwoCopies) → HasVotesInRange m.ledger → (event : Event) → HandsInRange event → HasVotesInRange (turn m event).0.ledger
+pub stays_in_range : (m : MachineState) → HasVotesInRange m.ledger → (event : Event) → HandsInRange event → HasVotesInRange (turn m event).0.ledger
 stays_in_range m h (Submit command) c =
     elim (is_idle m.writer.phase) as (λ b. HasVotesInRange (cond b (submitted m command (verdict_of m.ledger command)) (m, Skipped)).0.ledger)
     [ true ↦ in_range_by m command (verdict_of m.ledger command) h c | false ↦ h ]

@@ -17,9 +17,9 @@ use Rattle.two_copy_steps.specs.declared.views.Stage.{Stage}
 use Rattle.two_copy_steps.specs.declared.views.Stage.TheVariants.{AtRest, Arrived, Reading, Leaving}
 use Rattle.two_copy_steps.specs.declared.views.Phase.{Phase}
 use Rattle.two_copy_steps.specs.declared.views.Phase.TheVariants.{Idle, Seeing, Filling, Swapping}
-use Rattle.two_copy_steps.specs.Deeds.{all_true, first_false, pin, seeing, phase_deed}
+use Rattle.two_copy_steps.specs.Actions.{all_true, first_false, pin, seeing, phase_action}
 use Rattle.two_copy_steps.specs.Lawful.{IsPublishable, Fills, pin_of}
-use Rattle.two_copy_steps.specs.Turns.{TwoCopies, turn, submitted, published_by, is_pending, is_idle, phase_note, reader_turn, stage_note}
+use Rattle.two_copy_steps.specs.Turns.{MachineState, turn, submitted, published_by, is_pending, is_idle, phase_note, reader_turn, stage_note}
 use Rattle.two_copy_steps.specs.Passes.{Passes, IsLawful, state_of}
 use Rattle.two_copy_steps.specs.Publications.{IsLeastUnseen, StaySeen, stores_side}
 use Rattle.two_copy_steps.proofs.Lists.{set_here, set_else, inside, there}
@@ -57,40 +57,40 @@ pinned_one Arrived found e ne = e
 pinned_one (Reading side words) found e ne = e
 pinned_one (Leaving side words) found e ne = e
 
-module _ (m : TwoCopies) (p : Passes) (l : IsLawful IsPublishable m p) where
+module _ (m : MachineState) (p : Passes) (l : IsLawful IsPublishable m p) where
   abbrev w : Writing
   w = m.writer
 
   abbrev InTheWay : ℕ → Writing → Type 0
   InTheWay number after =
-      (r : ℕ) × (number ≡ suc r) × IsLeastUnseen w.seen_out r × (get_or m.words (pin 34 r) 0 ≡ 1) × (after.seen_out ≡ w.seen_out)
+      (r : ℕ) × (number ≡ suc r) × IsLeastUnseen w.seen_out r × (get_or m.words (pin r) 0 ≡ 1) × (after.seen_out ≡ w.seen_out)
 
   -- the pin of the reader looked at
-  pin_is_one : w.phase ≡ Seeing → get_or m.words (pin 34 (first_false w.seen_out)) 0 ≢ 0 → get_or m.words (pin 34 (first_false w.seen_out)) 0 ≡ 1
+  pin_is_one : w.phase ≡ Seeing → get_or m.words (pin (first_false w.seen_out)) 0 ≢ 0 → get_or m.words (pin (first_false w.seen_out)) 0 ≡ 1
   pin_is_one e ne =
       let some : all_true w.seen_out ≡ false = subst (Fills m.ledger.opening (IsPublishable m.ledger.opening) m.words w) e l.state.writer.fills in
       let below = first_inside w.seen_out some in
       let flags = l.state.writer.flags in
       let v = there (state_of m p).readers (first_false w.seen_out) (omega arith) in
-      pinned_one v.0.stage (get_or m.words (pin 34 (first_false w.seen_out)) 0) (l.state.each_reader (first_false w.seen_out) v.0 v.1).pinned ne
+      pinned_one v.0.stage (get_or m.words (pin (first_false w.seen_out)) 0) (l.state.each_reader (first_false w.seen_out) v.0 v.1).pinned ne
 
-  looked : (number : ℕ) (b : Bool) → w.phase ≡ Seeing → eqb (get_or m.words (pin 34 (first_false w.seen_out)) 0) 0 ≡ b
+  looked : (number : ℕ) (b : Bool) → w.phase ≡ Seeing → eqb (get_or m.words (pin (first_false w.seen_out)) 0) 0 ≡ b
       → in_the_way (cond b Moved (Busy (suc (first_false w.seen_out)))) ≡ Some number
-      → InTheWay number (cond b (seeing 34 w (set w.seen_out (first_false w.seen_out) true)) (record w { phase = Idle }))
+      → InTheWay number (cond b (seeing w (set w.seen_out (first_false w.seen_out) true)) (record w { phase = Idle }))
   looked number true is at e = absurd (none-some number e)
   looked number false is at e =
       let some : all_true w.seen_out ≡ false = subst (Fills m.ledger.opening (IsPublishable m.ledger.opening) m.words w) is l.state.writer.fills in (
         first_false w.seen_out,
         sym (same_Some (suc (first_false w.seen_out)) number e),
         first_is_least w.seen_out some,
-        pin_is_one is (λ z. false_not_true (sym at ∙ eq-eqb (get_or m.words (pin 34 (first_false w.seen_out)) 0) 0 z)),
+        pin_is_one is (λ z. false_not_true (sym at ∙ eq-eqb (get_or m.words (pin (first_false w.seen_out)) 0) 0 z)),
         refl,
       )
 
   by_phase : (number : ℕ) (phase : Phase) → w.phase ≡ phase → in_the_way (phase_note m phase) ≡ Some number
-      → InTheWay number ((phase_deed 34 (sheet m.ledger.opening) w phase).after (get_or m.words (phase_deed 34 (sheet m.ledger.opening) w phase).word 0))
+      → InTheWay number ((phase_action (sheet m.ledger.opening) w phase).after (get_or m.words (phase_action (sheet m.ledger.opening) w phase).word 0))
   by_phase number Idle is e = absurd (none-some number e)
-  by_phase number Seeing is e = looked number (eqb (get_or m.words (pin 34 (first_false w.seen_out)) 0) 0) is refl e
+  by_phase number Seeing is e = looked number (eqb (get_or m.words (pin (first_false w.seen_out)) 0) 0) is refl e
   by_phase number (Filling k) is e = absurd (none-some number e)
   by_phase number Swapping is e = absurd (none-some number e)
 
@@ -126,15 +126,15 @@ set_stays : (out : List Bool) (r q : ℕ) → slice_get out q ≡ Some true → 
 set_stays out r q e =
     dite (ℕ_discrete q r) (λ (s : q ≡ r). ap (slice_get (set out r true)) s ∙ set_here out r true (inside out r true (ap (slice_get out) (sym s) ∙ e))) (λ ne. set_else out r q true ne ∙ e)
 
-module _ (m : TwoCopies) where
-  looked_stays : (b : Bool) → StaySeen m.writer.seen_out (cond b (seeing 34 m.writer (set m.writer.seen_out (first_false m.writer.seen_out) true)) (record m.writer { phase = Idle })).seen_out
+module _ (m : MachineState) where
+  looked_stays : (b : Bool) → StaySeen m.writer.seen_out (cond b (seeing m.writer (set m.writer.seen_out (first_false m.writer.seen_out) true)) (record m.writer { phase = Idle })).seen_out
   looked_stays true = λ q e. set_stays m.writer.seen_out (first_false m.writer.seen_out) q e
   looked_stays false = λ q e. e
 
   phase_stays : (phase : Phase) → stores_side Writer phase ≡ false
-      → StaySeen m.writer.seen_out ((phase_deed 34 (sheet m.ledger.opening) m.writer phase).after (get_or m.words (phase_deed 34 (sheet m.ledger.opening) m.writer phase).word 0)).seen_out
+      → StaySeen m.writer.seen_out ((phase_action (sheet m.ledger.opening) m.writer phase).after (get_or m.words (phase_action (sheet m.ledger.opening) m.writer phase).word 0)).seen_out
   phase_stays Idle h = λ q e. e
-  phase_stays Seeing h = looked_stays (eqb (get_or m.words (pin 34 (first_false m.writer.seen_out)) 0) 0)
+  phase_stays Seeing h = looked_stays (eqb (get_or m.words (pin (first_false m.writer.seen_out)) 0) 0)
   phase_stays (Filling k) h = λ q e. e
   phase_stays Swapping h = cc
 

@@ -15,7 +15,8 @@ use Rattle.two_copy_steps.specs.declared.views.Stage.{Stage}
 use Rattle.two_copy_steps.specs.declared.views.Stage.TheVariants.{AtRest, Arrived, Reading, Leaving}
 use Rattle.two_copy_steps.specs.declared.views.Phase.{Phase}
 use Rattle.two_copy_steps.specs.declared.views.Phase.TheVariants.{Idle, Seeing, Filling, Swapping}
-use Rattle.two_copy_steps.specs.Deeds.{place, pin, other, recorded}
+use Rattle.two_copy_steps.specs.declared.table.TheConstants.{COPY_WORDS}
+use Rattle.two_copy_steps.specs.Actions.{place, pin, other, recorded}
 use Rattle.two_copy_steps.specs.Lawful.{State, read_by, Shows, IsReadFrom, Beside, Stands, ReaderOk, Fills, WriterOk, Lawful}
 use Rattle.two_copy_steps.proofs.Lists.{at_set, inside}
 use Rattle.two_copy_steps.proofs.Records.{sheet_long, front_of_cut, last_front-push, record-push, record-below}
@@ -23,52 +24,52 @@ use Rattle.two_copy_steps.proofs.Records.{sheet_long, front_of_cut, last_front-p
 abbrev pub reader : Stage → List (List ℕ) → ReaderView
 reader stage readings = record { stage = stage; readings = readings }
 
-pub place_low : (s i : ℕ) → i < 34 → place 34 s i < 69
+pub place_low : (s i : ℕ) → i < COPY_WORDS → place s i < pin 0
 place_low zero i h = omega arith
 place_low (suc _) i h = omega arith
 
 -- two lists of words that differ in the pin of r alone
 pub record Alike (r : ℕ) (ws vs : List ℕ) : Type 0 where
   pub len : length vs ≡ length ws
-  pub low : (i : ℕ) → i < 69 → get_or vs i 0 ≡ get_or ws i 0
-  pub pins : (q : ℕ) → q ≢ r → get_or vs (pin 34 q) 0 ≡ get_or ws (pin 34 q) 0
+  pub low : (i : ℕ) → i < pin 0 → get_or vs i 0 ≡ get_or ws i 0
+  pub pins : (q : ℕ) → q ≢ r → get_or vs (pin q) 0 ≡ get_or ws (pin q) 0
 
 pub same : (r : ℕ) (ws : List ℕ) → Alike r ws ws
 same r ws = record { len = refl; low = λ i h. refl; pins = λ q h. refl }
 
-pub pin_set : (r v : ℕ) (ws : List ℕ) → Alike r ws (set ws (pin 34 r) v)
+pub pin_set : (r v : ℕ) (ws : List ℕ) → Alike r ws (set ws (pin r) v)
 pin_set r v ws =
     record {
-      len = length-set ws (pin 34 r) v;
-      low = λ i h. get_or-set_other ws (pin 34 r) i v 0 (λ e. omega arith);
-      pins = λ q h. get_or-set_other ws (pin 34 r) (pin 34 q) v 0 (λ e. h (omega arith));
+      len = length-set ws (pin r) v;
+      low = λ i h. get_or-set_other ws (pin r) i v 0 (λ e. omega arith);
+      pins = λ q h. get_or-set_other ws (pin r) (pin q) v 0 (λ e. h (omega arith));
     }
 
 -- the words read with one more
-pub read_more : (words ws : List ℕ) (s k : ℕ) → k ≡ get_or words (place 34 s (length ws)) 0 → IsReadFrom words s ws
-    → (i : ℕ) → i < length ws + 1 → get_or (ws ++ k ∷ []) i 0 ≡ get_or words (place 34 s i) 0
+pub read_more : (words ws : List ℕ) (s k : ℕ) → k ≡ get_or words (place s (length ws)) 0 → IsReadFrom words s ws
+    → (i : ℕ) → i < length ws + 1 → get_or (ws ++ k ∷ []) i 0 ≡ get_or words (place s i) 0
 read_more words ws s k is h i l =
     dite (ℕ_discrete i (length ws))
-    (λ e. subst (λ (z : ℕ). get_or (ws ++ k ∷ []) z 0 ≡ get_or words (place 34 s z) 0) (sym e) (get_or-append_seam ws k [] 0 ∙ is))
+    (λ e. subst (λ (z : ℕ). get_or (ws ++ k ∷ []) z 0 ≡ get_or words (place s z) 0) (sym e) (get_or-append_seam ws k [] 0 ∙ is))
     (λ ne. get_or_append_left ws (k ∷ []) 0 i (omega arith) ∙ h i (omega arith))
 
 module _ (opening : Opening) (Legal : List Command → Type 0) where
   module _ (r : ℕ) (ws vs : List ℕ) (a : Alike r ws vs) where
     shows_alike : (s : ℕ) (numbers : List ℕ) → Shows ws s numbers → Shows vs s numbers
-    shows_alike s numbers h i l = a.low (place 34 s i) (place_low s i l) ∙ h i l
+    shows_alike s numbers h i l = a.low (place s i) (place_low s i l) ∙ h i l
 
     beside_alike : (w : WriterView) (seen : List (List ℕ)) (q s : ℕ) → Beside opening Legal ws w seen q s → Beside opening Legal vs w seen q s
     beside_alike w seen q s b =
         record { two = b.two; cut = b.cut; is_cut = b.is_cut; shows = shows_alike s (sheet opening (take b.cut w.state.published)) b.shows; above = b.above; late = b.late }
 
-    read_alike : (s : ℕ) (xs : List ℕ) → length xs ≤ 34 → IsReadFrom ws s xs → IsReadFrom vs s xs
-    read_alike s xs short h i l = h i l ∙ sym (a.low (place 34 s i) (place_low s i (omega arith)))
+    read_alike : (s : ℕ) (xs : List ℕ) → length xs ≤ COPY_WORDS → IsReadFrom ws s xs → IsReadFrom vs s xs
+    read_alike s xs short h i l = h i l ∙ sym (a.low (place s i) (place_low s i (omega arith)))
 
     stands_alike : (w : WriterView) (seen : List (List ℕ)) (q : ℕ) (st : Stage) → Stands opening Legal ws w seen q st → Stands opening Legal vs w seen q st
     stands_alike w seen q AtRest h = tt
     stands_alike w seen q Arrived h = tt
-    stands_alike w seen q (Reading s xs) h = let short : length xs < 34 = h.1 in (beside_alike w seen q s h.0, h.1, read_alike s xs (omega arith) h.2)
-    stands_alike w seen q (Leaving s xs) h = let full : length xs ≡ 34 = h.1 in (beside_alike w seen q s h.0, h.1, read_alike s xs (omega arith) h.2, h.3)
+    stands_alike w seen q (Reading s xs) h = let short : length xs < COPY_WORDS = h.1 in (beside_alike w seen q s h.0, h.1, read_alike s xs (omega arith) h.2)
+    stands_alike w seen q (Leaving s xs) h = let full : length xs ≡ COPY_WORDS = h.1 in (beside_alike w seen q s h.0, h.1, read_alike s xs (omega arith) h.2, h.3)
 
     ok_alike : (w : WriterView) (q : ℕ) (v : ReaderView) → q ≢ r → ReaderOk opening Legal ws w q v → ReaderOk opening Legal vs w q v
     ok_alike w q v ne k = record { pinned = a.pins q ne ∙ k.pinned; stands = stands_alike w v.readings q v.stage k.stands; record_legal = k.record_legal }
@@ -77,9 +78,9 @@ module _ (opening : Opening) (Legal : List Command → Type 0) where
     fills_alike w Idle h = tt
     fills_alike w Seeing h = h
     fills_alike w (Filling k) h =
-        let short : k < 34 = h.0 in
-        (h.0, (h.1.0, λ i l. a.low (place 34 (other w.state.side) i) (place_low (other w.state.side) i (omega arith)) ∙ h.1.1 i l))
-    fills_alike w Swapping h = (h.0, λ i l. a.low (place 34 (other w.state.side) i) (place_low (other w.state.side) i l) ∙ h.1 i l)
+        let short : k < COPY_WORDS = h.0 in
+        (h.0, (h.1.0, λ i l. a.low (place (other w.state.side) i) (place_low (other w.state.side) i (omega arith)) ∙ h.1.1 i l))
+    fills_alike w Swapping h = (h.0, λ i l. a.low (place (other w.state.side) i) (place_low (other w.state.side) i l) ∙ h.1 i l)
 
     writer_alike : (w : WriterView) (k : ℕ) → WriterOk opening Legal ws w k → WriterOk opening Legal vs w k
     writer_alike w k o =
@@ -113,7 +114,7 @@ module _ (opening : Opening) (Legal : List Command → Type 0) where
             (at_set m.readers r q v u e);
       }
 
-  whole : (words : List ℕ) (w : WriterView) (seen : List (List ℕ)) (r s : ℕ) (ws : List ℕ) (b : Beside opening Legal words w seen r s) → length ws ≡ 34
+  whole : (words : List ℕ) (w : WriterView) (seen : List (List ℕ)) (r s : ℕ) (ws : List ℕ) (b : Beside opening Legal words w seen r s) → length ws ≡ COPY_WORDS
       → IsReadFrom words s ws → ws ≡ sheet opening (take b.cut w.state.published)
   whole words w seen r s ws b len h =
       let size = sheet_long opening (take b.cut w.state.published) in
@@ -126,28 +127,28 @@ module _ (opening : Opening) (Legal : List Command → Type 0) where
   record HasLoaded (words : List ℕ) (w : WriterView) (seen : List (List ℕ)) (r s : ℕ) (ws : List ℕ) : Type 0 where
     pub beside : Beside opening Legal words w seen r s
     pub within : beside.cut ≤ length w.state.published
-    pub few : length ws ≤ 34
+    pub few : length ws ≤ COPY_WORDS
     pub read_from : IsReadFrom words s ws
-    pub pinned : get_or words (pin 34 r) 0 ≡ 1
+    pub pinned : get_or words (pin r) 0 ≡ 1
     pub record_legal : IsRecordFrom opening w.state.published w.cuts 0 seen
 
-  loaded_ok : (words : List ℕ) (w : WriterView) (seen : List (List ℕ)) (r s : ℕ) (ws : List ℕ) → HasLoaded words w seen r s ws → ReaderOk opening Legal words w r (stepped s ws seen (eqb (length ws) 34))
+  loaded_ok : (words : List ℕ) (w : WriterView) (seen : List (List ℕ)) (r s : ℕ) (ws : List ℕ) → HasLoaded words w seen r s ws → ReaderOk opening Legal words w r (stepped s ws seen (eqb (length ws) COPY_WORDS))
   loaded_ok words w seen r s ws h =
       let b = h.beside in
       let few = h.few in
-      dite (ℕ_discrete (length ws) 34)
+      dite (ℕ_discrete (length ws) COPY_WORDS)
       (λ e.
       let is = whole words w seen r s ws b e h.read_from in
       let front : front_of ws ≡ b.cut = ap front_of is ∙ front_of_cut opening w.state.published b.cut h.within in
       let above = b.above in
       let last = last_front-push 0 seen ws in
-      subst (λ (t : Bool). ReaderOk opening Legal words w r (stepped s ws seen t)) (sym (eq-eqb (length ws) 34 e))
+      subst (λ (t : Bool). ReaderOk opening Legal words w r (stepped s ws seen t)) (sym (eq-eqb (length ws) COPY_WORDS e))
       record {
         pinned = h.pinned;
         stands = (record { two = b.two; cut = b.cut; is_cut = b.is_cut; shows = b.shows; above = omega arith; late = b.late }, e, h.read_from, (seen, refl));
         record_legal = record-push opening w.state.published w.cuts 0 seen ws h.record_legal (b.cut, b.is_cut, is) (omega arith);
       })
-      (λ ne. subst (λ (t : Bool). ReaderOk opening Legal words w r (stepped s ws seen t)) (sym (ne_eqb (length ws) 34 ne))
+      (λ ne. subst (λ (t : Bool). ReaderOk opening Legal words w r (stepped s ws seen t)) (sym (ne_eqb (length ws) COPY_WORDS ne))
       record { pinned = h.pinned; stands = (b, omega arith, h.read_from); record_legal = h.record_legal })
 
   begins_side : (m : State) (l : Lawful opening Legal m) (r : ℕ) (seen : List (List ℕ)) → IsRecordFrom opening m.writer.state.published m.writer.cuts 0 seen
@@ -173,21 +174,21 @@ module _ (opening : Opening) (Legal : List Command → Type 0) where
       → Reads m r seen st
   reads m l r seen AtRest here k =
       let wide = l.wide in
-      reader_moves m l r (set m.words (pin 34 r) 1) (reader Arrived seen) (pin_set r 1 m.words)
-      record { pinned = get_or-set_same m.words (pin 34 r) 1 0 (omega arith); stands = tt; record_legal = k.record_legal }
+      reader_moves m l r (set m.words (pin r) 1) (reader Arrived seen) (pin_set r 1 m.words)
+      record { pinned = get_or-set_same m.words (pin r) 1 0 (omega arith); stands = tt; record_legal = k.record_legal }
   reads m l r seen Arrived here k =
       let s : ℕ = get_or m.words 0 0 in
       subst (λ (vs : List ℕ). Lawful opening Legal (At vs m.writer (set m.readers r (reader (Reading s []) seen)))) (sym (set-get_or m.words 0 0))
       (reader_moves m l r m.words (reader (Reading s []) seen) (same r m.words)
       record { pinned = k.pinned; stands = (begins_side m l r seen k.record_legal, omega arith, λ i h. absurd (omega arith)); record_legal = k.record_legal })
   reads m l r seen (Reading s ws) here k =
-      let i : ℕ = place 34 s (length ws) in
+      let i : ℕ = place s (length ws) in
       let x : ℕ = get_or m.words i 0 in
       let h = k.stands in
       let b = h.0 in
-      let short : length ws < 34 = h.1 in
+      let short : length ws < COPY_WORDS = h.1 in
       let more : length (ws ++ x ∷ []) ≡ length ws + 1 = length-append ws (x ∷ []) in
-      let v : ReaderView = stepped s (ws ++ x ∷ []) seen (eqb (length (ws ++ x ∷ [])) 34) in
+      let v : ReaderView = stepped s (ws ++ x ∷ []) seen (eqb (length (ws ++ x ∷ [])) COPY_WORDS) in
       subst (λ (vs : List ℕ). Lawful opening Legal (At vs m.writer (set m.readers r v))) (sym (set-get_or m.words i 0))
       (reader_moves m l r m.words v (same r m.words)
       (loaded_ok m.words m.writer seen r s (ws ++ x ∷ []) record {
@@ -200,8 +201,8 @@ module _ (opening : Opening) (Legal : List Command → Type 0) where
       }))
   reads m l r seen (Leaving s ws) here k =
       let wide = l.wide in
-      reader_moves m l r (set m.words (pin 34 r) 0) (reader AtRest seen) (pin_set r 0 m.words)
-      record { pinned = get_or-set_same m.words (pin 34 r) 0 0 (omega arith); stands = tt; record_legal = k.record_legal }
+      reader_moves m l r (set m.words (pin r) 0) (reader AtRest seen) (pin_set r 0 m.words)
+      record { pinned = get_or-set_same m.words (pin r) 0 0 (omega arith); stands = tt; record_legal = k.record_legal }
 
   -- each step of a reader keeps the state lawful
   pub reader_keeps : (m : State) → Lawful opening Legal m → (r : ℕ) (v : ReaderView) → slice_get m.readers r ≡ Some v → Lawful opening Legal (read_by m r v)

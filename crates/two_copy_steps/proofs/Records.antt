@@ -7,14 +7,15 @@ use Rattle.council_core.specs.declared.commands.Command.{Command}
 use Rattle.council_core.specs.Rolls.{Opening, sheet}
 use Rattle.council_core.specs.Sequential.{IsCutSheet, IsRecordFrom, AreRecords}
 use Rattle.council_core.specs.Sheets.{front_of}
+use Rattle.two_copy_steps.specs.declared.table.TheConstants.{COPY_WORDS}
 use Rattle.two_copy_steps.specs.Lawful.{last_front}
 
 -- the front of a sheet is the number of its commands
 pub front_is : (opening : Opening) (commands : List Command) → front_of (sheet opening commands) ≡ length commands
 front_is opening commands = refl
 
--- a sheet has 34 numbers
-pub sheet_long : (opening : Opening) (commands : List Command) → length (sheet opening commands) ≡ 34
+-- a sheet has as many numbers as a copy has words
+pub sheet_long : (opening : Opening) (commands : List Command) → length (sheet opening commands) ≡ COPY_WORDS
 sheet_long opening commands = refl
 
 pub front_of_cut : (opening : Opening) (commands : List Command) (cut : ℕ) → cut ≤ length commands → front_of (sheet opening (take cut commands)) ≡ cut

@@ -20,9 +20,10 @@ use Rattle.two_copy_steps.specs.declared.views.Stage.{Stage}
 use Rattle.two_copy_steps.specs.declared.views.Stage.TheVariants.{AtRest, Arrived, Reading, Leaving}
 use Rattle.two_copy_steps.specs.declared.views.Phase.{Phase}
 use Rattle.two_copy_steps.specs.declared.views.Phase.TheVariants.{Idle, Seeing, Filling, Swapping}
-use Rattle.two_copy_steps.specs.Deeds.{first_false, other, pin, place, begun, seeing, loaded, phase_deed}
+use Rattle.two_copy_steps.specs.declared.table.TheConstants.{COPY_WORDS}
+use Rattle.two_copy_steps.specs.Actions.{first_false, other, pin, place, begun, seeing, loaded, phase_action}
 use Rattle.two_copy_steps.specs.Lawful.{Shows, Beside, Stands, Fills}
-use Rattle.two_copy_steps.specs.Turns.{TwoCopies, turn, submitted, published_by, is_pending, is_idle, read, reader_turn, phase_note, stage_note}
+use Rattle.two_copy_steps.specs.Turns.{MachineState, turn, submitted, published_by, is_pending, is_idle, read, reader_turn, phase_note, stage_note}
 use Rattle.two_copy_steps.specs.Passes.{Passes, record_at, state_of, IsLawful}
 use Rattle.two_copy_steps.specs.Effects.{phase_effect, stage_effect, reader_effect, Thread, replied_at, replied_to, begun_after, beside, Tells, SwapsOnce, Answers}
 use Rattle.two_copy_steps.proofs.Lists.{at_set}
@@ -32,29 +33,29 @@ use Rattle.two_copy_steps.proofs.WriterSteps.{place_above, place_apart, all_at}
 use Rattle.two_copy_steps.proofs.TurnSteps.{view_at, viewed_at}
 
 -- the register of one thread that goes with a machine
-abbrev pub sequential_of : TwoCopies → Sequential
+abbrev pub sequential_of : MachineState → Sequential
 sequential_of m = record { ledger = m.ledger; published = length m.writer.published }
 
 -- what a reader is reading is what it has been replied
 abbrev pub Held : List ℕ → Option Reply → Stage → Type 0
 Held words given AtRest = Unit {0}
 Held words given Arrived = Unit {0}
-Held words given (Reading side loaded) = (numbers : List ℕ) × (given ≡ Some (reading numbers)) × (length numbers ≡ 34) × Shows words side numbers
+Held words given (Reading side loaded) = (numbers : List ℕ) × (given ≡ Some (reading numbers)) × (length numbers ≡ COPY_WORDS) × Shows words side numbers
 Held words given (Leaving side loaded) = given ≡ Some (reading loaded)
 
 abbrev pub AllHeld : List ℕ → (ℕ → Option Reply) → List Stage → Type 0
 AllHeld words replied readers = (r : ℕ) (stage : Stage) → slice_get readers r ≡ Some stage → Held words (replied (suc r)) stage
 
-pub record Agrees (t : Thread) (m : TwoCopies) : Type 0 where
+pub record Agrees (t : Thread) (m : MachineState) : Type 0 where
   pub register : t.register ≡ sequential_of m
   pub held : AllHeld m.words t.replied m.readers
   pub begun : is_idle m.writer.phase ≡ false → t.begun ≡ true
 
-abbrev thread : TwoCopies → (ℕ → Option Reply) → Bool → Thread
+abbrev thread : MachineState → (ℕ → Option Reply) → Bool → Thread
 thread m replied b = record { register = sequential_of m; replied = replied; begun = b }
 
 -- what is to be shown of an event, by its calls, its note, the machine after it, and what the readers have been replied
-abbrev Goes : TwoCopies → Bool → List Call → Note → TwoCopies → (ℕ → Option Reply) → (ℕ → Option Reply) → Type 0
+abbrev Goes : MachineState → Bool → List Call → Note → MachineState → (ℕ → Option Reply) → (ℕ → Option Reply) → Type 0
 Goes m b calls note m' replied replied' =
     Agrees (record { register = state_after (sequential_of m) calls; replied = replied'; begun = begun_after b note }) m' × Tells (replies_of (sequential_of m) calls) replied note
 
@@ -62,11 +63,11 @@ module _ (Legal : Opening → List Command → Type 0) where
   held_alike : (r : ℕ) (ws vs : List ℕ) → Alike r ws vs → (given : Option Reply) (stage : Stage) → Held ws given stage → Held vs given stage
   held_alike r ws vs a given AtRest h = tt
   held_alike r ws vs a given Arrived h = tt
-  held_alike r ws vs a given (Reading s xs) h = (h.0, h.1, h.2, λ i l. a.low (place 34 s i) (place_low s i l) ∙ h.3 i l)
+  held_alike r ws vs a given (Reading s xs) h = (h.0, h.1, h.2, λ i l. a.low (place s i) (place_low s i l) ∙ h.3 i l)
   held_alike r ws vs a given (Leaving s xs) h = h
 
   -- one reader moves, and the others hold what they held
-  all_held : (m : TwoCopies) (r : ℕ) (stage : Stage) (vs : List ℕ) (replied replied' : ℕ → Option Reply) → AllHeld m.words replied m.readers → Alike r m.words vs
+  all_held : (m : MachineState) (r : ℕ) (stage : Stage) (vs : List ℕ) (replied replied' : ℕ → Option Reply) → AllHeld m.words replied m.readers → Alike r m.words vs
       → ((k : ℕ) → k ≢ suc r → replied' k ≡ replied k) → Held vs (replied' (suc r)) stage → AllHeld vs replied' (set m.readers r stage)
   all_held m r stage vs replied replied' all alike stays held q other at =
       ⊎_elim (λ (t : (q ≡ r) × (stage ≡ other)). subst (λ (z : ℕ × Stage). Held vs (replied' (suc z.0)) z.1) (λ i. (sym t.0 i, t.1 i)) held)
@@ -75,7 +76,7 @@ module _ (Legal : Opening → List Command → Type 0) where
       (at_set m.readers r q stage other at)
 
   -- what the register of one thread shows is what is published
-  is_shown : (m : TwoCopies) (p : Passes) → IsLawful Legal m p → take (length m.writer.published) m.ledger.journal ≡ m.writer.published
+  is_shown : (m : MachineState) (p : Passes) → IsLawful Legal m p → take (length m.writer.published) m.ledger.journal ≡ m.writer.published
   is_shown m p l =
       let w = m.writer in
       let b = l.state.writer.begins in
@@ -83,27 +84,27 @@ module _ (Legal : Opening → List Command → Type 0) where
       let whole : w.published ++ (b.0 ++ e.0) ≡ m.ledger.journal = sym (append_assoc w.published b.0 e.0) ∙ (ap (λ (c : List Command). c ++ e.0) b.1 ∙ e.1) in
       ap (take (length w.published)) (sym whole) ∙ take-append_seam w.published (b.0 ++ e.0)
 
-  loaded_held : (words : List ℕ) (given : Option Reply) (s : ℕ) (ws numbers : List ℕ) → given ≡ Some (reading numbers) → length numbers ≡ 34 → Shows words s numbers
-      → ((i : ℕ) → i < length ws → get_or ws i 0 ≡ get_or words (place 34 s i) 0) → length ws ≤ 34 → Held words given (loaded 34 s ws)
+  loaded_held : (words : List ℕ) (given : Option Reply) (s : ℕ) (ws numbers : List ℕ) → given ≡ Some (reading numbers) → length numbers ≡ COPY_WORDS → Shows words s numbers
+      → ((i : ℕ) → i < length ws → get_or ws i 0 ≡ get_or words (place s i) 0) → length ws ≤ COPY_WORDS → Held words given (loaded s ws)
   loaded_held words given s ws numbers is long shows read short =
       let F : Bool → Type 0 = λ b. Held words given (cond b (Leaving s ws) (Reading s ws)) in
-      dite (ℕ_discrete (length ws) 34)
-      (λ e. subst F (sym (eq-eqb (length ws) 34 e)) (is ∙ ap (λ (x : List ℕ). Some (reading x)) (sym (ext_get_or 0 ws numbers (e ∙ sym long) (λ i l. read i l ∙ shows i (omega arith))))))
-      (λ ne. subst F (sym (ne_eqb (length ws) 34 ne)) (numbers, is, long, shows))
+      dite (ℕ_discrete (length ws) COPY_WORDS)
+      (λ e. subst F (sym (eq-eqb (length ws) COPY_WORDS e)) (is ∙ ap (λ (x : List ℕ). Some (reading x)) (sym (ext_get_or 0 ws numbers (e ∙ sym long) (λ i l. read i l ∙ shows i (omega arith))))))
+      (λ ne. subst F (sym (ne_eqb (length ws) COPY_WORDS ne)) (numbers, is, long, shows))
 
-  abbrev ReadGoes : TwoCopies → Bool → (ℕ → Option Reply) → ℕ → Stage → Type 0
+  abbrev ReadGoes : MachineState → Bool → (ℕ → Option Reply) → ℕ → Stage → Type 0
   ReadGoes m b replied r stage =
       Goes m b (stage_effect stage) (stage_note (suc r) stage) (read m r stage) replied (λ k. replied_at (thread m replied b) (suc r) stage k)
 
   others_none : (number : ℕ) (given : Option Reply) (replied : ℕ → Option Reply) (k : ℕ) → k ≢ number → cond (eqb k number) given (replied k) ≡ replied k
   others_none number given replied k ne = ap (λ (b : Bool). cond b given (replied k)) (ne_eqb k number ne)
 
-  read_goes : (m : TwoCopies) (p : Passes) → IsLawful Legal m p → (b : Bool) (replied : ℕ → Option Reply) → Agrees (thread m replied b) m
+  read_goes : (m : MachineState) (p : Passes) → IsLawful Legal m p → (b : Bool) (replied : ℕ → Option Reply) → Agrees (thread m replied b) m
       → (r : ℕ) (stage : Stage) → slice_get m.readers r ≡ Some stage → ReadGoes m b replied r stage
   read_goes m p l b replied a r AtRest at = (
     record {
       register = refl;
-      held = all_held m r Arrived (set m.words (pin 34 r) 1) replied (λ k. cond (eqb k (suc r)) None (replied k)) a.held (pin_set r 1 m.words) (others_none (suc r) None replied) tt;
+      held = all_held m r Arrived (set m.words (pin r) 1) replied (λ k. cond (eqb k (suc r)) None (replied k)) a.held (pin_set r 1 m.words) (others_none (suc r) None replied) tt;
       begun = a.begun;
     },
     tt,
@@ -116,7 +117,7 @@ module _ (Legal : Opening → List Command → Type 0) where
       let given : Option Reply = Some (reading new) in
       let replied' : ℕ → Option Reply = λ k. cond (eqb k (suc r)) given (replied k) in
       let here : replied' (suc r) ≡ given = ap (λ (z : Bool). cond z given (replied (suc r))) (eq-eqb (suc r) (suc r) refl) in
-      let shows : Shows words s new = λ i g. ap (λ (z : ℕ). get_or words (place 34 z i) 0) o.side_is ∙ (o.shown i g ∙ ap (λ (z : List Command). get_or (sheet m.ledger.opening z) i 0) (sym (is_shown m p l))) in
+      let shows : Shows words s new = λ i g. ap (λ (z : ℕ). get_or words (place z i) 0) o.side_is ∙ (o.shown i g ∙ ap (λ (z : List Command). get_or (sheet m.ledger.opening z) i 0) (sym (is_shown m p l))) in
       let held : AllHeld words replied' (set m.readers r (Reading s [])) = all_held m r (Reading s []) words replied replied' a.held (same r words) (others_none (suc r) given replied)
       (new, here, sheet_long m.ledger.opening (take (length m.writer.published) m.ledger.journal), shows) in (
         record {
@@ -128,17 +129,17 @@ module _ (Legal : Opening → List Command → Type 0) where
       )
   read_goes m p l b replied a r (Reading s ws) at =
       let words : List ℕ = m.words in
-      let i : ℕ = place 34 s (length ws) in
+      let i : ℕ = place s (length ws) in
       let x : ℕ = get_or words i 0 in
       let h = (l.state.each_reader r (view_at (Reading s ws) (record_at p.records r)) (viewed_at m.readers p.records r (Reading s ws) at)).stands in
-      let short : length ws < 34 = h.1 in
+      let short : length ws < COPY_WORDS = h.1 in
       let more : length (ws ++ x ∷ []) ≡ length ws + 1 = length-append ws (x ∷ []) in
       let g = a.held r (Reading s ws) at in
-      let held : AllHeld words replied (set m.readers r (loaded 34 s (ws ++ x ∷ []))) = all_held m r (loaded 34 s (ws ++ x ∷ [])) words replied replied a.held (same r words) (λ k ne. refl)
+      let held : AllHeld words replied (set m.readers r (loaded s (ws ++ x ∷ []))) = all_held m r (loaded s (ws ++ x ∷ [])) words replied replied a.held (same r words) (λ k ne. refl)
       (loaded_held words (replied (suc r)) s (ws ++ x ∷ []) g.0 g.1 g.2 g.3 (λ j lt. read_more words ws s x refl h.2 j (omega arith)) (omega arith)) in (
         record {
           register = refl;
-          held = subst (λ (vs : List ℕ). AllHeld vs replied (set m.readers r (loaded 34 s (ws ++ x ∷ [])))) (sym (set-get_or words i 0)) held;
+          held = subst (λ (vs : List ℕ). AllHeld vs replied (set m.readers r (loaded s (ws ++ x ∷ [])))) (sym (set-get_or words i 0)) held;
           begun = a.begun;
         },
         tt,
@@ -146,46 +147,46 @@ module _ (Legal : Opening → List Command → Type 0) where
   read_goes m p l b replied a r (Leaving s ws) at = (
     record {
       register = refl;
-      held = all_held m r AtRest (set m.words (pin 34 r) 0) replied replied a.held (pin_set r 0 m.words) (λ k ne. refl) tt;
+      held = all_held m r AtRest (set m.words (pin r) 0) replied replied a.held (pin_set r 0 m.words) (λ k ne. refl) tt;
       begun = a.begun;
     },
     a.held r (Leaving s ws) at,
   )
 
   -- the copies that readers read are left as they are
-  abbrev Unharmed : TwoCopies → Passes → List ℕ → Type 0
+  abbrev Unharmed : MachineState → Passes → List ℕ → Type 0
   Unharmed m p vs =
       (r s : ℕ) (readings : List (List ℕ)) → Beside m.ledger.opening (Legal m.ledger.opening) m.words (state_of m p).writer readings r s
-      → (i : ℕ) → i < 34 → get_or vs (place 34 s i) 0 ≡ get_or m.words (place 34 s i) 0
+      → (i : ℕ) → i < COPY_WORDS → get_or vs (place s i) 0 ≡ get_or m.words (place s i) 0
 
-  held_on : (m : TwoCopies) (p : Passes) (vs : List ℕ) → Unharmed m p vs → (given : Option Reply) (readings : List (List ℕ)) (r : ℕ) (stage : Stage)
+  held_on : (m : MachineState) (p : Passes) (vs : List ℕ) → Unharmed m p vs → (given : Option Reply) (readings : List (List ℕ)) (r : ℕ) (stage : Stage)
       → Stands m.ledger.opening (Legal m.ledger.opening) m.words (state_of m p).writer readings r stage → Held m.words given stage → Held vs given stage
   held_on m p vs u given readings r AtRest h k = tt
   held_on m p vs u given readings r Arrived h k = tt
   held_on m p vs u given readings r (Reading s ws) h k = (k.0, k.1, k.2, λ i l. u r s readings h.0 i l ∙ k.3 i l)
   held_on m p vs u given readings r (Leaving s ws) h k = k
 
-  all_held_on : (m : TwoCopies) (p : Passes) → IsLawful Legal m p → (vs : List ℕ) → Unharmed m p vs → (replied : ℕ → Option Reply) → AllHeld m.words replied m.readers → AllHeld vs replied m.readers
+  all_held_on : (m : MachineState) (p : Passes) → IsLawful Legal m p → (vs : List ℕ) → Unharmed m p vs → (replied : ℕ → Option Reply) → AllHeld m.words replied m.readers → AllHeld vs replied m.readers
   all_held_on m p l vs u replied all r stage at =
       let ok = l.state.each_reader r (view_at stage (record_at p.records r)) (viewed_at m.readers p.records r stage at) in
       held_on m p vs u (replied (suc r)) (record_at p.records r) r stage ok.stands (all r stage at)
 
-  abbrev wrote : TwoCopies → Phase → TwoCopies
+  abbrev wrote : MachineState → Phase → MachineState
   wrote m phase =
-      let d = phase_deed 34 (sheet m.ledger.opening) m.writer phase in
+      let d = phase_action (sheet m.ledger.opening) m.writer phase in
       let found = get_or m.words d.word 0 in
       record m { words = set m.words d.word (d.becomes found); writer = d.after found }
 
-  abbrev WriteGoes : TwoCopies → Bool → (ℕ → Option Reply) → Phase → Type 0
+  abbrev WriteGoes : MachineState → Bool → (ℕ → Option Reply) → Phase → Type 0
   WriteGoes m b replied phase = Goes m b (phase_effect phase) (phase_note m phase) (wrote m phase) replied replied × SwapsOnce b Writer phase
 
-  looked_published : (w : Writing) (r : ℕ) (b : Bool) → (cond b (seeing 34 w (set w.seen_out r true)) (record w { phase = Idle })).published ≡ w.published
+  looked_published : (w : Writing) (r : ℕ) (b : Bool) → (cond b (seeing w (set w.seen_out r true)) (record w { phase = Idle })).published ≡ w.published
   looked_published w r true = refl
   looked_published w r false = refl
 
   -- where a pin is found at 0 the publication goes on, else it is given up
   looked_begun : (w : Writing) (number : ℕ) (b z : Bool) → b ≡ true
-      → is_idle (cond z (seeing 34 w (set w.seen_out number true)) (record w { phase = Idle })).phase ≡ false → begun_after b (cond z Moved (Busy (suc number))) ≡ true
+      → is_idle (cond z (seeing w (set w.seen_out number true)) (record w { phase = Idle })).phase ≡ false → begun_after b (cond z Moved (Busy (suc number))) ≡ true
   looked_begun w number b true begun busy = begun
   looked_begun w number b false begun busy = cc
 
@@ -196,7 +197,7 @@ module _ (Legal : Opening → List Command → Type 0) where
   true_not_false : true ≡ false → ⊥
   true_not_false e = cc
 
-  write_goes : (m : TwoCopies) (p : Passes) → IsLawful Legal m p → (b : Bool) (replied : ℕ → Option Reply) → Agrees (thread m replied b) m
+  write_goes : (m : MachineState) (p : Passes) → IsLawful Legal m p → (b : Bool) (replied : ℕ → Option Reply) → Agrees (thread m replied b) m
       → (phase : Phase) → m.writer.phase ≡ phase → WriteGoes m b replied phase
   write_goes m p l b replied a Idle is = (
     (
@@ -212,11 +213,11 @@ module _ (Legal : Opening → List Command → Type 0) where
   write_goes m p l b replied a Seeing is =
       let w = m.writer in
       let r : ℕ = first_false w.seen_out in
-      let k : ℕ = get_or m.words (pin 34 r) 0 in (
+      let k : ℕ = get_or m.words (pin r) 0 in (
         (
           record {
             register = ap (λ (z : List Command). let s : Sequential = record { ledger = m.ledger; published = length z } in s) (sym (looked_published w r (eqb k 0)));
-            held = subst (λ (vs : List ℕ). AllHeld vs replied m.readers) (sym (set-get_or m.words (pin 34 r) 0)) a.held;
+            held = subst (λ (vs : List ℕ). AllHeld vs replied m.readers) (sym (set-get_or m.words (pin r) 0)) a.held;
             begun = looked_begun w r b (eqb k 0) (a.begun (ap is_idle is));
           },
           looked_tells replied (suc r) (eqb k 0),
@@ -225,7 +226,7 @@ module _ (Legal : Opening → List Command → Type 0) where
       )
   write_goes m p l b replied a (Filling k) is =
       let w = m.writer in
-      let place' : ℕ = place 34 (other w.side) k in
+      let place' : ℕ = place (other w.side) k in
       let x : ℕ = get_or (sheet m.ledger.opening w.taken) k 0 in
       let o = l.state.writer in
       let f = subst (Fills m.ledger.opening (Legal m.ledger.opening) m.words w) is o.fills in (
@@ -235,7 +236,7 @@ module _ (Legal : Opening → List Command → Type 0) where
             held = all_held_on m p l (set m.words place' x)
                 (λ r s readings beside i lt.
                 let here : s ≡ w.side = dite (ℕ_discrete s w.side) (λ z. z) (λ ne. absurd (all_at w.seen_out r f.1.0 (beside.late ne))) in
-                get_or-set_other m.words place' (place 34 s i) x 0 (subst (λ (z : ℕ). place 34 z i ≢ place') (sym here) (place_apart w.side i k o.two lt f.0)))
+                get_or-set_other m.words place' (place s i) x 0 (subst (λ (z : ℕ). place z i ≢ place') (sym here) (place_apart w.side i k o.two lt f.0)))
                 replied a.held;
             begun = λ _. a.begun (ap is_idle is);
           },
@@ -251,7 +252,7 @@ module _ (Legal : Opening → List Command → Type 0) where
           record {
             register = ap (λ (z : ℕ). let s : Sequential = record { ledger = m.ledger; published = z } in s) long;
             held = all_held_on m p l (set m.words 0 (other w.side))
-                (λ r s readings beside i lt. get_or-set_other m.words 0 (place 34 s i) (other w.side) 0 (λ z. let g = place_above s i in omega arith))
+                (λ r s readings beside i lt. get_or-set_other m.words 0 (place s i) (other w.side) 0 (λ z. let g = place_above s i in omega arith))
                 replied a.held;
             begun = λ e. absurd (true_not_false e);
           },
@@ -260,19 +261,19 @@ module _ (Legal : Opening → List Command → Type 0) where
         a.begun (ap is_idle is),
       )
 
-  abbrev PublishGoes : TwoCopies → Bool → (ℕ → Option Reply) → Bool → Bool → Type 0
+  abbrev PublishGoes : MachineState → Bool → (ℕ → Option Reply) → Bool → Bool → Type 0
   PublishGoes m b replied idle pending =
       let after = cond idle (published_by m pending) (m, Skipped) in
       Goes m b (cond idle (cond pending [] (publish ∷ [])) []) after.1 after.0 replied replied
 
-  not_pending : (m : TwoCopies) (p : Passes) → IsLawful Legal m p → is_pending m ≡ false → length m.ledger.journal ≡ length m.writer.published
+  not_pending : (m : MachineState) (p : Passes) → IsLawful Legal m p → is_pending m ≡ false → length m.ledger.journal ≡ length m.writer.published
   not_pending m p l none =
       let b = ap (length {A = Command}) l.state.writer.begins.1 in
       let e = ap (length {A = Command}) l.extends.1 in
       let ge = ltb-false (length m.writer.published) (length m.ledger.journal) none in
       omega (arith, length-append m.writer.published l.state.writer.begins.0, length-append m.writer.taken l.extends.0)
 
-  publish_goes : (m : TwoCopies) (p : Passes) → IsLawful Legal m p → (b : Bool) (replied : ℕ → Option Reply) → Agrees (thread m replied b) m
+  publish_goes : (m : MachineState) (p : Passes) → IsLawful Legal m p → (b : Bool) (replied : ℕ → Option Reply) → Agrees (thread m replied b) m
       → (idle pending : Bool) → is_idle m.writer.phase ≡ idle → is_pending m ≡ pending → PublishGoes m b replied idle pending
   publish_goes m p l b replied a false pending is now = (a, refl)
   publish_goes m p l b replied a true true is now = (record { register = refl; held = a.held; begun = λ _. refl }, refl)
@@ -286,35 +287,35 @@ module _ (Legal : Opening → List Command → Type 0) where
         ap (λ (z : ℕ). published z ∷ []) long,
       )
 
-  abbrev SubmitGoes : TwoCopies → Bool → (ℕ → Option Reply) → Command → Bool → Type 0
+  abbrev SubmitGoes : MachineState → Bool → (ℕ → Option Reply) → Command → Bool → Type 0
   SubmitGoes m b replied command idle =
       let after = cond idle (submitted m command (verdict_of m.ledger command)) (m, Skipped) in
       Goes m b (cond idle (submit command ∷ []) []) after.1 after.0 replied replied
 
   -- the same by the verdict
-  abbrev VerdictGoes : TwoCopies → Bool → (ℕ → Option Reply) → Command → Result ⊤ Refusal → Type 0
+  abbrev VerdictGoes : MachineState → Bool → (ℕ → Option Reply) → Command → Result ⊤ Refusal → Type 0
   VerdictGoes m b replied command v =
       let after = submitted m command v in
       let replies = sequential.submitted (sequential_of m) command v in
       Agrees (record { register = replies.0; replied = replied; begun = begun_after b after.1 }) after.0 × Tells (replies.1 ∷ []) replied after.1
 
-  verdict_goes : (m : TwoCopies) (b : Bool) (replied : ℕ → Option Reply) → Agrees (thread m replied b) m → (command : Command) → (v : Result ⊤ Refusal) → VerdictGoes m b replied command v
+  verdict_goes : (m : MachineState) (b : Bool) (replied : ℕ → Option Reply) → Agrees (thread m replied b) m → (command : Command) → (v : Result ⊤ Refusal) → VerdictGoes m b replied command v
   verdict_goes m b replied a command (Ok u) = (record { register = refl; held = a.held; begun = a.begun }, refl)
   verdict_goes m b replied a command (Err refusal) = (record { register = refl; held = a.held; begun = a.begun }, refl)
 
-  submit_goes : (m : TwoCopies) (b : Bool) (replied : ℕ → Option Reply) → Agrees (thread m replied b) m → (command : Command) → (idle : Bool) → SubmitGoes m b replied command idle
+  submit_goes : (m : MachineState) (b : Bool) (replied : ℕ → Option Reply) → Agrees (thread m replied b) m → (command : Command) → (idle : Bool) → SubmitGoes m b replied command idle
   submit_goes m b replied a command false = (a, refl)
   submit_goes m b replied a command true = verdict_goes m b replied a command (verdict_of m.ledger command)
 
-  reader_goes : (m : TwoCopies) (p : Passes) → IsLawful Legal m p → (b : Bool) (replied : ℕ → Option Reply) → Agrees (thread m replied b) m → (r : ℕ) (o : Option Stage) → slice_get m.readers r ≡ o
+  reader_goes : (m : MachineState) (p : Passes) → IsLawful Legal m p → (b : Bool) (replied : ℕ → Option Reply) → Agrees (thread m replied b) m → (r : ℕ) (o : Option Stage) → slice_get m.readers r ≡ o
       → Goes m b (reader_effect o) (reader_turn m r o).1 (reader_turn m r o).0 replied (λ k. replied_to (thread m replied b) (suc r) o k)
   reader_goes m p l b replied a r None at = (a, refl)
   reader_goes m p l b replied a r (Some stage) at = read_goes m p l b replied a r stage at
 
-  abbrev EventGoes : Thread → TwoCopies → Event → Type 0
+  abbrev EventGoes : Thread → MachineState → Event → Type 0
   EventGoes t m event = Agrees (beside t m event) (turn m event).0 × Answers t m event
 
-  event_goes : (m : TwoCopies) (p : Passes) → IsLawful Legal m p → (b : Bool) (replied : ℕ → Option Reply) → Agrees (thread m replied b) m → (event : Event) → EventGoes (thread m replied b) m event
+  event_goes : (m : MachineState) (p : Passes) → IsLawful Legal m p → (b : Bool) (replied : ℕ → Option Reply) → Agrees (thread m replied b) m → (event : Event) → EventGoes (thread m replied b) m event
   event_goes m p l b replied a (Submit command) = let g = submit_goes m b replied a command (is_idle m.writer.phase) in (g.0, (g.1, tt))
   event_goes m p l b replied a Publish = let g = publish_goes m p l b replied a (is_idle m.writer.phase) (is_pending m) refl refl in (g.0, (g.1, tt))
   event_goes m p l b replied a Writer = let g = write_goes m p l b replied a m.writer.phase refl in (g.0.0, (g.0.1, g.1))
@@ -322,7 +323,7 @@ module _ (Legal : Opening → List Command → Type 0) where
   event_goes m p l b replied a (Reader (suc r)) = let g = reader_goes m p l b replied a r (slice_get m.readers r) refl in (g.0, (g.1, tt))
 
   -- an event keeps the machine in agreement with the register of one thread, and tells what that register replies
-  pub event_agrees : (m : TwoCopies) (p : Passes) → IsLawful Legal m p → (t : Thread) → Agrees t m → (event : Event) → EventGoes t m event
+  pub event_agrees : (m : MachineState) (p : Passes) → IsLawful Legal m p → (t : Thread) → Agrees t m → (event : Event) → EventGoes t m event
   event_agrees m p l t a event =
       subst (λ (s : Sequential). EventGoes (let z : Thread = record { register = s; replied = t.replied; begun = t.begun } in z) m event) (sym a.register)
       (event_goes m p l t.begun t.replied record { register = refl; held = a.held; begun = a.begun } event)

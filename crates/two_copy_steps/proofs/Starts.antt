@@ -10,6 +10,7 @@ use Rattle.council_core.specs.Ledgers.{Ledger, sheet_of}
 use Rattle.two_copy_steps.specs.declared.views.ReaderView.{ReaderView}
 use Rattle.two_copy_steps.specs.declared.views.Stage.{Stage}
 use Rattle.two_copy_steps.specs.declared.views.Stage.TheVariants.{AtRest}
+use Rattle.two_copy_steps.specs.declared.table.TheConstants.{COPY_WORDS}
 use Rattle.two_copy_steps.specs.Lawful.{ReaderOk, WriterOk}
 use Rattle.two_copy_steps.specs.Turns.{started}
 use Rattle.two_copy_steps.specs.Passes.{opened, viewed, state_of, IsLawful}
@@ -17,32 +18,33 @@ use Rattle.two_copy_steps.specs.Effects.{thread_of}
 use Rattle.two_copy_steps.proofs.Records.{sheet_long}
 use Rattle.two_copy_steps.proofs.Replies.{Agrees, Held}
 use Rattle.two_copy_steps.proofs.TurnSteps.{view_at}
+use Rattle.two_copy_steps.specs.Actions.{pin, place}
 
 -- the words at the start, by place
-module _ (numbers pins : List ℕ) (long : length numbers ≡ 34) where
+module _ (numbers pins : List ℕ) (long : length numbers ≡ COPY_WORDS) where
   abbrev pub words_at_start : List ℕ
   words_at_start = 0 ∷ numbers ++ numbers ++ pins
 
-  front_long : length (0 ∷ numbers) ≡ 35
+  front_long : length (0 ∷ numbers) ≡ place 1 0
   front_long = omega arith
 
-  pub start_length : length words_at_start ≡ 69 + length pins
+  pub start_length : length words_at_start ≡ pin (length pins)
   start_length = omega (arith, length-append (0 ∷ numbers ++ numbers) pins, length-append (0 ∷ numbers) numbers)
 
-  pub start_first : (i : ℕ) → i < 34 → get_or words_at_start (1 + i) 0 ≡ get_or numbers i 0
+  pub start_first : (i : ℕ) → i < COPY_WORDS → get_or words_at_start (place 0 i) 0 ≡ get_or numbers i 0
   start_first i h =
-      get_or_append_left (0 ∷ numbers ++ numbers) pins 0 (1 + i) (omega (arith, length-append (0 ∷ numbers) numbers))
-      ∙ (get_or_append_left (0 ∷ numbers) numbers 0 (1 + i) (omega arith) ∙ get_or-append-add (0 ∷ []) numbers i 0)
+      get_or_append_left (0 ∷ numbers ++ numbers) pins 0 (place 0 i) (omega (arith, length-append (0 ∷ numbers) numbers))
+      ∙ (get_or_append_left (0 ∷ numbers) numbers 0 (place 0 i) (omega arith) ∙ get_or-append-add (0 ∷ []) numbers i 0)
 
-  pub start_pin : (r : ℕ) → get_or words_at_start (69 + r) 0 ≡ get_or pins r 0
+  pub start_pin : (r : ℕ) → get_or words_at_start (pin r) 0 ≡ get_or pins r 0
   start_pin r =
-      ap (λ (k : ℕ). get_or words_at_start k 0) (let e : 69 + r ≡ length (0 ∷ numbers ++ numbers) + r = omega (arith, length-append (0 ∷ numbers) numbers) in e)
+      ap (λ (k : ℕ). get_or words_at_start k 0) (let e : pin r ≡ length (0 ∷ numbers ++ numbers) + r = omega (arith, length-append (0 ∷ numbers) numbers) in e)
       ∙ get_or-append-add (0 ∷ numbers ++ numbers) pins r 0
 
-  pub start_second : (i : ℕ) → i < 34 → get_or words_at_start (35 + i) 0 ≡ get_or numbers i 0
+  pub start_second : (i : ℕ) → i < COPY_WORDS → get_or words_at_start (place 1 i) 0 ≡ get_or numbers i 0
   start_second i h =
-      get_or_append_left (0 ∷ numbers ++ numbers) pins 0 (35 + i) (omega (arith, length-append (0 ∷ numbers) numbers))
-      ∙ (ap (λ (k : ℕ). get_or (0 ∷ numbers ++ numbers) k 0) (let e : 35 + i ≡ length (0 ∷ numbers) + i = omega arith in e) ∙ get_or-append-add (0 ∷ numbers) numbers i 0)
+      get_or_append_left (0 ∷ numbers ++ numbers) pins 0 (place 1 i) (omega (arith, length-append (0 ∷ numbers) numbers))
+      ∙ (ap (λ (k : ℕ). get_or (0 ∷ numbers ++ numbers) k 0) (let e : place 1 i ≡ length (0 ∷ numbers) + i = omega arith in e) ∙ get_or-append-add (0 ∷ numbers) numbers i 0)
 
 pub viewed_start : (n : ℕ) → viewed (replicate n AtRest) (replicate n []) ≡ replicate n (view_at AtRest [])
 viewed_start zero = refl
@@ -64,7 +66,7 @@ module _ (Legal : Opening → List Command → Type 0) (ledger : Ledger) (reader
   abbrev words : List ℕ
   words = words_at_start (sheet_of ledger) (replicate readers 0) (sheet_long ledger.opening ledger.journal)
 
-  abbrev long : length (sheet_of ledger) ≡ 34
+  abbrev long : length (sheet_of ledger) ≡ COPY_WORDS
   long = sheet_long ledger.opening ledger.journal
 
   start_writer : WriterOk ledger.opening (Legal ledger.opening) words (state_of (started ledger readers) (opened ledger readers)).writer (length (viewed (replicate readers AtRest) (replicate readers [])))

@@ -11,7 +11,7 @@ use Rattle.two_copy_steps.specs.declared.views.Stage.{Stage}
 use Rattle.two_copy_steps.specs.declared.views.Stage.TheVariants.{AtRest, Arrived, Reading, Leaving}
 use Rattle.two_copy_steps.specs.declared.views.Phase.{Phase}
 use Rattle.two_copy_steps.specs.declared.views.Phase.TheVariants.{Idle, Seeing, Filling, Swapping}
-use Rattle.two_copy_steps.specs.Deeds.{other}
+use Rattle.two_copy_steps.specs.Actions.{other}
 use Rattle.two_copy_steps.specs.Lawful.{State, IsPublishable, Beside, Stands}
 use Rattle.two_copy_steps.specs.Passes.{side_held, side_filled}
 use Rattle.two_copy_steps.specs.Stages.{IsReadable}

@@ -19,9 +19,10 @@ use Rattle.two_copy_steps.specs.declared.views.Stage.{Stage}
 use Rattle.two_copy_steps.specs.declared.views.Stage.TheVariants.{AtRest, Arrived, Reading, Leaving}
 use Rattle.two_copy_steps.specs.declared.views.Phase.{Phase}
 use Rattle.two_copy_steps.specs.declared.views.Phase.TheVariants.{Idle, Seeing, Filling, Swapping}
-use Rattle.two_copy_steps.specs.Deeds.{all_true, first_false, place, seeing, stage_deed, phase_deed}
+use Rattle.two_copy_steps.specs.declared.table.TheConstants.{COPY_WORDS, READERS}
+use Rattle.two_copy_steps.specs.Actions.{all_true, first_false, place, seeing, stage_action, phase_action, pin}
 use Rattle.two_copy_steps.specs.Lawful.{IsPublishable, Stands, Fills}
-use Rattle.two_copy_steps.specs.Turns.{TwoCopies, turn, handed, started, submitted, published_by, is_pending, is_idle, reader_turn, stage_note}
+use Rattle.two_copy_steps.specs.Turns.{MachineState, turn, handed, started, submitted, published_by, is_pending, is_idle, reader_turn, stage_note}
 use Rattle.two_copy_steps.specs.Passes.{Passes, opened, passed, record_at, state_of, IsLawful}
 use Rattle.two_copy_steps.specs.Machines.{seen_as, IsMachine}
 use Rattle.two_copy_steps.specs.Stages.{IsReadable}
@@ -35,36 +36,36 @@ pub publishable : (L : Ledger) (words : List ℕ) → IsLedger L → words ≡ s
 publishable L words legal is in_range = (legal.legal, subst IsSheet is in_range)
 
 -- the writer's step, by its phase
-abbrev wrote : TwoCopies → Phase → TwoCopies
+abbrev wrote : MachineState → Phase → MachineState
 wrote m phase =
-    let d = phase_deed 34 (sheet m.ledger.opening) m.writer phase in
+    let d = phase_action (sheet m.ledger.opening) m.writer phase in
     let found = get_or m.words d.word 0 in
     record m { words = set m.words d.word (d.becomes found); writer = d.after found }
 
-wrote_at : (m : TwoCopies) (phase : Phase) → m.writer.phase ≡ phase → wrote m phase ≡ (turn m Writer).0
+wrote_at : (m : MachineState) (phase : Phase) → m.writer.phase ≡ phase → wrote m phase ≡ (turn m Writer).0
 wrote_at m phase e = ap (wrote m) (sym e)
 
 module _ (L : Ledger) (W : List ℕ) (s n : ℕ) (t : List ℕ) (ph : Phase) (so : List Bool) (R : List Stage) where
-  abbrev old : TwoCopies
+  abbrev old : MachineState
   old = seen_as L W s n t ph so R
 
   -- a load changes no word
-  loads : (i : ℕ) (w : Writing) → (let m : TwoCopies = record old { writer = w } in m) ≡ (let m : TwoCopies = record old { words = set W i (get_or W i 0); writer = w } in m)
-  loads i w = ap (λ (words : List ℕ). let m : TwoCopies = record old { words = words; writer = w } in m) (sym (set-get_or W i 0))
+  loads : (i : ℕ) (w : Writing) → (let m : MachineState = record old { writer = w } in m) ≡ (let m : MachineState = record old { words = set W i (get_or W i 0); writer = w } in m)
+  loads i w = ap (λ (words : List ℕ). let m : MachineState = record old { words = words; writer = w } in m) (sym (set-get_or W i 0))
 
   abbrev looked : Bool → Writing
-  looked b = cond b (seeing 34 old.writer (set so (first_false so) true)) (record old.writer { phase = Idle })
+  looked b = cond b (seeing old.writer (set so (first_false so) true)) (record old.writer { phase = Idle })
 
-  pub gave_up : ph ≡ Seeing → get_or W (69 + first_false so) 0 ≢ 0 → seen_as L W s n t Idle so R ≡ (turn old Writer).0
+  pub gave_up : ph ≡ Seeing → get_or W (pin (first_false so)) 0 ≢ 0 → seen_as L W s n t Idle so R ≡ (turn old Writer).0
   gave_up e ne =
-      ap (λ (b : Bool). let m : TwoCopies = record old { writer = looked b } in m) (sym (ne_eqb (get_or W (69 + first_false so) 0) 0 ne))
-      ∙ (loads (69 + first_false so) (looked (eqb (get_or W (69 + first_false so) 0) 0)) ∙ wrote_at old Seeing e)
+      ap (λ (b : Bool). let m : MachineState = record old { writer = looked b } in m) (sym (ne_eqb (get_or W (pin (first_false so)) 0) 0 ne))
+      ∙ (loads (pin (first_false so)) (looked (eqb (get_or W (pin (first_false so)) 0) 0)) ∙ wrote_at old Seeing e)
 
-  pub saw_out : ph ≡ Seeing → get_or W (69 + first_false so) 0 ≡ 0
+  pub saw_out : ph ≡ Seeing → get_or W (pin (first_false so)) 0 ≡ 0
       → seen_as L W s n t (cond (all_true (set so (first_false so) true)) (Filling 0) Seeing) (set so (first_false so) true) R ≡ (turn old Writer).0
   saw_out e is =
-      ap (λ (b : Bool). let m : TwoCopies = record old { writer = looked b } in m) (sym (eq-eqb (get_or W (69 + first_false so) 0) 0 is))
-      ∙ (loads (69 + first_false so) (looked (eqb (get_or W (69 + first_false so) 0) 0)) ∙ wrote_at old Seeing e)
+      ap (λ (b : Bool). let m : MachineState = record old { writer = looked b } in m) (sym (eq-eqb (get_or W (pin (first_false so)) 0) 0 is))
+      ∙ (loads (pin (first_false so)) (looked (eqb (get_or W (pin (first_false so)) 0) 0)) ∙ wrote_at old Seeing e)
 
   -- the reader's step
   pub no_reader : (number : ℕ) → (number ≡ 0) ⊎ (length R < number) → (turn old (Reader number)) ≡ (old, Skipped)
@@ -72,7 +73,7 @@ module _ (L : Ledger) (W : List ℕ) (s n : ℕ) (t : List ℕ) (ph : Phase) (so
   no_reader (suc r) none = ap (reader_turn old r) (slice_get_past R r (⊎_elim (λ (e : suc r ≡ 0). let z : length R ≤ r = omega arith in z) (λ (past : length R < suc r). let z : length R ≤ r = omega arith in z) none))
 
   pub reader_reads : (number r : ℕ) (stage : Stage) (W' : List ℕ) (R' : List Stage) → number ≡ suc r → slice_get R r ≡ Some stage
-      → (let d = stage_deed 34 r stage in (W' ≡ set W d.word (d.becomes (get_or W d.word 0))) × (R' ≡ set R r (d.after (get_or W d.word 0))))
+      → (let d = stage_action r stage in (W' ≡ set W d.word (d.becomes (get_or W d.word 0))) × (R' ≡ set R r (d.after (get_or W d.word 0))))
       → seen_as L W' s n t ph so R' ≡ (turn old (Reader number)).0
   reader_reads number r stage W' R' e at h =
       (λ i. seen_as L (h.0 i) s n t ph so (h.1 i)) ∙ (ap (λ (o : Option Stage). (reader_turn old r o).0) (sym at) ∙ ap (λ (k : ℕ). (turn old (Reader k)).0) (sym e))
@@ -85,10 +86,10 @@ module _ (L : Ledger) (W : List ℕ) (s n : ℕ) (t : List ℕ) (ph : Phase) (so
     p = k.lawful.0
 
     -- a reader's step stands in its place
-    pub wide_enough : 69 + length R ≤ length W
+    pub wide_enough : pin (length R) ≤ length W
     wide_enough = let wide = k.lawful.1.state.wide in omega (arith, viewed_length R p.records)
 
-    pub first_there : ph ≡ Seeing → (first_false so < length so) × (first_false so < 4) × (69 + first_false so < length W)
+    pub first_there : ph ≡ Seeing → (first_false so < length so) × (first_false so < READERS) × (pin (first_false so) < length W)
     first_there e =
         let some : all_true so ≡ false = subst (Fills L.opening (IsPublishable L.opening) W old.writer) e k.lawful.1.state.writer.fills in
         let below = first_inside so some in
@@ -112,11 +113,11 @@ module _ (L : Ledger) (W : List ℕ) (s n : ℕ) (t : List ℕ) (ph : Phase) (so
             (h.1, subst IsSheet (sym is.1) is.2.1)
 
     -- a word is stored
-    pub filled_in : (j : ℕ) (W' : List ℕ) → ph ≡ Filling j → W' ≡ set W (place 34 (1 - s) j) (get_or t j 0)
-        → seen_as L W' s n t (cond (eqb (j + 1) 34) Swapping (Filling (j + 1))) so R ≡ (turn old Writer).0
+    pub filled_in : (j : ℕ) (W' : List ℕ) → ph ≡ Filling j → W' ≡ set W (place (1 - s) j) (get_or t j 0)
+        → seen_as L W' s n t (cond (eqb (j + 1) COPY_WORDS) Swapping (Filling (j + 1))) so R ≡ (turn old Writer).0
     filled_in j W' e is =
-        ap (λ (words : List ℕ). seen_as L words s n t (cond (eqb (j + 1) 34) Swapping (Filling (j + 1))) so R)
-        (is ∙ ap (λ (numbers : List ℕ). set W (place 34 (1 - s) j) (get_or numbers j 0)) k.sheet_is)
+        ap (λ (words : List ℕ). seen_as L words s n t (cond (eqb (j + 1) COPY_WORDS) Swapping (Filling (j + 1))) so R)
+        (is ∙ ap (λ (numbers : List ℕ). set W (place (1 - s) j) (get_or numbers j 0)) k.sheet_is)
         ∙ wrote_at old (Filling j) e
 
     -- side is stored
@@ -130,7 +131,7 @@ module _ (L : Ledger) (W : List ℕ) (s n : ℕ) (t : List ℕ) (ph : Phase) (so
     pub begun_in : is_idle ph ≡ true → n < length L.journal → seen_as L W s n (sheet_of L) (cond (all_true so) (Filling 0) Seeing) so R ≡ (turn old Publish).0
     begun_in idle pending =
         let is : is_pending old ≡ true = ap (λ (x : ℕ). nat_lt x (length L.journal)) published_long ∙ lt-ltb n (length L.journal) pending in
-        ap (λ (commands : List Command). let m : TwoCopies = record old { writer = record { side = s; published = take n L.journal; taken = commands; phase = cond (all_true so) (Filling 0) Seeing; seen_out = so } } in m) (take-length L.journal)
+        ap (λ (commands : List Command). let m : MachineState = record old { writer = record { side = s; published = take n L.journal; taken = commands; phase = cond (all_true so) (Filling 0) Seeing; seen_out = so } } in m) (take-length L.journal)
         ∙ (ap (λ (b : Bool). (published_by old b).0) (sym is) ∙ ap (λ (b : Bool). (cond b (published_by old (is_pending old)) (old, Skipped)).0) (sym idle))
 
     -- what is kept after an event: the machine then, lawful, with as many readers, and as taken last the sheet of some commands of the journal
@@ -148,8 +149,8 @@ module _ (L : Ledger) (W : List ℕ) (s n : ℕ) (t : List ℕ) (ph : Phase) (so
           published_within = h.published_within;
           taken_within = h.taken_within;
           sheet_is = h.sheet_is;
-          few = subst (λ (x : ℕ). x ≤ 4) (sym h.as_many) k.few;
-          lawful = (passed old p event, subst (λ (m : TwoCopies). IsLawful IsPublishable m (passed old p event)) (sym h.machine) h.lawful);
+          few = subst (λ (x : ℕ). x ≤ READERS) (sym h.as_many) k.few;
+          lawful = (passed old p event, subst (λ (m : MachineState). IsLawful IsPublishable m (passed old p event)) (sym h.machine) h.lawful);
         }
 
     -- the writer's steps
@@ -188,10 +189,10 @@ module _ (L : Ledger) (W : List ℕ) (s n : ℕ) (t : List ℕ) (ph : Phase) (so
         }
 
     -- a command is accepted
-    pub submitted_in : (L' : Ledger) (command : Command) → L' ≡ appended L command → seen_as L' W s n t ph so R ≡ (let m : TwoCopies = record old { ledger = appended L command } in m)
+    pub submitted_in : (L' : Ledger) (command : Command) → L' ≡ appended L command → seen_as L' W s n t ph so R ≡ (let m : MachineState = record old { ledger = appended L command } in m)
     submitted_in L' command e =
         ap (λ (l : Ledger). seen_as l W s n t ph so R) e
-        ∙ (λ i. let m : TwoCopies = record {
+        ∙ (λ i. let m : MachineState = record {
           ledger = appended L command;
           words = W;
           writer = record {
@@ -215,7 +216,7 @@ module _ (L : Ledger) (W : List ℕ) (s n : ℕ) (t : List ℕ) (ph : Phase) (so
           taken_within = omega arith;
           sheet_is = k.sheet_is ∙ ap (sheet L.opening) (sym (take-append-le (front_of t) L.journal (command ∷ []) k.taken_within));
           few = k.few;
-          lawful = (p, subst (λ (m : TwoCopies). IsLawful IsPublishable m p) (sym (submitted_in (appended L command) command refl)) (accepted_keeps IsPublishable old p k.lawful.1 command idle));
+          lawful = (p, subst (λ (m : MachineState). IsLawful IsPublishable m p) (sym (submitted_in (appended L command) command refl)) (accepted_keeps IsPublishable old p k.lawful.1 command idle));
         }
 
     -- whatever the verdict
@@ -241,29 +242,29 @@ module _ (L : Ledger) (W : List ℕ) (s n : ℕ) (t : List ℕ) (ph : Phase) (so
     handed_turn L' command (Err refusal) idle told = (tt, tt)
 
     -- the same steps, as the code takes them
-    module _ (now : TwoCopies) (is : old ≡ now) where
+    module _ (now : MachineState) (is : old ≡ now) where
       phase_is : (phase : Phase) → now.writer.phase ≡ phase → ph ≡ phase
-      phase_is phase e = ap (λ (m : TwoCopies). m.writer.phase) is ∙ e
+      phase_is phase e = ap (λ (m : MachineState). m.writer.phase) is ∙ e
 
-      pub first_at : now.writer.phase ≡ Seeing → (r : ℕ) → r ≡ first_false so → (r < length so) × (r < 4) × (69 + r < length W)
-      first_at e r first = subst (λ (x : ℕ). (x < length so) × (x < 4) × (69 + x < length W)) (sym first) (first_there (phase_is Seeing e))
+      pub first_at : now.writer.phase ≡ Seeing → (r : ℕ) → r ≡ first_false so → (r < length so) × (r < READERS) × (pin r < length W)
+      first_at e r first = subst (λ (x : ℕ). (x < length so) × (x < READERS) × (pin x < length W)) (sym first) (first_there (phase_is Seeing e))
 
-      pub gave_up_at : now.writer.phase ≡ Seeing → (r found : ℕ) → r ≡ first_false so → found ≡ get_or W (69 + r) 0 → (found ≡ 0 → ⊥) → seen_as L W s n t Idle so R ≡ (turn old Writer).0
+      pub gave_up_at : now.writer.phase ≡ Seeing → (r found : ℕ) → r ≡ first_false so → found ≡ get_or W (pin r) 0 → (found ≡ 0 → ⊥) → seen_as L W s n t Idle so R ≡ (turn old Writer).0
       gave_up_at e r found first load ne =
-          gave_up (phase_is Seeing e) (λ z. ne (load ∙ (ap (λ (x : ℕ). get_or W (69 + x) 0) first ∙ z)))
+          gave_up (phase_is Seeing e) (λ z. ne (load ∙ (ap (λ (x : ℕ). get_or W (pin x) 0) first ∙ z)))
 
-      pub saw_out_at : now.writer.phase ≡ Seeing → (r found : ℕ) (so' : List Bool) (ph' : Phase) → r ≡ first_false so → found ≡ get_or W (69 + r) 0 → found ≡ 0 → so' ≡ set so r true
+      pub saw_out_at : now.writer.phase ≡ Seeing → (r found : ℕ) (so' : List Bool) (ph' : Phase) → r ≡ first_false so → found ≡ get_or W (pin r) 0 → found ≡ 0 → so' ≡ set so r true
           → ph' ≡ cond (all_true so') (Filling 0) Seeing → seen_as L W s n t ph' so' R ≡ (turn old Writer).0
       saw_out_at e r found so' ph' first load z out next =
           let set_is : so' ≡ set so (first_false so) true = out ∙ ap (λ (x : ℕ). set so x true) first in
           let phase : ph' ≡ cond (all_true (set so (first_false so) true)) (Filling 0) Seeing = next ∙ ap (λ (x : List Bool). let y : Phase = cond (all_true x) (Filling 0) Seeing in y) set_is in
-          (λ i. seen_as L W s n t (phase i) (set_is i) R) ∙ saw_out (phase_is Seeing e) (sym (load ∙ ap (λ (x : ℕ). get_or W (69 + x) 0) first) ∙ z)
+          (λ i. seen_as L W s n t (phase i) (set_is i) R) ∙ saw_out (phase_is Seeing e) (sym (load ∙ ap (λ (x : ℕ). get_or W (pin x) 0) first) ∙ z)
 
-      pub filled_at : (j at : ℕ) (words W' : List ℕ) (ph' : Phase) → now.writer.phase ≡ Filling j → words ≡ t → at ≡ place 34 (1 - s) j → W' ≡ set W at (get_or words j 0)
-          → ph' ≡ cond (eqb (j + 1) 34) Swapping (Filling (j + 1)) → seen_as L W' s n t ph' so R ≡ (turn old Writer).0
+      pub filled_at : (j at : ℕ) (words W' : List ℕ) (ph' : Phase) → now.writer.phase ≡ Filling j → words ≡ t → at ≡ place (1 - s) j → W' ≡ set W at (get_or words j 0)
+          → ph' ≡ cond (eqb (j + 1) COPY_WORDS) Swapping (Filling (j + 1)) → seen_as L W' s n t ph' so R ≡ (turn old Writer).0
       filled_at j at words W' ph' e same there stored next =
           ap (λ (x : Phase). seen_as L W' s n t x so R) next
-          ∙ filled_in j W' (phase_is (Filling j) e) (stored ∙ ((λ i. set W (there i) (get_or words j 0)) ∙ ap (λ (x : List ℕ). set W (place 34 (1 - s) j) (get_or x j 0)) same))
+          ∙ filled_in j W' (phase_is (Filling j) e) (stored ∙ ((λ i. set W (there i) (get_or words j 0)) ∙ ap (λ (x : List ℕ). set W (place (1 - s) j) (get_or x j 0)) same))
 
       pub swapped_at : (W' : List ℕ) (n' : ℕ) (so' : List Bool) → now.writer.phase ≡ Swapping → W' ≡ set W 0 (1 - s) → n' ≡ front_of t → so' ≡ replicate (length so) false
           → seen_as L W' (1 - s) n' t Idle so' R ≡ (turn old Writer).0
@@ -274,7 +275,7 @@ module _ (L : Ledger) (W : List ℕ) (s n : ℕ) (t : List ℕ) (ph : Phase) (so
       swap_machine W' n' so' e stored front out = writer_stays W' (1 - s) n' Idle so' (swapped_at W' n' so' e stored front out) (let within = k.taken_within in omega arith)
 
       pub skipped_at : (number : ℕ) → (number ≡ 0) ⊎ (length R < number) → (turn now (Reader number)) ≡ (now, Skipped)
-      skipped_at number none = subst (λ (m : TwoCopies). (turn m (Reader number)) ≡ (m, Skipped)) is (no_reader number none)
+      skipped_at number none = subst (λ (m : MachineState). (turn m (Reader number)) ≡ (m, Skipped)) is (no_reader number none)
 
       module _ (number : ℕ) (some : number ≡ 0 → ⊥) (within : number ≤ length R) where
         number_is : number ≡ suc (number - 1)
@@ -293,17 +294,17 @@ module _ (L : Ledger) (W : List ℕ) (s n : ℕ) (t : List ℕ) (ph : Phase) (so
         found : slice_get R (number - 1) ≡ Some stage
         found = slice_get-get_or R (number - 1) AtRest seat_here
 
-        pub seat_within : 69 + (number - 1) < length W
+        pub seat_within : pin (number - 1) < length W
         seat_within = let wide = wide_enough in let h = number_is in omega arith
 
-        pub seat_few : number - 1 < 4
+        pub seat_few : number - 1 < READERS
         seat_few = let few = k.few in let h = number_is in omega arith
 
         pub seat_readable : IsReadable stage
         seat_readable = readable (number - 1) stage found
 
-        module _ (W' : List ℕ) (R' : List Stage) (words : let d = stage_deed 34 (number - 1) stage in W' ≡ set W d.word (d.becomes (get_or W d.word 0)))
-            (stages : let d = stage_deed 34 (number - 1) stage in R' ≡ set R (number - 1) (d.after (get_or W d.word 0))) where
+        module _ (W' : List ℕ) (R' : List Stage) (words : let d = stage_action (number - 1) stage in W' ≡ set W d.word (d.becomes (get_or W d.word 0)))
+            (stages : let d = stage_action (number - 1) stage in R' ≡ set R (number - 1) (d.after (get_or W d.word 0))) where
           pub read_at : seen_as L W' s n t ph so R' ≡ (turn old (Reader number)).0
           read_at = reader_reads number (number - 1) stage W' R' number_is found (words, stages)
 
@@ -316,7 +317,7 @@ module _ (L : Ledger) (W : List ℕ) (s n : ℕ) (t : List ℕ) (ph : Phase) (so
 -- the machine at its start
 pub started_in : (L : Ledger) (readers : ℕ) → seen_as L (0 ∷ sheet_of L ++ sheet_of L ++ replicate readers 0) 0 (length L.journal) (sheet_of L) Idle (replicate readers true) (replicate readers AtRest) ≡ started L readers
 started_in L readers =
-    λ i. let m : TwoCopies = record {
+    λ i. let m : MachineState = record {
       ledger = L;
       words = 0 ∷ sheet_of L ++ sheet_of L ++ replicate readers 0;
       writer = record { side = 0; published = take-length L.journal i; taken = take-length L.journal i; phase = Idle; seen_out = replicate readers true };
@@ -325,7 +326,7 @@ started_in L readers =
 
 -- what the machine keeps at its start: both copies have the register's sheet, all of it is published, and all readers are seen out and at rest
 pub record AtStart (ledger : Ledger) (readers : ℕ) (words : List ℕ) (published : ℕ) (taken : List ℕ) (seen_out : List Bool) (stages : List Stage) : Type 0 where
-  pub few : readers ≤ 4
+  pub few : readers ≤ READERS
   pub legal : IsPublishable ledger.opening ledger.journal
   pub words_are : words ≡ 0 ∷ sheet_of ledger ++ sheet_of ledger ++ replicate readers 0
   pub published_all : published ≡ length ledger.journal
@@ -344,7 +345,7 @@ start_is L readers W n t so R h =
         published_within = omega arith;
         taken_within = omega arith;
         sheet_is = h.taken_all ∙ ap (sheet L.opening) (sym (take-length L.journal) ∙ ap (λ (y : ℕ). take y L.journal) (sym front));
-        few = subst (λ (y : ℕ). y ≤ 4) (sym (ap (length {A = Stage}) h.all_rest ∙ length-replicate readers AtRest)) h.few;
-        lawful = (opened L readers, subst (λ (m : TwoCopies). IsLawful IsPublishable m (opened L readers)) (sym is) (start_lawful IsPublishable L readers h.legal));
+        few = subst (λ (y : ℕ). y ≤ READERS) (sym (ap (length {A = Stage}) h.all_rest ∙ length-replicate readers AtRest)) h.few;
+        lawful = (opened L readers, subst (λ (m : MachineState). IsLawful IsPublishable m (opened L readers)) (sym is) (start_lawful IsPublishable L readers h.legal));
       },
     )

@@ -19,9 +19,10 @@ use Rattle.two_copy_steps.specs.declared.views.Stage.{Stage}
 use Rattle.two_copy_steps.specs.declared.views.Stage.TheVariants.{AtRest, Arrived, Reading, Leaving}
 use Rattle.two_copy_steps.specs.declared.views.Phase.{Phase}
 use Rattle.two_copy_steps.specs.declared.views.Phase.TheVariants.{Idle, Seeing, Filling, Swapping}
-use Rattle.two_copy_steps.specs.Deeds.{recorded, entered, stage_deed}
+use Rattle.two_copy_steps.specs.declared.table.TheConstants.{COPY_WORDS}
+use Rattle.two_copy_steps.specs.Actions.{recorded, entered, stage_action}
 use Rattle.two_copy_steps.specs.Stages.{about_to_leave}
-use Rattle.two_copy_steps.specs.Turns.{TwoCopies, turn, submitted, published_by, is_pending, is_idle, phase_note, reader_turn, stage_note, started, after, notes}
+use Rattle.two_copy_steps.specs.Turns.{MachineState, turn, submitted, published_by, is_pending, is_idle, phase_note, reader_turn, stage_note, started, after, notes}
 use Rattle.two_copy_steps.specs.Passes.{Passes, opened, passed, passes, reader_passed, record_at, HasLegalRecords}
 use Rattle.two_copy_steps.specs.Records.{told_of, sheets_told, RecordsAreTold, FrontsNeverFall}
 use Rattle.two_copy_steps.proofs.Lists.{at_set, inside, there}
@@ -46,10 +47,10 @@ own_loaded side words true readings told e = ap (λ (l : List (List ℕ)). l ++ 
 own_loaded side words false readings told e = e ∙ sym (append-nil (told ++ []))
 
 own : (r found : ℕ) (stage : Stage) (readings told : List (List ℕ)) → readings ≡ told ++ about_to_leave stage
-    → recorded stage ((stage_deed 34 r stage).after found) readings ≡ (told ++ told_of (suc r) (stage_note (suc r) stage)) ++ about_to_leave ((stage_deed 34 r stage).after found)
+    → recorded stage ((stage_action r stage).after found) readings ≡ (told ++ told_of (suc r) (stage_note (suc r) stage)) ++ about_to_leave ((stage_action r stage).after found)
 own r found AtRest readings told e = e ∙ sym (append-nil (told ++ []))
 own r found Arrived readings told e = e ∙ sym (append-nil (told ++ []))
-own r found (Reading side words) readings told e = own_loaded side (words ++ found ∷ []) (eqb (length (words ++ found ∷ [])) 34) readings told e
+own r found (Reading side words) readings told e = own_loaded side (words ++ found ∷ []) (eqb (length (words ++ found ∷ [])) COPY_WORDS) readings told e
 own r found (Leaving side words) readings told e =
     e ∙ (ap (λ (b : Bool). told ++ cond b (words ∷ []) []) (sym (eq-eqb (suc r) (suc r) refl)) ∙ sym (append-nil (told ++ told_of (suc r) (Read (suc r) words))))
 
@@ -61,38 +62,38 @@ others r number (Reading side words) ne = refl
 others r number (Leaving side words) ne = ap (λ (b : Bool). cond b (words ∷ []) []) (ne_eqb (suc r) number (λ e. ne (sym e)))
 
 -- where readers and records stand as they did, and nothing is told of a reader
-abbrev Tells : TwoCopies → Passes → (ℕ → List (List ℕ)) → Type 0
+abbrev Tells : MachineState → Passes → (ℕ → List (List ℕ)) → Type 0
 Tells m p told = (r : ℕ) (stage : Stage) → slice_get m.readers r ≡ Some stage → record_at p.records r ≡ told r ++ about_to_leave stage
 
-abbrev After : TwoCopies → Passes → (ℕ → List (List ℕ)) → Note → Type 0
+abbrev After : MachineState → Passes → (ℕ → List (List ℕ)) → Note → Type 0
 After m p told note = Tells m p (λ r. told r ++ told_of (suc r) note)
 
-silent : (m : TwoCopies) (p : Passes) (told : ℕ → List (List ℕ)) → Tells m p told → Tells m p (λ r. told r ++ [])
+silent : (m : MachineState) (p : Passes) (told : ℕ → List (List ℕ)) → Tells m p told → Tells m p (λ r. told r ++ [])
 silent m p told h r stage at = h r stage at ∙ ap (λ (l : List (List ℕ)). l ++ about_to_leave stage) (sym (append-nil (told r)))
 
-after_submit : (m : TwoCopies) (p : Passes) (told : ℕ → List (List ℕ)) → Tells m p told → (command : Command) (v : Result ⊤ Refusal) → let t = submitted m command v in After t.0 p told t.1
+after_submit : (m : MachineState) (p : Passes) (told : ℕ → List (List ℕ)) → Tells m p told → (command : Command) (v : Result ⊤ Refusal) → let t = submitted m command v in After t.0 p told t.1
 after_submit m p told h command (Ok u) = silent m p told h
 after_submit m p told h command (Err refusal) = silent m p told h
 
-after_publish : (m : TwoCopies) (p : Passes) (told : ℕ → List (List ℕ)) → Tells m p told → (b : Bool) → let t = published_by m b in After t.0 p told t.1
+after_publish : (m : MachineState) (p : Passes) (told : ℕ → List (List ℕ)) → Tells m p told → (b : Bool) → let t = published_by m b in After t.0 p told t.1
 after_publish m p told h true = silent m p told h
 after_publish m p told h false = silent m p told h
 
-quiet_look : (m : TwoCopies) (number k : ℕ) (b : Bool) → told_of number (cond b Moved (Busy k)) ≡ []
+quiet_look : (m : MachineState) (number k : ℕ) (b : Bool) → told_of number (cond b Moved (Busy k)) ≡ []
 quiet_look m number k true = refl
 quiet_look m number k false = refl
 
-quiet_writer : (m : TwoCopies) (number : ℕ) (phase : Phase) → told_of number (phase_note m phase) ≡ []
+quiet_writer : (m : MachineState) (number : ℕ) (phase : Phase) → told_of number (phase_note m phase) ≡ []
 quiet_writer m number Idle = refl
 quiet_writer m number Seeing = quiet_look m number _ _
 quiet_writer m number (Filling k) = refl
 quiet_writer m number Swapping = refl
 
-after_read : (m : TwoCopies) (p : Passes) (told : ℕ → List (List ℕ)) → Tells m p told → length p.records ≡ length m.readers → (r : ℕ) (o : Option Stage) → slice_get m.readers r ≡ o
+after_read : (m : MachineState) (p : Passes) (told : ℕ → List (List ℕ)) → Tells m p told → length p.records ≡ length m.readers → (r : ℕ) (o : Option Stage) → slice_get m.readers r ≡ o
     → let t = reader_turn m r o in After t.0 (reader_passed m p r o) told t.1
 after_read m p told h long r None at = silent m p told h
 after_read m p told h long r (Some stage) at = λ q later there.
-    let d = stage_deed 34 r stage in
+    let d = stage_action r stage in
     let found : ℕ = get_or m.words d.word 0 in
     let readings : List (List ℕ) = recorded stage (d.after found) (record_at p.records r) in
     let here : r < length p.records = let i = inside m.readers r stage at in omega arith in
@@ -108,7 +109,7 @@ after_read m p told h long r (Some stage) at = λ q later there.
     ∙ ap (λ (l : List (List ℕ)). l ++ about_to_leave later) (sym (append-nil (told q)) ∙ ap (λ (l : List (List ℕ)). told q ++ l) (sym (others r (suc q) stage (λ s. e.0 (omega arith)))))))
     (at_set m.readers r q (d.after found) later there)
 
-after_event : (m : TwoCopies) (p : Passes) (told : ℕ → List (List ℕ)) → Tells m p told → length p.records ≡ length m.readers → (event : Event) → After (turn m event).0 (passed m p event) told (turn m event).1
+after_event : (m : MachineState) (p : Passes) (told : ℕ → List (List ℕ)) → Tells m p told → length p.records ≡ length m.readers → (event : Event) → After (turn m event).0 (passed m p event) told (turn m event).1
 after_event m p told h long (Submit command) =
     elim (is_idle m.writer.phase) as (λ b. let t = cond b (submitted m command (verdict_of m.ledger command)) (m, Skipped) in After t.0 p told t.1) [ true ↦ after_submit m p told h command (verdict_of m.ledger command) | false ↦ silent m p told h ]
 after_event m p told h long Publish =
@@ -119,7 +120,7 @@ after_event m p told h long (Reader zero) = silent m p told h
 after_event m p told h long (Reader (suc r)) = after_read m p told h long r (slice_get m.readers r) refl
 
 -- there are as many records as readers
-as_many : (m : TwoCopies) (p : Passes) → length p.records ≡ length m.readers → (event : Event) → length (passed m p event).records ≡ length (turn m event).0.readers
+as_many : (m : MachineState) (p : Passes) → length p.records ≡ length m.readers → (event : Event) → length (passed m p event).records ≡ length (turn m event).0.readers
 as_many m p long (Submit command) =
     elim (is_idle m.writer.phase) as (λ b. length p.records ≡ length (cond b (submitted m command (verdict_of m.ledger command)) (m, Skipped)).0.readers) [ true ↦ long | false ↦ long ]
 as_many m p long Publish =
@@ -132,12 +133,12 @@ as_many m p long (Reader zero) = long
 as_many m p long (Reader (suc r)) =
     elim (slice_get m.readers r) as (λ o. length (reader_passed m p r o).records ≡ length (reader_turn m r o).0.readers) [
       | None ↦ long
-      | Some stage ↦ let d = stage_deed 34 r stage in
+      | Some stage ↦ let d = stage_action r stage in
           let found : ℕ = get_or m.words d.word 0 in
           length-set p.records r (recorded stage (d.after found) (record_at p.records r)) ∙ (long ∙ sym (length-set m.readers r (d.after found)))
     ]
 
-told_all : (events : List Event) (m : TwoCopies) (p : Passes) (told : ℕ → List (List ℕ)) → Tells m p told → length p.records ≡ length m.readers
+told_all : (events : List Event) (m : MachineState) (p : Passes) (told : ℕ → List (List ℕ)) → Tells m p told → length p.records ≡ length m.readers
     → Tells (after m events) (passes m p events) (λ r. told r ++ sheets_told (suc r) (notes m events))
 told_all [] m p told h long = silent m p told h
 told_all (event ∷ events) m p told h long = λ r stage at.
@@ -166,10 +167,10 @@ absent_set (y ∷ xs) zero (suc j) x e = e
 absent_set (y ∷ xs) (suc i) zero x e = e
 absent_set (y ∷ xs) (suc i) (suc j) x e = absent_set xs i j x e
 
-abbrev IsAbsent : TwoCopies → ℕ → Type 0
+abbrev IsAbsent : MachineState → ℕ → Type 0
 IsAbsent m number = (r : ℕ) → number ≡ suc r → slice_get m.readers r ≡ None
 
-absent_after : (m : TwoCopies) (number : ℕ) → IsAbsent m number → (event : Event) → IsAbsent (turn m event).0 number × (told_of number (turn m event).1 ≡ [])
+absent_after : (m : MachineState) (number : ℕ) → IsAbsent m number → (event : Event) → IsAbsent (turn m event).0 number × (told_of number (turn m event).1 ≡ [])
 absent_after m number h (Submit command) =
     elim (is_idle m.writer.phase) as (λ b. let t = cond b (submitted m command (verdict_of m.ledger command)) (m, Skipped) in IsAbsent t.0 number × (told_of number t.1 ≡ [])) [
       | true ↦ elim (verdict_of m.ledger command) as (λ v. let t = submitted m command v in IsAbsent t.0 number × (told_of number t.1 ≡ [])) [ Ok u ↦ (h, refl) | Err refusal ↦ (h, refl) ]
@@ -187,12 +188,12 @@ absent_after m number h (Reader (suc r)) = by_stage (slice_get m.readers r) refl
     by_stage : (o : Option Stage) → slice_get m.readers r ≡ o → IsAbsent (reader_turn m r o).0 number × (told_of number (reader_turn m r o).1 ≡ [])
     by_stage None at = (h, refl)
     by_stage (Some stage) at =
-        let d = stage_deed 34 r stage in (
+        let d = stage_action r stage in (
           λ q e. absent_set m.readers r q (d.after (get_or m.words d.word 0)) (h q e),
           others r number stage (λ e. none-some stage (sym (h r e) ∙ at)),
         )
 
-absent_all : (events : List Event) (m : TwoCopies) (number : ℕ) → IsAbsent m number → sheets_told number (notes m events) ≡ []
+absent_all : (events : List Event) (m : MachineState) (number : ℕ) → IsAbsent m number → sheets_told number (notes m events) ≡ []
 absent_all [] m number h = refl
 absent_all (event ∷ events) m number h =
     let t = absent_after m number h event in
@@ -227,7 +228,7 @@ nothing_falls : IsNonDecreasingBy front_of []
 nothing_falls = IsNonDecreasingBy-short front_of [] (omega arith)
 
 -- there are always as many readers
-same_readers : (m : TwoCopies) (event : Event) → length (turn m event).0.readers ≡ length m.readers
+same_readers : (m : MachineState) (event : Event) → length (turn m event).0.readers ≡ length m.readers
 same_readers m (Submit command) =
     elim (is_idle m.writer.phase) as (λ b. length (cond b (submitted m command (verdict_of m.ledger command)) (m, Skipped)).0.readers ≡ length m.readers) [ true ↦ refl | false ↦ refl ]
 same_readers m Publish =
@@ -240,15 +241,15 @@ same_readers m (Reader zero) = refl
 same_readers m (Reader (suc r)) =
     elim (slice_get m.readers r) as (λ o. length (reader_turn m r o).0.readers ≡ length m.readers) [
       | None ↦ refl
-      | Some stage ↦ let d = stage_deed 34 r stage in length-set m.readers r (d.after (get_or m.words d.word 0))
+      | Some stage ↦ let d = stage_action r stage in length-set m.readers r (d.after (get_or m.words d.word 0))
     ]
 
-readers_all : (events : List Event) (m : TwoCopies) → length (after m events).readers ≡ length m.readers
+readers_all : (events : List Event) (m : MachineState) → length (after m events).readers ≡ length m.readers
 readers_all [] m = refl
 readers_all (event ∷ events) m = readers_all events (turn m event).0 ∙ same_readers m event
 
 module _ (ledger : Ledger) (readers : ℕ) (events : List Event) where
-  abbrev m : TwoCopies
+  abbrev m : MachineState
   m = after (started ledger readers) events
 
   abbrev p : Passes

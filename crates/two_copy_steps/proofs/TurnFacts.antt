@@ -3,17 +3,17 @@ use Rattle.std.proofs.Common.{◌≡◌, ℕ, suc, ◌<◌, List, length, get_or
 use Rattle.two_copy_steps.specs.declared.events.Event.TheVariants.{Reader}
 use Rattle.two_copy_steps.specs.declared.views.ReaderView.{ReaderView}
 use Rattle.two_copy_steps.specs.declared.views.Stage.{Stage}
-use Rattle.two_copy_steps.specs.Deeds.{recorded, stage_deed}
+use Rattle.two_copy_steps.specs.Actions.{recorded, stage_action}
 use Rattle.two_copy_steps.specs.Lawful.{State, read_by}
-use Rattle.two_copy_steps.specs.Turns.{TwoCopies, turn, reader_turn}
+use Rattle.two_copy_steps.specs.Turns.{MachineState, turn, reader_turn}
 use Rattle.two_copy_steps.specs.Passes.{Passes, passed, reader_passed, record_at, state_of}
 use Rattle.two_copy_steps.proofs.Lists.{inside}
 use Rattle.two_copy_steps.proofs.TurnSteps.{view_at, viewed_set}
 
-module _ (m : TwoCopies) (p : Passes) where
+module _ (m : MachineState) (p : Passes) where
   read_is : (r : ℕ) (stage : Stage) → r < length p.records → state_of (reader_turn m r (Some stage)).0 (reader_passed m p r (Some stage)) ≡ read_by (state_of m p) r (view_at stage (record_at p.records r))
   read_is r stage here =
-      let d = stage_deed 34 r stage in
+      let d = stage_action r stage in
       let found : ℕ = get_or m.words d.word 0 in
       ap (λ (views : List ReaderView). let s : State = record { words = set m.words d.word (d.becomes found); writer = record { state = m.writer; cuts = p.cuts }; readers = views } in s)
       (viewed_set m.readers p.records r (d.after found) (recorded stage (d.after found) (record_at p.records r)) here)

@@ -16,9 +16,9 @@ use Rattle.two_copy_steps.specs.declared.views.Stage.{Stage}
 use Rattle.two_copy_steps.specs.declared.views.Stage.TheVariants.{AtRest, Arrived, Reading, Leaving}
 use Rattle.two_copy_steps.specs.declared.views.Phase.{Phase}
 use Rattle.two_copy_steps.specs.declared.views.Phase.TheVariants.{Idle, Seeing, Filling, Swapping}
-use Rattle.two_copy_steps.specs.Deeds.{recorded, first_false, other, seeing, stage_deed, phase_deed, writing_deed}
+use Rattle.two_copy_steps.specs.Actions.{recorded, first_false, other, seeing, stage_action, phase_action, writing_action}
 use Rattle.two_copy_steps.specs.Lawful.{State, Lawful, Beside, Stands}
-use Rattle.two_copy_steps.specs.Turns.{TwoCopies, turn, submitted, published_by, is_pending, is_idle, reader_turn}
+use Rattle.two_copy_steps.specs.Turns.{MachineState, turn, submitted, published_by, is_pending, is_idle, reader_turn}
 use Rattle.two_copy_steps.specs.Passes.{Passes, passed, reader_passed, record_at, viewed, state_of, IsLawful, NoneUnder, side_held, side_filled}
 use Rattle.two_copy_steps.proofs.Lists.{inside}
 use Rattle.two_copy_steps.proofs.Records.{records_from_each}
@@ -60,34 +60,34 @@ record_there [] r readings e = absurd (none-some readings e)
 record_there (x ∷ records) zero readings e = same_Some x readings e
 record_there (x ∷ records) (suc r) readings e = record_there records r readings e
 
-looked_taken : (w : Writing) (r : ℕ) (b : Bool) → let y = cond b (seeing 34 w (set w.seen_out r true)) (record w { phase = Idle }) in (y.published ≡ w.published) × (y.taken ≡ w.taken)
+looked_taken : (w : Writing) (r : ℕ) (b : Bool) → let y = cond b (seeing w (set w.seen_out r true)) (record w { phase = Idle }) in (y.published ≡ w.published) × (y.taken ≡ w.taken)
 looked_taken w r true = (refl, refl)
 looked_taken w r false = (refl, refl)
 
 -- a step of the writer keeps the list taken
-pub taken_kept : (opening : Opening) (w : Writing) (p : Phase) (found : ℕ) → ((phase_deed 34 (sheet opening) w p).after found).taken ≡ w.taken
+pub taken_kept : (opening : Opening) (w : Writing) (p : Phase) (found : ℕ) → ((phase_action (sheet opening) w p).after found).taken ≡ w.taken
 taken_kept opening w Idle found = refl
 taken_kept opening w Seeing found = (looked_taken w (first_false w.seen_out) (eqb found 0)).1
 taken_kept opening w (Filling k) found = refl
 taken_kept opening w Swapping found = refl
 
 still_whole : (opening : Opening) (w : Writing) (p : Phase) (found : ℕ) (journal : List Command) → w.phase ≡ p → (is_idle w.phase ≡ false → w.taken ≡ journal)
-    → is_idle ((phase_deed 34 (sheet opening) w p).after found).phase ≡ false → ((phase_deed 34 (sheet opening) w p).after found).taken ≡ journal
+    → is_idle ((phase_action (sheet opening) w p).after found).phase ≡ false → ((phase_action (sheet opening) w p).after found).taken ≡ journal
 still_whole opening w Idle found journal e h = h
 still_whole opening w Seeing found journal e h = λ _. taken_kept opening w Seeing found ∙ h (ap is_idle e)
 still_whole opening w (Filling k) found journal e h = λ _. h (ap is_idle e)
 still_whole opening w Swapping found journal e h = λ _. h (ap is_idle e)
 
 module _ (Legal : Opening → List Command → Type 0) where
-  abbrev Keeps : TwoCopies → Passes → Event → Type 0
+  abbrev Keeps : MachineState → Passes → Event → Type 0
   Keeps m p event = IsLawful Legal (turn m event).0 (passed m p event)
 
   -- a reader's step
-  read_keeps : (m : TwoCopies) (p : Passes) → IsLawful Legal m p → (r : ℕ) (o : Option Stage) → slice_get m.readers r ≡ o
+  read_keeps : (m : MachineState) (p : Passes) → IsLawful Legal m p → (r : ℕ) (o : Option Stage) → slice_get m.readers r ≡ o
       → IsLawful Legal (reader_turn m r o).0 (reader_passed m p r o)
   read_keeps m p l r None at = l
   read_keeps m p l r (Some stage) at =
-      let d = stage_deed 34 r stage in
+      let d = stage_action r stage in
       let found : ℕ = get_or m.words d.word 0 in
       let readings : List (List ℕ) = recorded stage (d.after found) (record_at p.records r) in
       let here : r < length p.records = subst (λ (n : ℕ). r < n) (sym l.each_record) (inside m.readers r stage at) in
@@ -102,11 +102,11 @@ module _ (Legal : Opening → List Command → Type 0) where
       }
 
   -- the writer's step
-  pub written_keeps : (m : TwoCopies) (p : Passes) → IsLawful Legal m p → Keeps m p Writer
+  pub written_keeps : (m : MachineState) (p : Passes) → IsLawful Legal m p → Keeps m p Writer
   written_keeps m p l =
       let w = m.writer in
       let opening = m.ledger.opening in
-      let found : ℕ = get_or m.words (writing_deed 34 (sheet opening) w).word 0 in
+      let found : ℕ = get_or m.words (writing_action (sheet opening) w).word 0 in
       record {
         state = writer_keeps opening (Legal opening) (state_of m p) l.state;
         extends = (l.extends.0, ap (λ (commands : List Command). commands ++ l.extends.0) (taken_kept opening w w.phase found) ∙ l.extends.1);
@@ -115,7 +115,7 @@ module _ (Legal : Opening → List Command → Type 0) where
       }
 
   -- a publication begins, or nothing is pending
-  published_keeps : (m : TwoCopies) (p : Passes) → IsLawful Legal m p → Legal m.ledger.opening m.ledger.journal → (b : Bool) → IsLawful Legal (published_by m b).0 p
+  published_keeps : (m : MachineState) (p : Passes) → IsLawful Legal m p → Legal m.ledger.opening m.ledger.journal → (b : Bool) → IsLawful Legal (published_by m b).0 p
   published_keeps m p l legal false = l
   published_keeps m p l legal true =
       record {
@@ -125,7 +125,7 @@ module _ (Legal : Opening → List Command → Type 0) where
         each_record = l.each_record;
       }
 
-  pub publish_keeps : (m : TwoCopies) (p : Passes) → IsLawful Legal m p → Legal m.ledger.opening m.ledger.journal → Keeps m p Publish
+  pub publish_keeps : (m : MachineState) (p : Passes) → IsLawful Legal m p → Legal m.ledger.opening m.ledger.journal → Keeps m p Publish
   publish_keeps m p l legal =
       elim (is_idle m.writer.phase) as (λ b. IsLawful Legal (cond b (published_by m (is_pending m)) (m, Skipped)).0 p) [ true ↦ published_keeps m p l legal (is_pending m) | false ↦ l ]
 
@@ -133,7 +133,7 @@ module _ (Legal : Opening → List Command → Type 0) where
   true_not_false e = cc
 
   -- the register accepts a command
-  pub accepted_keeps : (m : TwoCopies) (p : Passes) → IsLawful Legal m p → (command : Command) → is_idle m.writer.phase ≡ true → IsLawful Legal (record m { ledger = appended m.ledger command }) p
+  pub accepted_keeps : (m : MachineState) (p : Passes) → IsLawful Legal m p → (command : Command) → is_idle m.writer.phase ≡ true → IsLawful Legal (record m { ledger = appended m.ledger command }) p
   accepted_keeps m p l command idle =
       record {
         state = l.state;
@@ -142,29 +142,29 @@ module _ (Legal : Opening → List Command → Type 0) where
         each_record = l.each_record;
       }
 
-  submitted_keeps : (m : TwoCopies) (p : Passes) → IsLawful Legal m p → (command : Command) (v : Result ⊤ Refusal) → is_idle m.writer.phase ≡ true → IsLawful Legal (submitted m command v).0 p
+  submitted_keeps : (m : MachineState) (p : Passes) → IsLawful Legal m p → (command : Command) (v : Result ⊤ Refusal) → is_idle m.writer.phase ≡ true → IsLawful Legal (submitted m command v).0 p
   submitted_keeps m p l command (Ok u) idle = accepted_keeps m p l command idle
   submitted_keeps m p l command (Err refusal) idle = l
 
-  pub submit_keeps : (m : TwoCopies) (p : Passes) → IsLawful Legal m p → (command : Command) → Keeps m p (Submit command)
+  pub submit_keeps : (m : MachineState) (p : Passes) → IsLawful Legal m p → (command : Command) → Keeps m p (Submit command)
   submit_keeps m p l command =
       elim (is_idle m.writer.phase) as (λ b. is_idle m.writer.phase ≡ b → IsLawful Legal (cond b (submitted m command (verdict_of m.ledger command)) (m, Skipped)).0 p)
       [ true ↦ λ idle. submitted_keeps m p l command (verdict_of m.ledger command) idle | false ↦ λ busy. l ] refl
 
   -- the step of an actor
-  pub step_keeps : (m : TwoCopies) (p : Passes) → IsLawful Legal m p → (number : ℕ) → Keeps m p (Reader number)
+  pub step_keeps : (m : MachineState) (p : Passes) → IsLawful Legal m p → (number : ℕ) → Keeps m p (Reader number)
   step_keeps m p l zero = l
   step_keeps m p l (suc r) = read_keeps m p l r (slice_get m.readers r) refl
 
   -- whatever the event
-  pub turn_keeps : (m : TwoCopies) (p : Passes) → IsLawful Legal m p → Legal m.ledger.opening m.ledger.journal → (event : Event) → Keeps m p event
+  pub turn_keeps : (m : MachineState) (p : Passes) → IsLawful Legal m p → Legal m.ledger.opening m.ledger.journal → (event : Event) → Keeps m p event
   turn_keeps m p l legal (Submit command) = submit_keeps m p l command
   turn_keeps m p l legal Publish = publish_keeps m p l legal
   turn_keeps m p l legal Writer = written_keeps m p l
   turn_keeps m p l legal (Reader number) = step_keeps m p l number
 
   -- the records of a lawful machine are legal
-  pub records_are : (m : TwoCopies) (p : Passes) → IsLawful Legal m p → AreRecords m.ledger.opening m.writer.published p.cuts p.records
+  pub records_are : (m : MachineState) (p : Passes) → IsLawful Legal m p → AreRecords m.ledger.opening m.writer.published p.cuts p.records
   records_are m p l =
       records_from_each m.ledger.opening m.writer.published p.cuts p.records
       (λ r readings e.
@@ -173,7 +173,7 @@ module _ (Legal : Opening → List Command → Type 0) where
       subst (λ (x : List (List ℕ)). IsRecordFrom m.ledger.opening m.writer.published p.cuts 0 x) (record_there p.records r readings e)
       (l.state.each_reader r (view_at there.0 (record_at p.records r)) (viewed_at m.readers p.records r there.0 there.1)).record_legal)
 
-  held_beside : (m : TwoCopies) (p : Passes) → IsLawful Legal m p → (side r : ℕ) (stage : Stage) → Stands m.ledger.opening (Legal m.ledger.opening) m.words (state_of m p).writer (record_at p.records r) r stage
+  held_beside : (m : MachineState) (p : Passes) → IsLawful Legal m p → (side r : ℕ) (stage : Stage) → Stands m.ledger.opening (Legal m.ledger.opening) m.words (state_of m p).writer (record_at p.records r) r stage
       → side_held stage ≡ Some side → Beside m.ledger.opening (Legal m.ledger.opening) m.words (state_of m p).writer (record_at p.records r) r side
   held_beside m p l side r AtRest h e = absurd (none-some side e)
   held_beside m p l side r Arrived h e = absurd (none-some side e)
@@ -185,12 +185,12 @@ module _ (Legal : Opening → List Command → Type 0) where
   not_other (suc s) e = omega arith
 
   -- the reader at r holds the copy that a side names
-  record Holds (m : TwoCopies) (side r : ℕ) : Type 0 where
+  record Holds (m : MachineState) (side r : ℕ) : Type 0 where
     pub stage : Stage
     pub at : slice_get m.readers r ≡ Some stage
     pub held : side_held stage ≡ Some side
 
-  none_there : (m : TwoCopies) (p : Passes) → IsLawful Legal m p → (phase : Phase) → m.writer.phase ≡ phase → (side r : ℕ) → side_filled m.writer.side phase ≡ Some side → Holds m side r → ⊥
+  none_there : (m : MachineState) (p : Passes) → IsLawful Legal m p → (phase : Phase) → m.writer.phase ≡ phase → (side r : ℕ) → side_filled m.writer.side phase ≡ Some side → Holds m side r → ⊥
   none_there m p l Idle is side r e h = none-some side e
   none_there m p l Seeing is side r e h = none-some side e
   none_there m p l Swapping is side r e h = none-some side e
@@ -201,5 +201,5 @@ module _ (Legal : Opening → List Command → Type 0) where
       not_other m.writer.side (sym same ∙ sym (same_Some (other m.writer.side) side e))
 
   -- no word is stored under a reader
-  pub none_under : (m : TwoCopies) (p : Passes) → IsLawful Legal m p → NoneUnder m
+  pub none_under : (m : MachineState) (p : Passes) → IsLawful Legal m p → NoneUnder m
   none_under m p l side r stage e at held = none_there m p l m.writer.phase refl side r e record { stage = stage; at = at; held = held }

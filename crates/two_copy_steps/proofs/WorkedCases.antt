@@ -5,6 +5,7 @@ use Rattle.council_core.specs.declared.commands.Command.TheVariants.{Open, Move,
 use Rattle.two_copy_steps.specs.declared.events.Event.{Event}
 use Rattle.two_copy_steps.specs.declared.events.Event.TheVariants.{Submit, Publish, Writer, Reader}
 use Rattle.two_copy_steps.specs.declared.events.Note.TheVariants.{Accepted, Began, Busy, Moved, Published, Read, Skipped}
+use Rattle.two_copy_steps.specs.declared.table.TheConstants.{COPY_WORDS, READERS}
 use Rattle.two_copy_steps.specs.declared.views.Stage.{Stage}
 use Rattle.two_copy_steps.specs.declared.views.Stage.TheVariants.{AtRest, Reading, Leaving}
 use Rattle.two_copy_steps.specs.declared.views.Phase.TheVariants.{Idle, Filling, Swapping}
@@ -15,7 +16,7 @@ use Rattle.two_copy_steps.specs.Passes.{NoneUnder, side_filled, side_held}
 use Rattle.two_copy_steps.specs.Publications.{stores_side}
 use Rattle.two_copy_steps.specs.Stages.{reading_steps, steps_taken}
 use Rattle.two_copy_steps.specs.States.{HasRecords}
-use Rattle.two_copy_steps.specs.Turns.{TwoCopies, started, notes}
+use Rattle.two_copy_steps.specs.Turns.{MachineState, started, notes}
 
 abbrev one_member : Ledger
 one_member = record { opening = (65 ∷ 65 ∷ 65 ∷ [], 10) ∷ []; journal = []; limit = 100 }
@@ -55,7 +56,7 @@ forgotten : (t : Thread) → replied_at t 1 AtRest 1 ≡ None
 forgotten t = refl
 
 -- no writer may fill the copy that a reader reads, or has read and not left
-abbrev filling_under : Stage → TwoCopies
+abbrev filling_under : Stage → MachineState
 filling_under stage = record (started one_member 1) { writer = record (started one_member 1).writer { phase = Filling 0 }; readers = stage ∷ [] }
 
 under_reading : NoneUnder (filling_under (Reading 1 [])) → ⊥
@@ -110,3 +111,7 @@ hands_three_votes = search rules
 
 hands_too_many : HandsInRange (Submit (SetVotes code (2 ^ 41))) → ⊥
 hands_too_many h = omega (arith, h)
+
+-- the limits by number, which definitions name
+limits : (COPY_WORDS ≡ 34) × (READERS ≡ 4)
+limits = (refl, refl)

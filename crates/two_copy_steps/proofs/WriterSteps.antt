@@ -15,7 +15,8 @@ use Rattle.two_copy_steps.specs.declared.views.Stage.{Stage}
 use Rattle.two_copy_steps.specs.declared.views.Stage.TheVariants.{AtRest, Arrived, Reading, Leaving}
 use Rattle.two_copy_steps.specs.declared.views.Phase.{Phase}
 use Rattle.two_copy_steps.specs.declared.views.Phase.TheVariants.{Idle, Seeing, Filling, Swapping}
-use Rattle.two_copy_steps.specs.Deeds.{all_true, first_false, other, cuts_after, place, pin, seeing, begun, filled, swapped, phase_deed}
+use Rattle.two_copy_steps.specs.declared.table.TheConstants.{COPY_WORDS}
+use Rattle.two_copy_steps.specs.Actions.{all_true, first_false, other, cuts_after, place, pin, seeing, begun, filled, swapped, phase_action}
 use Rattle.two_copy_steps.specs.Lawful.{State, written_by, begun_by, pin_of, IsReadFrom, Beside, Stands, ReaderOk, Stored, Fills, WriterOk, Lawful}
 use Rattle.two_copy_steps.proofs.Lists.{set_else, inside}
 use Rattle.two_copy_steps.proofs.Records.{record-grows, ascends-push}
@@ -39,29 +40,29 @@ at_replicate zero q h = absurd (omega arith)
 at_replicate (suc k) zero h = refl
 at_replicate (suc k) (suc q) h = at_replicate k q (omega arith)
 
-pub place_above : (s i : ℕ) → 0 < place 34 s i
+pub place_above : (s i : ℕ) → 0 < place s i
 place_above zero i = omega arith
 place_above (suc _) i = omega arith
 
-pub place_apart : (s i k : ℕ) → s < 2 → i < 34 → k < 34 → place 34 s i ≢ place 34 (other s) k
+pub place_apart : (s i k : ℕ) → s < 2 → i < COPY_WORDS → k < COPY_WORDS → place s i ≢ place (other s) k
 place_apart zero i k h a b e = omega arith
 place_apart (suc zero) i k h a b e = omega arith
 place_apart (suc (suc s)) i k h a b e = absurd (omega arith)
 
-place_once : (s i k : ℕ) → i ≢ k → place 34 s i ≢ place 34 s k
+place_once : (s i k : ℕ) → i ≢ k → place s i ≢ place s k
 place_once zero i k h e = h (omega arith)
 place_once (suc _) i k h e = h (omega arith)
 
 module _ (opening : Opening) (Legal : List Command → Type 0) where
   -- what a step of the writer has to leave to the reader at q
   record Leaves (words vs : List ℕ) (w w' : WriterView) (q : ℕ) : Type 0 where
-    pins : get_or vs (pin 34 q) 0 ≡ get_or words (pin 34 q) 0
+    pins : get_or vs (pin q) 0 ≡ get_or words (pin q) 0
     cuts : (f : ℕ) → Contains w.cuts f → Contains w'.cuts f × (take f w'.state.published ≡ take f w.state.published)
-    sides : (s : ℕ) → s < 2 → get_or words (pin 34 q) 0 ≡ 1 → (s ≢ w.state.side → slice_get w.state.seen_out q ≡ Some false)
-        → ((i : ℕ) → i < 34 → get_or vs (place 34 s i) 0 ≡ get_or words (place 34 s i) 0) × (s ≢ w'.state.side → slice_get w'.state.seen_out q ≡ Some false)
+    sides : (s : ℕ) → s < 2 → get_or words (pin q) 0 ≡ 1 → (s ≢ w.state.side → slice_get w.state.seen_out q ≡ Some false)
+        → ((i : ℕ) → i < COPY_WORDS → get_or vs (place s i) 0 ≡ get_or words (place s i) 0) × (s ≢ w'.state.side → slice_get w'.state.seen_out q ≡ Some false)
 
   module _ (words vs : List ℕ) (w w' : WriterView) (q : ℕ) (k : Leaves words vs w w' q) where
-    beside_left : (seen : List (List ℕ)) (s : ℕ) → get_or words (pin 34 q) 0 ≡ 1 → (b : Beside opening Legal words w seen q s) → Beside opening Legal vs w' seen q s
+    beside_left : (seen : List (List ℕ)) (s : ℕ) → get_or words (pin q) 0 ≡ 1 → (b : Beside opening Legal words w seen q s) → Beside opening Legal vs w' seen q s
     beside_left seen s pinned b =
         let t = k.sides s b.two pinned b.late in
         record {
@@ -73,14 +74,14 @@ module _ (opening : Opening) (Legal : List Command → Type 0) where
           late = t.1;
         }
 
-    read_left : (seen : List (List ℕ)) (s : ℕ) (xs : List ℕ) → length xs ≤ 34 → get_or words (pin 34 q) 0 ≡ 1 → Beside opening Legal words w seen q s → IsReadFrom words s xs → IsReadFrom vs s xs
+    read_left : (seen : List (List ℕ)) (s : ℕ) (xs : List ℕ) → length xs ≤ COPY_WORDS → get_or words (pin q) 0 ≡ 1 → Beside opening Legal words w seen q s → IsReadFrom words s xs → IsReadFrom vs s xs
     read_left seen s xs short p b h i l = h i l ∙ sym ((k.sides s b.two p b.late).0 i (omega arith))
 
-    stands_left : (seen : List (List ℕ)) (st : Stage) → get_or words (pin 34 q) 0 ≡ pin_of st → Stands opening Legal words w seen q st → Stands opening Legal vs w' seen q st
+    stands_left : (seen : List (List ℕ)) (st : Stage) → get_or words (pin q) 0 ≡ pin_of st → Stands opening Legal words w seen q st → Stands opening Legal vs w' seen q st
     stands_left seen AtRest p h = tt
     stands_left seen Arrived p h = tt
-    stands_left seen (Reading s xs) p h = let short : length xs < 34 = h.1 in (beside_left seen s p h.0, short, read_left seen s xs (omega arith) p h.0 h.2)
-    stands_left seen (Leaving s xs) p h = let full : length xs ≡ 34 = h.1 in (beside_left seen s p h.0, full, read_left seen s xs (omega arith) p h.0 h.2, h.3)
+    stands_left seen (Reading s xs) p h = let short : length xs < COPY_WORDS = h.1 in (beside_left seen s p h.0, short, read_left seen s xs (omega arith) p h.0 h.2)
+    stands_left seen (Leaving s xs) p h = let full : length xs ≡ COPY_WORDS = h.1 in (beside_left seen s p h.0, full, read_left seen s xs (omega arith) p h.0 h.2, h.3)
 
     left : (v : ReaderView) → ReaderOk opening Legal words w q v → ReaderOk opening Legal vs w' q v
     left v ok =
@@ -115,7 +116,7 @@ module _ (opening : Opening) (Legal : List Command → Type 0) where
   pub begin_keeps : (m : State) → Lawful opening Legal m → (list rest : List Command) → Legal list → m.writer.state.taken ++ rest ≡ list → Lawful opening Legal (begun_by m list)
   begin_keeps m l list rest legal longer =
       let w = m.writer.state in
-      let w' : WriterView = Known (begun 34 list w) m.writer.cuts in
+      let w' : WriterView = Known (begun list w) m.writer.cuts in
       let o = l.writer in
       moved m.words m.words m.writer w' m.readers l refl record {
         two = o.two;
@@ -131,13 +132,13 @@ module _ (opening : Opening) (Legal : List Command → Type 0) where
       } (λ q _. record { pins = refl; cuts = λ f h. (h, refl); sides = λ s two p late. ((λ i _. refl), late) })
 
   -- a pin was loaded
-  sees_out : (m : State) → Lawful opening Legal m → (r : ℕ) → get_or m.words (pin 34 r) 0 ≡ 0
-      → Lawful opening Legal (At m.words (Known (seeing 34 m.writer.state (set m.writer.state.seen_out r true)) m.writer.cuts) m.readers)
+  sees_out : (m : State) → Lawful opening Legal m → (r : ℕ) → get_or m.words (pin r) 0 ≡ 0
+      → Lawful opening Legal (At m.words (Known (seeing m.writer.state (set m.writer.state.seen_out r true)) m.writer.cuts) m.readers)
   sees_out m l r found =
       let w = m.writer.state in
       let out : List Bool = set w.seen_out r true in
       let o = l.writer in
-      moved m.words m.words m.writer (Known (seeing 34 w out) m.writer.cuts) m.readers l refl record {
+      moved m.words m.words m.writer (Known (seeing w out) m.writer.cuts) m.readers l refl record {
         two = o.two;
         side_is = o.side_is;
         flags = length-set w.seen_out r true ∙ o.flags;
@@ -154,7 +155,7 @@ module _ (opening : Opening) (Legal : List Command → Type 0) where
         sides = λ s two p late. (
           (λ i _. refl),
           λ ne. dite (ℕ_discrete q r)
-              (λ e. let z = ap (λ (x : ℕ). get_or m.words (pin 34 x) 0) e in absurd (omega arith))
+              (λ e. let z = ap (λ (x : ℕ). get_or m.words (pin x) 0) e in absurd (omega arith))
               (λ else. set_else w.seen_out r q true else ∙ late ne),
         );
       })
@@ -168,9 +169,9 @@ module _ (opening : Opening) (Legal : List Command → Type 0) where
       (λ q _. record { pins = refl; cuts = λ f h. (h, refl); sides = λ s two p late. ((λ i _. refl), late) })
 
   abbrev looked : Writing → ℕ → Bool → Writing
-  looked w r b = cond b (seeing 34 w (set w.seen_out r true)) (record w { phase = Idle })
+  looked w r b = cond b (seeing w (set w.seen_out r true)) (record w { phase = Idle })
 
-  sees : (m : State) (k : ℕ) → Lawful opening Legal m → (r : ℕ) → get_or m.words (pin 34 r) 0 ≡ k
+  sees : (m : State) (k : ℕ) → Lawful opening Legal m → (r : ℕ) → get_or m.words (pin r) 0 ≡ k
       → Lawful opening Legal (At m.words (Known (looked m.writer.state r (eqb k 0)) m.writer.cuts) m.readers)
   sees m k l r found =
       let F : Bool → Type 0 = λ b. Lawful opening Legal (At m.words (Known (looked m.writer.state r b) m.writer.cuts) m.readers) in
@@ -178,29 +179,29 @@ module _ (opening : Opening) (Legal : List Command → Type 0) where
 
   -- a word was stored
   abbrev next_phase : ℕ → Phase
-  next_phase k = cond (eqb (k + 1) 34) Swapping (Filling (k + 1))
+  next_phase k = cond (eqb (k + 1) COPY_WORDS) Swapping (Filling (k + 1))
 
-  fills_next : (words : List ℕ) (w : Writing) (k : ℕ) → k < 34 → Stored opening Legal words w (k + 1) → Fills opening Legal words (record w { phase = next_phase k }) (next_phase k)
+  fills_next : (words : List ℕ) (w : Writing) (k : ℕ) → k < COPY_WORDS → Stored opening Legal words w (k + 1) → Fills opening Legal words (record w { phase = next_phase k }) (next_phase k)
   fills_next words w k short h =
       let F : Bool → Type 0 = λ t. Fills opening Legal words (record w { phase = cond t Swapping (Filling (k + 1)) }) (cond t Swapping (Filling (k + 1))) in
-      dite (ℕ_discrete (k + 1) 34)
-      (λ e. subst F (sym (eq-eqb (k + 1) 34 e)) (h.0, λ i l. h.1 i (omega arith)))
-      (λ ne. subst F (sym (ne_eqb (k + 1) 34 ne)) (omega arith, h))
+      dite (ℕ_discrete (k + 1) COPY_WORDS)
+      (λ e. subst F (sym (eq-eqb (k + 1) COPY_WORDS e)) (h.0, λ i l. h.1 i (omega arith)))
+      (λ ne. subst F (sym (ne_eqb (k + 1) COPY_WORDS ne)) (omega arith, h))
 
-  fills : (m : State) (k : ℕ) → Lawful opening Legal m → k < 34 → Stored opening Legal m.words m.writer.state k
-      → Lawful opening Legal (At (set m.words (place 34 (other m.writer.state.side) k) (get_or (sheet opening m.writer.state.taken) k 0)) (Known (filled 34 m.writer.state k) m.writer.cuts) m.readers)
+  fills : (m : State) (k : ℕ) → Lawful opening Legal m → k < COPY_WORDS → Stored opening Legal m.words m.writer.state k
+      → Lawful opening Legal (At (set m.words (place (other m.writer.state.side) k) (get_or (sheet opening m.writer.state.taken) k 0)) (Known (filled m.writer.state k) m.writer.cuts) m.readers)
   fills m k l short h =
       let w = m.writer.state in
       let o = l.writer in
-      let p : ℕ = place 34 (other w.side) k in
+      let p : ℕ = place (other w.side) k in
       let x : ℕ = get_or (sheet opening w.taken) k 0 in
       let vs : List ℕ = set m.words p x in
-      let low : p < 69 = place_low (other w.side) k short in
+      let low : p < pin 0 = place_low (other w.side) k short in
       let some : 0 < p = place_above (other w.side) k in
       let wide = l.wide in
-      let kept : (i : ℕ) → i < 34 → get_or vs (place 34 w.side i) 0 ≡ get_or m.words (place 34 w.side i) 0 =
-      λ i g. get_or-set_other m.words p (place 34 w.side i) x 0 (place_apart w.side i k o.two g short) in
-      moved m.words vs m.writer (Known (filled 34 w k) m.writer.cuts) m.readers l (length-set m.words p x) record {
+      let kept : (i : ℕ) → i < COPY_WORDS → get_or vs (place w.side i) 0 ≡ get_or m.words (place w.side i) 0 =
+      λ i g. get_or-set_other m.words p (place w.side i) x 0 (place_apart w.side i k o.two g short) in
+      moved m.words vs m.writer (Known (filled w k) m.writer.cuts) m.readers l (length-set m.words p x) record {
         two = o.two;
         side_is = get_or-set_other m.words p 0 x 0 (λ e. omega arith) ∙ o.side_is;
         flags = o.flags;
@@ -213,14 +214,14 @@ module _ (opening : Opening) (Legal : List Command → Type 0) where
         fills = fills_next vs w k short (
           h.0,
           λ i g. dite (ℕ_discrete i k)
-              (λ e. subst (λ (z : ℕ). get_or vs (place 34 (other w.side) z) 0 ≡ get_or (sheet opening w.taken) z 0) (sym e) (get_or-set_same m.words p x 0 (omega arith)))
-              (λ ne. get_or-set_other m.words p (place 34 (other w.side) i) x 0 (place_once (other w.side) i k ne) ∙ h.1 i (omega arith)),
+              (λ e. subst (λ (z : ℕ). get_or vs (place (other w.side) z) 0 ≡ get_or (sheet opening w.taken) z 0) (sym e) (get_or-set_same m.words p x 0 (omega arith)))
+              (λ ne. get_or-set_other m.words p (place (other w.side) i) x 0 (place_once (other w.side) i k ne) ∙ h.1 i (omega arith)),
         );
       } (λ q _. record {
-        pins = get_or-set_other m.words p (pin 34 q) x 0 (λ e. omega arith);
+        pins = get_or-set_other m.words p (pin q) x 0 (λ e. omega arith);
         cuts = λ f g. (g, refl);
         sides = λ s two pinned late. dite (ℕ_discrete s w.side)
-            (λ e. ((λ i g. subst (λ (z : ℕ). get_or vs (place 34 z i) 0 ≡ get_or m.words (place 34 z i) 0) (sym e) (kept i g)), late))
+            (λ e. ((λ i g. subst (λ (z : ℕ). get_or vs (place z i) 0 ≡ get_or m.words (place z i) 0) (sym e) (kept i g)), late))
             (λ ne. absurd (all_at w.seen_out q h.0 (late ne)));
       })
 
@@ -228,8 +229,8 @@ module _ (opening : Opening) (Legal : List Command → Type 0) where
   cut_stays : (w : Writing) (rest : List Command) → w.published ++ rest ≡ w.taken → (f : ℕ) → f ≤ length w.published → take f w.taken ≡ take f w.published
   cut_stays w rest begins f le = ap (take f) (sym begins) ∙ take-append-le f w.published rest le
 
-  swaps : (m : State) → Lawful opening Legal m → Stored opening Legal m.words m.writer.state 34
-      → Lawful opening Legal (At (set m.words 0 (other m.writer.state.side)) (Known (swapped 34 m.writer.state) (m.writer.cuts ++ length m.writer.state.taken ∷ [])) m.readers)
+  swaps : (m : State) → Lawful opening Legal m → Stored opening Legal m.words m.writer.state COPY_WORDS
+      → Lawful opening Legal (At (set m.words 0 (other m.writer.state.side)) (Known (swapped m.writer.state) (m.writer.cuts ++ length m.writer.state.taken ∷ [])) m.readers)
   swaps m l h =
       let w = m.writer.state in
       let cuts : List ℕ = m.writer.cuts in
@@ -241,8 +242,8 @@ module _ (opening : Opening) (Legal : List Command → Type 0) where
       let begins = o.begins in
       let last : ℕ = length w.taken in
       let longer : length w.published ≤ last = (let g = ap (length {A = Command}) begins.1 in omega (arith, length-append w.published begins.0)) in
-      let kept : (s i : ℕ) → get_or vs (place 34 s i) 0 ≡ get_or m.words (place 34 s i) 0 = λ s i. get_or-set_other m.words 0 (place 34 s i) t 0 (λ e. let g = place_above s i in omega arith) in
-      moved m.words vs m.writer (Known (swapped 34 w) (cuts ++ last ∷ [])) m.readers l (length-set m.words 0 t) record {
+      let kept : (s i : ℕ) → get_or vs (place s i) 0 ≡ get_or m.words (place s i) 0 = λ s i. get_or-set_other m.words 0 (place s i) t 0 (λ e. let g = place_above s i in omega arith) in
+      moved m.words vs m.writer (Known (swapped w) (cuts ++ last ∷ [])) m.readers l (length-set m.words 0 t) record {
         two = omega arith;
         side_is = get_or-set_same m.words 0 t 0 (omega arith);
         flags = length-replicate (length w.seen_out) false ∙ o.flags;
@@ -257,14 +258,14 @@ module _ (opening : Opening) (Legal : List Command → Type 0) where
         ascending = ascends-push cuts last o.ascending (λ c e. le_trans (o.cuts c e).0 longer);
         fills = tt;
       } (λ q here. let flags = o.flags in record {
-        pins = get_or-set_other m.words 0 (pin 34 q) t 0 (λ e. omega arith);
+        pins = get_or-set_other m.words 0 (pin q) t 0 (λ e. omega arith);
         cuts = λ f c. (Contains-append_left cuts (last ∷ []) f c, cut_stays w begins.0 begins.1 f (o.cuts f c).0);
         sides = λ s two pinned late. ((λ i g. kept s i), λ ne. at_replicate (length w.seen_out) q (omega arith));
       })
 
   abbrev wrote : State → Phase → State
   wrote m p =
-      let d = phase_deed 34 (sheet opening) m.writer.state p in
+      let d = phase_action (sheet opening) m.writer.state p in
       let found = get_or m.words d.word 0 in
       At (set m.words d.word (d.becomes found)) (Known (d.after found) (cuts_after p m.writer.state.taken m.writer.cuts)) m.readers
 
@@ -273,8 +274,8 @@ module _ (opening : Opening) (Legal : List Command → Type 0) where
   writes m Seeing l h =
       let w = m.writer.state in
       let r : ℕ = first_false w.seen_out in
-      let k : ℕ = get_or m.words (pin 34 r) 0 in
-      subst (λ (vs : List ℕ). Lawful opening Legal (At vs (Known (looked w r (eqb k 0)) m.writer.cuts) m.readers)) (sym (set-get_or m.words (pin 34 r) 0)) (sees m k l r refl)
+      let k : ℕ = get_or m.words (pin r) 0 in
+      subst (λ (vs : List ℕ). Lawful opening Legal (At vs (Known (looked w r (eqb k 0)) m.writer.cuts) m.readers)) (sym (set-get_or m.words (pin r) 0)) (sees m k l r refl)
   writes m (Filling k) l h = fills m k l h.0 h.1
   writes m Swapping l h = swaps m l h
 

@@ -14,7 +14,7 @@ use Rattle.two_copy_steps.specs.declared.views.Stage.{Stage}
 use Rattle.two_copy_steps.specs.declared.views.Stage.TheVariants.{AtRest, Arrived, Reading, Leaving}
 use Rattle.two_copy_steps.specs.declared.views.Phase.{Phase}
 use Rattle.two_copy_steps.specs.declared.views.Phase.TheVariants.{Idle, Seeing, Filling, Swapping}
-use Rattle.two_copy_steps.specs.Turns.{TwoCopies, is_idle, is_pending, turn}
+use Rattle.two_copy_steps.specs.Turns.{MachineState, is_idle, is_pending, turn}
 
 -- a reading has its effect at its load of side
 abbrev pub stage_effect : Stage → List Call
@@ -36,7 +36,7 @@ reader_effect (Some stage) = stage_effect stage
 
 -- the call of the register of one thread that an event stands for, if it does for one, the machine being that before
 -- the event
-abbrev pub effect : TwoCopies → Event → List Call
+abbrev pub effect : MachineState → Event → List Call
 effect m (Submit command) = if is_idle m.writer.phase then submit command ∷ [] else []
 effect m Publish = if is_idle m.writer.phase then (if is_pending m then [] else publish ∷ []) else []
 effect m Writer = phase_effect m.writer.phase
@@ -44,7 +44,7 @@ effect m (Reader zero) = []
 effect m (Reader (suc r)) = reader_effect (slice_get m.readers r)
 
 -- the calls that a list of events stands for, in order
-abbrev pub effects : TwoCopies → List Event → List Call
+abbrev pub effects : MachineState → List Event → List Call
 effects m [] = []
 effects m (event ∷ events) = effect m event ++ effects (turn m event).0 events
 
@@ -76,7 +76,7 @@ abbrev pub replied_to : Thread → ℕ → Option Stage → ℕ → Option Reply
 replied_to t number None k = t.replied k
 replied_to t number (Some stage) k = replied_at t number stage k
 
-abbrev pub replied_after : Thread → TwoCopies → Event → ℕ → Option Reply
+abbrev pub replied_after : Thread → MachineState → Event → ℕ → Option Reply
 replied_after t m (Submit command) k = t.replied k
 replied_after t m Publish k = t.replied k
 replied_after t m Writer k = t.replied k
@@ -95,7 +95,7 @@ begun_after begun (Read number words) = begun
 begun_after begun Skipped = begun
 
 -- after an event, the machine being that before it
-abbrev pub beside : Thread → TwoCopies → Event → Thread
+abbrev pub beside : Thread → MachineState → Event → Thread
 beside t m event =
     record {
       register = state_after t.register (effect m event);
@@ -120,22 +120,22 @@ abbrev pub SwapsOnce : Bool → Event → Phase → Type 0
 SwapsOnce begun Writer Swapping = begun ≡ true
 SwapsOnce begun event phase = Unit {0}
 
-abbrev pub Answers : Thread → TwoCopies → Event → Type 0
+abbrev pub Answers : Thread → MachineState → Event → Type 0
 Answers t m event = Tells (replies_of t.register (effect m event)) t.replied (turn m event).1
     × SwapsOnce t.begun event m.writer.phase
 
 -- so it is at each event of a list
-abbrev pub AllAnswer : Thread → TwoCopies → List Event → Type 0
+abbrev pub AllAnswer : Thread → MachineState → List Event → Type 0
 AllAnswer t m [] = Unit {0}
 AllAnswer t m (event ∷ events) = Answers t m event × AllAnswer (beside t m event) (turn m event).0 events
 
 -- the register beside a machine after each event in turn
-abbrev pub beside_all : Thread → TwoCopies → List Event → Thread
+abbrev pub beside_all : Thread → MachineState → List Event → Thread
 beside_all t m [] = t
 beside_all t m (event ∷ events) = beside_all (beside t m event) (turn m event).0 events
 
 -- what it replies to the calls that each event stands for, event by event
-abbrev pub replies_beside : Thread → TwoCopies → List Event → List Reply
+abbrev pub replies_beside : Thread → MachineState → List Event → List Reply
 replies_beside t m [] = []
 replies_beside t m (event ∷ events) = replies_of t.register (effect m event)
     ++ replies_beside (beside t m event) (turn m event).0 events

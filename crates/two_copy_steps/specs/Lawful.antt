@@ -1,5 +1,5 @@
 -- The state of words and views, and which states are lawful.
-use Rattle.std.specs.Prelude.{◌≡◌, ◌≢◌, ℕ, ◌+◌, ◌<◌, ◌≤◌, true, false, List, [], ◌∷◌}
+use Rattle.std.specs.Prelude.{◌≡◌, ◌≢◌, ℕ, ◌<◌, ◌≤◌, true, false, List, [], ◌∷◌}
 use Rattle.std.specs.Prelude.{◌++◌, length, take, slice_index, slice_get, slice_set, Some, Contains}
 use Rattle.std.specs.List.Sorted.{IsNonDecreasing}
 use Rattle.council_core.specs.declared.commands.Command.{Command}
@@ -13,7 +13,8 @@ use Rattle.two_copy_steps.specs.declared.views.Stage.{Stage}
 use Rattle.two_copy_steps.specs.declared.views.Stage.TheVariants.{AtRest, Arrived, Reading, Leaving}
 use Rattle.two_copy_steps.specs.declared.views.Phase.{Phase}
 use Rattle.two_copy_steps.specs.declared.views.Phase.TheVariants.{Idle, Seeing, Filling, Swapping}
-use Rattle.two_copy_steps.specs.Deeds.{all_true, other, place, pin, reader_deed, writer_deed, begun}
+use Rattle.two_copy_steps.specs.declared.table.TheConstants.{COPY_WORDS}
+use Rattle.two_copy_steps.specs.Actions.{all_true, other, place, pin, reader_action, writer_action, begun}
 
 pub record State : Type 0 where
   pub words : List ℕ
@@ -23,7 +24,7 @@ pub record State : Type 0 where
 -- the reader at r, whose view is given, takes its step
 abbrev pub read_by : State → ℕ → ReaderView → State
 read_by s r v =
-    let d = reader_deed 34 r v in
+    let d = reader_action r v in
     let found = slice_index s.words d.word in
     record {
       words = slice_set s.words d.word (d.becomes found);
@@ -34,13 +35,13 @@ read_by s r v =
 -- the writer takes its step; an opening's sheets are stored
 abbrev pub written_by : Opening → State → State
 written_by opening s =
-    let d = writer_deed 34 (sheet opening) s.writer in
+    let d = writer_action (sheet opening) s.writer in
     let found = slice_index s.words d.word in
     record { words = slice_set s.words d.word (d.becomes found); writer = d.after found; readers = s.readers }
 
 -- the writer begins to publish these commands; no word is touched
 abbrev pub begun_by : State → List Command → State
-begun_by s commands = record s { writer = record s.writer { state = begun 34 commands s.writer.state } }
+begun_by s commands = record s { writer = record s.writer { state = begun commands s.writer.state } }
 
 -- 1 where the reader isn't at rest
 abbrev pub pin_of : Stage → ℕ
@@ -56,16 +57,16 @@ last_front low (words ∷ rest) = last_front (front_of words) rest
 
 -- the copy that a side names has so many of these numbers
 abbrev pub ShowsFirst : ℕ → List ℕ → ℕ → List ℕ → Type 0
-ShowsFirst k words side numbers = (i : ℕ) → i < k → slice_index words (place 34 side i) ≡ slice_index numbers i
+ShowsFirst k words side numbers = (i : ℕ) → i < k → slice_index words (place side i) ≡ slice_index numbers i
 
 -- it has all of them
 abbrev pub Shows : List ℕ → ℕ → List ℕ → Type 0
-Shows words side numbers = ShowsFirst 34 words side numbers
+Shows words side numbers = ShowsFirst COPY_WORDS words side numbers
 
 -- the words read are the first ones of the copy that a side names
 abbrev pub IsReadFrom : List ℕ → ℕ → List ℕ → Type 0
 IsReadFrom words side loaded =
-    (i : ℕ) → i < length loaded → slice_index loaded i ≡ slice_index words (place 34 side i)
+    (i : ℕ) → i < length loaded → slice_index loaded i ≡ slice_index words (place side i)
 
 -- a legal list whose sheet has the numbers of a sheet
 abbrev pub IsPublishable : Opening → List Command → Type 0
@@ -86,14 +87,14 @@ module _ (opening : Opening) (Legal : List Command → Type 0) where
   abbrev pub Stands : List ℕ → WriterView → List (List ℕ) → ℕ → Stage → Type 0
   Stands words v readings r AtRest = Unit {0}
   Stands words v readings r Arrived = Unit {0}
-  Stands words v readings r (Reading side loaded) = Beside words v readings r side × (length loaded < 34)
+  Stands words v readings r (Reading side loaded) = Beside words v readings r side × (length loaded < COPY_WORDS)
       × IsReadFrom words side loaded
   Stands words v readings r (Leaving side loaded) =
-      Beside words v readings r side × (length loaded ≡ 34) × IsReadFrom words side loaded
+      Beside words v readings r side × (length loaded ≡ COPY_WORDS) × IsReadFrom words side loaded
       × ((earlier : List (List ℕ)) × (readings ≡ earlier ++ loaded ∷ []))
 
   pub record ReaderOk (words : List ℕ) (v : WriterView) (r : ℕ) (reader : ReaderView) : Type 0 where
-    pub pinned : slice_index words (pin 34 r) ≡ pin_of reader.stage
+    pub pinned : slice_index words (pin r) ≡ pin_of reader.stage
     pub stands : Stands words v reader.readings r reader.stage
     pub record_legal : IsRecordFrom opening v.state.published v.cuts 0 reader.readings
 
@@ -106,8 +107,8 @@ module _ (opening : Opening) (Legal : List Command → Type 0) where
   abbrev pub Fills : List ℕ → Writing → Phase → Type 0
   Fills words w Idle = Unit {0}
   Fills words w Seeing = all_true w.seen_out ≡ false
-  Fills words w (Filling k) = (k < 34) × Stored words w k
-  Fills words w Swapping = Stored words w 34
+  Fills words w (Filling k) = (k < COPY_WORDS) × Stored words w k
+  Fills words w Swapping = Stored words w COPY_WORDS
 
   pub record WriterOk (words : List ℕ) (v : WriterView) (readers : ℕ) : Type 0 where
     pub two : v.state.side < 2
@@ -123,6 +124,6 @@ module _ (opening : Opening) (Legal : List Command → Type 0) where
     pub fills : Fills words v.state v.state.phase
 
   pub record Lawful (s : State) : Type 0 where
-    pub wide : 69 + length s.readers ≤ length s.words
+    pub wide : pin (length s.readers) ≤ length s.words
     pub writer : WriterOk s.words s.writer (length s.readers)
     pub each_reader : (r : ℕ) (v : ReaderView) → slice_get s.readers r ≡ Some v → ReaderOk s.words s.writer r v

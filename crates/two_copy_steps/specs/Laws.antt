@@ -15,11 +15,11 @@ use Rattle.two_copy_steps.specs.declared.views.Phase.TheVariants.{Filling}
 use Rattle.two_copy_steps.specs.declared.views.ReaderView.{ReaderView}
 use Rattle.two_copy_steps.specs.Lawful.{State, IsPublishable, read_by, written_by, begun_by}
 use Rattle.two_copy_steps.specs.States.{LawfulFor, HasRecords, IsApart, IsKnown}
-use Rattle.two_copy_steps.specs.Turns.{TwoCopies, turn, started, after, notes}
+use Rattle.two_copy_steps.specs.Turns.{MachineState, turn, started, after, notes}
 use Rattle.two_copy_steps.specs.Passes.{Passes, opened, passed, record_at, state_of, IsLawful, HasLegalRecords}
 use Rattle.two_copy_steps.specs.Passes.{NoneUnder}
-use Rattle.two_copy_steps.specs.Deeds.{all_true, pin, stage_deed, reader_deed}
-use Rattle.two_copy_steps.specs.Stages.{steps_taken, sheet_read, IsReadable}
+use Rattle.two_copy_steps.specs.Actions.{all_true, pin, stage_action, reader_action}
+use Rattle.two_copy_steps.specs.Stages.{steps_taken, last_load, last_step, sheet_read, IsReadable}
 use Rattle.two_copy_steps.specs.Publications.{IsLeastUnseen, StaySeen, stores_side}
 use Rattle.two_copy_steps.specs.Records.{RecordsAreTold, FrontsNeverFall}
 use Rattle.council_core.specs.Sequential.{replies_of, state_after}
@@ -62,75 +62,75 @@ StateKnownLaw = (opening : Opening) (s : State) → LawfulFor opening s → (r :
 
 -- the writer's turn is its step of words and views
 abbrev pub WriterTurnLaw : Type 0
-WriterTurnLaw = (m : TwoCopies) (p : Passes)
+WriterTurnLaw = (m : MachineState) (p : Passes)
     → state_of (turn m Writer).0 (passed m p Writer) ≡ written_by m.ledger.opening (state_of m p)
 
 -- so is a reader's
 abbrev pub ReaderTurnLaw : Type 0
 ReaderTurnLaw =
-    (m : TwoCopies) (p : Passes) → length p.records ≡ length m.readers → (r : ℕ) (stage : Stage)
+    (m : MachineState) (p : Passes) → length p.records ≡ length m.readers → (r : ℕ) (stage : Stage)
     → slice_get m.readers r ≡ Some stage
     → state_of (turn m (Reader (suc r))).0 (passed m p (Reader (suc r)))
     ≡ read_by (state_of m p) r (record { stage = stage; readings = record_at p.records r })
 
 -- a publication that begins takes the whole journal, and touches no word
 abbrev pub BeginTurnLaw : Type 0
-BeginTurnLaw = (m : TwoCopies) (p : Passes) → (turn m Publish).1 ≡ Began
+BeginTurnLaw = (m : MachineState) (p : Passes) → (turn m Publish).1 ≡ Began
     → state_of (turn m Publish).0 (passed m p Publish) ≡ begun_by (state_of m p) m.ledger.journal
 
 -- one that doesn't begin leaves words and views as they were, and so does a command
 abbrev pub IdleTurnLaw : Type 0
-IdleTurnLaw = (m : TwoCopies) (p : Passes) → (turn m Publish).1 ≢ Began
+IdleTurnLaw = (m : MachineState) (p : Passes) → (turn m Publish).1 ≢ Began
     → state_of (turn m Publish).0 (passed m p Publish) ≡ state_of m p
 
 abbrev pub SubmitTurnLaw : Type 0
-SubmitTurnLaw = (m : TwoCopies) (p : Passes) (command : Command)
+SubmitTurnLaw = (m : MachineState) (p : Passes) (command : Command)
     → state_of (turn m (Submit command)).0 (passed m p (Submit command)) ≡ state_of m p
 
 -- a reader that is in the way is the least that isn't seen out, and its pin is 1; the publication that is given up
 -- changes nobody
 abbrev pub BusyLaw : Type 0
 BusyLaw =
-    (m : TwoCopies) (p : Passes) → IsLawful IsPublishable m p → (event : Event) (number : ℕ)
+    (m : MachineState) (p : Passes) → IsLawful IsPublishable m p → (event : Event) (number : ℕ)
     → (turn m event).1 ≡ Busy number
-    → (r : ℕ) × (number ≡ suc r) × IsLeastUnseen m.writer.seen_out r × (slice_index m.words (pin 34 r) ≡ 1)
+    → (r : ℕ) × (number ≡ suc r) × IsLeastUnseen m.writer.seen_out r × (slice_index m.words (pin r) ≡ 1)
     × ((turn m event).0.writer.seen_out ≡ m.writer.seen_out)
 
 -- who is seen out stays so until side is stored
 abbrev pub StayLaw : Type 0
-StayLaw = (m : TwoCopies) (event : Event) → stores_side event m.writer.phase ≡ false
+StayLaw = (m : MachineState) (event : Event) → stores_side event m.writer.phase ≡ false
     → StaySeen m.writer.seen_out (turn m event).0.writer.seen_out
 
 -- with everybody seen out a publication that begins fills at once
 abbrev pub AtOnceLaw : Type 0
-AtOnceLaw = (m : TwoCopies) → all_true m.writer.seen_out ≡ true → (turn m Publish).1 ≡ Began
+AtOnceLaw = (m : MachineState) → all_true m.writer.seen_out ≡ true → (turn m Publish).1 ≡ Began
     → (turn m Publish).0.writer.phase ≡ Filling 0
 
--- a step moves a reader on by one of the 37 steps of a reading
+-- a step moves a reader on by one of the steps of a reading
 abbrev pub CountLaw : Type 0
 CountLaw =
     (r found : ℕ) (stage : Stage) → IsReadable stage
-    → (steps_taken stage ≤ 36)
-    × (steps_taken ((stage_deed 34 r stage).after found)
-    ≡ (if steps_taken stage == 36 then 0 else steps_taken stage + 1))
+    → (steps_taken stage ≤ last_step)
+    × (steps_taken ((stage_action r stage).after found)
+    ≡ (if steps_taken stage == last_step then 0 else steps_taken stage + 1))
 
 -- the load of the last word is the one step that adds to a reader's record, and it adds the words loaded
 abbrev pub GrowthLaw : Type 0
 GrowthLaw =
-    (r found : ℕ) (v : ReaderView) → IsReadable v.stage → let w = (reader_deed 34 r v).after found in
-    (steps_taken v.stage ≢ 35 → w.readings ≡ v.readings)
-    × (steps_taken v.stage ≡ 35
+    (r found : ℕ) (v : ReaderView) → IsReadable v.stage → let w = (reader_action r v).after found in
+    (steps_taken v.stage ≢ last_load → w.readings ≡ v.readings)
+    × (steps_taken v.stage ≡ last_load
     → (words : List ℕ) × (sheet_read w.stage ≡ Some words) × (w.readings ≡ v.readings ++ words ∷ []))
 
 -- each event keeps the machine lawful, with its cuts and records
 abbrev pub EventLaw : Type 0
-EventLaw = (m : TwoCopies) (p : Passes) → IsLawful IsPublishable m p
+EventLaw = (m : MachineState) (p : Passes) → IsLawful IsPublishable m p
     → IsPublishable m.ledger.opening m.ledger.journal
     → (event : Event) → IsLawful IsPublishable (turn m event).0 (passed m p event)
 
 -- each event keeps the journal legal and within its limit
 abbrev pub LedgerLaw : Type 0
-LedgerLaw = (m : TwoCopies) → IsLedger m.ledger → (event : Event) → IsLedger (turn m event).0.ledger
+LedgerLaw = (m : MachineState) → IsLedger m.ledger → (event : Event) → IsLedger (turn m event).0.ledger
 
 -- a register whose members and commands have votes in range
 abbrev pub HasVotesInRange : Ledger → Type 0
@@ -145,8 +145,8 @@ HandsInRange (Reader number) = Unit {0}
 
 -- each such event keeps the votes in range, and the journal publishable
 abbrev pub RangeLaw : Type 0
-RangeLaw = (m : TwoCopies) → IsLedger m.ledger → HasVotesInRange m.ledger → (event : Event) → HandsInRange event
-    → HasVotesInRange (turn m event).0.ledger
+RangeLaw = (m : MachineState) → IsLedger m.ledger → HasVotesInRange m.ledger → (event : Event)
+    → HandsInRange event → HasVotesInRange (turn m event).0.ledger
     × IsPublishable (turn m event).0.ledger.opening (turn m event).0.ledger.journal
 
 -- over every list of events the records are legal
@@ -188,16 +188,16 @@ FreshLaw =
 -- list of their effects, which ends where that run ends
 abbrev pub EffectsLaw : Type 0
 EffectsLaw =
-    (t : Thread) (m : TwoCopies) (events : List Event)
+    (t : Thread) (m : MachineState) (events : List Event)
     → (replies_of t.register (effects m events) ≡ replies_beside t m events)
     × (state_after t.register (effects m events) ≡ (beside_all t m events).register)
 
 -- the notes of one list followed by another are those of the first, and then those of the second from where the first
 -- ended
 abbrev pub NotesLaw : Type 0
-NotesLaw = (m : TwoCopies) (events more : List Event)
+NotesLaw = (m : MachineState) (events more : List Event)
     → notes m (events ++ more) ≡ notes m events ++ notes (after m events) more
 
 -- and the machine ends where the second list ends from there
 abbrev pub AfterLaw : Type 0
-AfterLaw = (m : TwoCopies) (events more : List Event) → after m (events ++ more) ≡ after (after m events) more
+AfterLaw = (m : MachineState) (events more : List Event) → after m (events ++ more) ≡ after (after m events) more

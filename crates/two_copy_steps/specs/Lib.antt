@@ -1,4 +1,4 @@
-pub mod Deeds
+pub mod Actions
 pub mod Stages
 pub mod Lawful
 pub mod Turns

@@ -7,13 +7,14 @@ use Rattle.two_copy_steps.specs.declared.events.Event.{Event}
 use Rattle.two_copy_steps.specs.declared.events.Event.TheVariants.{Submit, Publish, Writer, Reader}
 use Rattle.two_copy_steps.specs.declared.views.Stage.{Stage}
 use Rattle.two_copy_steps.specs.declared.views.Phase.{Phase}
+use Rattle.two_copy_steps.specs.declared.table.TheConstants.{READERS}
 use Rattle.two_copy_steps.specs.Lawful.{IsPublishable}
-use Rattle.two_copy_steps.specs.Turns.{TwoCopies, is_idle}
+use Rattle.two_copy_steps.specs.Turns.{MachineState, is_idle}
 use Rattle.two_copy_steps.specs.Passes.{Passes, IsLawful}
 
 -- the machine by what it keeps: how many commands are published, and the sheet of those last taken
 abbrev pub seen_as : Ledger → List ℕ → ℕ → ℕ → List ℕ → Phase → List Bool → List Stage
-    → TwoCopies
+    → MachineState
 seen_as ledger words side published taken phase seen_out readers =
     record {
       ledger = ledger;
@@ -34,16 +35,16 @@ pub record IsMachine (ledger : Ledger) (words : List ℕ) (side published : ℕ)
   pub published_within : published ≤ length ledger.journal
   pub taken_within : front_of taken ≤ length ledger.journal
   pub sheet_is : taken ≡ sheet ledger.opening (take (front_of taken) ledger.journal)
-  pub few : length readers ≤ 4
+  pub few : length readers ≤ READERS
   pub lawful : (p : Passes)
       × IsLawful IsPublishable (seen_as ledger words side published taken phase seen_out readers) p
 
--- one to four
+-- one, and no more than there may be
 abbrev pub IsFew : ℕ → Type 0
-IsFew readers = (1 ≤ readers) × (readers ≤ 4)
+IsFew readers = (1 ≤ readers) × (readers ≤ READERS)
 
 -- an event that can want memory: a command that the register accepts, while no publication is under way
-abbrev pub WantsMemory : TwoCopies → Event → Type 0
+abbrev pub WantsMemory : MachineState → Event → Type 0
 WantsMemory m (Submit command) = (is_idle m.writer.phase ≡ true) × (verdict_of m.ledger command ≡ Ok tt)
 WantsMemory m Publish = ⊥
 WantsMemory m Writer = ⊥

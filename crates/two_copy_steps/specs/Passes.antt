@@ -11,10 +11,10 @@ use Rattle.two_copy_steps.specs.declared.views.Stage.{Stage}
 use Rattle.two_copy_steps.specs.declared.views.Phase.{Phase}
 use Rattle.two_copy_steps.specs.declared.views.Phase.TheVariants.{Filling}
 use Rattle.two_copy_steps.specs.declared.views.Stage.TheVariants.{AtRest, Arrived, Reading, Leaving}
-use Rattle.two_copy_steps.specs.Deeds.{recorded, cuts_after, stage_deed, other}
+use Rattle.two_copy_steps.specs.Actions.{recorded, cuts_after, stage_action, other}
 use Rattle.two_copy_steps.specs.Lawful.{State, Lawful}
 use Rattle.council_core.specs.Sequential.{AreLegalRecords}
-use Rattle.two_copy_steps.specs.Turns.{TwoCopies, turn, is_idle}
+use Rattle.two_copy_steps.specs.Turns.{MachineState, turn, is_idle}
 
 pub record Passes : Type 0 where
   pub cuts : List ℕ
@@ -28,17 +28,17 @@ opened ledger readers = record { cuts = length ledger.journal ∷ []; records = 
 abbrev pub record_at : List (List (List ℕ)) → ℕ → List (List ℕ)
 record_at records r = slice_index_or records r []
 
-abbrev pub reader_passed : TwoCopies → Passes → ℕ → Option Stage → Passes
+abbrev pub reader_passed : MachineState → Passes → ℕ → Option Stage → Passes
 reader_passed m p r None = p
 reader_passed m p r (Some stage) =
-    let d = stage_deed 34 r stage in
+    let d = stage_action r stage in
     record p {
       records = slice_set p.records r
           (recorded stage (d.after (slice_index m.words d.word)) (record_at p.records r));
     }
 
 -- the cuts and the records after an event, the machine being that before it
-abbrev pub passed : TwoCopies → Passes → Event → Passes
+abbrev pub passed : MachineState → Passes → Event → Passes
 passed m p (Submit command) = p
 passed m p Publish = p
 passed m p Writer = record p { cuts = cuts_after m.writer.phase m.writer.taken p.cuts }
@@ -46,7 +46,7 @@ passed m p (Reader zero) = p
 passed m p (Reader (suc r)) = reader_passed m p r (slice_get m.readers r)
 
 -- the cuts and the records after each event in turn
-abbrev pub passes : TwoCopies → Passes → List Event → Passes
+abbrev pub passes : MachineState → Passes → List Event → Passes
 passes m p [] = p
 passes m p (event ∷ events) = passes (turn m event).0 (passed m p event) events
 
@@ -58,20 +58,20 @@ viewed (stage ∷ stages) (readings ∷ records) =
     record { stage = stage; readings = readings } ∷ viewed stages records
 
 -- the words and all views
-abbrev pub state_of : TwoCopies → Passes → State
+abbrev pub state_of : MachineState → Passes → State
 state_of m p = record
     { words = m.words; writer = record { state = m.writer; cuts = p.cuts }; readers = viewed m.readers p.records }
 
 -- the words and views are lawful, and the journal extends the list last taken, which is all of it while a publication
 -- is under way
-pub record IsLawful (Legal : Opening → List Command → Type 0) (m : TwoCopies) (p : Passes) : Type 0 where
+pub record IsLawful (Legal : Opening → List Command → Type 0) (m : MachineState) (p : Passes) : Type 0 where
   pub state : Lawful m.ledger.opening (Legal m.ledger.opening) (state_of m p)
   pub extends : (rest : List Command) × (m.writer.taken ++ rest ≡ m.ledger.journal)
   pub whole : is_idle m.writer.phase ≡ false → m.writer.taken ≡ m.ledger.journal
   pub each_record : length p.records ≡ length m.readers
 
 -- the published list is legal, the cuts are in order, and the records hold sheets of cuts whose fronts never fall
-abbrev pub HasLegalRecords : TwoCopies → Passes → Type 0
+abbrev pub HasLegalRecords : MachineState → Passes → Type 0
 HasLegalRecords m p = AreLegalRecords m.ledger.opening m.writer.published p.cuts p.records
 
 -- the side that a reader has loaded, if it has and has not left
@@ -87,7 +87,7 @@ side_filled side (Filling k) = Some (other side)
 side_filled side phase = None
 
 -- no reader holds the copy of which the writer's next step stores a word
-abbrev pub NoneUnder : TwoCopies → Type 0
+abbrev pub NoneUnder : MachineState → Type 0
 NoneUnder m =
     (side r : ℕ) (stage : Stage) → side_filled m.writer.side m.writer.phase ≡ Some side
     → slice_get m.readers r ≡ Some stage → side_held stage ≡ Some side → ⊥

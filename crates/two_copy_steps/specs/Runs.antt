@@ -5,14 +5,14 @@ use Rattle.council_core.specs.declared.refusals.Refusal.{Refusal}
 use Rattle.council_core.specs.declared.refusals.Refusal.TheVariants.{OutOfMemory, BadLimit}
 use Rattle.two_copy_steps.specs.declared.events.Event.{Event}
 use Rattle.two_copy_steps.specs.declared.events.Note.{Note}
-use Rattle.two_copy_steps.specs.Turns.{TwoCopies, started, after}
+use Rattle.two_copy_steps.specs.Turns.{MachineState, started, after}
 use Rattle.two_copy_steps.specs.Records.{RecordsAreTold}
 use Rattle.two_copy_steps.specs.Passes.{Passes, opened, passes, HasLegalRecords, NoneUnder}
 use Rattle.two_copy_steps.specs.Effects.{thread_of, AllAnswer}
 use Rattle.two_copy_steps.specs.Machines.{IsFew, WantsMemory}
 
 -- from the start over a register with so many readers: the machine, and the cuts and records
-abbrev pub machine_after : Ledger → ℕ → List Event → TwoCopies
+abbrev pub machine_after : Ledger → ℕ → List Event → MachineState
 machine_after ledger readers events = after (started ledger readers) events
 
 abbrev pub passes_after : Ledger → ℕ → List Event → Passes
@@ -38,7 +38,7 @@ KeepsRecordsTold ledger readers events told =
     RecordsAreTold (machine_after ledger readers events) (passes_after ledger readers events) told
 
 -- the event at a place can want memory, from this machine on
-abbrev pub WantsMemoryFrom : TwoCopies → List Event → ℕ → Type 0
+abbrev pub WantsMemoryFrom : MachineState → List Event → ℕ → Type 0
 WantsMemoryFrom m events place =
     (event : Event) × (slice_get events place ≡ Some event) × WantsMemory (after m (take place events)) event
 

@@ -5,27 +5,36 @@ use Rattle.two_copy_steps.specs.declared.views.Stage.{Stage}
 use Rattle.two_copy_steps.specs.declared.views.Stage.TheVariants.{AtRest, Arrived, Reading, Leaving}
 use Rattle.two_copy_steps.specs.declared.stages.Access.{Access}
 use Rattle.two_copy_steps.specs.declared.stages.Access.TheVariants.{Load, Store}
-use Rattle.two_copy_steps.specs.declared.stages.ReaderPhase.{ReaderPhase}
-use Rattle.two_copy_steps.specs.declared.stages.ReaderPhase.TheVariants as phase
-use Rattle.two_copy_steps.specs.Deeds.{loaded}
+use Rattle.two_copy_steps.specs.declared.stages.ReaderPc.{ReaderPc}
+use Rattle.two_copy_steps.specs.declared.stages.ReaderPc.TheVariants as pc
+use Rattle.two_copy_steps.specs.declared.table.TheConstants.{COPY_WORDS}
+use Rattle.two_copy_steps.specs.Actions.{loaded}
+
+-- how many steps of a reading come before the load of its copy's last word: its pin, side, and the words but one
+abbrev pub last_load : ℕ
+last_load = COPY_WORDS + 1
+
+-- and before its last one
+abbrev pub last_step : ℕ
+last_step = last_load + 1
 
 -- the steps of a reading: its pin, side, the words of a copy, its pin
 abbrev pub reading_steps : ℕ
-reading_steps = 37
+reading_steps = last_step + 1
 
--- of the steps of a reading, how many are taken: a number from 0 to 36
+-- of the steps of a reading, how many are taken
 abbrev pub steps_taken : Stage → ℕ
 steps_taken AtRest = 0
 steps_taken Arrived = 1
 steps_taken (Reading side words) = 2 + length words
-steps_taken (Leaving side words) = 36
+steps_taken (Leaving side words) = last_step
 
 -- a reader that is loading words has some left, and one that has all of them has a sheet
 abbrev pub IsReadable : Stage → Type 0
 IsReadable AtRest = Unit {0}
 IsReadable Arrived = Unit {0}
-IsReadable (Reading side words) = length words < 34
-IsReadable (Leaving side words) = (length words ≡ 34) × IsSheet words
+IsReadable (Reading side words) = length words < COPY_WORDS
+IsReadable (Leaving side words) = (length words ≡ COPY_WORDS) × IsSheet words
 
 -- the sheet that the step from a stage answers, if it is the last of a reading
 abbrev pub sheet_read : Stage → Option (List ℕ)
@@ -42,16 +51,16 @@ about_to_leave (Reading side words) = []
 about_to_leave (Leaving side words) = words ∷ []
 
 -- the stage of a reader by what it keeps: the side counts once it is loaded, and of the words those that are loaded
-abbrev pub stage_of : ReaderPhase → ℕ → List ℕ → Stage
-stage_of phase.AtRest side words = AtRest
-stage_of phase.Arrived side words = Arrived
-stage_of (phase.Reading k) side words = Reading side (take k words)
-stage_of phase.Leaving side words = Leaving side words
+abbrev pub stage_of : ReaderPc → ℕ → List ℕ → Stage
+stage_of pc.AtRest side words = AtRest
+stage_of pc.Arrived side words = Arrived
+stage_of (pc.Reading k) side words = Reading side (take k words)
+stage_of pc.Leaving side words = Leaving side words
 
--- the phase after word k is loaded
-abbrev pub IsPhasePast : ℕ → ReaderPhase → Type 0
-IsPhasePast k phase = (side : ℕ) (words : List ℕ) → length words ≡ 34
-    → stage_of phase side words ≡ loaded 34 side (take (k + 1) words)
+-- the program counter after word k is loaded
+abbrev pub IsPcPast : ℕ → ReaderPc → Type 0
+IsPcPast k pc = (side : ℕ) (words : List ℕ) → length words ≡ COPY_WORDS
+    → stage_of pc side words ≡ loaded side (take (k + 1) words)
 
 -- the place of the word that is touched
 abbrev pub accessed : Access → ℕ

@@ -16,11 +16,11 @@ use Rattle.two_copy_steps.specs.declared.views.Stage.{Stage}
 use Rattle.two_copy_steps.specs.declared.views.Stage.TheVariants.{AtRest, Arrived, Reading, Leaving}
 use Rattle.two_copy_steps.specs.declared.views.Phase.{Phase}
 use Rattle.two_copy_steps.specs.declared.views.Phase.TheVariants.{Idle, Seeing, Filling, Swapping}
-use Rattle.two_copy_steps.specs.Deeds.{first_false, pin, stage_deed, writing_deed, begun}
+use Rattle.two_copy_steps.specs.Actions.{first_false, pin, stage_action, writing_action, begun}
 
 -- the register, the words (word 0 is side, then copy 0, copy 1 and a pin for each reader), how far the writer is, and
 -- each reader's stage
-pub record TwoCopies : Type 0 where
+pub record MachineState : Type 0 where
   pub ledger : Ledger
   pub words : List ℕ
   pub writer : Writing
@@ -33,7 +33,7 @@ is_idle (Filling k) = false
 is_idle Swapping = false
 
 -- both copies have the register's sheet, everybody is seen out, and nobody is on the way
-abbrev pub started : Ledger → ℕ → TwoCopies
+abbrev pub started : Ledger → ℕ → MachineState
 started ledger readers =
     record {
       ledger = ledger;
@@ -53,30 +53,30 @@ abbrev pub handed : Ledger → Command → Result ⊤ Refusal → Ledger × Note
 handed ledger command (Ok u) = (appended ledger command, Accepted (length ledger.journal + 1))
 handed ledger command (Err refusal) = (ledger, Refused refusal)
 
-abbrev pub submitted : TwoCopies → Command → Result ⊤ Refusal → TwoCopies × Note
+abbrev pub submitted : MachineState → Command → Result ⊤ Refusal → MachineState × Note
 submitted m command v = let after = handed m.ledger command v in (record m { ledger = after.0 }, after.1)
 
 -- a publication of the whole journal begins, if there is something pending
-abbrev pub published_by : TwoCopies → Bool → TwoCopies × Note
-published_by m true = (record m { writer = begun 34 m.ledger.journal m.writer }, Began)
+abbrev pub published_by : MachineState → Bool → MachineState × Note
+published_by m true = (record m { writer = begun m.ledger.journal m.writer }, Began)
 published_by m false = (m, Published (length m.writer.published))
 
 -- the register has accepted more commands than are published
-abbrev pub is_pending : TwoCopies → Bool
+abbrev pub is_pending : MachineState → Bool
 is_pending m = nat_lt (length m.writer.published) (length m.ledger.journal)
 
 -- what the writer's step tells, by its phase
-abbrev pub phase_note : TwoCopies → Phase → Note
+abbrev pub phase_note : MachineState → Phase → Note
 phase_note m Idle = Skipped
 phase_note m Seeing = let r = first_false m.writer.seen_out
-    in if slice_index m.words (pin 34 r) == 0 then Moved else Busy (suc r)
+    in if slice_index m.words (pin r) == 0 then Moved else Busy (suc r)
 phase_note m (Filling k) = Moved
 phase_note m Swapping = Published (length m.writer.taken)
 
 -- the writer takes its step
-abbrev pub written : TwoCopies → TwoCopies
+abbrev pub written : MachineState → MachineState
 written m =
-    let d = writing_deed 34 (sheet m.ledger.opening) m.writer in
+    let d = writing_action (sheet m.ledger.opening) m.writer in
     let found = slice_index m.words d.word in
     record m { words = slice_set m.words d.word (d.becomes found); writer = d.after found }
 
@@ -88,19 +88,19 @@ stage_note number (Reading side words) = Moved
 stage_note number (Leaving side words) = Read number words
 
 -- the reader at r takes its step
-abbrev pub read : TwoCopies → ℕ → Stage → TwoCopies
+abbrev pub read : MachineState → ℕ → Stage → MachineState
 read m r stage =
-    let d = stage_deed 34 r stage in
+    let d = stage_action r stage in
     let found = slice_index m.words d.word in
     record m { words = slice_set m.words d.word (d.becomes found); readers = slice_set m.readers r (d.after found) }
 
 -- the reader at r, if there is one
-abbrev pub reader_turn : TwoCopies → ℕ → Option Stage → TwoCopies × Note
+abbrev pub reader_turn : MachineState → ℕ → Option Stage → MachineState × Note
 reader_turn m r None = (m, Skipped)
 reader_turn m r (Some stage) = (read m r stage, stage_note (suc r) stage)
 
 -- the machine after an event, and the note
-abbrev pub turn : TwoCopies → Event → TwoCopies × Note
+abbrev pub turn : MachineState → Event → MachineState × Note
 turn m (Submit command) =
     if is_idle m.writer.phase then submitted m command (verdict_of m.ledger command) else (m, Skipped)
 turn m Publish = if is_idle m.writer.phase then published_by m (is_pending m) else (m, Skipped)
@@ -109,11 +109,11 @@ turn m (Reader zero) = (m, Skipped)
 turn m (Reader (suc r)) = reader_turn m r (slice_get m.readers r)
 
 -- the machine after each event in turn
-abbrev pub after : TwoCopies → List Event → TwoCopies
+abbrev pub after : MachineState → List Event → MachineState
 after m [] = m
 after m (event ∷ events) = after (turn m event).0 events
 
 -- the notes of the events, in order
-abbrev pub notes : TwoCopies → List Event → List Note
+abbrev pub notes : MachineState → List Event → List Note
 notes m [] = []
 notes m (event ∷ events) = (turn m event).1 ∷ notes (turn m event).0 events

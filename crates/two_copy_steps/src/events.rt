@@ -2,7 +2,7 @@
 use council_core::{Command, Refusal, Sheet};
 
 /// One event: a call of the writer's, or the next step of an actor.
-#[derive(Clone, Copy, Debug, PartialEq, Eq)]
+#[derive(Clone, Copy, Debug, PartialEq, Eq, Hash)]
 pub enum Event {
     /// Hands the register a command.
     Submit(Command),
@@ -15,7 +15,7 @@ pub enum Event {
 }
 
 /// What an event tells.
-#[derive(Clone, Copy, Debug, PartialEq, Eq)]
+#[derive(Clone, Copy, Debug, PartialEq, Eq, Hash)]
 pub enum Note {
     /// The command was accepted; the number of commands accepted so far.
     Accepted(u32),

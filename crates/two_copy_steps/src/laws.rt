@@ -44,7 +44,7 @@ pub fn publication_laws()
     ensures at_once { AtOnceLaw }
 {}
 
-/// A reader's stage has a number from 0 to 36, each step moves it on by one of 37, and the record
+/// A reader's stage has a number below that of the steps of a reading, each step moves it on by one, and the record
 /// grows at the load of the last word alone.
 pub fn reading_laws()
     ensures count { CountLaw }

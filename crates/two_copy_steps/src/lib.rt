@@ -1,4 +1,5 @@
-//! The two-copy machine: one writer publishes sheets to readers through two copies of 34 words, one word at a step.
+//! Left-right publication as a state machine: one writer publishes sheets to readers through two copies of a sheet, one
+//! load or store of one word at a step.
 #![tactic(auto)]
 
 mod events;

@@ -5,20 +5,20 @@ ghost use Rattle.council_core.specs.Ledgers.{IsLedger, verdict_of};
 ghost use Rattle.council_core.specs.declared.refusals.Refusal.TheVariants.{OutOfMemory, BadLimit};
 ghost use Rattle.two_copy_steps.specs.declared.events.Event.TheVariants.{Submit, Publish, Writer, Reader};
 ghost use Rattle.two_copy_steps.specs.declared.views.Phase.TheVariants.{Idle, Seeing, Filling, Swapping};
-ghost use Rattle.two_copy_steps.specs.Deeds.{all_true};
+ghost use Rattle.two_copy_steps.specs.Actions.{all_true};
 ghost use Rattle.two_copy_steps.specs.Turns.{turn, handed, started, is_idle};
 ghost use Rattle.two_copy_steps.specs.Machines.{IsFew, WantsMemory};
 ghost use Rattle.two_copy_steps.specs.Publications.{seen_out_at};
 
 use crate::events::{Event, Note};
-use crate::seats::{Flags, Seats};
+use crate::seats::{Flags, ReaderStages};
 use crate::table::{COPY_WORDS, READERS, SIDE, Table, pin, place};
 use crate::views::Phase;
 use council_core::{Command, Refusal, Register, Sheet};
 use std::marker::Model;
 
-/// A register, two copies of its sheet, one writer and one to four readers, all on one thread.
-#[derive(Drop)]
+/// A register, two copies of its sheet, one writer and one to `READERS` readers, all on one thread.
+#[derive(Debug, Drop)]
 pub struct Machine {
     register: Register,
     table: Table,
@@ -27,18 +27,18 @@ pub struct Machine {
     taken: Sheet,
     phase: Phase,
     seen_out: Flags,
-    seats: Seats,
+    stages: ReaderStages,
 }
 
 impl Model for Machine {
-    ghost use Rattle.two_copy_steps.specs.Turns.{TwoCopies};
+    ghost use Rattle.two_copy_steps.specs.Turns.{MachineState};
     ghost use Rattle.two_copy_steps.specs.Machines.{seen_as, IsMachine};
 
-    ghost Value = { TwoCopies };
+    ghost Value = { MachineState };
 
-    ghost view = { λ m. seen_as m.register m.table m.side m.published m.taken m.phase m.seen_out m.seats };
+    ghost view = { λ m. seen_as m.register m.table m.side m.published m.taken m.phase m.seen_out m.stages };
 
-    ghost invariant = { λ m. IsMachine m.register m.table m.side m.published m.taken m.phase m.seen_out m.seats };
+    ghost invariant = { λ m. IsMachine m.register m.table m.side m.published m.taken m.phase m.seen_out m.stages };
 }
 
 // Hands a command to the register, and tells whether it was accepted.
@@ -59,7 +59,7 @@ fn hand_over(register: &mut Register, command: Command) -> Result<Note, Refusal>
 impl Machine {
     /// A machine over this register, with readers numbered from 1. Both copies have the register's
     /// sheet, and everybody is at rest. It is refused with `BadLimit`, and the register is handed
-    /// back, unless there are one to four readers.
+    /// back, unless there are one to `READERS` readers.
     pub fn start(register: Register, readers: u8) -> Result<Machine, (Register, Refusal)>
         ensures in_range { IsOk result ↔ IsFew readers }
         ensures started { IfOk result (λ m. m ≡ started register readers) }
@@ -77,7 +77,7 @@ impl Machine {
             taken: sheet,
             phase: Phase::Idle,
             seen_out: Flags::start(readers),
-            seats: Seats::start(readers),
+            stages: ReaderStages::start(readers),
             register,
         })
     }
@@ -122,6 +122,7 @@ impl Machine {
         }
     }
 
+    // Hands a command to the register, unless a publication is under way.
     fn submit(&mut self, command: Command) -> Result<Note, Refusal>
         ensures machine { IfOk result (λ note. self.new ≡ (turn self.old (Submit command)).0) }
         ensures note { IfOk result (λ note. note ≡ (turn self.old (Submit command)).1) }
@@ -135,12 +136,14 @@ impl Machine {
         hand_over(&mut self.register, command)
     }
 
+    // Whether no publication is under way.
     fn is_idle(&self) -> bool
         ensures { result ≡ is_idle self.now.writer.phase }
     {
         matches!(self.phase, Phase::Idle)
     }
 
+    // Begins a publication, unless one is under way or nothing is pending.
     fn begin(&mut self) -> Note
         ensures machine { self.new ≡ (turn self.old Publish).0 }
         ensures note { result ≡ (turn self.old Publish).1 }
@@ -156,6 +159,7 @@ impl Machine {
         Note::Began
     }
 
+    // The writer's next step.
     fn write(&mut self) -> Note
         ensures machine { self.new ≡ (turn self.old Writer).0 }
         ensures note { result ≡ (turn self.old Writer).1 }
@@ -210,14 +214,15 @@ impl Machine {
         Note::Published(self.published)
     }
 
+    // The next step of the reader of a number, if there is one.
     fn read(&mut self, number: u8) -> Note
         ensures machine { self.new ≡ (turn self.old (Reader number)).0 }
         ensures note { result ≡ (turn self.old (Reader number)).1 }
     {
-        if number == 0 || self.seats.len() < number as usize {
+        if number == 0 || self.stages.len() < number as usize {
             return Note::Skipped;
         }
-        self.seats.advance(&mut self.table, number as usize - 1)
+        self.stages.advance(&mut self.table, number as usize - 1)
     }
 
     // The register alone.

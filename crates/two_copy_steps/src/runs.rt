@@ -13,9 +13,10 @@ use crate::machine::Machine;
 use council_core::{Refusal, Register};
 use std::alloc::Global;
 use std::marker::Model;
+use thiserror::Error;
 
 /// What a list of events told, one note for each event.
-#[derive(Drop)]
+#[derive(Debug, Drop)]
 pub struct Notes {
     list: Vec<Note>,
 }
@@ -46,7 +47,7 @@ impl Notes {
 }
 
 /// What a list of events told, and the machine after the last of them.
-#[derive(Drop)]
+#[derive(Debug, Drop)]
 pub struct RunLog {
     /// One note for each event.
     pub notes: Notes,
@@ -55,13 +56,14 @@ pub struct RunLog {
 }
 
 /// Why a list of events was not taken to its end.
-#[derive(Drop)]
+#[derive(Debug, Drop, Error)]
+#[error("after {done} events: {why}")]
 pub struct RunFault {
     /// The register, as the events done left it.
     pub register: Register,
     /// How many events were done.
     pub done: usize,
-    /// `BadLimit`, unless there were to be one to four readers, and else `OutOfMemory`: for the notes,
+    /// `BadLimit`, unless there were to be one to `READERS` readers, and else `OutOfMemory`: for the notes,
     /// before any event, or for the command that was next.
     pub why: Refusal,
 }
@@ -77,11 +79,15 @@ pub fn run(
 ) -> Result<RunLog, RunFault>
     ensures notes { IfOk result (λ log. log.notes ≡ notes (started register readers) events.now) }
     ensures machine { IfOk result (λ log. log.machine ≡ machine_after register readers events.now) }
+
+    // What it promises of every list of events.
     ensures replies { IfOk result (λ log. TellsReplies register readers events.now) }
     ensures records { IfOk result (λ log. KeepsRecordsLegal register readers events.now) }
     ensures apart { IfOk result (λ log. StoresUnderNobody register readers events.now) }
     ensures told { IfOk result (λ log. KeepsRecordsTold register readers events.now log.notes) }
     ensures never_older { IfOk result (λ log. FrontsNeverFall log.notes) }
+
+    // Whether it is taken to its end.
     ensures in_range { IfOk result (λ log. IsFew readers) }
     ensures fault { IfErr result (λ fault. IsFault register readers events.now fault.register fault.done fault.why) }
 {
@@ -110,6 +116,7 @@ pub fn run(
     }
 }
 
+// Memory ran out after so many events.
 fn fault(machine: Machine, done: usize) -> RunFault
     ensures register { result.register ≡ machine.ledger }
     ensures done { result.done ≡ done }

@@ -4,7 +4,7 @@ ghost use Rattle.std.specs.Prelude.{Some, suc, slice_get, slice_index, slice_ind
 ghost use Rattle.two_copy_steps.specs.declared.views.Stage.{Stage};
 ghost use Rattle.two_copy_steps.specs.declared.views.Stage.TheVariants.{AtRest};
 ghost use Rattle.two_copy_steps.specs.declared.table.TheConstants.{READERS};
-ghost use Rattle.two_copy_steps.specs.Deeds.{all_true, first_false, pin, stage_deed};
+ghost use Rattle.two_copy_steps.specs.Actions.{all_true, first_false, pin, stage_action};
 ghost use Rattle.two_copy_steps.specs.Publications.{seen_out_at};
 ghost use Rattle.two_copy_steps.specs.Stages.{IsReadable};
 ghost use Rattle.two_copy_steps.specs.Turns.{stage_note};
@@ -13,16 +13,17 @@ use crate::events::Note;
 use crate::readers::advance;
 use crate::stages::ReaderStage;
 use crate::table::{COPY_WORDS, READERS, Table};
+use std::array;
 use std::marker::Model;
 
-/// The stage of each reader, of at most four.
-#[derive(Drop)]
-pub(crate) struct Seats {
+// The stage of each reader, of at most `READERS`.
+#[derive(Debug, Drop)]
+pub(crate) struct ReaderStages {
     stages: [ReaderStage; READERS],
     len: usize,
 }
 
-impl Model for Seats {
+impl Model for ReaderStages {
     ghost Value = { List Stage };
 
     ghost view = { λ s. take s.len s.stages };
@@ -30,23 +31,19 @@ impl Model for Seats {
     ghost invariant = { λ s. (s.len ≤ READERS) × (length s.stages ≡ READERS) };
 }
 
-impl Seats {
+impl ReaderStages {
     // All at rest.
-    pub(crate) fn start(readers: u8) -> Seats
+    pub(crate) fn start(readers: u8) -> ReaderStages
         requires { readers ≤ READERS }
         ensures { result ≡ replicate readers AtRest }
     {
-        Seats {
-            stages: [
-                ReaderStage::new(),
-                ReaderStage::new(),
-                ReaderStage::new(),
-                ReaderStage::new(),
-            ],
+        ReaderStages {
+            stages: array::from_fn(|_| ReaderStage::new()),
             len: readers as usize,
         }
     }
 
+    // How many readers there are.
     pub(crate) fn len(&self) -> usize
         ensures { result ≡ length self.now }
     {
@@ -57,11 +54,11 @@ impl Seats {
     pub(crate) fn advance(&mut self, table: &mut Table, r: usize) -> Note
         requires here { r < length self.old }
         requires few { r < READERS }
-        requires within { pin COPY_WORDS r < length table.old }
+        requires within { pin r < length table.old }
         requires readable { IsReadable (slice_index_or self.old r AtRest) }
-        ensures words { let d = stage_deed COPY_WORDS r (slice_index_or self.old r AtRest)
+        ensures words { let d = stage_action r (slice_index_or self.old r AtRest)
             in table.new ≡ slice_set table.old d.word (d.becomes (slice_index table.old d.word)) }
-        ensures stages { let d = stage_deed COPY_WORDS r (slice_index_or self.old r AtRest)
+        ensures stages { let d = stage_action r (slice_index_or self.old r AtRest)
             in self.new ≡ slice_set self.old r (d.after (slice_index table.old d.word)) }
         ensures note { result ≡ stage_note (suc r) (slice_index_or self.old r AtRest) }
     {
@@ -69,8 +66,8 @@ impl Seats {
     }
 }
 
-/// Whether each reader is seen out, of at most four.
-#[derive(Drop)]
+/// Whether each reader is seen out, of at most `READERS`.
+#[derive(Debug, Drop)]
 pub struct Flags {
     flags: [bool; READERS],
     len: usize,
@@ -93,7 +90,7 @@ impl Flags {
         &self.flags[..self.len]
     }
 
-    /// How many readers there are, at most four.
+    /// How many readers there are, at most `READERS`.
     pub fn len(&self) -> usize
         ensures number { result ≡ length self.now }
         ensures few { result ≤ READERS }

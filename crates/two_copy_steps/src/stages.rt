@@ -1,15 +1,15 @@
 //! A reader's steps as code: which word the next step touches and how, and how far the reader is after it.
 ghost use Rattle.std.specs.Prelude.{◌≡◌, ◌↔◌, ℕ, ◌<◌, ◌≤◌, IsTrue};
 ghost use Rattle.two_copy_steps.specs.declared.views.Stage.TheVariants.{AtRest};
-ghost use Rattle.two_copy_steps.specs.Deeds.{pin, stage_deed};
-ghost use Rattle.two_copy_steps.specs.Stages.{IsReadable, IsPhasePast, accessed, left_by, sheet_read};
+ghost use Rattle.two_copy_steps.specs.Actions.{pin, stage_action};
+ghost use Rattle.two_copy_steps.specs.Stages.{IsReadable, IsPcPast, accessed, left_by, sheet_read};
 
 use crate::table::{COPY_WORDS, READERS, SIDE, pin, place};
 use council_core::Sheet;
 use std::marker::Model;
 
 /// What a step does to its word.
-#[derive(Clone, Copy, Debug, PartialEq, Eq)]
+#[derive(Clone, Copy, Debug, PartialEq, Eq, Hash)]
 pub enum Access {
     /// Loads the word at this place.
     Load(usize),
@@ -17,21 +17,21 @@ pub enum Access {
     Store(usize, u64),
 }
 
-/// How far a reader is, its side and its words aside.
-#[derive(Clone, Copy)]
-pub(crate) enum ReaderPhase {
+// The program counter of a reader: how far it is, its side and its words aside.
+#[derive(Clone, Copy, Debug)]
+pub(crate) enum ReaderPc {
     AtRest,
     Arrived,
-    /// How many words it has loaded.
+    // How many words it has loaded.
     Reading(usize),
     Leaving,
 }
 
 /// How far a reader is in its reading. It is changed in place, so that no step moves the words that
 /// were loaded before it.
-#[derive(Drop)]
+#[derive(Debug, Drop)]
 pub struct ReaderStage {
-    phase: ReaderPhase,
+    pc: ReaderPc,
     side: u64,
     words: [u64; COPY_WORDS],
 }
@@ -42,7 +42,7 @@ impl Model for ReaderStage {
 
     ghost Value = { Stage };
 
-    ghost view = { λ s. stage_of s.phase s.side s.words };
+    ghost view = { λ s. stage_of s.pc s.side s.words };
 }
 
 impl ReaderStage {
@@ -51,7 +51,7 @@ impl ReaderStage {
         ensures rest { result ≡ AtRest }
     {
         ReaderStage {
-            phase: ReaderPhase::AtRest,
+            pc: ReaderPc::AtRest,
             side: 0,
             words: [0; COPY_WORDS],
         }
@@ -61,32 +61,32 @@ impl ReaderStage {
     pub fn is_at_rest(&self) -> bool
         ensures rest { IsTrue result ↔ (self.now ≡ AtRest) }
     {
-        matches!(self.phase, ReaderPhase::AtRest)
+        matches!(self.pc, ReaderPc::AtRest)
     }
 
     /// Gives up the reading that is in progress, if one is.
     pub fn give_up(&mut self)
         ensures rest { self.new ≡ AtRest }
     {
-        self.phase = ReaderPhase::AtRest;
+        self.pc = ReaderPc::AtRest;
     }
 
     /// What the next step of the reader at r, counted from 0, does to its word.
     pub fn access(&self, r: usize) -> Access
         requires few { r < READERS }
         requires readable { IsReadable self.now }
-        ensures word { accessed result ≡ (stage_deed COPY_WORDS r self.now).word }
-        ensures low { accessed result ≤ pin COPY_WORDS r }
-        ensures becomes { (n : ℕ) → left_by result n ≡ (stage_deed COPY_WORDS r self.now).becomes n }
+        ensures word { accessed result ≡ (stage_action r self.now).word }
+        ensures low { accessed result ≤ pin r }
+        ensures becomes { (n : ℕ) → left_by result n ≡ (stage_action r self.now).becomes n }
         ensures after { (n : ℕ)
-            → (stage_deed COPY_WORDS r self.now).after (left_by result n)
-            ≡ (stage_deed COPY_WORDS r self.now).after n }
+            → (stage_action r self.now).after (left_by result n)
+            ≡ (stage_action r self.now).after n }
     {
-        match self.phase {
-            ReaderPhase::AtRest => Access::Store(pin(r), 1),
-            ReaderPhase::Arrived => Access::Load(SIDE),
-            ReaderPhase::Reading(k) => Access::Load(place(self.side, k)),
-            ReaderPhase::Leaving => Access::Store(pin(r), 0),
+        match self.pc {
+            ReaderPc::AtRest => Access::Store(pin(r), 1),
+            ReaderPc::Arrived => Access::Load(SIDE),
+            ReaderPc::Reading(k) => Access::Load(place(self.side, k)),
+            ReaderPc::Leaving => Access::Store(pin(r), 0),
         }
     }
 
@@ -94,26 +94,26 @@ impl ReaderStage {
     /// sheet that was read.
     pub fn advance(&mut self, found: u64) -> Option<Sheet>
         requires readable { IsReadable self.old }
-        ensures stage { (r : ℕ) → self.new ≡ (stage_deed COPY_WORDS r self.old).after found }
+        ensures stage { (r : ℕ) → self.new ≡ (stage_action r self.old).after found }
         ensures sheet { result ≡ sheet_read self.old }
     {
-        match self.phase {
-            ReaderPhase::AtRest => {
-                self.phase = ReaderPhase::Arrived;
+        match self.pc {
+            ReaderPc::AtRest => {
+                self.pc = ReaderPc::Arrived;
                 None
             }
-            ReaderPhase::Arrived => {
+            ReaderPc::Arrived => {
                 self.side = found;
-                self.phase = ReaderPhase::Reading(0);
+                self.pc = ReaderPc::Reading(0);
                 None
             }
-            ReaderPhase::Reading(k) => {
+            ReaderPc::Reading(k) => {
                 self.words[k] = found;
-                self.phase = phase_past(k);
+                self.pc = pc_past(k);
                 None
             }
-            ReaderPhase::Leaving => {
-                self.phase = ReaderPhase::AtRest;
+            ReaderPc::Leaving => {
+                self.pc = ReaderPc::AtRest;
                 Some(Sheet::of_words(&self.words))
             }
         }
@@ -121,13 +121,13 @@ impl ReaderStage {
 }
 
 // After the last word its pin is next.
-fn phase_past(k: usize) -> ReaderPhase
+fn pc_past(k: usize) -> ReaderPc
     requires { k < COPY_WORDS }
-    ensures { IsPhasePast k result }
+    ensures { IsPcPast k result }
 {
     if k + 1 == COPY_WORDS {
-        ReaderPhase::Leaving
+        ReaderPc::Leaving
     } else {
-        ReaderPhase::Reading(k + 1)
+        ReaderPc::Reading(k + 1)
     }
 }

@@ -2,7 +2,7 @@
 ghost use Rattle.std.specs.Prelude.{◌≡◌, ℕ, List, ◌<◌, ◌≤◌, ◌++◌, ◌∷◌, length, replicate};
 ghost use Rattle.std.specs.Prelude.{take, slice_index, slice_set};
 ghost use Rattle.two_copy_steps.specs.declared.table.TheConstants.{WORDS};
-ghost use Rattle.two_copy_steps.specs.Deeds.{pin, place};
+ghost use Rattle.two_copy_steps.specs.Actions.{pin, place};
 ghost use Rattle.two_copy_steps.specs.Stages.{accessed, left_by};
 
 use crate::stages::Access;
@@ -18,17 +18,20 @@ pub const COPY_WORDS: usize = SHEET_WORDS;
 /// How many readers there are at most.
 pub const READERS: usize = 4;
 
-// Where the copies and the pins begin, and how many words there are at most.
+// Where copy 0 begins.
 const COPY_0: usize = SIDE + 1;
 
+// Where copy 1 begins.
 const COPY_1: usize = COPY_0 + COPY_WORDS;
 
+// Where the pins begin.
 const PINS: usize = COPY_1 + COPY_WORDS;
 
+// How many words there are at most.
 const WORDS: usize = PINS + READERS;
 
 /// Side, then copy 0, copy 1, and a pin for each reader.
-#[derive(Drop)]
+#[derive(Debug, Drop)]
 pub struct Table {
     all: [u64; WORDS],
     len: usize,
@@ -43,7 +46,7 @@ impl Model for Table {
 }
 
 impl Table {
-    /// Side 0, a sheet in both copies, and all pins at 0, for at most four readers.
+    /// Side 0, a sheet in both copies, and all pins at 0, for at most `READERS` readers.
     pub fn start(sheet: &[u64; COPY_WORDS], readers: u8) -> Table
         requires few { readers ≤ READERS }
         ensures words { result ≡ 0 ∷ sheet.now ++ sheet.now ++ replicate readers 0 }
@@ -83,6 +86,7 @@ impl Table {
         }
     }
 
+    // The word at a place.
     pub(crate) fn load(&self, place: usize) -> u64
         requires within { place < length self.now }
         requires low { place < WORDS }
@@ -91,6 +95,7 @@ impl Table {
         self.all[place]
     }
 
+    // Stores a word at a place.
     pub(crate) fn store(&mut self, place: usize, word: u64)
         requires within { place < length self.old }
         requires low { place < WORDS }
@@ -103,7 +108,7 @@ impl Table {
 /// Where word k of the copy that a side names stands.
 pub fn place(side: u64, k: usize) -> usize
     requires within { k < COPY_WORDS }
-    ensures same { result ≡ place COPY_WORDS side k }
+    ensures same { result ≡ place side k }
     ensures low { result < PINS }
 {
     if side == 0 { COPY_0 + k } else { COPY_1 + k }
@@ -112,7 +117,7 @@ pub fn place(side: u64, k: usize) -> usize
 /// Where the pin of the reader at r, counted from 0, stands.
 pub fn pin(r: usize) -> usize
     requires few { r < READERS }
-    ensures same { result ≡ pin COPY_WORDS r }
+    ensures same { result ≡ pin r }
     ensures low { result < WORDS }
 {
     PINS + r

@@ -24,7 +24,7 @@ pub struct ReaderView {
 }
 
 /// How far the writer is in its publication.
-#[derive(Clone, Copy)]
+#[derive(Clone, Copy, Debug, PartialEq, Eq, Hash)]
 pub enum Phase {
     /// No publication is under way.
     Idle,

@@ -3,7 +3,13 @@ use Rattle.std.proofs.lemmas.Result.{err_from_is_err_and}
 use Rattle.power_index.specs.declared.indices.Indices.{Indices}
 use Rattle.board_text.specs.Lines.{chair_line, reading_line}
 use Rattle.board_text.proofs.PlayFacts.{first-stops, first-then, plays-passed}
+use Rattle.board_runs.proofs.DeskFacts.{at-their-own}
 use Rattle.board_runs.proofs.replaying.write_reading.Goals as goal
+
+pub keep-requires : goal.keep-requires
+keep-requires g c = record {
+  counted = at-their-own c.args.desk.now c.indices-indices.new.self c.indices-indices.result c.args.majority c.indices-indices.ensures.counted c.indices-indices.ensures.unchanged;
+}
 
 pub returns-in_err-write_line-clause-wrote : goal.returns-in_err-write_line-clause-wrote
 returns-in_err-write_line-clause-wrote g c =
@@ -18,4 +24,4 @@ returns-clause-wrote g c =
       others = map chair_line c.as_slice.result.now;
       line_is = c.line_of_reading.ensures.text ∙ ap (reading_line c.args.reader) c.indices-indices.ensures.counted;
       others_are = ap (map chair_line) (c.as_slice.ensures.value ∙ ap (λ (i : Indices). i.rows.items) c.indices-indices.ensures.counted);
-    }) c.in_ok-write_line.ensures.written c.write_chairs.ensures.wrote
+    }) c.in_ok-write_line.ensures.written c.write_chairs-written.ensures.wrote

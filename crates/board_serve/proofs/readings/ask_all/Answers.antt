@@ -5,14 +5,6 @@ use Rattle.board_text.proofs.PlaceFacts.{found-at}
 use Rattle.board_serve.proofs.WorkFacts.{SheetRead, answered-more, read-more}
 use Rattle.board_serve.proofs.readings.ask_all.Goals as goal
 
-pub returns-in-Err-pass-clause-so_far : goal.returns-in-Err-pass-clause-so_far
-returns-in-Err-pass-clause-so_far g c =
-    let asked = c.ask-indices.ensures in
-    let kept = c.push_reserved.ensures.items ∙ ap (λ w. c.loop-majority.readings.sheets.items ++ w ∷ []) c.sheet.ensures.same in
-    let one : SheetRead c.loop-majority.analyst c.ask-indices.new.self = record { opening = asked.opening; grown = asked.reading; legal = asked.sheet; not_older = asked.not_older } in
-    read-more c.args.analyst c.loop-majority.analyst c.ask-indices.new.self c.loop-majority.readings (record { sheets = c.push_reserved.new.self; winning = c.push_reserved-in-loop-majority.new.self })
-    c.loop-majority.invariant.so_far one kept
-
 pub loop-majority-preserved : goal.loop-majority-preserved
 loop-majority-preserved g c =
     let done = c.loop-majority.invariant in
@@ -21,11 +13,11 @@ loop-majority-preserved g c =
     let kept = c.push_reserved.ensures.items ∙ ap (λ w. c.loop-majority.readings.sheets.items ++ w ∷ []) c.sheet.ensures.same in
     let one : SheetRead c.loop-majority.analyst c.ask-indices.new.self = record { opening = asked.opening; grown = asked.reading; legal = asked.sheet; not_older = asked.not_older } in
     record {
-      so_far = read-more c.args.analyst c.loop-majority.analyst c.ask-indices.new.self c.loop-majority.readings next done.so_far one kept;
-      done = answered-more c.args.asked.now c.loop-majority.majority-index _ c.loop-majority.readings next done.done (record {
+      so_far = read-more c.args.job.analyst c.loop-majority.analyst c.ask-indices.new.self c.loop-majority.readings next done.so_far one kept;
+      done = answered-more c.as_slice-majority-items.result.now c.loop-majority.majority-index _ c.loop-majority.readings next done.done (record {
         words = c.ask-indices.new.self.sheet;
         number = c.ask-indices.result.winning;
-        stands = found-at c.args.asked.now c.loop-majority.majority-index _ c.loop-majority-test.true;
+        stands = found-at c.as_slice-majority-items.result.now c.loop-majority.majority-index _ c.loop-majority-test.true;
         counted = ap (λ (i : Indices). i.winning) asked.same;
         sheets = kept;
         winning = c.push_reserved-in-loop-majority.ensures.items;

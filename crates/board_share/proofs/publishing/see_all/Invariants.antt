@@ -1,5 +1,5 @@
 use Rattle.std.proofs.Common.{◌≡◌, ◌≤◌, ◌-◌, true, length, take}
-use Rattle.two_copy_steps.specs.Deeds.{all_true}
+use Rattle.two_copy_steps.specs.Actions.{all_true}
 use Rattle.two_copy_steps.specs.Publications.{StaySeen}
 use Rattle.board_share.specs.Writers.{Underway, IsSeeing, Went, known_at, unseen}
 use Rattle.board_share.proofs.publishing.see_all.Given as goal

@@ -1,7 +1,7 @@
 use Rattle.std.proofs.Common.{ap, arith}
 use Rattle.two_copy_steps.specs.declared.views.ReaderView.{ReaderView}
 use Rattle.two_copy_steps.specs.declared.views.Stage.{Stage}
-use Rattle.two_copy_steps.specs.Deeds.{recorded}
+use Rattle.two_copy_steps.specs.Actions.{recorded}
 use Rattle.board_share.specs.Readers.{known_by, pass_of}
 use Rattle.board_share.proofs.Passes.{loads, stores}
 use Rattle.board_share.proofs.steps.touch.Goals as goal

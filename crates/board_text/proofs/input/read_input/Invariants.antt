@@ -1,12 +1,14 @@
-use Rattle.std.proofs.Common.{◌≤◌, ◌+◌, length}
+use Rattle.std.proofs.Common.{◌≡◌, ◌≤◌, ◌+◌, length}
 use Rattle.told_streams.specs.Tapes.{WasGiven}
 use Rattle.board_text.proofs.input.read_input.Given as goal
 
--- what was read was given, and each turn so far gave a byte or was an interruption
+-- what was read was given, and each turn so far asked for one read, which gave a byte or was an
+-- interruption
 abbrev pub invariant-loop-turn : goal.invariant-loop-turn
 invariant-loop-turn g l = record {
   so_far : WasGiven l.fn.input l.input l.text.items;
   fits : length l.text.items ≤ 4194304;
   asked : l.interrupted ≤ 1000;
+  reads : l.input.asks ≡ l.fn.input.asks + l._turn;
   turns : l._turn ≤ length l.text.items + l.interrupted;
 }

@@ -4,7 +4,7 @@ use Rattle.council_core.proofs.LawLemmas.{IsSheet-sheet}
 use Rattle.two_copy_steps.specs.Lawful.{IsPublishable}
 use Rattle.two_copy_steps.specs.Laws.{HasVotesInRange}
 use Rattle.two_copy_steps.specs.declared.events.Event.{Event}
-use Rattle.two_copy_steps.specs.Turns.{TwoCopies, turn}
+use Rattle.two_copy_steps.specs.Turns.{MachineState, turn}
 use Rattle.two_copy_steps.proofs.TurnSteps.{turn_keeps}
 use Rattle.two_copy_steps.proofs.Journals.{journal_accepted, journal_within, stays_in_range}
 use Rattle.two_copy_steps.proofs.laws.event_law.Goals as goal
@@ -13,7 +13,7 @@ pub returns-clause-lawful : goal.returns-clause-lawful
 returns-clause-lawful c = λ m p l legal event. turn_keeps IsPublishable m p l legal event
 
 -- the register after an event
-journal_kept : (m : TwoCopies) → IsLedger m.ledger → (event : Event) → IsLedger (turn m event).0.ledger
+journal_kept : (m : MachineState) → IsLedger m.ledger → (event : Event) → IsLedger (turn m event).0.ledger
 journal_kept m k event =
     let w = journal_within m (k.within, k.small) event in
     let short = w.0 in

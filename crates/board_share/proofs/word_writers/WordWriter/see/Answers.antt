@@ -1,6 +1,6 @@
 use Rattle.std.proofs.Common.{ℕ, ◌<◌, ◌∙◌, refl, sym, ap, subst, arith, eq-eqb, ne_eqb}
 use Rattle.std.specs.Arc.{arc_value}
-use Rattle.two_copy_steps.specs.Deeds.{all_true, first_false, pin}
+use Rattle.two_copy_steps.specs.Actions.{all_true, first_false, pin}
 use Rattle.two_copy_steps.specs.declared.views.Phase.TheVariants.{Seeing}
 use Rattle.board_share.specs.Writers.{Desk, known_at}
 use Rattle.board_share.proofs.Desks.{may, becomes, wrote, least, least_of, gave_up, saw_out}
@@ -15,7 +15,7 @@ pin-requires g c =
 pub load-found-requires-clause-may : goal.load-found-requires-clause-may
 load-found-requires-clause-may g c =
     let low = least _ _ _ _ _ _ _ _ c.self.invariant _ (least_of _ _ _ _ _ _ _ _ c.self.invariant _ (c.requires.least ∙ ap (λ (d : Desk). first_false (known_at d).state.seen_out) (sym c.self.view_is))) (ap (λ (d : Desk). all_true (known_at d).state.seen_out) c.self.view_is ∙ c.requires.some) in
-    rw c.deref.ensures (may _ _ _ _ _ _ _ _ c.self.invariant _ Seeing _ (c.requires.list ∙ ap (λ (d : Desk). d.due) (sym c.self.view_is)) (ap (λ (d : Desk). (known_at d).state.phase) c.self.view_is ∙ c.requires.phase) (subst (λ (place : ℕ). place < (arc_value c.self.inside.board).shared.table_id.words) (sym c.pin.ensures.same) low.2) (c.pin.ensures.same ∙ ap (pin 34) low.1))
+    rw c.deref.ensures (may _ _ _ _ _ _ _ _ c.self.invariant _ Seeing _ (c.requires.list ∙ ap (λ (d : Desk). d.due) (sym c.self.view_is)) (ap (λ (d : Desk). (known_at d).state.phase) c.self.view_is ∙ c.requires.phase) (subst (λ (place : ℕ). place < (arc_value c.self.inside.board).shared.table_id.words) (sym c.pin.ensures.same) low.2) (c.pin.ensures.same ∙ ap (pin) low.1))
 
 pub load-found-requires-clause-becomes : goal.load-found-requires-clause-becomes
 load-found-requires-clause-becomes g c = becomes _ _ _ _ _ _ _ _ c.self.invariant _ Seeing (λ n. n) (c.requires.list ∙ ap (λ (d : Desk). d.due) (sym c.self.view_is)) (ap (λ (d : Desk). (known_at d).state.phase) c.self.view_is ∙ c.requires.phase) (λ n. refl)

@@ -19,4 +19,5 @@ loop-turn-preserved g c =
       few = c.in_ok-at.ensures.few;
       on = (c.in_ok-at.ensures.on.0 ∙ c.loop-turn.invariant.on.0, omega (arith, c.loop-turn.invariant.on.1, c.in_ok-at.ensures.on.1));
       turns = omega (arith, c.loop-turn.invariant.turns, c.in_ok-at.ensures.turn);
+      asked = omega (arith, c.loop-turn.invariant.asked, c.in_ok-at.ensures.once);
     }

@@ -1,9 +1,9 @@
-use Rattle.std.proofs.Common.{◌≤◌, ◌+◌, length, take}
+use Rattle.std.proofs.Common.{◌≡◌, ◌≤◌, ◌+◌, length, take}
 use Rattle.std.specs.Io.KnownBytes.{Appends}
 use Rattle.board_text.specs.Pens.{GoesOn}
 use Rattle.board_text.proofs.output.Output.write_text.Given as goal
 
--- a front of the text was written, and each turn so far wrote a byte or was an interruption
+-- a front of the text was written, and each turn so far asked for one write, which took a byte or was an interruption
 abbrev pub invariant-loop-turn : goal.invariant-loop-turn
 invariant-loop-turn g l = record {
   front : Appends l.fn.self.held l.self.held (take l.at l.text);
@@ -11,4 +11,5 @@ invariant-loop-turn g l = record {
   few : l.self.interrupted ≤ 1000;
   on : GoesOn l.fn.self l.self;
   turns : l._turn + l.fn.self.interrupted ≤ l.at + l.self.interrupted;
+  asked : l.self.asks ≡ l.fn.self.asks + l._turn;
 }

@@ -1,8 +1,8 @@
 use Rattle.std.proofs.Common.{◌≡◌, replicate, refl}
 use Rattle.half_sums.proofs.lists.SumList.new.Goals as goal
 
-pub returns-in-Ok-Ok-clause-empty : goal.returns-in-Ok-Ok-clause-empty
-returns-in-Ok-Ok-clause-empty c =
-    let sums : c.in-Ok-Ok.sums.items ≡ replicate 65536 0 = c.in-Ok-Ok.ensures.items_if_clones_equal (λ y h. h) in
-    let masks : c.in-Ok-Ok.masks.items ≡ replicate 65536 0 = c.in-Ok-Ok.ensures'.items_if_clones_equal (λ y h. h) in
+pub returns-clause-empty : goal.returns-clause-empty
+returns-clause-empty c =
+    let sums : c.in_ok-from_elem.field-0.items ≡ replicate 65536 0 = c.in_ok-from_elem.ensures.items_if_clones_equal (λ y h. h) in
+    let masks : c.in_ok-from_elem-2.field-0.items ≡ replicate 65536 0 = c.in_ok-from_elem-2.ensures.items_if_clones_equal (λ y h. h) in
     rw (sums, masks) refl

@@ -1,12 +1,12 @@
 use Rattle.std.proofs.Common.{◌≡◌, ◌<◌, ◌⊎◌, inl, inr, length, ◌∙◌, ap, sym, arith}
 use Rattle.two_copy_steps.specs.declared.events.Note.{Note}
 use Rattle.two_copy_steps.specs.declared.events.Event.TheVariants.{Reader}
-use Rattle.two_copy_steps.specs.Turns.{TwoCopies, turn}
+use Rattle.two_copy_steps.specs.Turns.{MachineState, turn}
 use Rattle.two_copy_steps.proofs.Steps.{skipped_at, seat_here, seat_few, seat_within, seat_readable, read_at, read_machine, read_note}
 use Rattle.two_copy_steps.proofs.machine.Machine.read.Goals as goal
 use Rattle.two_copy_steps.proofs.machine.Machine.read.Goals.{then-number-eq0-via-then-number-eq0, then-number-eq0-via-else-number-eq0+then-len-number}
 
-none : (c : goal.Joined-then-number-eq0) → (c.args.number ≡ 0) ⊎ (length c.self.inside.seats < c.args.number)
+none : (c : goal.Joined-then-number-eq0) → (c.args.number ≡ 0) ⊎ (length c.self.inside.stages < c.args.number)
 none c =
     elim c.then-number-eq0.branch [
       | then-number-eq0-via-then-number-eq0 w ↦ inl w.if-number-eq0.true
@@ -14,10 +14,10 @@ none c =
     ]
 
 pub returns-then-number-eq0-clause-machine : goal.returns-then-number-eq0-clause-machine
-returns-then-number-eq0-clause-machine c = ap (λ (x : TwoCopies × Note). x.0) (sym (skipped_at _ _ _ _ _ _ _ _ c.self.invariant _ c.self.view_is c.args.number (none c)))
+returns-then-number-eq0-clause-machine c = ap (λ (x : MachineState × Note). x.0) (sym (skipped_at _ _ _ _ _ _ _ _ c.self.invariant _ c.self.view_is c.args.number (none c)))
 
 pub returns-then-number-eq0-clause-note : goal.returns-then-number-eq0-clause-note
-returns-then-number-eq0-clause-note c = ap (λ (x : TwoCopies × Note). x.1) (sym (skipped_at _ _ _ _ _ _ _ _ c.self.invariant _ c.self.view_is c.args.number (none c)))
+returns-then-number-eq0-clause-note c = ap (λ (x : MachineState × Note). x.1) (sym (skipped_at _ _ _ _ _ _ _ _ c.self.invariant _ c.self.view_is c.args.number (none c)))
 
 pub advance-requires : goal.advance-requires
 advance-requires c =
@@ -41,11 +41,11 @@ returns-clause-machine c =
     let e = c.len.ensures in
     let h = c.if-len-number.false in
     read_at _ _ _ _ _ _ _ _ c.self.invariant _ c.self.view_is _ c.if-number-eq0.false (omega arith) _ _ c.advance.ensures.words c.advance.ensures.stages
-    ∙ ap (λ (m : TwoCopies). (turn m (Reader c.args.number)).0) c.self.view_is
+    ∙ ap (λ (m : MachineState). (turn m (Reader c.args.number)).0) c.self.view_is
 
 pub returns-clause-note : goal.returns-clause-note
 returns-clause-note c =
     let e = c.len.ensures in
     let h = c.if-len-number.false in
     read_note _ _ _ _ _ _ _ _ c.self.invariant _ c.self.view_is _ c.if-number-eq0.false (omega arith) _ c.advance.ensures.note
-    ∙ ap (λ (m : TwoCopies). (turn m (Reader c.args.number)).1) c.self.view_is
+    ∙ ap (λ (m : MachineState). (turn m (Reader c.args.number)).1) c.self.view_is

@@ -1,5 +1,5 @@
 use Rattle.std.proofs.Common.{◌≡◌, true, take}
-use Rattle.two_copy_steps.specs.Deeds.{all_true}
+use Rattle.two_copy_steps.specs.Actions.{all_true}
 use Rattle.two_copy_steps.proofs.seats.Flags.all_true.Given as goal
 
 abbrev pub invariant-loop-i : goal.invariant-loop-i

@@ -1,5 +1,5 @@
 use Rattle.std.proofs.Common.{◌≡◌, take}
-use Rattle.two_copy_steps.specs.Deeds.{first_false}
+use Rattle.two_copy_steps.specs.Actions.{first_false}
 use Rattle.two_copy_steps.proofs.seats.Flags.first_false.Given as goal
 
 abbrev pub invariant-loop-i : goal.invariant-loop-i

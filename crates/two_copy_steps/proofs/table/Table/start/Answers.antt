@@ -1,9 +1,11 @@
 use Rattle.std.proofs.Common.{refl, arith}
+use Rattle.two_copy_steps.specs.declared.table.TheConstants.{READERS}
 use Rattle.two_copy_steps.proofs.Fixed.{zeros, filled_in}
+use Rattle.two_copy_steps.specs.Actions.{pin}
 use Rattle.two_copy_steps.proofs.table.Table.start.Goals as goal
 
 pub loop-i-init : goal.loop-i-init
-loop-i-init c = (refl, refl, (λ k h. absurd (omega arith)), (λ k h. absurd (omega arith)), λ k low high. zeros 73 k)
+loop-i-init c = (refl, refl, (λ k h. absurd (omega arith)), (λ k h. absurd (omega arith)), λ k low high. zeros (pin READERS) k)
 
 pub returns : goal.returns
 returns c =

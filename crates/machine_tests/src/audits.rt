@@ -1,0 +1,117 @@
+//! What an audit finds.
+use board_audits::{AuditFault, audit};
+use council_core::{ChairId, Command, MemberCode, Refusal, Sheet, Votes};
+use std::alloc::{AllocError, Global};
+use std::test::Fail;
+
+/// The sheet of one chair's word, a total and a front.
+fn sheet(word: u64, total: u64, front: u64) -> Result<Sheet, Refusal> {
+    let mut words = [0; 34];
+    words[0] = word;
+    words[32] = total;
+    words[33] = front;
+    Sheet::from_words(&words)
+}
+
+/// Chair 1 is opened, and AAA is seated there.
+fn commands() -> Result<[Command; 2], Refusal> {
+    let chair = ChairId::new(1)?;
+    Ok([
+        Command::Open(chair),
+        Command::Move(MemberCode::new(b"AAA")?, Some(chair)),
+    ])
+}
+
+fn readings(alloc: Global, rows: &[&[Sheet]]) -> Result<Vec<Vec<Sheet>>, AllocError> {
+    let mut all = Vec::new(alloc);
+    for row in rows {
+        all.push(Vec::from_slice(alloc, row)?)?;
+    }
+    Ok(all)
+}
+
+/// An audit from AAA with 10 votes on.
+fn audited(
+    alloc: Global,
+    journal: &[Command],
+    cuts: &[u32],
+    rows: &[&[Sheet]],
+) -> Result<Result<(), AuditFault>, Fail> {
+    let member = (MemberCode::new(b"AAA")?, Votes::new(10)?);
+    let all = readings(alloc, rows)?;
+    Ok(audit(alloc, &[member], journal, cuts, &all))
+}
+
+fn mismatch(reader: usize, place: usize) -> Result<(), AuditFault> {
+    Err(AuditFault::Mismatch { reader, place })
+}
+
+#[test]
+fn finds_no_fault(rt: HostRuntime) -> Result<(), Fail> {
+    let journal = commands()?;
+    let (s0, s1, s2) = (sheet(0, 10, 0)?, sheet(1, 10, 1)?, sheet(11, 10, 2)?);
+    let alloc = rt.alloc();
+    let rows: [&[Sheet]; 2] = [&[s0, s2], &[s1]];
+    assert!(rt; audited(alloc, &journal, &[1, 2], &rows)? == Ok(()));
+    assert!(rt; audited(alloc, &journal, &[0, 0, 1, 1, 2, 2], &rows)? == Ok(()));
+    assert!(rt; audited(alloc, &journal, &[1, 2], &[])? == Ok(()));
+    assert!(rt; audited(alloc, &journal, &[], &[&[], &[s0, s0], &[]])? == Ok(()));
+    assert!(rt; audited(alloc, &[], &[0], &[&[s0]])? == Ok(()));
+    Ok(())
+}
+
+#[test]
+fn finds_the_first_mismatch(rt: HostRuntime) -> Result<(), Fail> {
+    let journal = commands()?;
+    let (s0, s1, s2) = (sheet(0, 10, 0)?, sheet(1, 10, 1)?, sheet(11, 10, 2)?);
+    let other = sheet(11, 11, 2)?;
+    let alloc = rt.alloc();
+    assert!(rt; audited(alloc, &journal, &[1, 2], &[&[s0, other], &[s1]])? == mismatch(1, 2));
+    assert!(rt; audited(alloc, &journal, &[1, 2], &[&[s2, s0]])? == mismatch(1, 2));
+    assert!(rt; audited(alloc, &journal, &[2], &[&[s1]])? == mismatch(1, 1));
+    assert!(rt;
+        audited(
+            alloc,
+            &journal,
+            &[1, 2],
+            &[&[], &[s0, s1, s2, s1], &[other]]
+        )? == mismatch(2, 4)
+    );
+    assert!(rt; audited(alloc, &journal, &[1], &[&[s0], &[s1, s2]])? == mismatch(2, 2));
+    Ok(())
+}
+
+#[test]
+fn finds_the_first_fault_of_journal_and_cuts(rt: HostRuntime) -> Result<(), Fail> {
+    let journal = commands()?;
+    let other = sheet(11, 11, 2)?;
+    let alloc = rt.alloc();
+    let refused = [journal[1]];
+    assert!(rt; audited(alloc, &refused, &[], &[])? == Err(AuditFault::BadJournal(1)));
+    let admitted = [Command::Admit(MemberCode::new(b"AAA")?, Votes::new(1)?)];
+    assert!(rt; audited(alloc, &admitted, &[], &[])? == Err(AuditFault::BadJournal(1)));
+    let repeated = [journal[0], journal[1], journal[0]];
+    assert!(rt; audited(alloc, &repeated, &[2, 1], &[&[other]])? == Err(AuditFault::BadJournal(3)));
+    assert!(rt; audited(alloc, &journal, &[2, 1], &[&[other]])? == Err(AuditFault::BadCuts(2)));
+    assert!(rt; audited(alloc, &journal, &[1, 3, 0], &[])? == Err(AuditFault::BadCuts(2)));
+    Ok(())
+}
+
+#[test]
+fn starts_no_register_with_these(rt: HostRuntime) -> Result<(), Fail> {
+    let member = (MemberCode::new(b"AAA")?, Votes::new(10)?);
+    let journal = [commands()?[1]];
+    for (count, why) in [
+        (2u32, Refusal::DuplicateMember),
+        (256, Refusal::DuplicateMember),
+        (257, Refusal::TooManyMembers),
+    ] {
+        let mut members = Vec::new(rt.alloc());
+        for _ in 0..count {
+            members.push(member)?;
+        }
+        let found = audit(rt.alloc(), &members, &journal, &[7], &[]);
+        assert!(rt; found == Err(AuditFault::Start(why)));
+    }
+    Ok(())
+}

@@ -1,0 +1,139 @@
+-- One atomic step of an actor: one load or one store of one word, and what the actor knows after. This project's own
+-- two-copy machine, with one pin word for each reader.
+use Rattle.std.specs.Prelude.{ℕ, zero, suc, ◌+◌, ◌-◌, Bool, true, false, List, [], ◌∷◌, ◌++◌}
+use Rattle.std.specs.Prelude.{length, slice_index, slice_set, replicate, if◌then◌else◌, ◌&&◌, ◌==◌}
+use Rattle.council_core.specs.declared.commands.Command.{Command}
+use Rattle.two_copy_steps.specs.declared.views.ReaderView.{ReaderView}
+use Rattle.two_copy_steps.specs.declared.views.WriterView.{WriterView}
+use Rattle.two_copy_steps.specs.declared.views.Writing.{Writing}
+use Rattle.two_copy_steps.specs.declared.views.Stage.{Stage}
+use Rattle.two_copy_steps.specs.declared.views.Stage.TheVariants.{AtRest, Arrived, Reading, Leaving}
+use Rattle.two_copy_steps.specs.declared.views.Phase.{Phase}
+use Rattle.two_copy_steps.specs.declared.views.Phase.TheVariants.{Idle, Seeing, Filling, Swapping}
+use Rattle.two_copy_steps.specs.declared.table.TheConstants.{COPY_WORDS}
+
+-- which word is touched, what it becomes, and what the actor knows after, the last two by the number found there
+pub record Action (V : Type 0) : Type 0 where
+  pub word : ℕ
+  pub becomes : ℕ → ℕ
+  pub after : ℕ → V
+
+abbrev pub all_true : List Bool → Bool
+all_true [] = true
+all_true (b ∷ bs) = b && all_true bs
+
+-- the place of the first false
+abbrev pub first_false : List Bool → ℕ
+first_false [] = 0
+first_false (b ∷ bs) = if b then suc (first_false bs) else 0
+
+-- the side that is not this one
+abbrev pub other : ℕ → ℕ
+other side = 1 - side
+
+-- where all words are loaded, the words enter the record
+abbrev pub entered : Stage → List (List ℕ) → List (List ℕ)
+entered (Leaving side words) readings = readings ++ words ∷ []
+entered AtRest readings = readings
+entered Arrived readings = readings
+entered (Reading side words) readings = readings
+
+-- the record after a step from one stage to another: a reading enters it at the load of its last word
+abbrev pub recorded : Stage → Stage → List (List ℕ) → List (List ℕ)
+recorded (Reading side words) after readings = entered after readings
+recorded AtRest after readings = readings
+recorded Arrived after readings = readings
+recorded (Leaving side words) after readings = readings
+
+-- the cuts after a step from a phase: a cut comes where side is stored
+abbrev pub cuts_after : Phase → List Command → List ℕ → List ℕ
+cuts_after Swapping taken cuts = cuts ++ length taken ∷ []
+cuts_after Idle taken cuts = cuts
+cuts_after Seeing taken cuts = cuts
+cuts_after (Filling k) taken cuts = cuts
+
+-- word 0 is side, the two copies follow, and then a pin for each reader; word i of the copy that a side names:
+abbrev pub place : ℕ → ℕ → ℕ
+place zero i = 1 + i
+place (suc _) i = 1 + COPY_WORDS + i
+
+-- the pin of the reader at r, counted from 0
+abbrev pub pin : ℕ → ℕ
+pin r = 1 + COPY_WORDS + COPY_WORDS + r
+
+abbrev pub loaded : ℕ → List ℕ → Stage
+loaded side words = if length words == COPY_WORDS then Leaving side words else Reading side words
+
+-- arrive, load side, load a word, leave
+abbrev pub stage_action : ℕ → Stage → Action Stage
+stage_action r AtRest = record { word = pin r; becomes = λ _. 1; after = λ _. Arrived }
+stage_action r Arrived = record { word = 0; becomes = λ found. found; after = λ found. Reading found [] }
+stage_action r (Reading side words) = record {
+  word = place side (length words);
+  becomes = λ found. found;
+  after = λ found. loaded side (words ++ found ∷ []);
+}
+stage_action r (Leaving side words) = record { word = pin r; becomes = λ _. 0; after = λ _. AtRest }
+
+-- the step of the reader at r, its record with it
+abbrev pub reader_action : ℕ → ReaderView → Action ReaderView
+reader_action r v =
+    let d = stage_action r v.stage in
+    record {
+      word = d.word;
+      becomes = d.becomes;
+      after = λ found. record { stage = d.after found; readings = recorded v.stage (d.after found) v.readings };
+    }
+
+-- these readers are seen out; after the last one filling begins
+abbrev pub seeing : Writing → List Bool → Writing
+seeing w out = record w { phase = if all_true out then Filling 0 else Seeing; seen_out = out }
+
+-- a publication of these commands begins
+abbrev pub begun : List Command → Writing → Writing
+begun commands w = seeing (record w { taken = commands }) w.seen_out
+
+abbrev pub filled : Writing → ℕ → Writing
+filled w k = record w { phase = if k + 1 == COPY_WORDS then Swapping else Filling (k + 1) }
+
+-- side was stored: the commands taken are published, and nobody is seen out
+abbrev pub swapped : Writing → Writing
+swapped w = record {
+  side = other w.side;
+  published = w.taken;
+  taken = w.taken;
+  phase = Idle;
+  seen_out = replicate (length w.seen_out) false;
+}
+
+module _ (sheet : List Command → List ℕ) where
+  -- load a pin, store a word, store side
+  abbrev pub phase_action : Writing → Phase → Action Writing
+  phase_action w Idle = record { word = 0; becomes = λ found. found; after = λ _. w }
+  phase_action w Seeing =
+      let r = first_false w.seen_out in
+      record {
+        word = pin r;
+        becomes = λ found. found;
+        after = λ found. if found == 0 then seeing w (slice_set w.seen_out r true) else record w { phase = Idle };
+      }
+  phase_action w (Filling k) =
+      record {
+        word = place (other w.side) k;
+        becomes = λ _. slice_index (sheet w.taken) k;
+        after = λ _. filled w k;
+      }
+  phase_action w Swapping = record { word = 0; becomes = λ _. other w.side; after = λ _. swapped w }
+
+  abbrev pub writing_action : Writing → Action Writing
+  writing_action w = phase_action w w.phase
+
+  -- the step of the writer, its cuts with it
+  abbrev pub writer_action : WriterView → Action WriterView
+  writer_action v =
+      let d = writing_action v.state in
+      record {
+        word = d.word;
+        becomes = d.becomes;
+        after = λ found. record { state = d.after found; cuts = cuts_after v.state.phase v.state.taken v.cuts };
+      }
