@@ -16,7 +16,7 @@ use Rattle.board_share.specs.declared.views.View.{View}
 use Rattle.board_share.specs.Histories.{Adds, KnowsAfter, is_writers}
 use Rattle.board_share.specs.Steps.{WriterActed, with_writer}
 use Rattle.board_share.specs.Writers.{FilledTo, MayFill, MayWrite, at_word, next_action, next_me, writer_or}
-use Rattle.board_share.proofs.Fronts.{adds_none, adds_then}
+use Rattle.board_share.proofs.Prefixes.{adds_none, adds_then}
 
 module _ (table seat : TableId) (me : Me Unit View) (l : Ledger) (copy k : ℕ) (h : MayFill table seat me l copy k) (short : k < COPY_WORDS) where
   abbrev w : Opening × WriterView

@@ -23,11 +23,11 @@ pub struct Analyst {
 }
 
 impl Model for Analyst {
-    ghost use Rattle.board_share.specs.Analysts.{Asking};
+    ghost use Rattle.board_share.specs.Analysts.{AnalystSeen};
     ghost use Rattle.two_copy_steps.specs.declared.views.Stage.TheVariants.{AtRest};
     ghost use Rattle.std.specs.Prelude.{◌≡◌};
 
-    ghost Value = { Asking };
+    ghost Value = { AnalystSeen };
 
     ghost view = { λ a. record { reader = a.reader; sheet = a.evaluator } };
 

@@ -5,7 +5,8 @@ ghost use Rattle.two_copy_steps.specs.declared.events.Note.TheVariants.{Busy as 
 ghost use Rattle.two_copy_steps.specs.Actions.{all_true, first_false};
 ghost use Rattle.two_copy_steps.specs.Publications.{StaySeen};
 ghost use Rattle.board_share.specs.Histories.{Adds, KnowsAfter, is_writers, last_told};
-ghost use Rattle.board_share.specs.Writers.{Underway, IsIdle, IsSeeing, IsFilling, Went, known_at, looks, publication};
+ghost use Rattle.board_share.specs.Writers.{Underway, IsIdle, IsSeeing, IsFilling, WroteSteps, known_at, looks};
+ghost use Rattle.board_share.specs.Writers.{publication};
 ghost use Rattle.board_share.specs.Writers.{publication_steps, unseen};
 
 use crate::busy::Busy;
@@ -26,9 +27,10 @@ fn see_all(words: &mut WordWriter) -> Result<(), Busy>
         (λ b. (b.reader ≡ suc (first_false (known_at words.new).state.seen_out))
         × (all_true (known_at words.new).state.seen_out ≡ false)) }
     ensures sure { all_true (known_at words.old).state.seen_out ≡ true → IsOk result }
-    ensures looked { OnOk result (Went (unseen (known_at words.old).state.seen_out) words.old words.new) }
+    ensures looked { OnOk result (WroteSteps (unseen (known_at words.old).state.seen_out) words.old words.new) }
     ensures gave_up { OnErr result
-        (Went (looks (known_at words.old).state.seen_out (known_at words.new).state.seen_out) words.old words.new) }
+        (WroteSteps (looks (known_at words.old).state.seen_out (known_at words.new).state.seen_out) words.old
+        words.new) }
     ensures told { IfErr result (λ b. last_told words.new.history ≡ Some (BusyAt b.reader)) }
     ensures knows { OnErr result (KnowsAfter words.new.history words.new.held) }
 {
@@ -52,7 +54,7 @@ fn fill_all(words: &mut WordWriter)
     ensures way { Underway words.old words.new }
     ensures seen { (known_at words.new).state.seen_out ≡ (known_at words.old).state.seen_out }
     ensures stored { IsFilling words.new COPY_WORDS }
-    ensures steps { Went COPY_WORDS words.old words.new }
+    ensures steps { WroteSteps COPY_WORDS words.old words.new }
 {
     let first = words.register().sheet_word(0);
     words.fill::<Brand>(0, first);

@@ -7,7 +7,7 @@ ghost use Rattle.council_core.specs.Sheets.{front_of};
 ghost use Rattle.two_copy_steps.specs.Stages.{last_step, reading_steps, sheet_read, steps_taken};
 ghost use Rattle.two_copy_steps.specs.declared.views.Stage.TheVariants.{AtRest};
 ghost use Rattle.board_share.specs.Readers.{HasLegalRecord, IsLegalSheet, IsReader, TookStep, last_front_of, last_of};
-ghost use Rattle.board_share.specs.Readers.{TookSteps, WasTold, number_of, pass_of};
+ghost use Rattle.board_share.specs.Readers.{TookSteps, WasTold, number_of, reader_at};
 
 use crate::readings::Reading;
 use crate::rule::Board;
@@ -23,33 +23,33 @@ use two_copy_steps::{READERS, ReaderStage};
 pub struct Reader {
     board: Arc<Board>,
     seat: Seat<(), View>,
-    place: u8,
+    index: u8,
     stage: ReaderStage,
 }
 
 impl Model for Reader {
-    ghost use Rattle.board_share.specs.Readers.{Pass, IsReader, pass_of};
+    ghost use Rattle.board_share.specs.Readers.{ReaderSeen, IsReader, reader_at};
     ghost use Rattle.std.specs.Option.{option_map};
     ghost use Rattle.std.specs.Arc.{arc_value};
 
-    ghost Value = { Pass };
+    ghost Value = { ReaderSeen };
 
-    ghost view = { λ r. pass_of r.seat.me.0 r.place r.stage };
+    ghost view = { λ r. reader_at r.seat.me.0 r.index r.stage };
 
     ghost invariant = { λ r. IsReader (arc_value r.board).shared.table_id r.seat.table_id r.seat.me
-        (pass_of r.seat.me.0 r.place r.stage) };
+        (reader_at r.seat.me.0 r.index r.stage) };
 }
 
 impl Reader {
     // The reader of a seat, which has read nothing.
-    pub(crate) fn new(board: Arc<Board>, seat: Seat<(), View>, place: u8) -> Reader
-        requires { IsReader (arc_value board).shared.table_id seat.table_id seat.me (pass_of seat.me.0 place AtRest) }
-        ensures { result ≡ pass_of seat.me.0 place AtRest }
+    pub(crate) fn new(board: Arc<Board>, seat: Seat<(), View>, index: u8) -> Reader
+        requires { IsReader (arc_value board).shared.table_id seat.table_id seat.me (reader_at seat.me.0 index AtRest) }
+        ensures { result ≡ reader_at seat.me.0 index AtRest }
     {
         Reader {
             board,
             seat,
-            place,
+            index,
             stage: ReaderStage::new(),
         }
     }
@@ -59,7 +59,7 @@ impl Reader {
         ensures same { result ≡ number_of self.now }
         ensures few { result ≤ READERS }
     {
-        self.place + 1
+        self.index + 1
     }
 
     /// No reading is in progress.
@@ -84,7 +84,7 @@ impl Reader {
         ensures last { IfSome result (λ x. last_of self.new ≡ Some x.sheet) }
         ensures record_legal { HasLegalRecord self.new }
     {
-        advance(&self.board, &mut self.seat, self.place, &mut self.stage)
+        advance(&self.board, &mut self.seat, self.index, &mut self.stage)
     }
 
     /// One reading, all 37 steps of it: the sheet that is published when the second step is taken. In
@@ -103,6 +103,6 @@ impl Reader {
         ensures record_legal { HasLegalRecord self.new }
     {
         self.stage.give_up();
-        read_all(&self.board, &mut self.seat, self.place)
+        read_all(&self.board, &mut self.seat, self.index)
     }
 }

@@ -14,7 +14,8 @@ ghost use Rattle.two_copy_steps.specs.Actions.{all_true, first_false};
 ghost use Rattle.two_copy_steps.specs.Publications.{seen_out_at};
 ghost use Rattle.board_share.specs.Histories.{KnowsAfter, handed_over, machine_of};
 ghost use Rattle.board_share.specs.Steps.{begin_events, begun_with};
-ghost use Rattle.board_share.specs.Writers.{Begins, IsFilling, IsIdle, IsWriter, Underway, Went, Wrote, desk_of};
+ghost use Rattle.board_share.specs.Writers.{IsPrefix, IsFilling, IsIdle, IsWriter, Underway, WroteSteps, Wrote};
+ghost use Rattle.board_share.specs.Writers.{writer_at};
 ghost use Rattle.board_share.specs.Writers.{known_at};
 
 use crate::rule::{Board, Taken};
@@ -42,15 +43,15 @@ pub(crate) struct WordWriter {
 }
 
 impl Model for WordWriter {
-    ghost use Rattle.board_share.specs.Writers.{Desk, IsWriter, desk_of};
+    ghost use Rattle.board_share.specs.Writers.{WriterSeen, IsWriter, writer_at};
     ghost use Rattle.std.specs.Arc.{arc_value};
 
-    ghost Value = { Desk };
+    ghost Value = { WriterSeen };
 
-    ghost view = { λ w. desk_of w.register w.seat.me.0 w.begun };
+    ghost view = { λ w. writer_at w.register w.seat.me.0 w.begun };
 
     ghost invariant = { λ w. IsWriter (arc_value w.board).shared.table_id w.seat.table_id w.seat.me
-        (desk_of w.register w.seat.me.0 w.begun) w.side w.published w.seen_out };
+        (writer_at w.register w.seat.me.0 w.begun) w.side w.published w.seen_out };
 }
 
 impl WordWriter {
@@ -63,8 +64,8 @@ impl WordWriter {
     ) -> WordWriter
         requires few { readers ≤ READERS }
         requires seat { IsWriter (arc_value board).shared.table_id seat.table_id seat.me
-            (desk_of register seat.me.0 false) 0 (length register.journal) (replicate readers true) }
-        ensures { result ≡ desk_of register seat.me.0 false }
+            (writer_at register seat.me.0 false) 0 (length register.journal) (replicate readers true) }
+        ensures { result ≡ writer_at register seat.me.0 false }
     {
         WordWriter {
             board,
@@ -86,7 +87,7 @@ impl WordWriter {
     // How many commands are published.
     pub(crate) fn published(&self) -> u32
         ensures number { result ≡ length (known_at self.now).state.published }
-        ensures begins { Begins (known_at self.now).state.published self.now.ledger.journal }
+        ensures begins { IsPrefix (known_at self.now).state.published self.now.ledger.journal }
         ensures ascending { IsStrictlyIncreasing (known_at self.now).cuts }
         ensures last_cut { last_or None (known_at self.now).cuts ≡ Some result }
     {
@@ -183,7 +184,7 @@ impl WordWriter {
         ensures way { Underway self.old self.new }
         ensures seen { (known_at self.new).state.seen_out ≡ (known_at self.old).state.seen_out }
         ensures stored { IsFilling self.new COPY_WORDS }
-        ensures steps { Went (COPY_WORDS - 1) self.old self.new }
+        ensures steps { WroteSteps (COPY_WORDS - 1) self.old self.new }
     {
         let copy = 1 - self.side;
         store_rest(&self.board, &mut self.seat, &self.register, copy);

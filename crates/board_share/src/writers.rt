@@ -6,11 +6,11 @@ ghost use Rattle.council_core.specs.Rolls.{IsLegal};
 ghost use Rattle.council_core.specs.Ledgers.{verdict_of, appended};
 ghost use Rattle.council_core.specs.Verdicts.{Follows};
 ghost use Rattle.council_core.specs.declared.refusals.Refusal.TheVariants.{OutOfMemory};
-ghost use Rattle.two_copy_steps.specs.declared.events.Note.TheVariants.{Busy as BusyAt, Published as PublishedAll};
+ghost use Rattle.two_copy_steps.specs.declared.events.Note.TheVariants.{Busy as BusyAt, Published};
 ghost use Rattle.two_copy_steps.specs.Actions.{all_true, first_false};
 ghost use Rattle.two_copy_steps.specs.Publications.{StaySeen, seen_out_at};
 ghost use Rattle.board_share.specs.Histories.{last_told};
-ghost use Rattle.board_share.specs.Writers.{Begins, IsIdle, Published, TookTry, cuts_after, is_pending, looks};
+ghost use Rattle.board_share.specs.Writers.{IsPrefix, IsIdle, TookTries, TookTry, cuts_after, is_pending, looks};
 ghost use Rattle.board_share.specs.Writers.{publication_steps, publisher_of, seen_out_after};
 
 use crate::busy::Busy;
@@ -81,7 +81,7 @@ impl Writer {
             → OnOk result (TookTry (publication_steps self.old.seen_out) self.old self.new) }
         ensures gave_up { OnErr result (TookTry (looks self.old.seen_out self.new.seen_out) self.old self.new) }
         ensures told { is_pending self.old ≡ true
-            → IfOk result (λ n. last_told self.new.history ≡ Some (PublishedAll n)) }
+            → IfOk result (λ n. last_told self.new.history ≡ Some (Published n)) }
         ensures in_the_way { IfErr result (λ b. last_told self.new.history ≡ Some (BusyAt b.reader)) }
     {
         if self.words.register().accepted() <= self.words.published() {
@@ -99,8 +99,8 @@ impl Writer {
         ensures cuts { self.new.cuts ≡ cuts_after self.old }
         ensures seen_out { self.new.seen_out ≡ seen_out_after self.old }
         ensures still { is_pending self.old ≡ false → self.new ≡ self.old }
-        ensures steps { is_pending self.old ≡ true → (tries : ℕ) × Published tries self.old self.new }
-        ensures told { is_pending self.old ≡ true → last_told self.new.history ≡ Some (PublishedAll result) }
+        ensures steps { is_pending self.old ≡ true → (tries : ℕ) × TookTries tries self.old self.new }
+        ensures told { is_pending self.old ≡ true → last_told self.new.history ≡ Some (Published result) }
     {
         for _ in rt.forever() {
             if let Ok(front) = self.try_publish() {
@@ -122,7 +122,7 @@ impl Writer {
     /// How many commands are published: the last cut.
     pub fn published(&self) -> u32
         ensures number { result ≡ length self.now.published }
-        ensures begins { Begins self.now.published self.now.ledger.journal }
+        ensures begins { IsPrefix self.now.published self.now.ledger.journal }
         ensures ascending { IsStrictlyIncreasing self.now.cuts }
         ensures last_cut { last_or None self.now.cuts ≡ Some result }
     {

@@ -1,4 +1,4 @@
-use Rattle.board_share.proofs.Passes.{left}
+use Rattle.board_share.proofs.ReaderSeats.{left}
 use Rattle.board_share.proofs.steps.advance.Goals as goal
 
 pub returns-clause-seat : goal.returns-clause-seat

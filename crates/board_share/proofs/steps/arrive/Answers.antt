@@ -1,5 +1,5 @@
 use Rattle.std.proofs.Common.{◌<◌, ℕ, refl, sym, subst}
-use Rattle.board_share.proofs.Passes.{stores, left}
+use Rattle.board_share.proofs.ReaderSeats.{stores, left}
 use Rattle.board_share.proofs.steps.arrive.Goals as goal
 
 pub store-requires : goal.store-requires

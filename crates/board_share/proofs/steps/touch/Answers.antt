@@ -2,8 +2,8 @@ use Rattle.std.proofs.Common.{ap, arith}
 use Rattle.two_copy_steps.specs.declared.views.ReaderView.{ReaderView}
 use Rattle.two_copy_steps.specs.declared.views.Stage.{Stage}
 use Rattle.two_copy_steps.specs.Actions.{recorded}
-use Rattle.board_share.specs.Readers.{known_by, pass_of}
-use Rattle.board_share.proofs.Passes.{loads, stores}
+use Rattle.board_share.specs.Readers.{known_by, reader_at}
+use Rattle.board_share.proofs.ReaderSeats.{loads, stores}
 use Rattle.board_share.proofs.steps.touch.Goals as goal
 
 pub load-requires : goal.load-requires
@@ -18,7 +18,7 @@ store-requires c =
     let h = c.requires.reader in
     let low = c.in-Store.ensures.low in
     let wide = h.within in
-    let readings = (known_by (pass_of c.args.seat.now.me.0 c.args.r c.args.stage.now)).readings in (
+    let readings = (known_by (reader_at c.args.seat.now.me.0 c.args.r c.args.stage.now)).readings in (
       h.same,
       omega arith,
       stores _ _ _ _ _ h _ _ _ _ c.in-Store.ensures.word (λ n. c.in-Store.ensures.becomes n)

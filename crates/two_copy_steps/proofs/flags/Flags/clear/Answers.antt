@@ -2,7 +2,7 @@ use Rattle.std.proofs.Common.{ℕ, false, sym, ap, replicate, ◌∙◌}
 use Rattle.std.proofs.lemmas.List.{take-replicate}
 use Rattle.two_copy_steps.specs.declared.table.TheConstants.{READERS}
 use Rattle.two_copy_steps.proofs.Fixed.{kept_length}
-use Rattle.two_copy_steps.proofs.seats.Flags.clear.Goals as goal
+use Rattle.two_copy_steps.proofs.flags.Flags.clear.Goals as goal
 
 pub returns : goal.returns
 returns c =

@@ -1,7 +1,7 @@
 use Rattle.std.proofs.Common.{sym, ap, ◌∙◌, arith}
 use Rattle.two_copy_steps.specs.Actions.{first_false}
 use Rattle.two_copy_steps.proofs.Fixed.{first_false_here}
-use Rattle.two_copy_steps.proofs.seats.Flags.first_false.Goals as goal
+use Rattle.two_copy_steps.proofs.flags.Flags.first_false.Goals as goal
 
 pub returns-then-not-self-i : goal.returns-then-not-self-i
 returns-then-not-self-i c =

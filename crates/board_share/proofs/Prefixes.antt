@@ -12,7 +12,7 @@ use Rattle.board_share.specs.declared.views.History.{History}
 use Rattle.board_share.specs.declared.views.View.{View}
 use Rattle.board_share.specs.Histories.{longer, is_writers, is_readers, Adds}
 use Rattle.board_share.specs.Seats.{Part, as_reader}
-use Rattle.board_share.specs.Rule.{IsFront}
+use Rattle.board_share.specs.Rule.{KnowsPrefix}
 use Rattle.board_share.proofs.Histories.{longer_none, longer_twice}
 
 -- of some events none is of those for whom a seat stands
@@ -24,9 +24,9 @@ pub record NoneOf (v : View) (events : List Event) : Type 0 where
 none_both : (own : Event → Bool) (xs ys : List Event) → filter own xs ≡ [] → filter own ys ≡ [] → filter own (xs ++ ys) ≡ []
 none_both own xs ys e f = filter-append own xs ys ∙ (λ i. e i ++ f i)
 
--- a seat's history is still a front
-pub front_on : (v : View) (whole : History) (more : List Event) → IsFront v whole → NoneOf v more → IsFront v (longer whole more)
-front_on v whole more f none =
+-- a seat's history is still a prefix
+pub prefix_on : (v : View) (whole : History) (more : List Event) → KnowsPrefix v whole → NoneOf v more → KnowsPrefix v (longer whole more)
+prefix_on v whole more f none =
     record {
       rest = f.rest ++ more;
       whole_is = ap (λ (h : History). longer h more) f.whole_is ∙ longer_twice v.history f.rest more;
@@ -34,18 +34,18 @@ front_on v whole more f none =
       readers = λ r x e. none_both (is_readers (suc r)) f.rest more (f.readers r x e) (none.readers r x e);
     }
 
--- the whole history is a front of itself
-pub front_whole : (v : View) (whole : History) → v.history ≡ whole → IsFront v whole
-front_whole v whole e = record { rest = []; whole_is = sym (longer_none v.history ∙ e); writer = λ x f. refl; readers = λ r x f. refl }
+-- the whole history is a prefix of itself
+pub prefix_whole : (v : View) (whole : History) → v.history ≡ whole → KnowsPrefix v whole
+prefix_whole v whole e = record { rest = []; whole_is = sym (longer_none v.history ∙ e); writer = λ x f. refl; readers = λ r x f. refl }
 
--- after a step of one seat all histories are fronts
-pub fronts_set : (views : List View) (id : ℕ) (w : View) (whole : History) (more : List Event) → ((j : ℕ) (u : View) → get_elem? views j ≡ some u → IsFront u whole)
+-- after a step of one seat all histories are prefixes
+pub prefixes_set : (views : List View) (id : ℕ) (w : View) (whole : History) (more : List Event) → ((j : ℕ) (u : View) → get_elem? views j ≡ some u → KnowsPrefix u whole)
     → w.history ≡ longer whole more → ((j : ℕ) (u : View) → j ≢ id → get_elem? views j ≡ some u → NoneOf u more)
-    → (j : ℕ) (u : View) → get_elem? (set views id w) j ≡ some u → IsFront u (longer whole more)
-fronts_set views id w whole more fronts is others j u at =
+    → (j : ℕ) (u : View) → get_elem? (set views id w) j ≡ some u → KnowsPrefix u (longer whole more)
+prefixes_set views id w whole more prefixes is others j u at =
     ⊎_elim
-    (λ (t : (j ≡ id) × (w ≡ u)). subst (λ (z : View). IsFront z (longer whole more)) t.1 (front_whole w (longer whole more) is))
-    (λ (t : (j ≢ id) × (get_elem? views j ≡ some u)). front_on u whole more (fronts j u t.1) (others j u t.0 t.1))
+    (λ (t : (j ≡ id) × (w ≡ u)). subst (λ (z : View). KnowsPrefix z (longer whole more)) t.1 (prefix_whole w (longer whole more) is))
+    (λ (t : (j ≢ id) × (get_elem? views j ≡ some u)). prefix_on u whole more (prefixes j u t.1) (others j u t.0 t.1))
     (at_set views id j w u at)
 
 -- what is added to a seat's own history, where the whole one goes on
@@ -69,24 +69,24 @@ adds_then own a b c first second x y =
 pub adds_none : (own : Event → Bool) (h : History) → Adds own [] h h
 adds_none own h = record { events = []; longer_by = sym (longer_none h); own_are = refl }
 
--- of two fronts of one list one is a front of the other
-one_is_front : (xs ys a b : List Event) → xs ++ a ≡ ys ++ b → ((more : List Event) × (ys ≡ xs ++ more)) ⊎ ((more : List Event) × (xs ≡ ys ++ more))
-one_is_front [] ys a b e = inl (ys, refl)
-one_is_front (x ∷ xs) [] a b e = inr (x ∷ xs, refl)
-one_is_front (x ∷ xs) (y ∷ ys) a b e =
+-- of two prefixes of one list one is a prefix of the other
+one_is_prefix : (xs ys a b : List Event) → xs ++ a ≡ ys ++ b → ((more : List Event) × (ys ≡ xs ++ more)) ⊎ ((more : List Event) × (xs ≡ ys ++ more))
+one_is_prefix [] ys a b e = inl (ys, refl)
+one_is_prefix (x ∷ xs) [] a b e = inr (x ∷ xs, refl)
+one_is_prefix (x ∷ xs) (y ∷ ys) a b e =
     let head : x ≡ y = cc in
-    ⊎_elim (λ t. inl (t.0, (λ i. sym head i ∷ t.1 i))) (λ t. inr (t.0, (λ i. head i ∷ t.1 i))) (one_is_front xs ys a b (ap rest_of_list e))
+    ⊎_elim (λ t. inl (t.0, (λ i. sym head i ∷ t.1 i))) (λ t. inr (t.0, (λ i. head i ∷ t.1 i))) (one_is_prefix xs ys a b (ap rest_of_list e))
   where
     rest_of_list : List Event → List Event
     rest_of_list [] = []
     rest_of_list (z ∷ zs) = zs
 
-pub front_or_front : (v w : View) (whole : History) → IsFront v whole → IsFront w whole
+pub prefix_or_prefix : (v w : View) (whole : History) → KnowsPrefix v whole → KnowsPrefix w whole
     → ((more : List Event) × (w.history ≡ longer v.history more)) ⊎ ((more : List Event) × (v.history ≡ longer w.history more))
-front_or_front v w whole f g =
+prefix_or_prefix v w whole f g =
     let same : longer v.history f.rest ≡ longer w.history g.rest = sym f.whole_is ∙ g.whole_is in
     let begun : v.history.begun ≡ w.history.begun = ap (λ (h : History). h.begun) same in
     ⊎_elim
     (λ (t : (more : List Event) × (w.history.events ≡ v.history.events ++ more)). inl (t.0, (λ i. record { begun = sym begun i; events = t.1 i })))
     (λ (t : (more : List Event) × (v.history.events ≡ w.history.events ++ more)). inr (t.0, (λ i. record { begun = begun i; events = t.1 i })))
-    (one_is_front v.history.events w.history.events f.rest g.rest (ap (λ (h : History). h.events) same))
+    (one_is_prefix v.history.events w.history.events f.rest g.rest (ap (λ (h : History). h.events) same))

@@ -2,7 +2,7 @@ use Rattle.std.proofs.Common.{◌≡◌, ℕ, ◌<◌, get_or, take, replicate, 
 use Rattle.std.proofs.lemmas.List.{ext_get_or, get_or-take, get_or-replicate, length-replicate}
 use Rattle.two_copy_steps.specs.declared.views.Stage.TheVariants.{AtRest}
 use Rattle.two_copy_steps.specs.declared.table.TheConstants.{READERS}
-use Rattle.two_copy_steps.proofs.seats.ReaderStages.start.Goals as goal
+use Rattle.two_copy_steps.proofs.readers.ReaderStages.start.Goals as goal
 
 pub returns : goal.returns
 returns c =

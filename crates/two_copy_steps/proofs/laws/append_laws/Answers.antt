@@ -1,5 +1,5 @@
 use Rattle.two_copy_steps.proofs.EventLists.{notes_append, after_append}
-use Rattle.two_copy_steps.proofs.laws.cut_laws.Goals as goal
+use Rattle.two_copy_steps.proofs.laws.append_laws.Goals as goal
 
 pub returns-clause-notes : goal.returns-clause-notes
 returns-clause-notes c = λ m events more. notes_append events more m

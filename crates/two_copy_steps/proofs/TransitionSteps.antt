@@ -17,9 +17,9 @@ use Rattle.two_copy_steps.specs.declared.views.Stage.TheVariants.{AtRest, Arrive
 use Rattle.two_copy_steps.specs.declared.views.Phase.{Phase}
 use Rattle.two_copy_steps.specs.declared.views.Phase.TheVariants.{Idle, Seeing, Filling, Swapping}
 use Rattle.two_copy_steps.specs.Actions.{recorded, first_false, other, seeing, stage_action, phase_action, writing_action}
-use Rattle.two_copy_steps.specs.Lawful.{State, Lawful, Beside, Stands}
-use Rattle.two_copy_steps.specs.Turns.{MachineState, turn, submitted, published_by, is_pending, is_idle, reader_turn}
-use Rattle.two_copy_steps.specs.Passes.{Passes, passed, reader_passed, record_at, viewed, state_of, IsLawful, NoneUnder, side_held, side_filled}
+use Rattle.two_copy_steps.specs.Lawful.{State, Lawful, HoldsCopy, Stands}
+use Rattle.two_copy_steps.specs.Transitions.{MachineState, transition, submitted, published_by, is_pending, is_idle, reader_transition}
+use Rattle.two_copy_steps.specs.Auxiliary.{Auxiliary, auxiliary_step, auxiliary_reader_step, record_at, viewed, state_of, IsLawful, NoneUnder, side_held, side_filled}
 use Rattle.two_copy_steps.proofs.Lists.{inside}
 use Rattle.two_copy_steps.proofs.Records.{records_from_each}
 use Rattle.two_copy_steps.proofs.ReaderSteps.{reader_keeps}
@@ -79,12 +79,12 @@ still_whole opening w (Filling k) found journal e h = λ _. h (ap is_idle e)
 still_whole opening w Swapping found journal e h = λ _. h (ap is_idle e)
 
 module _ (Legal : Opening → List Command → Type 0) where
-  abbrev Keeps : MachineState → Passes → Event → Type 0
-  Keeps m p event = IsLawful Legal (turn m event).0 (passed m p event)
+  abbrev Keeps : MachineState → Auxiliary → Event → Type 0
+  Keeps m p event = IsLawful Legal (transition m event).0 (auxiliary_step m p event)
 
   -- a reader's step
-  read_keeps : (m : MachineState) (p : Passes) → IsLawful Legal m p → (r : ℕ) (o : Option Stage) → slice_get m.readers r ≡ o
-      → IsLawful Legal (reader_turn m r o).0 (reader_passed m p r o)
+  read_keeps : (m : MachineState) (p : Auxiliary) → IsLawful Legal m p → (r : ℕ) (o : Option Stage) → slice_get m.readers r ≡ o
+      → IsLawful Legal (reader_transition m r o).0 (auxiliary_reader_step m p r o)
   read_keeps m p l r None at = l
   read_keeps m p l r (Some stage) at =
       let d = stage_action r stage in
@@ -102,7 +102,7 @@ module _ (Legal : Opening → List Command → Type 0) where
       }
 
   -- the writer's step
-  pub written_keeps : (m : MachineState) (p : Passes) → IsLawful Legal m p → Keeps m p Writer
+  pub written_keeps : (m : MachineState) (p : Auxiliary) → IsLawful Legal m p → Keeps m p Writer
   written_keeps m p l =
       let w = m.writer in
       let opening = m.ledger.opening in
@@ -115,7 +115,7 @@ module _ (Legal : Opening → List Command → Type 0) where
       }
 
   -- a publication begins, or nothing is pending
-  published_keeps : (m : MachineState) (p : Passes) → IsLawful Legal m p → Legal m.ledger.opening m.ledger.journal → (b : Bool) → IsLawful Legal (published_by m b).0 p
+  published_keeps : (m : MachineState) (p : Auxiliary) → IsLawful Legal m p → Legal m.ledger.opening m.ledger.journal → (b : Bool) → IsLawful Legal (published_by m b).0 p
   published_keeps m p l legal false = l
   published_keeps m p l legal true =
       record {
@@ -125,7 +125,7 @@ module _ (Legal : Opening → List Command → Type 0) where
         each_record = l.each_record;
       }
 
-  pub publish_keeps : (m : MachineState) (p : Passes) → IsLawful Legal m p → Legal m.ledger.opening m.ledger.journal → Keeps m p Publish
+  pub publish_keeps : (m : MachineState) (p : Auxiliary) → IsLawful Legal m p → Legal m.ledger.opening m.ledger.journal → Keeps m p Publish
   publish_keeps m p l legal =
       elim (is_idle m.writer.phase) as (λ b. IsLawful Legal (cond b (published_by m (is_pending m)) (m, Skipped)).0 p) [ true ↦ published_keeps m p l legal (is_pending m) | false ↦ l ]
 
@@ -133,7 +133,7 @@ module _ (Legal : Opening → List Command → Type 0) where
   true_not_false e = cc
 
   -- the register accepts a command
-  pub accepted_keeps : (m : MachineState) (p : Passes) → IsLawful Legal m p → (command : Command) → is_idle m.writer.phase ≡ true → IsLawful Legal (record m { ledger = appended m.ledger command }) p
+  pub accepted_keeps : (m : MachineState) (p : Auxiliary) → IsLawful Legal m p → (command : Command) → is_idle m.writer.phase ≡ true → IsLawful Legal (record m { ledger = appended m.ledger command }) p
   accepted_keeps m p l command idle =
       record {
         state = l.state;
@@ -142,29 +142,29 @@ module _ (Legal : Opening → List Command → Type 0) where
         each_record = l.each_record;
       }
 
-  submitted_keeps : (m : MachineState) (p : Passes) → IsLawful Legal m p → (command : Command) (v : Result ⊤ Refusal) → is_idle m.writer.phase ≡ true → IsLawful Legal (submitted m command v).0 p
+  submitted_keeps : (m : MachineState) (p : Auxiliary) → IsLawful Legal m p → (command : Command) (v : Result ⊤ Refusal) → is_idle m.writer.phase ≡ true → IsLawful Legal (submitted m command v).0 p
   submitted_keeps m p l command (Ok u) idle = accepted_keeps m p l command idle
   submitted_keeps m p l command (Err refusal) idle = l
 
-  pub submit_keeps : (m : MachineState) (p : Passes) → IsLawful Legal m p → (command : Command) → Keeps m p (Submit command)
+  pub submit_keeps : (m : MachineState) (p : Auxiliary) → IsLawful Legal m p → (command : Command) → Keeps m p (Submit command)
   submit_keeps m p l command =
       elim (is_idle m.writer.phase) as (λ b. is_idle m.writer.phase ≡ b → IsLawful Legal (cond b (submitted m command (verdict_of m.ledger command)) (m, Skipped)).0 p)
       [ true ↦ λ idle. submitted_keeps m p l command (verdict_of m.ledger command) idle | false ↦ λ busy. l ] refl
 
   -- the step of an actor
-  pub step_keeps : (m : MachineState) (p : Passes) → IsLawful Legal m p → (number : ℕ) → Keeps m p (Reader number)
+  pub step_keeps : (m : MachineState) (p : Auxiliary) → IsLawful Legal m p → (number : ℕ) → Keeps m p (Reader number)
   step_keeps m p l zero = l
   step_keeps m p l (suc r) = read_keeps m p l r (slice_get m.readers r) refl
 
   -- whatever the event
-  pub turn_keeps : (m : MachineState) (p : Passes) → IsLawful Legal m p → Legal m.ledger.opening m.ledger.journal → (event : Event) → Keeps m p event
-  turn_keeps m p l legal (Submit command) = submit_keeps m p l command
-  turn_keeps m p l legal Publish = publish_keeps m p l legal
-  turn_keeps m p l legal Writer = written_keeps m p l
-  turn_keeps m p l legal (Reader number) = step_keeps m p l number
+  pub transition_keeps : (m : MachineState) (p : Auxiliary) → IsLawful Legal m p → Legal m.ledger.opening m.ledger.journal → (event : Event) → Keeps m p event
+  transition_keeps m p l legal (Submit command) = submit_keeps m p l command
+  transition_keeps m p l legal Publish = publish_keeps m p l legal
+  transition_keeps m p l legal Writer = written_keeps m p l
+  transition_keeps m p l legal (Reader number) = step_keeps m p l number
 
   -- the records of a lawful machine are legal
-  pub records_are : (m : MachineState) (p : Passes) → IsLawful Legal m p → AreRecords m.ledger.opening m.writer.published p.cuts p.records
+  pub records_are : (m : MachineState) (p : Auxiliary) → IsLawful Legal m p → AreRecords m.ledger.opening m.writer.published p.cuts p.records
   records_are m p l =
       records_from_each m.ledger.opening m.writer.published p.cuts p.records
       (λ r readings e.
@@ -173,12 +173,12 @@ module _ (Legal : Opening → List Command → Type 0) where
       subst (λ (x : List (List ℕ)). IsRecordFrom m.ledger.opening m.writer.published p.cuts 0 x) (record_there p.records r readings e)
       (l.state.each_reader r (view_at there.0 (record_at p.records r)) (viewed_at m.readers p.records r there.0 there.1)).record_legal)
 
-  held_beside : (m : MachineState) (p : Passes) → IsLawful Legal m p → (side r : ℕ) (stage : Stage) → Stands m.ledger.opening (Legal m.ledger.opening) m.words (state_of m p).writer (record_at p.records r) r stage
-      → side_held stage ≡ Some side → Beside m.ledger.opening (Legal m.ledger.opening) m.words (state_of m p).writer (record_at p.records r) r side
-  held_beside m p l side r AtRest h e = absurd (none-some side e)
-  held_beside m p l side r Arrived h e = absurd (none-some side e)
-  held_beside m p l side r (Reading s words) h e = subst (λ (z : ℕ). Beside m.ledger.opening (Legal m.ledger.opening) m.words (state_of m p).writer (record_at p.records r) r z) (same_Some s side e) h.0
-  held_beside m p l side r (Leaving s words) h e = subst (λ (z : ℕ). Beside m.ledger.opening (Legal m.ledger.opening) m.words (state_of m p).writer (record_at p.records r) r z) (same_Some s side e) h.0
+  holds_held : (m : MachineState) (p : Auxiliary) → IsLawful Legal m p → (side r : ℕ) (stage : Stage) → Stands m.ledger.opening (Legal m.ledger.opening) m.words (state_of m p).writer (record_at p.records r) r stage
+      → side_held stage ≡ Some side → HoldsCopy m.ledger.opening (Legal m.ledger.opening) m.words (state_of m p).writer (record_at p.records r) r side
+  holds_held m p l side r AtRest h e = absurd (none-some side e)
+  holds_held m p l side r Arrived h e = absurd (none-some side e)
+  holds_held m p l side r (Reading s words) h e = subst (λ (z : ℕ). HoldsCopy m.ledger.opening (Legal m.ledger.opening) m.words (state_of m p).writer (record_at p.records r) r z) (same_Some s side e) h.0
+  holds_held m p l side r (Leaving s words) h e = subst (λ (z : ℕ). HoldsCopy m.ledger.opening (Legal m.ledger.opening) m.words (state_of m p).writer (record_at p.records r) r z) (same_Some s side e) h.0
 
   not_other : (side : ℕ) → side ≢ other side
   not_other zero e = omega arith
@@ -190,16 +190,16 @@ module _ (Legal : Opening → List Command → Type 0) where
     pub at : slice_get m.readers r ≡ Some stage
     pub held : side_held stage ≡ Some side
 
-  none_there : (m : MachineState) (p : Passes) → IsLawful Legal m p → (phase : Phase) → m.writer.phase ≡ phase → (side r : ℕ) → side_filled m.writer.side phase ≡ Some side → Holds m side r → ⊥
+  none_there : (m : MachineState) (p : Auxiliary) → IsLawful Legal m p → (phase : Phase) → m.writer.phase ≡ phase → (side r : ℕ) → side_filled m.writer.side phase ≡ Some side → Holds m side r → ⊥
   none_there m p l Idle is side r e h = none-some side e
   none_there m p l Seeing is side r e h = none-some side e
   none_there m p l Swapping is side r e h = none-some side e
   none_there m p l (Filling k) is side r e h =
       let ok = l.state.each_reader r (view_at h.stage (record_at p.records r)) (viewed_at m.readers p.records r h.stage h.at) in
-      let b = held_beside m p l side r h.stage ok.stands h.held in
+      let b = holds_held m p l side r h.stage ok.stands h.held in
       let same : side ≡ m.writer.side = no_reader_there m.ledger.opening (Legal m.ledger.opening) (state_of m p) k l.state is r side (record_at p.records r) b in
       not_other m.writer.side (sym same ∙ sym (same_Some (other m.writer.side) side e))
 
   -- no word is stored under a reader
-  pub none_under : (m : MachineState) (p : Passes) → IsLawful Legal m p → NoneUnder m
+  pub none_under : (m : MachineState) (p : Auxiliary) → IsLawful Legal m p → NoneUnder m
   none_under m p l side r stage e at held = none_there m p l m.writer.phase refl side r e record { stage = stage; at = at; held = held }

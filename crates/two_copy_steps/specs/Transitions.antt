@@ -1,4 +1,4 @@
--- The machine as contracts see it, and what each event does to it and tells.
+-- The machine as contracts see it, and its transition at each event: what that does to it and tells.
 use Rattle.std.specs.Prelude.{ℕ, zero, suc, ◌+◌, Bool, true, false, List, [], ◌∷◌, ◌++◌, length}
 use Rattle.std.specs.Prelude.{replicate, slice_index, slice_get, slice_set, if◌then◌else◌, ◌==◌, nat_lt}
 use Rattle.std.specs.Prelude.{Option, None, Some, Result, Ok, Err, ⊤}
@@ -95,25 +95,25 @@ read m r stage =
     record m { words = slice_set m.words d.word (d.becomes found); readers = slice_set m.readers r (d.after found) }
 
 -- the reader at r, if there is one
-abbrev pub reader_turn : MachineState → ℕ → Option Stage → MachineState × Note
-reader_turn m r None = (m, Skipped)
-reader_turn m r (Some stage) = (read m r stage, stage_note (suc r) stage)
+abbrev pub reader_transition : MachineState → ℕ → Option Stage → MachineState × Note
+reader_transition m r None = (m, Skipped)
+reader_transition m r (Some stage) = (read m r stage, stage_note (suc r) stage)
 
--- the machine after an event, and the note
-abbrev pub turn : MachineState → Event → MachineState × Note
-turn m (Submit command) =
+-- the transition at an event: the machine after it, and the note
+abbrev pub transition : MachineState → Event → MachineState × Note
+transition m (Submit command) =
     if is_idle m.writer.phase then submitted m command (verdict_of m.ledger command) else (m, Skipped)
-turn m Publish = if is_idle m.writer.phase then published_by m (is_pending m) else (m, Skipped)
-turn m Writer = (written m, phase_note m m.writer.phase)
-turn m (Reader zero) = (m, Skipped)
-turn m (Reader (suc r)) = reader_turn m r (slice_get m.readers r)
+transition m Publish = if is_idle m.writer.phase then published_by m (is_pending m) else (m, Skipped)
+transition m Writer = (written m, phase_note m m.writer.phase)
+transition m (Reader zero) = (m, Skipped)
+transition m (Reader (suc r)) = reader_transition m r (slice_get m.readers r)
 
--- the machine after each event in turn
+-- the machine after a list of events
 abbrev pub after : MachineState → List Event → MachineState
 after m [] = m
-after m (event ∷ events) = after (turn m event).0 events
+after m (event ∷ events) = after (transition m event).0 events
 
 -- the notes of the events, in order
 abbrev pub notes : MachineState → List Event → List Note
 notes m [] = []
-notes m (event ∷ events) = (turn m event).1 ∷ notes (turn m event).0 events
+notes m (event ∷ events) = (transition m event).1 ∷ notes (transition m event).0 events

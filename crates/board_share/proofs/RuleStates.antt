@@ -10,12 +10,12 @@ use Rattle.board_share.specs.declared.views.History.{History}
 use Rattle.board_share.specs.declared.views.View.{View}
 use Rattle.board_share.specs.Histories.{machine_of, known_after}
 use Rattle.board_share.specs.Seats.{as_writer, as_reader, Seated}
-use Rattle.board_share.specs.Rule.{IsFront, Kept, with_opening}
+use Rattle.board_share.specs.Rule.{KnowsPrefix, RuleHolds, with_opening}
 
-pub record KeptBy (begun : Beginning) (s : table.State Unit View) : Type 0 where
+pub record RuleHoldsByState (begun : Beginning) (s : table.State Unit View) : Type 0 where
   pub history : History
   pub begun_is : history.begun ≡ begun
-  pub fronts : (id : ℕ) (v : View) → get_elem? s.views id ≡ some v → IsFront v history
+  pub prefixes : (id : ℕ) (v : View) → get_elem? s.views id ≡ some v → KnowsPrefix v history
   pub state : State
   pub reached : state ≡ known_after history
   pub register : (machine_of history).ledger ≡ record begun.register { journal = state.writer.state.taken }
@@ -26,13 +26,13 @@ pub record KeptBy (begun : Beginning) (s : table.State Unit View) : Type 0 where
   pub readers : (r : ℕ) → Seated (as_reader r) s.views (with_opening begun.register.opening (slice_get state.readers r))
 
 module _ (begun : Beginning) (s : table.State Unit View) where
-  pub by_state : Kept begun s → KeptBy begun s
+  pub by_state : RuleHolds begun s → RuleHoldsByState begun s
   by_state k =
       let m : State = known_after k.history in
       record {
         history = k.history;
         begun_is = k.begun_is;
-        fronts = k.after.fronts;
+        prefixes = k.after.prefixes;
         state = m;
         reached = refl;
         register = k.register.register ∙ ap (λ (b : Beginning). record b.register { journal = m.writer.state.taken }) k.begun_is;
@@ -43,7 +43,7 @@ module _ (begun : Beginning) (s : table.State Unit View) where
         readers = λ r. subst (λ (b : Beginning). Seated (as_reader r) s.views (with_opening b.register.opening (slice_get m.readers r))) k.begun_is (k.after.readers r);
       }
 
-  pub by_history : KeptBy begun s → Kept begun s
+  pub by_history : RuleHoldsByState begun s → RuleHolds begun s
   by_history k =
       let m : State = known_after k.history in
       let e = k.reached in
@@ -56,7 +56,7 @@ module _ (begun : Beginning) (s : table.State Unit View) where
           writer = subst (λ (x : Beginning). Seated as_writer s.views (Some (x.register.opening, m.writer))) b (subst (λ (x : State). Seated as_writer s.views (Some (begun.register.opening, x.writer))) e k.writer);
           readers = λ r. subst (λ (x : Beginning). Seated (as_reader r) s.views (with_opening x.register.opening (slice_get m.readers r))) b
               (subst (λ (x : State). Seated (as_reader r) s.views (with_opening begun.register.opening (slice_get x.readers r))) e (k.readers r));
-          fronts = k.fronts;
+          prefixes = k.prefixes;
         };
         register = record {
           writer = refl;
