@@ -10,12 +10,12 @@ use Rattle.two_copy_steps.specs.declared.events.Note.TheVariants.{Busy, Moved, P
 use Rattle.two_copy_steps.specs.declared.views.WriterView.{WriterView}
 use Rattle.two_copy_steps.specs.declared.views.Phase.{Phase}
 use Rattle.two_copy_steps.specs.declared.views.Phase.TheVariants.{Idle, Seeing, Filling, Swapping}
-use Rattle.two_copy_steps.specs.Actions.{all_true, first_false, seeing}
+use Rattle.two_copy_steps.specs.Actions.{all_true, filled, first_false, seeing}
 use Rattle.two_copy_steps.specs.Publications.{StaySeen}
 use Rattle.board_share.specs.declared.views.History.{History}
 use Rattle.board_share.specs.Histories.{Adds, is_writers, last_told}
 use Rattle.board_share.specs.Steps.{begin_events, step_note}
-use Rattle.board_share.specs.Writers.{WriterSeen, known_at, WroteSteps, Wrote, Underway, IsIdle, IsSeeing, unseen}
+use Rattle.board_share.specs.Writers.{WriterSeen, known_at, WroteSteps, Wrote, Underway, Filled, IsFilling, IsIdle, IsSeeing, unseen}
 use Rattle.board_share.proofs.Prefixes.{adds_none, adds_then}
 use Rattle.board_share.proofs.WriterSeats.{action_in}
 
@@ -108,8 +108,8 @@ module _ (d d' : WriterSeen) (found : ℕ) (w : Wrote d d' found) (e : (known_at
   in_idle h = record { due = w.due; phase = ap (λ (x : WriterView). x.state.phase) (look_at false h) }
 
 -- where somebody isn't seen out, a pin is loaded next
-pub looks : (d : WriterSeen) → IsSeeing d → all_true (known_at d).state.seen_out ≡ false → (known_at d).state.phase ≡ Seeing
-looks d s e = s.phase ∙ ap (λ (b : Bool). cond b (Filling 0) Seeing) e
+pub seeing_next : (d : WriterSeen) → IsSeeing d → all_true (known_at d).state.seen_out ≡ false → (known_at d).state.phase ≡ Seeing
+seeing_next d s e = s.phase ∙ ap (λ (b : Bool). cond b (Filling 0) Seeing) e
 
 -- the steps from one moment to a later one
 pub wrote_none : (a : WriterSeen) → WroteSteps 0 a a
@@ -141,6 +141,19 @@ wrote_then m n a b c x y =
           ∙ (sym (append_assoc x.own (begin_events b.due b.held) (replicate n Writer))
           ∙ (ap (λ (l : List Event). l ++ replicate n Writer) x.whole
           ∙ (append_assoc (begin_events a.due a.held) (replicate m Writer) (replicate n Writer) ∙ ap (λ (l : List Event). begin_events a.due a.held ++ l) (replicate-append-replicate m n Writer)))));
+    }
+
+-- the first word was stored
+pub filled_first : (d d' : WriterSeen) (found : ℕ) → Wrote d d' found → IsFilling d 0 → Filled 0 1 d d'
+filled_first d d' found w f =
+    let e = knows_after d d' found (Filling 0) w f.phase in
+    let on = way d d' found (record { state = filled (known_at d).state 0; cuts = (known_at d).cuts }) w e refl refl refl refl in
+    record {
+      way = on;
+      seen = ap (λ (x : WriterView). x.state.seen_out) e;
+      due = w.due;
+      stored = record { taken = on.taken ∙ (f.taken ∙ ap (λ l. l.journal) (sym w.ledger)); phase = ap (λ (x : WriterView). x.state.phase) e };
+      steps = wrote_one d d' found w;
     }
 
 -- the steps of a publication that began at rest

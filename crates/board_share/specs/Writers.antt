@@ -9,10 +9,12 @@ use Rattle.council_core.specs.Ledgers.{Ledger}
 use Rattle.council_core.specs.declared.commands.Command.{Command}
 use Rattle.two_copy_steps.specs.declared.events.Event.{Event}
 use Rattle.two_copy_steps.specs.declared.events.Event.TheVariants.{Publish, Writer}
+use Rattle.two_copy_steps.specs.declared.events.Note.TheVariants.{Busy}
 use Rattle.two_copy_steps.specs.declared.views.WriterView.{WriterView}
 use Rattle.two_copy_steps.specs.declared.views.Phase.TheVariants.{Idle, Seeing, Filling, Swapping}
-use Rattle.two_copy_steps.specs.Actions.{Action, all_true, other, pin, writer_action}
+use Rattle.two_copy_steps.specs.Actions.{Action, all_true, first_false, other, pin, writer_action}
 use Rattle.two_copy_steps.specs.Lawful.{IsPublishable}
+use Rattle.two_copy_steps.specs.Publications.{StaySeen}
 use Rattle.two_copy_steps.specs.declared.table.TheConstants.{COPY_WORDS, READERS}
 use Rattle.board_share.specs.declared.views.View.{View}
 use Rattle.board_share.specs.declared.views.History.{History}
@@ -30,6 +32,9 @@ pub record WriterSeen : Type 0 where
 -- what the writer knows
 abbrev pub known_at : WriterSeen → WriterView
 known_at d = begun_with d.due d.held
+
+abbrev pub seen_out_of : WriterSeen → List Bool
+seen_out_of d = (known_at d).state.seen_out
 
 -- a publication of all commands is due, or none is
 abbrev pub due_of : Bool → List Command → Option (List Command)
@@ -94,6 +99,7 @@ pub record Wrote (before after : WriterSeen) (found : ℕ) : Type 0 where
   pub ledger : after.ledger ≡ before.ledger
   pub due : after.due ≡ None
   pub knows : known_at after ≡ (writer_action (sheet before.ledger.opening) (known_at before)).after found
+  pub machine : KnowsAfter after.history after.held
 
 -- the next step of a seat that is the writer's, where a publication of these commands begins with it, if there are some
 abbrev pub next_action : Option (List Command) → Me Unit View → Action WriterView
@@ -168,6 +174,14 @@ pub record IsFilling (d : WriterSeen) (k : ℕ) : Type 0 where
   pub taken : (known_at d).state.taken ≡ d.ledger.journal
   pub phase : (known_at d).state.phase ≡ (if k == COPY_WORDS then Swapping else Filling k)
 
+-- of a publication under way the words from one on and before another were stored
+pub record Filled (from to : ℕ) (before after : WriterSeen) : Type 0 where
+  pub way : Underway before after
+  pub seen : seen_out_of after ≡ seen_out_of before
+  pub due : after.due ≡ None
+  pub stored : IsFilling after to
+  pub steps : WroteSteps (to - from) before after
+
 -- what contracts see of the writer: its register, the commands published, the lengths of the lists published so far,
 -- who is seen out, and what happened on the board up to its last step
 pub record Publisher : Type 0 where
@@ -214,6 +228,19 @@ publication_steps seen_out = unseen seen_out + (COPY_WORDS + 1)
 -- the steps of one that is given up: a load for each reader that was seen out by it, and one for the reader in the way
 abbrev pub looks : List Bool → List Bool → ℕ
 looks before after = unseen before - unseen after + 1
+
+-- the events of a publication that begins at a moment, and takes so many steps, were added
+abbrev pub AddsTry : ℕ → WriterSeen → WriterSeen → Type 0
+AddsTry steps before after =
+    Adds is_writers (publication before.history before.ledger.journal steps) before.history after.history
+
+-- a publication was given up, since a reader is in the way: the least that isn't seen out, counted from 1
+pub record GaveUp (before after : WriterSeen) (reader : ℕ) : Type 0 where
+  pub idle : IsIdle after
+  pub stay : StaySeen (seen_out_of before) (seen_out_of after)
+  pub named : (reader ≡ suc (first_false (seen_out_of after))) × (all_true (seen_out_of after) ≡ false)
+  pub told : last_told after.history ≡ Some (Busy reader)
+  pub machine : KnowsAfter after.history after.held
 
 -- after so many tries that were given up, one publication was ended
 abbrev pub TookTries : ℕ → Publisher → Publisher → Type 0

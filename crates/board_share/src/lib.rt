@@ -6,12 +6,11 @@ mod busy;
 mod laws;
 mod opening;
 mod publishing;
+mod reader_steps;
 mod readers;
 mod readings;
 mod rule;
-mod steps;
 mod views;
-mod word_writers;
 mod writer_steps;
 mod writers;
 

@@ -8,7 +8,7 @@ ghost use Rattle.board_share.specs.Openings.{IsSplitting, beginning_of, new_read
 use crate::readers::Reader;
 use crate::rule::{Board, SplitOff};
 use crate::views::{Beginning, View};
-use crate::word_writers::WordWriter;
+use crate::writer_steps::WordWriter;
 use crate::writers::Writer;
 use atomic_table::{Seat, Table};
 use council_core::{Refusal, Register};

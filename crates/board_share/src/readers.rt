@@ -9,9 +9,9 @@ ghost use Rattle.two_copy_steps.specs.declared.views.Stage.TheVariants.{AtRest};
 ghost use Rattle.board_share.specs.Readers.{HasLegalRecord, IsLegalSheet, IsReader, TookStep, last_front_of, last_of};
 ghost use Rattle.board_share.specs.Readers.{TookSteps, WasTold, number_of, reader_at};
 
+use crate::reader_steps::{advance, read_all};
 use crate::readings::Reading;
 use crate::rule::Board;
-use crate::steps::{advance, read_all};
 use crate::views::View;
 use atomic_table::Seat;
 use std::marker::Model;

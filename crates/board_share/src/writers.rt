@@ -15,7 +15,7 @@ ghost use Rattle.board_share.specs.Writers.{publication_steps, publisher_of, see
 
 use crate::busy::Busy;
 use crate::publishing::publish_all;
-use crate::word_writers::WordWriter;
+use crate::writer_steps::WordWriter;
 use council_core::{Command, Refusal};
 use std::marker::Model;
 use std::sync::Wait;
