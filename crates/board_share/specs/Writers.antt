@@ -19,7 +19,7 @@ use Rattle.two_copy_steps.specs.declared.table.TheConstants.{COPY_WORDS, READERS
 use Rattle.board_share.specs.declared.views.View.{View}
 use Rattle.board_share.specs.declared.views.History.{History}
 use Rattle.board_share.specs.Histories.{Adds, KnowsAfter, handed_over, is_writers, known_after, last_told, machine_of}
-use Rattle.board_share.specs.Steps.{begin_events, begun_with, step_note, with_writer}
+use Rattle.board_share.specs.Steps.{WriterActed, begin_events, begun_with, step_note, with_writer}
 
 -- the register, what the writer's seat knows, the commands of a publication that has begun and has not taken a step
 -- yet, and what happened on the board up to the writer's last step
@@ -118,6 +118,13 @@ pub record MayWrite (table seat : TableId) (me : Me Unit View) (list : Option (L
 -- and what it leaves, after a history
 abbrev pub next_me : Option (List Command) → Me Unit View → ℕ → History → Me Unit View
 next_me list me found h = (with_writer me.0 (writer_or me.0.writer).0 ((next_action list me).after found) h, me.1)
+
+-- the writer's seat took its step, which left this number in its word
+pub record SeatStepped (list : Option (List Command)) (found : ℕ) (seat seat' : TableId) (me me' : Me Unit View)
+    : Type 0 where
+  pub same : seat' ≡ seat
+  pub next : me' ≡ next_me list me found me'.0.history
+  pub acted : WriterActed list found me.0.history me'.0.history (writer_or me.0.writer).1 (writer_or me'.0.writer).1
 
 -- the writer's seat where word k of its sheet is stored next, after a history
 abbrev pub at_word : Me Unit View → ℕ → History → Me Unit View

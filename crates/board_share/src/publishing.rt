@@ -1,12 +1,10 @@
 //! A publication of all commands, from its beginning to the store of side.
-ghost use Rattle.std.specs.Prelude.{◌≡◌, suc, ◌∷◌, ◌++◌, [], true, false, length};
-ghost use Rattle.std.specs.Prelude.{◌<◌, Some, replicate, OnOk, IfOk, OnErr, IfErr, IsOk};
-ghost use Rattle.two_copy_steps.specs.declared.events.Note.TheVariants.{Busy as BusyAt, Published};
-ghost use Rattle.two_copy_steps.specs.Actions.{all_true, first_false};
-ghost use Rattle.two_copy_steps.specs.Publications.{StaySeen};
+ghost use Rattle.std.specs.Prelude.{◌≡◌, ◌<◌, ◌∷◌, ◌++◌, [], true, false, Some, length, replicate};
+ghost use Rattle.std.specs.Prelude.{OnOk, IfOk, OnErr, IfErr, IsOk};
+ghost use Rattle.two_copy_steps.specs.declared.events.Note.TheVariants.{Published};
+ghost use Rattle.two_copy_steps.specs.Actions.{all_true};
 ghost use Rattle.board_share.specs.Histories.{KnowsAfter, last_told};
-ghost use Rattle.board_share.specs.Writers.{AddsTry, GaveUp, IsFilling, IsIdle, IsSeeing, Underway, WroteSteps};
-ghost use Rattle.board_share.specs.Writers.{known_at};
+ghost use Rattle.board_share.specs.Writers.{AddsTry, GaveUp, IsFilling, IsIdle, IsSeeing, Underway, WroteSteps, known_at};
 ghost use Rattle.board_share.specs.Writers.{looks, publication_steps, seen_out_of, unseen};
 
 use crate::busy::Busy;

@@ -75,14 +75,18 @@ impl Reader {
         ensures opening { self.new.opening ≡ self.old.opening }
         ensures number { number_of self.new ≡ number_of self.old }
         ensures step { TookStep self.old self.new }
-        ensures steps { TookSteps 1 self.old self.new }
-        ensures told { IfSome result (λ x. WasTold self.new x.sheet) }
         ensures count { steps_taken self.new.stage
             ≡ (if steps_taken self.old.stage == last_step then 0 else steps_taken self.old.stage + 1) }
+
+        // The reading that it ends, if it is the last step of one.
         ensures answer { IsSome result ↔ (steps_taken self.old.stage ≡ last_step) }
         ensures words { option_map (λ x. x.sheet) result ≡ sheet_read self.old.stage }
         ensures last { IfSome result (λ x. last_of self.new ≡ Some x.sheet) }
         ensures record_legal { HasLegalRecord self.new }
+
+        // The event that it added to the board's history, and what that tells.
+        ensures steps { TookSteps 1 self.old self.new }
+        ensures told { IfSome result (λ x. WasTold self.new x.sheet) }
     {
         advance(&self.board, &mut self.seat, self.index, &mut self.stage)
     }
@@ -94,13 +98,17 @@ impl Reader {
         ensures opening { self.new.opening ≡ self.old.opening }
         ensures number { number_of self.new ≡ number_of self.old }
         ensures rest { self.new.stage ≡ AtRest }
-        ensures steps { TookSteps reading_steps self.old self.new }
-        ensures told { WasTold self.new result.sheet }
+
+        // The sheet that it read.
         ensures reading { self.new.readings ≡ self.old.readings ++ result.sheet ∷ [] }
         ensures last { last_of self.new ≡ Some result.sheet }
         ensures sheet { IsLegalSheet self.old.opening result.sheet }
         ensures not_older { last_front_of self.old ≤ front_of result.sheet }
         ensures record_legal { HasLegalRecord self.new }
+
+        // The events that it added to the board's history, and what the last of them tells.
+        ensures steps { TookSteps reading_steps self.old self.new }
+        ensures told { WasTold self.new result.sheet }
     {
         self.stage.give_up();
         read_all(&self.board, &mut self.seat, self.index)

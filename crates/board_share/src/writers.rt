@@ -38,6 +38,7 @@ impl Model for Writer {
 }
 
 impl Writer {
+    // A writer with no publication under way.
     pub(crate) fn new(words: WordWriter) -> Writer
         requires { IsIdle words }
         ensures { result ≡ publisher_of words }
@@ -64,19 +65,27 @@ impl Writer {
     /// where a reader is found in the middle of a reading; those that were seen out stay so.
     pub fn try_publish(&mut self) -> Result<u32, Busy>
         ensures ledger { self.new.ledger ≡ self.old.ledger }
+        ensures readers { length self.new.seen_out ≡ length self.old.seen_out }
+
+        // Which of the two it is.
+        ensures sure { all_true self.old.seen_out ≡ true → IsOk result }
+        ensures nothing_pending { is_pending self.old ≡ false → IsOk result }
+        ensures still { is_pending self.old ≡ false → self.new ≡ self.old }
+
+        // All commands are published.
         ensures front { IfOk result (λ n. n ≡ length self.old.ledger.journal) }
         ensures published { OnOk result (self.new.published ≡ self.old.ledger.journal) }
         ensures cuts { OnOk result (self.new.cuts ≡ cuts_after self.old) }
         ensures seen_out { OnOk result (self.new.seen_out ≡ seen_out_after self.old) }
-        ensures readers { length self.new.seen_out ≡ length self.old.seen_out }
+
+        // A reader is in the way.
         ensures unchanged { OnErr result
             ((self.new.published ≡ self.old.published) × (self.new.cuts ≡ self.old.cuts)) }
         ensures stay { OnErr result (StaySeen self.old.seen_out self.new.seen_out) }
         ensures busy { IfErr result
             (λ b. (b.reader ≡ suc (first_false self.new.seen_out)) × (all_true self.new.seen_out ≡ false)) }
-        ensures sure { all_true self.old.seen_out ≡ true → IsOk result }
-        ensures nothing_pending { is_pending self.old ≡ false → IsOk result }
-        ensures still { is_pending self.old ≡ false → self.new ≡ self.old }
+
+        // The events that it added to the board's history, and what the last of them tells.
         ensures steps { is_pending self.old ≡ true
             → OnOk result (TookTry (publication_steps self.old.seen_out) self.old self.new) }
         ensures gave_up { OnErr result (TookTry (looks self.old.seen_out self.new.seen_out) self.old self.new) }
@@ -99,6 +108,8 @@ impl Writer {
         ensures cuts { self.new.cuts ≡ cuts_after self.old }
         ensures seen_out { self.new.seen_out ≡ seen_out_after self.old }
         ensures still { is_pending self.old ≡ false → self.new ≡ self.old }
+
+        // The events that it added to the board's history, and what the last of them tells.
         ensures steps { is_pending self.old ≡ true → (tries : ℕ) × TookTries tries self.old self.new }
         ensures told { is_pending self.old ≡ true → last_told self.new.history ≡ Some (Published result) }
     {

@@ -1,4 +1,4 @@
-use Rattle.std.proofs.Common.{◌≡◌, ◌∙◌, List, get_or, refl, sym, ap, arith}
+use Rattle.std.proofs.Common.{◌∙◌, List, get_or, refl, sym, ap, arith}
 use Rattle.council_core.specs.Rolls.{sheet}
 use Rattle.council_core.specs.declared.commands.Command.{Command}
 use Rattle.two_copy_steps.specs.declared.views.Phase.TheVariants.{Filling}
@@ -25,12 +25,10 @@ invariant_of-self g c =
     stored _ _ _ _ _ _ _ _ c.self.invariant _ _ _ _ 0 record {
       due = c.requires.list ∙ ap (λ (d : WriterSeen). d.due) (sym c.self.view_is);
       phase_is = ap (λ (d : WriterSeen). (known_at d).state.phase) c.self.view_is ∙ c.requires.first.phase;
-      same = c.store.ensures.table;
-      next = c.store.ensures.view;
-      acted = c.store.ensures.acted;
+      step = c.store.ensures.step;
     }
 
 pub returns : goal.returns
 returns g c = record {
-  stored = filled_first _ _ _ (wrote _ _ _ _ _ _ _ _ c.self.invariant _ _ _ _ (c.requires.list ∙ ap (λ (d : WriterSeen). d.due) (sym c.self.view_is)) c.store.ensures.view c.store.ensures.acted c.self.view_is) c.requires.first;
+  stored = filled_first _ _ _ (wrote _ _ _ _ _ _ _ _ c.self.invariant _ _ _ _ _ (c.requires.list ∙ ap (λ (d : WriterSeen). d.due) (sym c.self.view_is)) c.store.ensures.step c.self.view_is) c.requires.first;
 }

@@ -34,9 +34,7 @@ invariant_of-self g c =
     gave_up _ _ _ _ _ _ _ _ c.self.invariant _ _ _ _ record {
       due = c.requires.list ∙ ap (λ (d : WriterSeen). d.due) (sym c.self.view_is);
       phase_is = ap (λ (d : WriterSeen). (known_at d).state.phase) c.self.view_is ∙ c.requires.phase;
-      same = c.load-found.ensures.table;
-      next = c.load-found.ensures.view;
-      acted = c.load-found.ensures.acted;
+      step = c.load-found.ensures.step;
     } c.if-found-ne0.true
 
 pub invariant_of-self-2 : goal.invariant_of-self-2
@@ -44,13 +42,11 @@ invariant_of-self-2 g c =
     saw_out _ _ _ _ _ _ _ _ c.self.invariant _ _ _ _ _ _ record {
       due = c.requires.list ∙ ap (λ (d : WriterSeen). d.due) (sym c.self.view_is);
       phase_is = ap (λ (d : WriterSeen). (known_at d).state.phase) c.self.view_is ∙ c.requires.phase;
-      same = c.load-found.ensures.table;
-      next = c.load-found.ensures.view;
-      acted = c.load-found.ensures.acted;
+      step = c.load-found.ensures.step;
     } c.if-found-ne0.false (least_of _ _ _ _ _ _ _ _ c.self.invariant _ (c.requires.least ∙ ap (λ (d : WriterSeen). first_false (known_at d).state.seen_out) (sym c.self.view_is))) c.set.ensures
 
 pub returns-then-found-ne0 : goal.returns-then-found-ne0
-returns-then-found-ne0 g c = record { step = (c.load-found.result, wrote _ _ _ _ _ _ _ _ c.self.invariant _ _ _ _ (c.requires.list ∙ ap (λ (d : WriterSeen). d.due) (sym c.self.view_is)) c.load-found.ensures.view c.load-found.ensures.acted c.self.view_is, sym (ne_eqb c.load-found.result 0 c.if-found-ne0.true)) }
+returns-then-found-ne0 g c = record { step = (c.load-found.result, wrote _ _ _ _ _ _ _ _ c.self.invariant _ _ _ _ _ (c.requires.list ∙ ap (λ (d : WriterSeen). d.due) (sym c.self.view_is)) c.load-found.ensures.step c.self.view_is, sym (ne_eqb c.load-found.result 0 c.if-found-ne0.true)) }
 
 pub returns : goal.returns
-returns g c = record { step = (c.load-found.result, wrote _ _ _ _ _ _ _ _ c.self.invariant _ _ _ _ (c.requires.list ∙ ap (λ (d : WriterSeen). d.due) (sym c.self.view_is)) c.load-found.ensures.view c.load-found.ensures.acted c.self.view_is, sym (eq-eqb c.load-found.result 0 c.if-found-ne0.false)) }
+returns g c = record { step = (c.load-found.result, wrote _ _ _ _ _ _ _ _ c.self.invariant _ _ _ _ _ (c.requires.list ∙ ap (λ (d : WriterSeen). d.due) (sym c.self.view_is)) c.load-found.ensures.step c.self.view_is, sym (eq-eqb c.load-found.result 0 c.if-found-ne0.false)) }

@@ -22,12 +22,10 @@ invariant_of-self g c =
     published_all _ _ _ _ _ _ _ _ c.self.invariant _ _ _ _ _ _ record {
       due = c.requires.list ∙ ap (λ (d : WriterSeen). d.due) (sym c.self.view_is);
       phase_is = ap (λ (d : WriterSeen). (known_at d).state.phase) c.self.view_is ∙ c.requires.phase;
-      same = c.store.ensures.table;
-      next = c.store.ensures.view;
-      acted = c.store.ensures.acted;
+      step = c.store.ensures.step;
     }
     (ap (λ (d : WriterSeen). (known_at d).state.taken) c.self.view_is ∙ (c.requires.whole ∙ ap (λ (d : WriterSeen). d.ledger.journal) (sym c.self.view_is)))
     c.accepted-self-inside.ensures.number c.clear.ensures
 
 pub returns : goal.returns
-returns g c = record { step = (_, wrote _ _ _ _ _ _ _ _ c.self.invariant _ _ _ _ (c.requires.list ∙ ap (λ (d : WriterSeen). d.due) (sym c.self.view_is)) c.store.ensures.view c.store.ensures.acted c.self.view_is) }
+returns g c = record { step = (_, wrote _ _ _ _ _ _ _ _ c.self.invariant _ _ _ _ _ (c.requires.list ∙ ap (λ (d : WriterSeen). d.due) (sym c.self.view_is)) c.store.ensures.step c.self.view_is) }
