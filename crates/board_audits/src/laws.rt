@@ -1,5 +1,6 @@
 //! Laws of audits, as contracts of functions that do nothing.
-ghost use Rattle.board_audits.specs.AuditLaws.{AuditLaw, CutsFaultLaw, JournalFaultLaw, ReadingsFaultLaw, StartFaultLaw};
+ghost use Rattle.board_audits.specs.AuditLaws.{AuditLaw, CutsFaultLaw, JournalFaultLaw, ReadingsFaultLaw};
+ghost use Rattle.board_audits.specs.AuditLaws.{StartFaultLaw};
 
 /// An audit finds nothing just where a register starts with the members and the records are legal, with 0
 /// as the first cut.

@@ -1,7 +1,7 @@
 -- The lines of events, one event at a time.
 use Rattle.std.proofs.Common.{◌≡◌, ℕ, suc, ◌+◌, ◌-◌, ◌<◌, List, ◌∷◌, ◌++◌, Option, Ok, Err, replicate, refl, sym, ap, ◌∙◌, arith, append_assoc}
 use Rattle.std.specs.Io.KnownBytes.{Appends}
-use Rattle.two_copy_steps.specs.Turns.{MachineState, after, turn}
+use Rattle.two_copy_steps.specs.Transitions.{MachineState, after, transition}
 use Rattle.two_copy_steps.specs.declared.events.Event.{Event}
 use Rattle.board_text.specs.Lines.{Line, note_lines}
 use Rattle.board_text.specs.Output.{Plays}
@@ -16,25 +16,25 @@ events-left n i e within = let same : n - i ≡ suc (n - (i + 1)) = omega (arith
 
 module _ (m : MachineState) (e : Event) (n i : ℕ) (within : i < n) where
   -- the lines of an event, and then those of the events after it
-  told-left : told m (replicate (n - i) e) ≡ note_lines (turn m e).1 ++ told (turn m e).0 (replicate (n - (i + 1)) e)
+  told-left : told m (replicate (n - i) e) ≡ note_lines (transition m e).1 ++ told (transition m e).0 (replicate (n - (i + 1)) e)
   told-left = ap (λ es. told m es) (events-left n i e within)
 
-  pub after-left : (x : MachineState) → x ≡ (turn m e).0 → after m (replicate (n - i) e) ≡ after x (replicate (n - (i + 1)) e)
+  pub after-left : (x : MachineState) → x ≡ (transition m e).0 → after m (replicate (n - i) e) ≡ after x (replicate (n - (i + 1)) e)
   after-left x same = ap (λ es. after m es) (events-left n i e within) ∙ ap (λ y. after y (replicate (n - (i + 1)) e)) (sym same)
 
   module _ (a b c : Option (List ℕ)) (done whole : List Line) (so_far : Appends a b (text_of done)) (parts : whole ≡ done ++ told m (replicate (n - i) e)) where
-    pub told-goes : (u : Unit {0}) (x : MachineState) → Plays b c (Ok u) (prints (note_lines (turn m e).1)) → x ≡ (turn m e).0
+    pub told-goes : (u : Unit {0}) (x : MachineState) → Plays b c (Ok u) (prints (note_lines (transition m e).1)) → x ≡ (transition m e).0
         → (more : List Line) × Appends a c (text_of more) × (whole ≡ more ++ told x (replicate (n - (i + 1)) e))
     told-goes u x p same = (
-      done ++ note_lines (turn m e).1,
-      lines-then a b c done (note_lines (turn m e).1) so_far p.1,
-      parts ∙ ap (λ ls. done ++ ls) told-left ∙ sym (append_assoc done (note_lines (turn m e).1) _)
-          ∙ ap (λ y. (done ++ note_lines (turn m e).1) ++ told y (replicate (n - (i + 1)) e)) (sym same),
+      done ++ note_lines (transition m e).1,
+      lines-then a b c done (note_lines (transition m e).1) so_far p.1,
+      parts ∙ ap (λ ls. done ++ ls) told-left ∙ sym (append_assoc done (note_lines (transition m e).1) _)
+          ∙ ap (λ y. (done ++ note_lines (transition m e).1) ++ told y (replicate (n - (i + 1)) e)) (sym same),
     )
 
-    pub told-stops : (s d : Stop) → d ≡ s → Plays b c (Err s) (prints (note_lines (turn m e).1)) → Plays a c (Err d) (prints whole)
+    pub told-stops : (s d : Stop) → d ≡ s → Plays b c (Err s) (prints (note_lines (transition m e).1)) → Plays a c (Err d) (prints whole)
     told-stops s d same p =
-        let rest = told (turn m e).0 (replicate (n - (i + 1)) e) in
-        let played : PlayedTo a b (prints whole) (prints (note_lines (turn m e).1 ++ rest)) =
+        let rest = told (transition m e).0 (replicate (n - (i + 1)) e) in
+        let played : PlayedTo a b (prints whole) (prints (note_lines (transition m e).1 ++ rest)) =
         record { lines = done; written = so_far; goes_on = ap prints (parts ∙ ap (λ ls. done ++ ls) told-left) } in
-        plays-passed a c s d (prints whole) same (plays-whole a b c (Err s) _ _ played (plays-more b c s (note_lines (turn m e).1) (prints rest) p))
+        plays-passed a c s d (prints whole) same (plays-whole a b c (Err s) _ _ played (plays-more b c s (note_lines (transition m e).1) (prints rest) p))

@@ -4,8 +4,8 @@ use Rattle.std.specs.Prelude.{if◌then◌else◌}
 use Rattle.std.specs.List.{flat_map}
 use Rattle.council_core.specs.Ledgers.{Ledger}
 use Rattle.council_core.specs.declared.refusals.Refusal.TheVariants.{BadReader, BadRecord}
-use Rattle.two_copy_steps.specs.Turns.{MachineState, after, notes}
-use Rattle.two_copy_steps.specs.Turns as machine
+use Rattle.two_copy_steps.specs.Transitions.{MachineState, after, notes}
+use Rattle.two_copy_steps.specs.Transitions as machine
 use Rattle.two_copy_steps.specs.declared.events.Event.{Event}
 use Rattle.two_copy_steps.specs.declared.events.Event.TheVariants as event
 use Rattle.board_text.specs.Lines.{Line, note_lines}

@@ -1,6 +1,6 @@
 //! Taking the two-copy machine through a schedule.
 ghost use Rattle.std.specs.Prelude.{◌≡◌, true, false, replicate, OnOk};
-ghost use Rattle.two_copy_steps.specs.Turns.{after, turn};
+ghost use Rattle.two_copy_steps.specs.Transitions.{after, transition};
 ghost use Rattle.board_text.specs.Lines.{note_lines};
 ghost use Rattle.board_text.specs.Output.{IsBadLimit, Plays};
 ghost use Rattle.board_runs.specs.Ended.{Replays};
@@ -32,8 +32,8 @@ fn write_note<W: Write>(note: Note, out: &mut Output<'_, W>) -> Result<(), Stop>
 
 // Takes the machine through an event.
 fn take<W: Write>(machine: &mut Machine, event: Event, out: &mut Output<'_, W>) -> Result<(), Stop>
-    ensures wrote { Plays out.old.held out.new.held result (prints (note_lines (turn machine.old event).1)) }
-    ensures state { OnOk result (machine.new ≡ (turn machine.old event).0) }
+    ensures wrote { Plays out.old.held out.new.held result (prints (note_lines (transition machine.old event).1)) }
+    ensures state { OnOk result (machine.new ≡ (transition machine.old event).0) }
     ensures on { GoesOn out.old out.new }
 {
     let Ok(note) = machine.step(event) else {

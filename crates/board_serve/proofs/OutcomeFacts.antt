@@ -8,7 +8,7 @@ use Rattle.council_core.specs.Sequential.{AreCuts, Sequential, replies_of, state
 use Rattle.majority_rule.specs.declared.majorities.Majority.{Majority}
 use Rattle.two_copy_steps.specs.Lawful.{last_front}
 use Rattle.board_share.specs.Openings.{beginning_of, new_publisher}
-use Rattle.board_share.specs.Readers.{IsLegalSheet, Pass, new_pass}
+use Rattle.board_share.specs.Readers.{IsLegalSheet, ReaderSeen, new_reader}
 use Rattle.board_text.specs.Replies.{reply_of}
 use Rattle.board_serve.specs.Outcomes.{IsBrought, IsOutcome, IsServed, asked_by, omegas_by}
 use Rattle.board_serve.specs.Parts.{call_of_order}
@@ -35,15 +35,15 @@ new-register ledger none = ap (λ (n : ℕ). let s : Sequential = record { ledge
 -- the job of a reader that had read nothing, and what it read
 pub record Answers (p : Planned) (place : ℕ) (asked : List Majority) (r : Readings) : Type 0 where
   pub job : ReaderJob
-  pub is_new : job.analyst.reader ≡ new_pass (beginning_of p.0.ledger 2) place
+  pub is_new : job.analyst.reader ≡ new_reader (beginning_of p.0.ledger 2) place
   pub asks : job.asked.items ≡ asked
   pub done : AreRead job r
 
 legal-of : (p : Planned) (place : ℕ) (asked : List Majority) (r : Readings) → Answers p place asked r → All (IsLegalSheet p.0.ledger.opening) r.sheets.items
-legal-of p place asked r h = subst (λ (a : Pass). All (IsLegalSheet a.opening) r.sheets.items) h.is_new h.done.legal
+legal-of p place asked r h = subst (λ (a : ReaderSeen). All (IsLegalSheet a.opening) r.sheets.items) h.is_new h.done.legal
 
 rising-of : (p : Planned) (place : ℕ) (asked : List Majority) (r : Readings) → Answers p place asked r → IsRising 0 r.sheets.items
-rising-of p place asked r h = subst (λ (a : Pass). IsRising (last_front 0 a.readings) r.sheets.items) h.is_new h.done.rising
+rising-of p place asked r h = subst (λ (a : ReaderSeen). IsRising (last_front 0 a.readings) r.sheets.items) h.is_new h.done.rising
 
 read-of : (p : Planned) (place : ℕ) (asked : List Majority) (r : Readings) → Answers p place asked r → IsRead asked r
 read-of p place asked r h = subst (λ (ms : List Majority). IsRead ms r) h.asks h.done.read

@@ -12,7 +12,7 @@ use Rattle.council_core.specs.declared.refusals.Refusal.{Refusal}
 use Rattle.council_core.specs.Sheets.{front_of}
 use Rattle.majority_rule.specs.declared.majorities.Majority.{Majority}
 use Rattle.two_copy_steps.specs.Lawful.{last_front}
-use Rattle.board_share.specs.Analysts.{Asking}
+use Rattle.board_share.specs.Analysts.{AnalystSeen}
 use Rattle.board_share.specs.Readers.{IsLegalSheet, last_front_of}
 use Rattle.board_share.proofs.WholeReadings.{front_is}
 use Rattle.board_share.specs.Writers.{Publisher}
@@ -99,14 +99,14 @@ rising-more low [] w r above = (above, tt)
 rising-more low (x ∷ xs) w r above = (r.0, rising-more (front_of x) xs w r.1 above)
 
 -- one sheet more was read: it is of some legal list, and not older than the one before
-pub record SheetRead (after next : Asking) : Type 0 where
+pub record SheetRead (after next : AnalystSeen) : Type 0 where
   pub opening : next.reader.opening ≡ after.reader.opening
   pub grown : next.reader.readings ≡ after.reader.readings ++ next.sheet ∷ []
   pub legal : IsLegalSheet after.reader.opening next.sheet
   pub not_older : last_front_of after.reader ≤ front_of next.sheet
 
 -- one sheet more was read and kept
-pub read-more : (before after next : Asking) (r v : Readings) → IsReadFrom before after r → SheetRead after next → v.sheets.items ≡ r.sheets.items ++ next.sheet ∷ [] → IsReadFrom before next v
+pub read-more : (before after next : AnalystSeen) (r v : Readings) → IsReadFrom before after r → SheetRead after next → v.sheets.items ≡ r.sheets.items ++ next.sheet ∷ [] → IsReadFrom before next v
 read-more before after next r v done one sheets =
     let above : last_front 0 after.reader.readings ≤ front_of next.sheet = subst (λ (n : ℕ). n ≤ front_of next.sheet) (sym (front_is 0 after.reader.readings)) one.not_older in
     let low : last_front (last_front 0 before.reader.readings) r.sheets.items ≡ last_front 0 after.reader.readings =

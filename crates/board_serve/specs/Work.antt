@@ -10,7 +10,7 @@ use Rattle.council_core.specs.declared.refusals.Refusal.TheVariants as why
 use Rattle.majority_rule.specs.Winning.{rule_of}
 use Rattle.majority_rule.specs.declared.majorities.Majority.{Majority}
 use Rattle.two_copy_steps.specs.Lawful.{last_front}
-use Rattle.board_share.specs.Analysts.{Asking}
+use Rattle.board_share.specs.Analysts.{AnalystSeen}
 use Rattle.board_share.specs.Readers.{IsLegalSheet}
 use Rattle.board_share.specs.Writers.{Publisher}
 use Rattle.board_text.specs.Replies.{reply_of}
@@ -75,7 +75,7 @@ IsRising low [] = Unit {0}
 IsRising low (words ∷ sheets) = (low ≤ front_of words) × IsRising (front_of words) sheets
 
 -- the sheets are those by which the reader's record grew: each of some legal list, with fronts that don't fall
-pub record IsReadFrom (before after : Asking) (readings : Readings) : Type 0 where
+pub record IsReadFrom (before after : AnalystSeen) (readings : Readings) : Type 0 where
   pub opening : after.reader.opening ≡ before.reader.opening
   pub grown : after.reader.readings ≡ before.reader.readings ++ readings.sheets.items
   pub legal : All (IsLegalSheet before.reader.opening) readings.sheets.items

@@ -2,7 +2,7 @@
 ghost use Rattle.std.specs.Prelude.{◌≡◌, ◌<◌, ◌^◌, ◌∷◌, [], length, vec_len, IfOk, IsOkUnless};
 ghost use Rattle.two_copy_steps.specs.declared.views.Stage.TheVariants.{AtRest};
 ghost use Rattle.board_share.specs.Openings.{beginning_of, new_publisher};
-ghost use Rattle.board_share.specs.Readers.{new_pass};
+ghost use Rattle.board_share.specs.Readers.{new_reader};
 ghost use Rattle.board_serve.specs.Jobs.{AreReady};
 ghost use Rattle.board_serve.specs.Parts.{shares_of, size_of};
 ghost use Rattle.board_serve.specs.Work.{HasRoomToRead, HasRoomToWrite};
@@ -50,8 +50,8 @@ fn analysts(alloc: Global, first: Reader, second: Reader) -> Result<(Analyst, An
 // A board over a register, with its writer and its two readers.
 fn seat_board(alloc: Global, register: Register) -> Result<(Writer, Analyst, Analyst), Stop>
     ensures writer { IfOk result (λ b. b.0 ≡ new_publisher register 2) }
-    ensures reader_1 { IfOk result (λ b. b.1.reader ≡ new_pass (beginning_of register 2) 0) }
-    ensures reader_2 { IfOk result (λ b. b.2.reader ≡ new_pass (beginning_of register 2) 1) }
+    ensures reader_1 { IfOk result (λ b. b.1.reader ≡ new_reader (beginning_of register 2) 0) }
+    ensures reader_2 { IfOk result (λ b. b.2.reader ≡ new_reader (beginning_of register 2) 1) }
     ensures memory { IsOkUnless result stop.OutOfMemory }
 {
     let Ok((writer, readers)) = start(alloc, register, 2) else {
@@ -86,8 +86,8 @@ pub(crate) fn seat_all(alloc: Global, register: Register, parts: Parts) -> Resul
     ensures ready { IfOk result AreReady }
     ensures writer { IfOk result (λ j. j.writer.writer ≡ new_publisher register 2) }
     ensures orders { IfOk result (λ j. j.writer.orders ≡ parts.writer) }
-    ensures reader_1 { IfOk result (λ j. j.first.analyst.reader ≡ new_pass (beginning_of register 2) 0) }
-    ensures reader_2 { IfOk result (λ j. j.second.analyst.reader ≡ new_pass (beginning_of register 2) 1) }
+    ensures reader_1 { IfOk result (λ j. j.first.analyst.reader ≡ new_reader (beginning_of register 2) 0) }
+    ensures reader_2 { IfOk result (λ j. j.second.analyst.reader ≡ new_reader (beginning_of register 2) 1) }
     ensures asked { IfOk result (λ j. (j.first.asked ≡ parts.first) × (j.second.asked ≡ parts.second)) }
     ensures memory { IsOkUnless result stop.OutOfMemory }
 {

@@ -14,9 +14,9 @@ use Rattle.two_copy_steps.specs.declared.table.TheConstants.{COPY_WORDS}
 use Rattle.two_copy_steps.proofs.ReaderSteps.{place_low}
 use Rattle.board_share.specs.declared.views.View.{View}
 use Rattle.board_share.specs.Histories.{Adds, KnowsAfter, is_writers}
-use Rattle.board_share.specs.Steps.{WriterActed, with_writer}
-use Rattle.board_share.specs.Writers.{FilledTo, MayFill, MayWrite, at_word, next_action, next_me, writer_or}
-use Rattle.board_share.proofs.Fronts.{adds_none, adds_then}
+use Rattle.board_share.specs.Steps.{with_writer}
+use Rattle.board_share.specs.Writers.{FilledTo, MayFill, MayWrite, SeatStepped, at_word, next_action, writer_or}
+use Rattle.board_share.proofs.Prefixes.{adds_none, adds_then}
 
 module _ (table seat : TableId) (me : Me Unit View) (l : Ledger) (copy k : ℕ) (h : MayFill table seat me l copy k) (short : k < COPY_WORDS) where
   abbrev w : Opening × WriterView
@@ -52,9 +52,9 @@ module _ (table seat : TableId) (me : Me Unit View) (l : Ledger) (copy k : ℕ) 
   pub same_after : (x n : ℕ) → (next_action None me).after x ≡ (next_action None me).after n
   same_after x n = subst (λ (d : Action WriterView). d.after x ≡ d.after n) (sym action_is) refl
 
-  pub word_stored : (me' : Me Unit View) (x : ℕ) → me' ≡ next_me None me x me'.0.history → WriterActed None x me.0.history me'.0.history (writer_or me.0.writer).1 (writer_or me'.0.writer).1 → FilledTo 1 (k + 1) me me'
-  word_stored me' x e acted =
-      record { next = e ∙ ap (λ (d : Action WriterView). let m : Me Unit View = (with_writer me.0 w.0 (d.after x) me'.0.history, me.1) in m) action_is; adds = acted.adds; knows = acted.knows }
+  pub word_stored : (seat' : TableId) (me' : Me Unit View) (x : ℕ) → SeatStepped None x seat seat' me me' → FilledTo 1 (k + 1) me me'
+  word_stored seat' me' x step =
+      record { next = step.next ∙ ap (λ (d : Action WriterView). let m : Me Unit View = (with_writer me.0 w.0 (d.after x) me'.0.history, me.1) in m) action_is; adds = step.acted.adds; knows = step.acted.knows }
 
 -- no word was stored yet
 pub filled_none : (table seat : TableId) (me : Me Unit View) (l : Ledger) (copy k : ℕ) → MayFill table seat me l copy k → FilledTo 0 k me me

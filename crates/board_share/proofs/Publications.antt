@@ -10,14 +10,14 @@ use Rattle.two_copy_steps.specs.declared.events.Note.TheVariants.{Busy, Moved, P
 use Rattle.two_copy_steps.specs.declared.views.WriterView.{WriterView}
 use Rattle.two_copy_steps.specs.declared.views.Phase.{Phase}
 use Rattle.two_copy_steps.specs.declared.views.Phase.TheVariants.{Idle, Seeing, Filling, Swapping}
-use Rattle.two_copy_steps.specs.Actions.{all_true, first_false, seeing}
+use Rattle.two_copy_steps.specs.Actions.{all_true, filled, first_false, seeing}
 use Rattle.two_copy_steps.specs.Publications.{StaySeen}
 use Rattle.board_share.specs.declared.views.History.{History}
 use Rattle.board_share.specs.Histories.{Adds, is_writers, last_told}
 use Rattle.board_share.specs.Steps.{begin_events, step_note}
-use Rattle.board_share.specs.Writers.{Desk, known_at, Went, Wrote, Underway, IsIdle, IsSeeing, unseen}
-use Rattle.board_share.proofs.Fronts.{adds_none, adds_then}
-use Rattle.board_share.proofs.Desks.{action_in}
+use Rattle.board_share.specs.Writers.{WriterSeen, known_at, WroteSteps, Wrote, Underway, Filled, IsFilling, IsIdle, IsSeeing, unseen}
+use Rattle.board_share.proofs.Prefixes.{adds_none, adds_then}
+use Rattle.board_share.proofs.WriterSeats.{action_in}
 
 -- who is seen out, one by one
 pub first_at : (bs : List Bool) (r : ℕ) → slice_get bs r ≡ Some false → all_true (take r bs) ≡ true → (first_false bs ≡ r) × (all_true bs ≡ false)
@@ -54,14 +54,14 @@ all_there (true ∷ bs) (suc q) e h = all_there bs q e (omega arith)
 all_there (false ∷ bs) q e h = absurd cc
 
 -- what the writer knows after its step from a phase
-pub knows_after : (d d' : Desk) (found : ℕ) (p : Phase) → Wrote d d' found → (known_at d).state.phase ≡ p → known_at d' ≡ (action_in d.ledger.opening (known_at d) p).after found
+pub knows_after : (d d' : WriterSeen) (found : ℕ) (p : Phase) → Wrote d d' found → (known_at d).state.phase ≡ p → known_at d' ≡ (action_in d.ledger.opening (known_at d) p).after found
 knows_after d d' found p w e = w.knows ∙ ap (λ (q : Phase). (action_in d.ledger.opening (known_at d) q).after found) e
 
-pub way_on : (a b c : Desk) → Underway a b → Underway b c → Underway a c
+pub way_on : (a b c : WriterSeen) → Underway a b → Underway b c → Underway a c
 way_on a b c x y = record { ledger = y.ledger ∙ x.ledger; side = y.side ∙ x.side; published = y.published ∙ x.published; taken = y.taken ∙ x.taken; cuts = y.cuts ∙ x.cuts }
 
 -- a step that leaves side, lists and cuts
-way : (d d' : Desk) (found : ℕ) (v : WriterView) → Wrote d d' found → known_at d' ≡ v → v.state.side ≡ (known_at d).state.side → v.state.published ≡ (known_at d).state.published → v.state.taken ≡ (known_at d).state.taken
+way : (d d' : WriterSeen) (found : ℕ) (v : WriterView) → Wrote d d' found → known_at d' ≡ v → v.state.side ≡ (known_at d).state.side → v.state.published ≡ (known_at d).state.published → v.state.taken ≡ (known_at d).state.taken
     → v.cuts ≡ (known_at d).cuts → Underway d d'
 way d d' found v w e a b c k =
     record {
@@ -76,7 +76,7 @@ way d d' found v w e a b c k =
 abbrev looked : WriterView → Bool → WriterView
 looked v b = record { state = cond b (seeing v.state (set v.state.seen_out (first_false v.state.seen_out) true)) (record v.state { phase = Idle }); cuts = v.cuts }
 
-module _ (d d' : Desk) (found : ℕ) (w : Wrote d d' found) (e : (known_at d).state.phase ≡ Seeing) (out : Bool) (is : out ≡ eqb found 0) where
+module _ (d d' : WriterSeen) (found : ℕ) (w : Wrote d d' found) (e : (known_at d).state.phase ≡ Seeing) (out : Bool) (is : out ≡ eqb found 0) where
   after_look : known_at d' ≡ looked (known_at d) out
   after_look = knows_after d d' found Seeing w e ∙ ap (looked (known_at d)) (sym is)
 
@@ -108,31 +108,31 @@ module _ (d d' : Desk) (found : ℕ) (w : Wrote d d' found) (e : (known_at d).st
   in_idle h = record { due = w.due; phase = ap (λ (x : WriterView). x.state.phase) (look_at false h) }
 
 -- where somebody isn't seen out, a pin is loaded next
-pub looks : (d : Desk) → IsSeeing d → all_true (known_at d).state.seen_out ≡ false → (known_at d).state.phase ≡ Seeing
-looks d s e = s.phase ∙ ap (λ (b : Bool). cond b (Filling 0) Seeing) e
+pub seeing_next : (d : WriterSeen) → IsSeeing d → all_true (known_at d).state.seen_out ≡ false → (known_at d).state.phase ≡ Seeing
+seeing_next d s e = s.phase ∙ ap (λ (b : Bool). cond b (Filling 0) Seeing) e
 
 -- the steps from one moment to a later one
-pub went_none : (a : Desk) → Went 0 a a
-went_none a = record { own = []; adds = adds_none is_writers a.history; whole = sym (append-nil (begin_events a.due a.held)) }
+pub wrote_none : (a : WriterSeen) → WroteSteps 0 a a
+wrote_none a = record { own = []; adds = adds_none is_writers a.history; whole = sym (append-nil (begin_events a.due a.held)) }
 
-pub went_on : (n : ℕ) (a b : Desk) → a.due ≡ None → b.due ≡ None → Adds is_writers (replicate n Writer) a.history b.history → Went n a b
-went_on n a b e f adds =
+pub wrote_on : (n : ℕ) (a b : WriterSeen) → a.due ≡ None → b.due ≡ None → Adds is_writers (replicate n Writer) a.history b.history → WroteSteps n a b
+wrote_on n a b e f adds =
     record {
       own = replicate n Writer;
       adds = adds;
       whole = ap (λ (x : Option (List Command)). replicate n Writer ++ begin_events x b.held) f ∙ (append-nil (replicate n Writer) ∙ sym (ap (λ (x : Option (List Command)). begin_events x a.held ++ replicate n Writer) e));
     }
 
-pub went_from : (n : ℕ) (a a' b : Desk) → a ≡ a' → a.due ≡ None → b.due ≡ None → Adds is_writers (replicate n Writer) a.history b.history → Went n a' b
-went_from n a a' b is e f adds = subst (λ (d : Desk). Went n d b) is (went_on n a b e f adds)
+pub wrote_from : (n : ℕ) (a a' b : WriterSeen) → a ≡ a' → a.due ≡ None → b.due ≡ None → Adds is_writers (replicate n Writer) a.history b.history → WroteSteps n a' b
+wrote_from n a a' b is e f adds = subst (λ (d : WriterSeen). WroteSteps n d b) is (wrote_on n a b e f adds)
 
-pub went_one : (d d' : Desk) (found : ℕ) → Wrote d d' found → Went 1 d d'
-went_one d d' found w =
+pub wrote_one : (d d' : WriterSeen) (found : ℕ) → Wrote d d' found → WroteSteps 1 d d'
+wrote_one d d' found w =
     let own : List Event = begin_events d.due d.held ++ Writer ∷ [] in
     record { own = own; adds = w.adds; whole = ap (λ (x : Option (List Command)). own ++ begin_events x d'.held) w.due ∙ append-nil own }
 
-pub went_then : (m n : ℕ) (a b c : Desk) → Went m a b → Went n b c → Went (m + n) a c
-went_then m n a b c x y =
+pub wrote_then : (m n : ℕ) (a b c : WriterSeen) → WroteSteps m a b → WroteSteps n b c → WroteSteps (m + n) a c
+wrote_then m n a b c x y =
     record {
       own = x.own ++ y.own;
       adds = adds_then is_writers a.history b.history c.history x.own y.own x.adds y.adds;
@@ -143,13 +143,26 @@ went_then m n a b c x y =
           ∙ (append_assoc (begin_events a.due a.held) (replicate m Writer) (replicate n Writer) ∙ ap (λ (l : List Event). begin_events a.due a.held ++ l) (replicate-append-replicate m n Writer)))));
     }
 
+-- the first word was stored
+pub filled_first : (d d' : WriterSeen) (found : ℕ) → Wrote d d' found → IsFilling d 0 → Filled 0 1 d d'
+filled_first d d' found w f =
+    let e = knows_after d d' found (Filling 0) w f.phase in
+    let on = way d d' found (record { state = filled (known_at d).state 0; cuts = (known_at d).cuts }) w e refl refl refl refl in
+    record {
+      way = on;
+      seen = ap (λ (x : WriterView). x.state.seen_out) e;
+      due = w.due;
+      stored = record { taken = on.taken ∙ (f.taken ∙ ap (λ l. l.journal) (sym w.ledger)); phase = ap (λ (x : WriterView). x.state.phase) e };
+      steps = wrote_one d d' found w;
+    }
+
 -- the steps of a publication that began at rest
-pub from_rest : (n : ℕ) (rest begun after : Desk) (events : List Event) → begun.history ≡ rest.history → begin_events begun.due begun.held ≡ events → after.due ≡ None → Went n begun after
+pub from_rest : (n : ℕ) (rest begun after : WriterSeen) (events : List Event) → begun.history ≡ rest.history → begin_events begun.due begun.held ≡ events → after.due ≡ None → WroteSteps n begun after
     → Adds is_writers (events ++ replicate n Writer) rest.history after.history
-from_rest n rest begun after events same is none went =
-    let own : went.own ≡ events ++ replicate n Writer =
-    sym (append-nil went.own) ∙ (ap (λ (x : Option (List Command)). went.own ++ begin_events x after.held) (sym none) ∙ (went.whole ∙ ap (λ (l : List Event). l ++ replicate n Writer) is)) in
-    subst (λ (h : History). Adds is_writers (events ++ replicate n Writer) h after.history) same (subst (λ (l : List Event). Adds is_writers l begun.history after.history) own went.adds)
+from_rest n rest begun after events same is none wrote =
+    let own : wrote.own ≡ events ++ replicate n Writer =
+    sym (append-nil wrote.own) ∙ (ap (λ (x : Option (List Command)). wrote.own ++ begin_events x after.held) (sym none) ∙ (wrote.whole ∙ ap (λ (l : List Event). l ++ replicate n Writer) is)) in
+    subst (λ (h : History). Adds is_writers (events ++ replicate n Writer) h after.history) same (subst (λ (l : List Event). Adds is_writers l begun.history after.history) own wrote.adds)
 
 -- one reader more is seen out
 pub unseen_set : (bs : List Bool) (r : ℕ) → slice_get bs r ≡ Some false → unseen (set bs r true) + 1 ≡ unseen bs
@@ -165,10 +178,10 @@ none_unseen (true ∷ bs) e = none_unseen bs e
 none_unseen (false ∷ bs) e = absurd cc
 
 -- the reader in the way is told
-pub told_busy : (d d' : Desk) (found : ℕ) (out : Bool) → Wrote d d' found → (known_at d).state.phase ≡ Seeing → out ≡ eqb found 0 → out ≡ false → last_told d'.history ≡ Some (Busy (suc (first_false (known_at d).state.seen_out)))
+pub told_busy : (d d' : WriterSeen) (found : ℕ) (out : Bool) → Wrote d d' found → (known_at d).state.phase ≡ Seeing → out ≡ eqb found 0 → out ≡ false → last_told d'.history ≡ Some (Busy (suc (first_false (known_at d).state.seen_out)))
 told_busy d d' found out w e is was_in =
     w.told ∙ (ap (λ (p : Phase). Some (step_note (known_at d).state p found)) e ∙ ap (λ (b : Bool). Some (let n : Note = cond b Moved (Busy (suc (first_false (known_at d).state.seen_out))) in n)) (sym is ∙ was_in))
 
 -- and so is what was published
-pub told_published : (d d' : Desk) (found : ℕ) → Wrote d d' found → (known_at d).state.phase ≡ Swapping → last_told d'.history ≡ Some (Published (length (known_at d).state.taken))
+pub told_published : (d d' : WriterSeen) (found : ℕ) → Wrote d d' found → (known_at d).state.phase ≡ Swapping → last_told d'.history ≡ Some (Published (length (known_at d).state.taken))
 told_published d d' found w e = w.told ∙ ap (λ (p : Phase). Some (step_note (known_at d).state p found)) e

@@ -5,10 +5,10 @@ use Rattle.two_copy_steps.specs.declared.views.WriterView.{WriterView}
 use Rattle.board_share.specs.declared.busy.Busy.{Busy}
 use Rattle.board_share.specs.Histories.{Adds, KnowsAfter, is_writers}
 use Rattle.board_share.specs.Steps.{begun_with}
-use Rattle.board_share.specs.Writers.{Desk, IsIdle, Publisher, TookTry, known_at, looks, publication, publication_steps, publisher_of}
+use Rattle.board_share.specs.Writers.{WriterSeen, IsIdle, Publisher, TookTry, known_at, looks, publication, publication_steps, publisher_of}
 
--- a desk at rest after so many steps from another
-took_try : (n : ℕ) (old d : Desk) → Adds is_writers (publication old.history old.ledger.journal n) old.history d.history → IsIdle d → KnowsAfter d.history d.held → TookTry n (publisher_of old) (publisher_of d)
+-- a writer at rest after so many steps from another
+took_try : (n : ℕ) (old d : WriterSeen) → Adds is_writers (publication old.history old.ledger.journal n) old.history d.history → IsIdle d → KnowsAfter d.history d.held → TookTry n (publisher_of old) (publisher_of d)
 took_try n old d adds idle knows =
     let same : known_at d ≡ _ = ap (λ (x : Option (List Command)). begun_with x d.held) idle.due ∙ sym knows.writer in
     record {
@@ -18,7 +18,7 @@ took_try n old d adds idle knows =
       seen_out = ap (λ (v : WriterView). v.state.seen_out) same;
     }
 
-module _ (old d : Desk) (before : Publisher) (same : publisher_of old ≡ before) (idle : IsIdle d) (knows : KnowsAfter d.history d.held) where
+module _ (old d : WriterSeen) (before : Publisher) (same : publisher_of old ≡ before) (idle : IsIdle d) (knows : KnowsAfter d.history d.held) where
   -- it was published
   pub ended : (r : Result ℕ Busy) → OnOk r (Adds is_writers (publication old.history old.ledger.journal (publication_steps (known_at old).state.seen_out)) old.history d.history)
       → OnOk r (TookTry (publication_steps before.seen_out) before (publisher_of d))

@@ -16,11 +16,11 @@ use Rattle.two_copy_steps.specs.Stages.{IsReadable, sheet_read, steps_taken, las
 use Rattle.two_copy_steps.specs.States.{EndsWith}
 use Rattle.board_share.specs.declared.readings.Reading as reading
 use Rattle.two_copy_steps.proofs.StageFacts as stages
-use Rattle.board_share.specs.Readers.{Pass, TookStep, HasLegalRecord, IsLegalSheet, last_of, last_read}
+use Rattle.board_share.specs.Readers.{ReaderSeen, TookStep, HasLegalRecord, IsLegalSheet, last_of, last_read}
 
 -- the steps are counted one by one
-pub counted : (p p' : Pass) → TookStep p p' → IsReadable p.stage → steps_taken p'.stage ≡ cond (eqb (steps_taken p.stage) last_step) 0 (steps_taken p.stage + 1)
-counted p p' t h = ap (λ (v : ReaderView). steps_taken v.stage) t.knows ∙ stages.counted p.place t.found p.stage h
+pub counted : (p p' : ReaderSeen) → TookStep p p' → IsReadable p.stage → steps_taken p'.stage ≡ cond (eqb (steps_taken p.stage) last_step) 0 (steps_taken p.stage + 1)
+counted p p' t h = ap (λ (v : ReaderView). steps_taken v.stage) t.knows ∙ stages.counted p.index t.found p.stage h
 
 -- the last of some readings, with one more
 pub last_pushed : (before : List (List ℕ)) (words : List ℕ) → last_read (before ++ words ∷ []) ≡ Some words
@@ -49,11 +49,11 @@ ended_at r Arrived found readings words e h = absurd (none-some words e)
 ended_at r (Reading s ws) found readings words e h = absurd (none-some words e)
 ended_at r (Leaving s ws) found readings words e h = (h.0, h.1 ∙ ap (λ (w : List ℕ). h.0 ++ w ∷ []) (same_Some ws words e))
 
-pub ended : (p p' : Pass) (answer : Option reading.Reading) → TookStep p p' → option_map (λ x. x.sheet) answer ≡ sheet_read p.stage → EndsWith p.readings p.stage
+pub ended : (p p' : ReaderSeen) (answer : Option reading.Reading) → TookStep p p' → option_map (λ x. x.sheet) answer ≡ sheet_read p.stage → EndsWith p.readings p.stage
     → IfSome answer (λ x. last_of p' ≡ Some x.sheet)
 ended p p' None t e h = tt
 ended p p' (Some x) t e h =
-    let f = ended_at p.place p.stage t.found p.readings x.sheet (sym e) h in
+    let f = ended_at p.index p.stage t.found p.readings x.sheet (sym e) h in
     ap last_read (ap (λ (v : ReaderView). v.readings) t.knows ∙ f.1) ∙ last_pushed f.0 x.sheet
 
 last_above : (opening : Opening) (list : List Command) (cuts : List ℕ) (low : ℕ) (before : List (List ℕ)) (words : List ℕ) → IsRecordFrom opening list cuts low (before ++ words ∷ [])
@@ -62,7 +62,7 @@ last_above opening list cuts low [] words h = h.1
 last_above opening list cuts low (x ∷ xs) words h = last_above opening list cuts (front_of x) xs words h.2
 
 -- the last sheet of a legal record has no lower front than the one before
-pub above : (p : Pass) (before : List (List ℕ)) (words : List ℕ) → HasLegalRecord p → p.readings ≡ before ++ words ∷ [] → option_map_or front_of (last_read before) 0 ≤ front_of words
+pub above : (p : ReaderSeen) (before : List (List ℕ)) (words : List ℕ) → HasLegalRecord p → p.readings ≡ before ++ words ∷ [] → option_map_or front_of (last_read before) 0 ≤ front_of words
 above p before words h e =
     subst (λ (n : ℕ). n ≤ front_of words) (front_is 0 before) (last_above p.opening h.0 h.1 0 before words (subst (λ (x : List (List ℕ)). IsRecordFrom p.opening h.0 h.1 0 x) e h.2.readings.0))
 
@@ -79,7 +79,7 @@ last_cut opening list cuts low [] words h = (h.0.0, h.0.2)
 last_cut opening list cuts low (x ∷ xs) words h = last_cut opening list cuts (front_of x) xs words h.2
 
 -- the last sheet of a legal record is that of a legal list
-pub last_legal : (p : Pass) (before : List (List ℕ)) (words : List ℕ) → HasLegalRecord p → p.readings ≡ before ++ words ∷ [] → IsLegalSheet p.opening words
+pub last_legal : (p : ReaderSeen) (before : List (List ℕ)) (words : List ℕ) → HasLegalRecord p → p.readings ≡ before ++ words ∷ [] → IsLegalSheet p.opening words
 last_legal p before words h e =
     let c = last_cut p.opening h.0 h.1 0 before words (subst (λ (x : List (List ℕ)). IsRecordFrom p.opening h.0 h.1 0 x) e h.2.readings.0) in
     let legal = h.2.legal in

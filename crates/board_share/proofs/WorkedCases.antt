@@ -11,7 +11,7 @@ use Rattle.two_copy_steps.specs.declared.views.Stage.TheVariants.{AtRest, Arrive
 use Rattle.board_share.specs.declared.views.Beginning.{Beginning}
 use Rattle.board_share.specs.declared.views.History.{History}
 use Rattle.board_share.specs.Histories.{Adds, first_history, is_writers, last_told, longer}
-use Rattle.board_share.specs.Readers.{HasLegalRecord, IsLegalSheet, Pass, TookStep, last_front_of, new_pass}
+use Rattle.board_share.specs.Readers.{HasLegalRecord, IsLegalSheet, ReaderSeen, TookStep, last_front_of, new_reader}
 use Rattle.board_share.specs.Writers.{looks, publication, publication_steps}
 
 abbrev one_member : Opening
@@ -68,8 +68,8 @@ uncounted h = none (ap (filter is_writers) (ap (λ (x : History). x.events) h.lo
     none e = cc
 
 -- the front of the last reading, and 0 before the first
-abbrev having_read : List (List ℕ) → Pass
-having_read readings = record (new_pass begun 0) { readings = readings }
+abbrev having_read : List (List ℕ) → ReaderSeen
+having_read readings = record (new_reader begun 0) { readings = readings }
 
 pub front_of_last : last_front_of (having_read (none_done ∷ both_done ∷ [])) ≡ 2
 front_of_last = refl

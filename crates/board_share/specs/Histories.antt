@@ -8,9 +8,9 @@ use Rattle.two_copy_steps.specs.declared.events.Event.TheVariants.{Submit, Publi
 use Rattle.two_copy_steps.specs.declared.events.Note.{Note}
 use Rattle.two_copy_steps.specs.declared.views.WriterView.{WriterView}
 use Rattle.two_copy_steps.specs.Lawful.{State}
-use Rattle.two_copy_steps.specs.Turns.{MachineState, started, notes}
-use Rattle.two_copy_steps.specs.Passes.{state_of}
-use Rattle.two_copy_steps.specs.Runs.{machine_after, passes_after}
+use Rattle.two_copy_steps.specs.Transitions.{MachineState, started, notes}
+use Rattle.two_copy_steps.specs.Auxiliary.{state_of}
+use Rattle.two_copy_steps.specs.Runs.{machine_after, auxiliary_after}
 use Rattle.board_share.specs.declared.views.Beginning.{Beginning}
 use Rattle.board_share.specs.declared.views.History.{History}
 
@@ -20,7 +20,7 @@ machine_of h = machine_after h.begun.register h.begun.readers h.events
 
 -- the words, and what the writer and each reader know then
 abbrev pub known_after : History → State
-known_after h = state_of (machine_of h) (passes_after h.begun.register h.begun.readers h.events)
+known_after h = state_of (machine_of h) (auxiliary_after h.begun.register h.begun.readers h.events)
 
 -- after a history the machine's writer knows this, and its register holds the commands taken
 pub record KnowsAfter (h : History) (v : WriterView) : Type 0 where

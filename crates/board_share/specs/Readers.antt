@@ -16,55 +16,55 @@ use Rattle.two_copy_steps.specs.declared.views.Stage.TheVariants.{AtRest}
 use Rattle.two_copy_steps.specs.Actions.{pin, reader_action}
 use Rattle.two_copy_steps.specs.Stages.{reading_steps}
 use Rattle.two_copy_steps.specs.States.{IsKnown}
-use Rattle.two_copy_steps.specs.Turns.{stage_note}
+use Rattle.two_copy_steps.specs.Transitions.{stage_note}
 use Rattle.two_copy_steps.specs.declared.table.TheConstants.{READERS}
 use Rattle.board_share.specs.declared.views.View.{View}
 use Rattle.board_share.specs.declared.views.Beginning.{Beginning}
 use Rattle.board_share.specs.declared.views.History.{History}
 use Rattle.board_share.specs.Histories.{Adds, first_history, is_readers, known_after, last_told}
 use Rattle.board_share.specs.Seats.{Part, reads}
-use Rattle.board_share.specs.Rule.{fresh}
+use Rattle.board_share.specs.Rule.{first_reader}
 use Rattle.board_share.specs.Steps.{bare}
 
 -- the members and votes of the opening, which reader it is, counted from 0, how far it is in its reading, its readings
 -- so far, and what happened on the board up to its last step
-pub record Pass : Type 0 where
+pub record ReaderSeen : Type 0 where
   pub opening : Opening
-  pub place : ℕ
+  pub index : ℕ
   pub stage : Stage
   pub readings : List (List ℕ)
   pub history : History
 
-abbrev pub known_by : Pass → ReaderView
+abbrev pub known_by : ReaderSeen → ReaderView
 known_by p = record { stage = p.stage; readings = p.readings }
 
 -- a reader that has read nothing
-abbrev pub new_pass : Beginning → ℕ → Pass
-new_pass begun r = record {
+abbrev pub new_reader : Beginning → ℕ → ReaderSeen
+new_reader begun r = record {
   opening = begun.register.opening;
-  place = r;
+  index = r;
   stage = AtRest;
   readings = [];
   history = first_history begun;
 }
 
 -- the reader took one step of the machine, on some word found
-pub record TookStep (before after : Pass) : Type 0 where
+pub record TookStep (before after : ReaderSeen) : Type 0 where
   pub found : ℕ
-  pub knows : known_by after ≡ (reader_action before.place (known_by before)).after found
+  pub knows : known_by after ≡ (reader_action before.index (known_by before)).after found
 
 -- which reader it is, counted from 1
-abbrev pub number_of : Pass → ℕ
-number_of p = suc p.place
+abbrev pub number_of : ReaderSeen → ℕ
+number_of p = suc p.index
 
 -- its history grew by so many steps of its own, and it knows what the machine's reader does after them
-pub record TookSteps (steps : ℕ) (before after : Pass) : Type 0 where
+pub record TookSteps (steps : ℕ) (before after : ReaderSeen) : Type 0 where
   pub adds : Adds (is_readers (number_of before)) (replicate steps (Reader (number_of before))) before.history
       after.history
-  pub knows : slice_get (known_after after.history).readers after.place ≡ Some (known_by after)
+  pub knows : slice_get (known_after after.history).readers after.index ≡ Some (known_by after)
 
 -- the machine told at the last step of its history that this reader ended a reading with these words
-abbrev pub WasTold : Pass → List ℕ → Type 0
+abbrev pub WasTold : ReaderSeen → List ℕ → Type 0
 WasTold p words = last_told p.history ≡ Some (Read (number_of p) words)
 
 -- the last of some readings, if there is one
@@ -74,15 +74,15 @@ last_read (words ∷ []) = Some words
 last_read (words ∷ more ∷ rest) = last_read (more ∷ rest)
 
 -- the sheet that it read last, if it has read
-abbrev pub last_of : Pass → Option (List ℕ)
+abbrev pub last_of : ReaderSeen → Option (List ℕ)
 last_of p = last_read p.readings
 
 -- the front of that sheet, and 0 where there is none
-abbrev pub last_front_of : Pass → ℕ
+abbrev pub last_front_of : ReaderSeen → ℕ
 last_front_of p = option_map_or front_of (last_of p) 0
 
 -- the readings are a legal record, of some legal list and its cuts
-abbrev pub HasLegalRecord : Pass → Type 0
+abbrev pub HasLegalRecord : ReaderSeen → Type 0
 HasLegalRecord p = (list : List Command) × (cuts : List ℕ) × AreLegalRecords p.opening list cuts (p.readings ∷ [])
 
 -- the sheet of some legal list of commands
@@ -91,40 +91,42 @@ IsLegalSheet opening words = (list : List Command) × IsLegal opening list × (w
 
 -- the one reader of a seat
 abbrev pub sole : List (Option Part) → Part
-sole [] = ([], fresh)
+sole [] = ([], first_reader)
 sole (None ∷ xs) = sole xs
 sole (Some x ∷ xs) = x
 
 -- by what the reader keeps beside its seat: which one it is, and its stage
-abbrev pub pass_of : View → ℕ → Stage → Pass
-pass_of v r stage = record {
+abbrev pub reader_at : View → ℕ → Stage → ReaderSeen
+reader_at v r stage = record {
   opening = (sole v.readers).0;
-  place = r;
+  index = r;
   stage = stage;
   readings = (sole v.readers).1.readings;
   history = v.history;
 }
 
 -- a seat of the table is that of this reader alone
-pub record IsReader (table seat : TableId) (me : Me Unit View) (p : Pass) : Type 0 where
+pub record IsReader (table seat : TableId) (me : Me Unit View) (p : ReaderSeen) : Type 0 where
   pub same : seat ≡ table
-  pub within : pin p.place < table.words
-  pub few : p.place < READERS
-  pub alone : me ≡ bare (reads p.history p.place (p.opening, known_by p))
+  pub within : pin p.index < table.words
+  pub few : p.index < READERS
+  pub alone : me ≡ bare (reads p.history p.index (p.opening, known_by p))
   pub known : IsKnown p.opening (known_by p)
 
--- after a step from a pass the seat is that of the same reader, at this stage
-pub record Stepped (table : TableId) (p : Pass) (seat : TableId) (me : Me Unit View) (stage : Stage) : Type 0 where
-  pub seat_is : IsReader table seat me (pass_of me.0 p.place stage)
-  pub opening_is : (pass_of me.0 p.place stage).opening ≡ p.opening
-  pub took : TookStep p (pass_of me.0 p.place stage)
-  pub steps : TookSteps 1 p (pass_of me.0 p.place stage)
+-- after a step the seat is that of the same reader, at this stage
+pub record Stepped (table : TableId) (p : ReaderSeen) (seat : TableId) (me : Me Unit View) (stage : Stage)
+    : Type 0 where
+  pub seat_is : IsReader table seat me (reader_at me.0 p.index stage)
+  pub opening_is : (reader_at me.0 p.index stage).opening ≡ p.opening
+  pub took : TookStep p (reader_at me.0 p.index stage)
+  pub steps : TookSteps 1 p (reader_at me.0 p.index stage)
   pub told : last_told me.0.history ≡ Some (stage_note (number_of p) p.stage)
 
 -- after a whole reading the seat is that of the same reader at the same stage, and its record has one sheet more
-pub record HasRead (table : TableId) (p : Pass) (seat : TableId) (me : Me Unit View) (words : List ℕ) : Type 0 where
-  pub seat_is : IsReader table seat me (pass_of me.0 p.place p.stage)
-  pub opening_is : (pass_of me.0 p.place p.stage).opening ≡ p.opening
-  pub reading_is : (pass_of me.0 p.place p.stage).readings ≡ p.readings ++ words ∷ []
-  pub steps : TookSteps reading_steps p (pass_of me.0 p.place p.stage)
-  pub told : WasTold (pass_of me.0 p.place p.stage) words
+pub record HasRead (table : TableId) (p : ReaderSeen) (seat : TableId) (me : Me Unit View) (words : List ℕ)
+    : Type 0 where
+  pub seat_is : IsReader table seat me (reader_at me.0 p.index p.stage)
+  pub opening_is : (reader_at me.0 p.index p.stage).opening ≡ p.opening
+  pub reading_is : (reader_at me.0 p.index p.stage).readings ≡ p.readings ++ words ∷ []
+  pub steps : TookSteps reading_steps p (reader_at me.0 p.index p.stage)
+  pub told : WasTold (reader_at me.0 p.index p.stage) words

@@ -15,7 +15,7 @@ use Rattle.two_copy_steps.specs.declared.views.Phase.TheVariants.{Idle, Seeing, 
 use Rattle.two_copy_steps.specs.declared.views.WriterView.{WriterView}
 use Rattle.two_copy_steps.specs.Actions.{first_false, reader_action, writer_action, begun}
 use Rattle.two_copy_steps.specs.States.{IsKnown}
-use Rattle.two_copy_steps.specs.Turns.{stage_note}
+use Rattle.two_copy_steps.specs.Transitions.{stage_note}
 use Rattle.board_share.specs.declared.views.View.{View}
 use Rattle.board_share.specs.declared.views.History.{History}
 use Rattle.board_share.specs.Histories.{Adds, KnowsAfter, handed_over, is_readers, is_writers, known_after, last_told}

@@ -9,27 +9,32 @@ use Rattle.council_core.specs.Ledgers.{Ledger}
 use Rattle.council_core.specs.declared.commands.Command.{Command}
 use Rattle.two_copy_steps.specs.declared.events.Event.{Event}
 use Rattle.two_copy_steps.specs.declared.events.Event.TheVariants.{Publish, Writer}
+use Rattle.two_copy_steps.specs.declared.events.Note.TheVariants.{Busy}
 use Rattle.two_copy_steps.specs.declared.views.WriterView.{WriterView}
 use Rattle.two_copy_steps.specs.declared.views.Phase.TheVariants.{Idle, Seeing, Filling, Swapping}
-use Rattle.two_copy_steps.specs.Actions.{Action, all_true, other, pin, writer_action}
+use Rattle.two_copy_steps.specs.Actions.{Action, all_true, first_false, other, pin, writer_action}
 use Rattle.two_copy_steps.specs.Lawful.{IsPublishable}
+use Rattle.two_copy_steps.specs.Publications.{StaySeen}
 use Rattle.two_copy_steps.specs.declared.table.TheConstants.{COPY_WORDS, READERS}
 use Rattle.board_share.specs.declared.views.View.{View}
 use Rattle.board_share.specs.declared.views.History.{History}
 use Rattle.board_share.specs.Histories.{Adds, KnowsAfter, handed_over, is_writers, known_after, last_told, machine_of}
-use Rattle.board_share.specs.Steps.{begin_events, begun_with, step_note, with_writer}
+use Rattle.board_share.specs.Steps.{WriterActed, begin_events, begun_with, step_note, with_writer}
 
 -- the register, what the writer's seat knows, the commands of a publication that has begun and has not taken a step
 -- yet, and what happened on the board up to the writer's last step
-pub record Desk : Type 0 where
+pub record WriterSeen : Type 0 where
   pub ledger : Ledger
   pub held : WriterView
   pub due : Option (List Command)
   pub history : History
 
 -- what the writer knows
-abbrev pub known_at : Desk → WriterView
+abbrev pub known_at : WriterSeen → WriterView
 known_at d = begun_with d.due d.held
+
+abbrev pub seen_out_of : WriterSeen → List Bool
+seen_out_of d = (known_at d).state.seen_out
 
 -- a publication of all commands is due, or none is
 abbrev pub due_of : Bool → List Command → Option (List Command)
@@ -47,8 +52,8 @@ writer_or None = (
 abbrev pub held_by : View → WriterView
 held_by v = (writer_or v.writer).1
 
-abbrev pub desk_of : Ledger → View → Bool → Desk
-desk_of ledger v begun = record
+abbrev pub writer_at : Ledger → View → Bool → WriterSeen
+writer_at ledger v begun = record
     { ledger = ledger; held = held_by v; due = due_of begun ledger.journal; history = v.history }
 
 -- a publication of these commands may begin: none is under way, and they are a publishable list within the register's
@@ -66,11 +71,11 @@ MayBegin h opening v None = Unit {0}
 MayBegin h opening v (Some list) = MayPublish h opening v list
 
 -- one list begins another
-abbrev pub Begins : List Command → List Command → Type 0
-Begins list longer = (rest : List Command) × (list ++ rest ≡ longer)
+abbrev pub IsPrefix : List Command → List Command → Type 0
+IsPrefix list longer = (rest : List Command) × (list ++ rest ≡ longer)
 
 -- a seat of the table is the writer's, whose side, number of published commands and readers seen out are kept beside it
-pub record IsWriter (table seat : TableId) (me : Me Unit View) (d : Desk) (side published : ℕ)
+pub record IsWriter (table seat : TableId) (me : Me Unit View) (d : WriterSeen) (side published : ℕ)
     (seen_out : List Bool) : Type 0 where
   pub same : seat ≡ table
   pub within : pin (length seen_out) ≤ table.words
@@ -81,19 +86,20 @@ pub record IsWriter (table seat : TableId) (me : Me Unit View) (d : Desk) (side 
   pub side_is : d.held.state.side ≡ side
   pub out_is : d.held.state.seen_out ≡ seen_out
   pub published_is : published ≡ length d.held.state.published
-  pub taken_begins : Begins d.held.state.taken d.ledger.journal
-  pub published_begins : Begins d.held.state.published d.ledger.journal
+  pub taken_begins : IsPrefix d.held.state.taken d.ledger.journal
+  pub published_begins : IsPrefix d.held.state.published d.ledger.journal
   pub may_begin : MayBegin d.history d.ledger.opening d.held d.due
   pub ledger_is : d.ledger ≡ record d.history.begun.register { journal = d.ledger.journal }
   pub knows : KnowsAfter d.history d.held
 
 -- the writer took one step of the machine, on the word found
-pub record Wrote (before after : Desk) (found : ℕ) : Type 0 where
+pub record Wrote (before after : WriterSeen) (found : ℕ) : Type 0 where
   pub adds : Adds is_writers (begin_events before.due before.held ++ Writer ∷ []) before.history after.history
   pub told : last_told after.history ≡ Some (step_note (known_at before).state (known_at before).state.phase found)
   pub ledger : after.ledger ≡ before.ledger
   pub due : after.due ≡ None
   pub knows : known_at after ≡ (writer_action (sheet before.ledger.opening) (known_at before)).after found
+  pub machine : KnowsAfter after.history after.held
 
 -- the next step of a seat that is the writer's, where a publication of these commands begins with it, if there are some
 abbrev pub next_action : Option (List Command) → Me Unit View → Action WriterView
@@ -112,6 +118,13 @@ pub record MayWrite (table seat : TableId) (me : Me Unit View) (list : Option (L
 -- and what it leaves, after a history
 abbrev pub next_me : Option (List Command) → Me Unit View → ℕ → History → Me Unit View
 next_me list me found h = (with_writer me.0 (writer_or me.0.writer).0 ((next_action list me).after found) h, me.1)
+
+-- the writer's seat took its step, which left this number in its word
+pub record SeatStepped (list : Option (List Command)) (found : ℕ) (seat seat' : TableId) (me me' : Me Unit View)
+    : Type 0 where
+  pub same : seat' ≡ seat
+  pub next : me' ≡ next_me list me found me'.0.history
+  pub acted : WriterActed list found me.0.history me'.0.history (writer_or me.0.writer).1 (writer_or me'.0.writer).1
 
 -- the writer's seat where word k of its sheet is stored next, after a history
 abbrev pub at_word : Me Unit View → ℕ → History → Me Unit View
@@ -138,7 +151,7 @@ pub record FilledTo (steps k : ℕ) (me me' : Me Unit View) : Type 0 where
   pub knows : KnowsAfter me'.0.history (writer_or me'.0.writer).1
 
 -- from one moment to a later one so many steps were taken, behind the beginning that was due if there was one
-pub record Went (steps : ℕ) (before after : Desk) : Type 0 where
+pub record WroteSteps (steps : ℕ) (before after : WriterSeen) : Type 0 where
   pub own : List Event
   pub adds : Adds is_writers own before.history after.history
   pub whole : own ++ begin_events after.due after.held
@@ -146,7 +159,7 @@ pub record Went (steps : ℕ) (before after : Desk) : Type 0 where
 
 -- from one moment to a later one of the same publication: the register, the side, what is published and taken, and
 -- the cuts are the same
-pub record Underway (before after : Desk) : Type 0 where
+pub record Underway (before after : WriterSeen) : Type 0 where
   pub ledger : after.ledger ≡ before.ledger
   pub side : (known_at after).state.side ≡ (known_at before).state.side
   pub published : (known_at after).state.published ≡ (known_at before).state.published
@@ -154,19 +167,27 @@ pub record Underway (before after : Desk) : Type 0 where
   pub cuts : (known_at after).cuts ≡ (known_at before).cuts
 
 -- no publication is under way
-pub record IsIdle (d : Desk) : Type 0 where
+pub record IsIdle (d : WriterSeen) : Type 0 where
   pub due : d.due ≡ None
   pub phase : (known_at d).state.phase ≡ Idle
 
 -- all commands are taken, and the readers are looked at until all are seen out
-pub record IsSeeing (d : Desk) : Type 0 where
+pub record IsSeeing (d : WriterSeen) : Type 0 where
   pub taken : (known_at d).state.taken ≡ d.ledger.journal
   pub phase : (known_at d).state.phase ≡ (if all_true (known_at d).state.seen_out then Filling 0 else Seeing)
 
 -- all commands are taken, and word k of their sheet is stored next
-pub record IsFilling (d : Desk) (k : ℕ) : Type 0 where
+pub record IsFilling (d : WriterSeen) (k : ℕ) : Type 0 where
   pub taken : (known_at d).state.taken ≡ d.ledger.journal
   pub phase : (known_at d).state.phase ≡ (if k == COPY_WORDS then Swapping else Filling k)
+
+-- of a publication under way the words from one on and before another were stored
+pub record Filled (from to : ℕ) (before after : WriterSeen) : Type 0 where
+  pub way : Underway before after
+  pub seen : seen_out_of after ≡ seen_out_of before
+  pub due : after.due ≡ None
+  pub stored : IsFilling after to
+  pub steps : WroteSteps (to - from) before after
 
 -- what contracts see of the writer: its register, the commands published, the lengths of the lists published so far,
 -- who is seen out, and what happened on the board up to its last step
@@ -177,7 +198,7 @@ pub record Publisher : Type 0 where
   pub seen_out : List Bool
   pub history : History
 
-abbrev pub publisher_of : Desk → Publisher
+abbrev pub publisher_of : WriterSeen → Publisher
 publisher_of d = record {
   ledger = d.ledger;
   published = (known_at d).state.published;
@@ -215,12 +236,25 @@ publication_steps seen_out = unseen seen_out + (COPY_WORDS + 1)
 abbrev pub looks : List Bool → List Bool → ℕ
 looks before after = unseen before - unseen after + 1
 
+-- the events of a publication that begins at a moment, and takes so many steps, were added
+abbrev pub AddsTry : ℕ → WriterSeen → WriterSeen → Type 0
+AddsTry steps before after =
+    Adds is_writers (publication before.history before.ledger.journal steps) before.history after.history
+
+-- a publication was given up, since a reader is in the way: the least that isn't seen out, counted from 1
+pub record GaveUp (before after : WriterSeen) (reader : ℕ) : Type 0 where
+  pub idle : IsIdle after
+  pub stay : StaySeen (seen_out_of before) (seen_out_of after)
+  pub named : (reader ≡ suc (first_false (seen_out_of after))) × (all_true (seen_out_of after) ≡ false)
+  pub told : last_told after.history ≡ Some (Busy reader)
+  pub machine : KnowsAfter after.history after.held
+
 -- after so many tries that were given up, one publication was ended
-abbrev pub Published : ℕ → Publisher → Publisher → Type 0
-Published zero before after = TookTry (publication_steps before.seen_out) before after
-Published (suc tries) before after =
+abbrev pub TookTries : ℕ → Publisher → Publisher → Type 0
+TookTries zero before after = TookTry (publication_steps before.seen_out) before after
+TookTries (suc tries) before after =
     (between : Publisher) × TookTry (looks before.seen_out between.seen_out) before between
-    × (between.ledger ≡ before.ledger) × Published tries between after
+    × (between.ledger ≡ before.ledger) × TookTries tries between after
 
 -- with a cut more, if something is pending
 abbrev pub cuts_after : Publisher → List ℕ

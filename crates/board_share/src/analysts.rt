@@ -23,11 +23,11 @@ pub struct Analyst {
 }
 
 impl Model for Analyst {
-    ghost use Rattle.board_share.specs.Analysts.{Asking};
+    ghost use Rattle.board_share.specs.Analysts.{AnalystSeen};
     ghost use Rattle.two_copy_steps.specs.declared.views.Stage.TheVariants.{AtRest};
     ghost use Rattle.std.specs.Prelude.{◌≡◌};
 
-    ghost Value = { Asking };
+    ghost Value = { AnalystSeen };
 
     ghost view = { λ a. record { reader = a.reader; sheet = a.evaluator } };
 
@@ -53,15 +53,21 @@ impl Analyst {
     pub fn ask(&mut self, majority: Majority) -> Indices
         ensures opening { self.new.reader.opening ≡ self.old.reader.opening }
         ensures number { number_of self.new.reader ≡ number_of self.old.reader }
-        ensures steps { TookSteps reading_steps self.old.reader self.new.reader }
-        ensures told { WasTold self.new.reader self.new.sheet }
+
+        // The sheet that its reader read.
         ensures reading { self.new.reader.readings ≡ self.old.reader.readings ++ self.new.sheet ∷ [] }
         ensures last { last_of self.new.reader ≡ Some self.new.sheet }
         ensures sheet { IsLegalSheet self.old.reader.opening self.new.sheet }
         ensures not_older { last_front_of self.old.reader ≤ front_of self.new.sheet }
         ensures record_legal { HasLegalRecord self.new.reader }
+
+        // The indices of that sheet.
         ensures exact { AreIndices majority self.new.sheet result }
         ensures same { result ≡ indices_of majority self.new.sheet }
+
+        // The events that it added to the board's history, and what the last of them tells.
+        ensures steps { TookSteps reading_steps self.old.reader self.new.reader }
+        ensures told { WasTold self.new.reader self.new.sheet }
     {
         let reading = self.reader.read();
         let _halves = self.evaluator.set(&reading.sheet);

@@ -1,4 +1,5 @@
-//! The running board: one writer and its readers in threads of their own, over two copies of a sheet in shared words.
+//! The running board: left-right publication by one writer to its readers, in threads of their own, over two copies of
+//! a sheet in shared atomic words.
 #![tactic(auto)]
 
 mod analysts;
@@ -6,12 +7,11 @@ mod busy;
 mod laws;
 mod opening;
 mod publishing;
+mod reader_steps;
 mod readers;
 mod readings;
 mod rule;
-mod steps;
 mod views;
-mod word_writers;
 mod writer_steps;
 mod writers;
 

@@ -1,36 +1,65 @@
-//! A publication of all commands, by single loads.
-ghost use Rattle.std.specs.Prelude.{◌≡◌, suc, ◌∷◌, ◌++◌, [], true, false, length};
-ghost use Rattle.std.specs.Prelude.{◌<◌, ◌+◌, Some, replicate, OnOk, IfOk, OnErr, IfErr, IsOk};
-ghost use Rattle.two_copy_steps.specs.declared.events.Note.TheVariants.{Busy as BusyAt, Published};
-ghost use Rattle.two_copy_steps.specs.Actions.{all_true, first_false};
-ghost use Rattle.two_copy_steps.specs.Publications.{StaySeen};
-ghost use Rattle.board_share.specs.Histories.{Adds, KnowsAfter, is_writers, last_told};
-ghost use Rattle.board_share.specs.Writers.{Underway, IsIdle, IsSeeing, IsFilling, Went, known_at, looks, publication};
-ghost use Rattle.board_share.specs.Writers.{publication_steps, unseen};
+//! A publication of all commands, from its beginning to the store of side.
+ghost use Rattle.std.specs.Prelude.{◌≡◌, ◌<◌, ◌∷◌, ◌++◌, [], true, false, Some, length, replicate};
+ghost use Rattle.std.specs.Prelude.{OnOk, IfOk, OnErr, IfErr, IsOk};
+ghost use Rattle.two_copy_steps.specs.declared.events.Note.TheVariants.{Published};
+ghost use Rattle.two_copy_steps.specs.Actions.{all_true};
+ghost use Rattle.board_share.specs.Histories.{KnowsAfter, last_told};
+ghost use Rattle.board_share.specs.Writers.{AddsTry, GaveUp, IsFilling, IsIdle, IsSeeing, Underway, WroteSteps, known_at};
+ghost use Rattle.board_share.specs.Writers.{looks, publication_steps, seen_out_of, unseen};
 
 use crate::busy::Busy;
-use crate::word_writers::WordWriter;
+use crate::writer_steps::WordWriter;
 use std::marker::Brand;
 use two_copy_steps::COPY_WORDS;
 
-// Looks for each reader that isn't seen out, by one load of its pin. The first whose pin is at 1 is
-// answered, and the publication given up.
+// Publishes all commands and answers how many there are, or gives it up where a reader is found in the middle of a
+// reading.
+pub(crate) fn publish_all(words: &mut WordWriter) -> Result<u32, Busy>
+    requires idle { IsIdle words.old }
+    requires pending { length (known_at words.old).state.published < length words.old.ledger.journal }
+    ensures ledger { words.new.ledger ≡ words.old.ledger }
+    ensures idle { IsIdle words.new }
+    ensures knows { KnowsAfter words.new.history words.new.held }
+    ensures count { length (seen_out_of words.new) ≡ length (seen_out_of words.old) }
+    ensures sure { all_true (seen_out_of words.old) ≡ true → IsOk result }
+
+    // All commands are published.
+    ensures front { IfOk result (λ n. n ≡ length words.old.ledger.journal) }
+    ensures published { OnOk result ((known_at words.new).state.published ≡ words.old.ledger.journal) }
+    ensures cut { OnOk result
+        ((known_at words.new).cuts ≡ (known_at words.old).cuts ++ length words.old.ledger.journal ∷ []) }
+    ensures nobody { OnOk result (seen_out_of words.new ≡ replicate (length (seen_out_of words.old)) false) }
+    ensures steps { OnOk result (AddsTry (publication_steps (seen_out_of words.old)) words.old words.new) }
+    ensures told { IfOk result (λ n. last_told words.new.history ≡ Some (Published n)) }
+
+    // A reader is in the way.
+    ensures unchanged { OnErr result
+        (((known_at words.new).state.published ≡ (known_at words.old).state.published)
+        × ((known_at words.new).cuts ≡ (known_at words.old).cuts)) }
+    ensures in_the_way { IfErr result (λ b. GaveUp words.old words.new b.reader) }
+    ensures gave_up { OnErr result
+        (AddsTry (looks (seen_out_of words.old) (seen_out_of words.new)) words.old words.new) }
+{
+    let front = words.begin();
+    see_all(words)?;
+    words.fill_first::<Brand>();
+    words.fill_rest();
+    words.swap::<Brand>();
+    Ok(front)
+}
+
+// Looks for each reader that isn't seen out, by one load of its pin. The first whose pin is at 1 is answered, and the
+// publication given up.
 fn see_all(words: &mut WordWriter) -> Result<(), Busy>
     requires { IsSeeing words.old }
     ensures way { Underway words.old words.new }
-    ensures seen { StaySeen (known_at words.old).state.seen_out (known_at words.new).state.seen_out }
-    ensures count { length (known_at words.new).state.seen_out ≡ length (known_at words.old).state.seen_out }
-    ensures ok { OnOk result (IsFilling words.new 0) }
-    ensures err { OnErr result (IsIdle words.new) }
-    ensures named { IfErr result
-        (λ b. (b.reader ≡ suc (first_false (known_at words.new).state.seen_out))
-        × (all_true (known_at words.new).state.seen_out ≡ false)) }
-    ensures sure { all_true (known_at words.old).state.seen_out ≡ true → IsOk result }
-    ensures looked { OnOk result (Went (unseen (known_at words.old).state.seen_out) words.old words.new) }
+    ensures count { length (seen_out_of words.new) ≡ length (seen_out_of words.old) }
+    ensures sure { all_true (seen_out_of words.old) ≡ true → IsOk result }
+    ensures out { OnOk result (IsFilling words.new 0) }
+    ensures looked { OnOk result (WroteSteps (unseen (seen_out_of words.old)) words.old words.new) }
+    ensures in_the_way { IfErr result (λ b. GaveUp words.old words.new b.reader) }
     ensures gave_up { OnErr result
-        (Went (looks (known_at words.old).state.seen_out (known_at words.new).state.seen_out) words.old words.new) }
-    ensures told { IfErr result (λ b. last_told words.new.history ≡ Some (BusyAt b.reader)) }
-    ensures knows { OnErr result (KnowsAfter words.new.history words.new.held) }
+        (WroteSteps (looks (seen_out_of words.old) (seen_out_of words.new)) words.old words.new) }
 {
     for r in 0..words.readers() {
         if words.is_seen_out(r) {
@@ -43,61 +72,4 @@ fn see_all(words: &mut WordWriter) -> Result<(), Busy>
         }
     }
     Ok(())
-}
-
-// Stores all words of the sheet. They are read from the register one by one, since making a sheet first would delay the
-// stores.
-fn fill_all(words: &mut WordWriter)
-    requires begun { IsFilling words.old 0 }
-    ensures way { Underway words.old words.new }
-    ensures seen { (known_at words.new).state.seen_out ≡ (known_at words.old).state.seen_out }
-    ensures stored { IsFilling words.new COPY_WORDS }
-    ensures steps { Went COPY_WORDS words.old words.new }
-{
-    let first = words.register().sheet_word(0);
-    words.fill::<Brand>(0, first);
-    words.fill_rest();
-}
-
-// Publishes all commands and answers how many there are, or gives it up where a reader is found in the middle of a
-// reading.
-pub(crate) fn publish_all(words: &mut WordWriter) -> Result<u32, Busy>
-    requires idle { IsIdle words.old }
-    requires pending { length (known_at words.old).state.published < length words.old.ledger.journal }
-    ensures ledger { words.new.ledger ≡ words.old.ledger }
-    ensures idle { IsIdle words.new }
-    ensures front { IfOk result (λ n. n ≡ length words.old.ledger.journal) }
-    ensures published { OnOk result ((known_at words.new).state.published ≡ words.old.ledger.journal) }
-    ensures cut { OnOk result
-        ((known_at words.new).cuts ≡ (known_at words.old).cuts ++ length words.old.ledger.journal ∷ []) }
-    ensures nobody { OnOk result
-        ((known_at words.new).state.seen_out ≡ replicate (length (known_at words.old).state.seen_out) false) }
-    ensures count { length (known_at words.new).state.seen_out ≡ length (known_at words.old).state.seen_out }
-    ensures unchanged { OnErr result
-        (((known_at words.new).state.published ≡ (known_at words.old).state.published)
-        × ((known_at words.new).cuts ≡ (known_at words.old).cuts)) }
-    ensures seen { OnErr result (StaySeen (known_at words.old).state.seen_out (known_at words.new).state.seen_out) }
-    ensures named { IfErr result
-        (λ b. (b.reader ≡ suc (first_false (known_at words.new).state.seen_out))
-        × (all_true (known_at words.new).state.seen_out ≡ false)) }
-    ensures sure { all_true (known_at words.old).state.seen_out ≡ true → IsOk result }
-    ensures steps { OnOk result
-        (Adds is_writers
-        (publication words.old.history words.old.ledger.journal
-        (publication_steps (known_at words.old).state.seen_out))
-        words.old.history words.new.history) }
-    ensures gave_up { OnErr result
-        (Adds is_writers
-        (publication words.old.history words.old.ledger.journal
-        (looks (known_at words.old).state.seen_out (known_at words.new).state.seen_out))
-        words.old.history words.new.history) }
-    ensures told { IfOk result (λ n. last_told words.new.history ≡ Some (Published n)) }
-    ensures in_the_way { IfErr result (λ b. last_told words.new.history ≡ Some (BusyAt b.reader)) }
-    ensures knows { KnowsAfter words.new.history words.new.held }
-{
-    let taken = words.begin();
-    see_all(words)?;
-    fill_all(words);
-    words.swap::<Brand>();
-    Ok(taken)
 }

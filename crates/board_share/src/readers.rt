@@ -7,11 +7,11 @@ ghost use Rattle.council_core.specs.Sheets.{front_of};
 ghost use Rattle.two_copy_steps.specs.Stages.{last_step, reading_steps, sheet_read, steps_taken};
 ghost use Rattle.two_copy_steps.specs.declared.views.Stage.TheVariants.{AtRest};
 ghost use Rattle.board_share.specs.Readers.{HasLegalRecord, IsLegalSheet, IsReader, TookStep, last_front_of, last_of};
-ghost use Rattle.board_share.specs.Readers.{TookSteps, WasTold, number_of, pass_of};
+ghost use Rattle.board_share.specs.Readers.{TookSteps, WasTold, number_of, reader_at};
 
+use crate::reader_steps::{advance, read_all};
 use crate::readings::Reading;
 use crate::rule::Board;
-use crate::steps::{advance, read_all};
 use crate::views::View;
 use atomic_table::Seat;
 use std::marker::Model;
@@ -23,33 +23,33 @@ use two_copy_steps::{READERS, ReaderStage};
 pub struct Reader {
     board: Arc<Board>,
     seat: Seat<(), View>,
-    place: u8,
+    index: u8,
     stage: ReaderStage,
 }
 
 impl Model for Reader {
-    ghost use Rattle.board_share.specs.Readers.{Pass, IsReader, pass_of};
+    ghost use Rattle.board_share.specs.Readers.{ReaderSeen, IsReader, reader_at};
     ghost use Rattle.std.specs.Option.{option_map};
     ghost use Rattle.std.specs.Arc.{arc_value};
 
-    ghost Value = { Pass };
+    ghost Value = { ReaderSeen };
 
-    ghost view = { λ r. pass_of r.seat.me.0 r.place r.stage };
+    ghost view = { λ r. reader_at r.seat.me.0 r.index r.stage };
 
     ghost invariant = { λ r. IsReader (arc_value r.board).shared.table_id r.seat.table_id r.seat.me
-        (pass_of r.seat.me.0 r.place r.stage) };
+        (reader_at r.seat.me.0 r.index r.stage) };
 }
 
 impl Reader {
     // The reader of a seat, which has read nothing.
-    pub(crate) fn new(board: Arc<Board>, seat: Seat<(), View>, place: u8) -> Reader
-        requires { IsReader (arc_value board).shared.table_id seat.table_id seat.me (pass_of seat.me.0 place AtRest) }
-        ensures { result ≡ pass_of seat.me.0 place AtRest }
+    pub(crate) fn new(board: Arc<Board>, seat: Seat<(), View>, index: u8) -> Reader
+        requires { IsReader (arc_value board).shared.table_id seat.table_id seat.me (reader_at seat.me.0 index AtRest) }
+        ensures { result ≡ reader_at seat.me.0 index AtRest }
     {
         Reader {
             board,
             seat,
-            place,
+            index,
             stage: ReaderStage::new(),
         }
     }
@@ -59,7 +59,7 @@ impl Reader {
         ensures same { result ≡ number_of self.now }
         ensures few { result ≤ READERS }
     {
-        self.place + 1
+        self.index + 1
     }
 
     /// No reading is in progress.
@@ -75,16 +75,20 @@ impl Reader {
         ensures opening { self.new.opening ≡ self.old.opening }
         ensures number { number_of self.new ≡ number_of self.old }
         ensures step { TookStep self.old self.new }
-        ensures steps { TookSteps 1 self.old self.new }
-        ensures told { IfSome result (λ x. WasTold self.new x.sheet) }
         ensures count { steps_taken self.new.stage
             ≡ (if steps_taken self.old.stage == last_step then 0 else steps_taken self.old.stage + 1) }
+
+        // The reading that it ends, if it is the last step of one.
         ensures answer { IsSome result ↔ (steps_taken self.old.stage ≡ last_step) }
         ensures words { option_map (λ x. x.sheet) result ≡ sheet_read self.old.stage }
         ensures last { IfSome result (λ x. last_of self.new ≡ Some x.sheet) }
         ensures record_legal { HasLegalRecord self.new }
+
+        // The event that it added to the board's history, and what that tells.
+        ensures steps { TookSteps 1 self.old self.new }
+        ensures told { IfSome result (λ x. WasTold self.new x.sheet) }
     {
-        advance(&self.board, &mut self.seat, self.place, &mut self.stage)
+        advance(&self.board, &mut self.seat, self.index, &mut self.stage)
     }
 
     /// One reading, all 37 steps of it: the sheet that is published when the second step is taken. In
@@ -94,15 +98,19 @@ impl Reader {
         ensures opening { self.new.opening ≡ self.old.opening }
         ensures number { number_of self.new ≡ number_of self.old }
         ensures rest { self.new.stage ≡ AtRest }
-        ensures steps { TookSteps reading_steps self.old self.new }
-        ensures told { WasTold self.new result.sheet }
+
+        // The sheet that it read.
         ensures reading { self.new.readings ≡ self.old.readings ++ result.sheet ∷ [] }
         ensures last { last_of self.new ≡ Some result.sheet }
         ensures sheet { IsLegalSheet self.old.opening result.sheet }
         ensures not_older { last_front_of self.old ≤ front_of result.sheet }
         ensures record_legal { HasLegalRecord self.new }
+
+        // The events that it added to the board's history, and what the last of them tells.
+        ensures steps { TookSteps reading_steps self.old self.new }
+        ensures told { WasTold self.new result.sheet }
     {
         self.stage.give_up();
-        read_all(&self.board, &mut self.seat, self.place)
+        read_all(&self.board, &mut self.seat, self.index)
     }
 }

@@ -6,16 +6,16 @@ ghost use Rattle.council_core.specs.Rolls.{IsLegal};
 ghost use Rattle.council_core.specs.Ledgers.{verdict_of, appended};
 ghost use Rattle.council_core.specs.Verdicts.{Follows};
 ghost use Rattle.council_core.specs.declared.refusals.Refusal.TheVariants.{OutOfMemory};
-ghost use Rattle.two_copy_steps.specs.declared.events.Note.TheVariants.{Busy as BusyAt, Published as PublishedAll};
+ghost use Rattle.two_copy_steps.specs.declared.events.Note.TheVariants.{Busy as BusyAt, Published};
 ghost use Rattle.two_copy_steps.specs.Actions.{all_true, first_false};
 ghost use Rattle.two_copy_steps.specs.Publications.{StaySeen, seen_out_at};
 ghost use Rattle.board_share.specs.Histories.{last_told};
-ghost use Rattle.board_share.specs.Writers.{Begins, IsIdle, Published, TookTry, cuts_after, is_pending, looks};
+ghost use Rattle.board_share.specs.Writers.{IsPrefix, IsIdle, TookTries, TookTry, cuts_after, is_pending, looks};
 ghost use Rattle.board_share.specs.Writers.{publication_steps, publisher_of, seen_out_after};
 
 use crate::busy::Busy;
 use crate::publishing::publish_all;
-use crate::word_writers::WordWriter;
+use crate::writer_steps::WordWriter;
 use council_core::{Command, Refusal};
 use std::marker::Model;
 use std::sync::Wait;
@@ -38,6 +38,7 @@ impl Model for Writer {
 }
 
 impl Writer {
+    // A writer with no publication under way.
     pub(crate) fn new(words: WordWriter) -> Writer
         requires { IsIdle words }
         ensures { result ≡ publisher_of words }
@@ -64,24 +65,32 @@ impl Writer {
     /// where a reader is found in the middle of a reading; those that were seen out stay so.
     pub fn try_publish(&mut self) -> Result<u32, Busy>
         ensures ledger { self.new.ledger ≡ self.old.ledger }
+        ensures readers { length self.new.seen_out ≡ length self.old.seen_out }
+
+        // Which of the two it is.
+        ensures sure { all_true self.old.seen_out ≡ true → IsOk result }
+        ensures nothing_pending { is_pending self.old ≡ false → IsOk result }
+        ensures still { is_pending self.old ≡ false → self.new ≡ self.old }
+
+        // All commands are published.
         ensures front { IfOk result (λ n. n ≡ length self.old.ledger.journal) }
         ensures published { OnOk result (self.new.published ≡ self.old.ledger.journal) }
         ensures cuts { OnOk result (self.new.cuts ≡ cuts_after self.old) }
         ensures seen_out { OnOk result (self.new.seen_out ≡ seen_out_after self.old) }
-        ensures readers { length self.new.seen_out ≡ length self.old.seen_out }
+
+        // A reader is in the way.
         ensures unchanged { OnErr result
             ((self.new.published ≡ self.old.published) × (self.new.cuts ≡ self.old.cuts)) }
         ensures stay { OnErr result (StaySeen self.old.seen_out self.new.seen_out) }
         ensures busy { IfErr result
             (λ b. (b.reader ≡ suc (first_false self.new.seen_out)) × (all_true self.new.seen_out ≡ false)) }
-        ensures sure { all_true self.old.seen_out ≡ true → IsOk result }
-        ensures nothing_pending { is_pending self.old ≡ false → IsOk result }
-        ensures still { is_pending self.old ≡ false → self.new ≡ self.old }
+
+        // The events that it added to the board's history, and what the last of them tells.
         ensures steps { is_pending self.old ≡ true
             → OnOk result (TookTry (publication_steps self.old.seen_out) self.old self.new) }
         ensures gave_up { OnErr result (TookTry (looks self.old.seen_out self.new.seen_out) self.old self.new) }
         ensures told { is_pending self.old ≡ true
-            → IfOk result (λ n. last_told self.new.history ≡ Some (PublishedAll n)) }
+            → IfOk result (λ n. last_told self.new.history ≡ Some (Published n)) }
         ensures in_the_way { IfErr result (λ b. last_told self.new.history ≡ Some (BusyAt b.reader)) }
     {
         if self.words.register().accepted() <= self.words.published() {
@@ -99,8 +108,10 @@ impl Writer {
         ensures cuts { self.new.cuts ≡ cuts_after self.old }
         ensures seen_out { self.new.seen_out ≡ seen_out_after self.old }
         ensures still { is_pending self.old ≡ false → self.new ≡ self.old }
-        ensures steps { is_pending self.old ≡ true → (tries : ℕ) × Published tries self.old self.new }
-        ensures told { is_pending self.old ≡ true → last_told self.new.history ≡ Some (PublishedAll result) }
+
+        // The events that it added to the board's history, and what the last of them tells.
+        ensures steps { is_pending self.old ≡ true → (tries : ℕ) × TookTries tries self.old self.new }
+        ensures told { is_pending self.old ≡ true → last_told self.new.history ≡ Some (Published result) }
     {
         for _ in rt.forever() {
             if let Ok(front) = self.try_publish() {
@@ -122,7 +133,7 @@ impl Writer {
     /// How many commands are published: the last cut.
     pub fn published(&self) -> u32
         ensures number { result ≡ length self.now.published }
-        ensures begins { Begins self.now.published self.now.ledger.journal }
+        ensures begins { IsPrefix self.now.published self.now.ledger.journal }
         ensures ascending { IsStrictlyIncreasing self.now.cuts }
         ensures last_cut { last_or None self.now.cuts ≡ Some result }
     {

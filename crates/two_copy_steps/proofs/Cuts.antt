@@ -16,9 +16,9 @@ use Rattle.two_copy_steps.specs.declared.views.Writing.{Writing}
 use Rattle.two_copy_steps.specs.declared.views.Stage.{Stage}
 use Rattle.two_copy_steps.specs.declared.views.Phase.{Phase}
 use Rattle.two_copy_steps.specs.declared.views.Phase.TheVariants.{Idle, Seeing, Filling, Swapping}
-use Rattle.two_copy_steps.specs.Actions.{cuts_after, first_false, phase_action, seeing}
-use Rattle.two_copy_steps.specs.Turns.{MachineState, turn, started, after, submitted, published_by, is_pending, is_idle, reader_turn}
-use Rattle.two_copy_steps.specs.Passes.{Passes, opened, passed, passes, reader_passed}
+use Rattle.two_copy_steps.specs.Actions.{cuts_past, first_false, phase_action, seeing}
+use Rattle.two_copy_steps.specs.Transitions.{MachineState, transition, started, after, submitted, published_by, is_pending, is_idle, reader_transition}
+use Rattle.two_copy_steps.specs.Auxiliary.{Auxiliary, auxiliary_start, auxiliary_step, auxiliary_steps, auxiliary_reader_step}
 
 last_behind : (o : Option ℕ) (xs : List ℕ) (x : ℕ) → last_or o (xs ++ x ∷ []) ≡ Some x
 last_behind o [] x = refl
@@ -55,7 +55,7 @@ pub record HasCuts (w : Writing) (cuts : List ℕ) : Type 0 where
   pub longer : is_idle w.phase ≡ false → length w.published < length w.taken
 
 -- a step of the writer
-cuts_stepped : (opening : Opening) (w : Writing) (p : Phase) (found : ℕ) (cuts : List ℕ) → w.phase ≡ p → HasCuts w cuts → HasCuts ((phase_action (sheet opening) w p).after found) (cuts_after p w.taken cuts)
+cuts_stepped : (opening : Opening) (w : Writing) (p : Phase) (found : ℕ) (cuts : List ℕ) → w.phase ≡ p → HasCuts w cuts → HasCuts ((phase_action (sheet opening) w p).after found) (cuts_past p w.taken cuts)
 cuts_stepped opening w Idle found cuts e h = h
 cuts_stepped opening w Seeing found cuts e h =
     let more : length w.published < length w.taken = h.longer (ap is_idle e) in
@@ -83,27 +83,27 @@ by_submit : (m : MachineState) (command : Command) (v : Result ⊤ Refusal) (cut
 by_submit m command (Ok u) cuts h = h
 by_submit m command (Err refusal) cuts h = h
 
-by_reader : (m : MachineState) (p : Passes) (r : ℕ) (o : Option Stage) → HasCuts m.writer p.cuts → HasCuts (reader_turn m r o).0.writer (reader_passed m p r o).cuts
+by_reader : (m : MachineState) (p : Auxiliary) (r : ℕ) (o : Option Stage) → HasCuts m.writer p.cuts → HasCuts (reader_transition m r o).0.writer (auxiliary_reader_step m p r o).cuts
 by_reader m p r None h = h
 by_reader m p r (Some stage) h = h
 
 -- whatever the event
-cuts_turned : (m : MachineState) (p : Passes) → HasCuts m.writer p.cuts → (event : Event) → HasCuts (turn m event).0.writer (passed m p event).cuts
-cuts_turned m p h (Submit command) =
+cuts_transition : (m : MachineState) (p : Auxiliary) → HasCuts m.writer p.cuts → (event : Event) → HasCuts (transition m event).0.writer (auxiliary_step m p event).cuts
+cuts_transition m p h (Submit command) =
     elim (is_idle m.writer.phase) as (λ b. HasCuts (cond b (submitted m command (verdict_of m.ledger command)) (m, Skipped)).0.writer p.cuts)
     [ true ↦ by_submit m command (verdict_of m.ledger command) p.cuts h | false ↦ h ]
-cuts_turned m p h Publish =
+cuts_transition m p h Publish =
     elim (is_idle m.writer.phase) as (λ b. HasCuts (cond b (published_by m (is_pending m)) (m, Skipped)).0.writer p.cuts) [ true ↦ cuts_begun m p.cuts h | false ↦ h ]
-cuts_turned m p h Writer =
+cuts_transition m p h Writer =
     cuts_stepped m.ledger.opening m.writer m.writer.phase (get_or m.words (phase_action (sheet m.ledger.opening) m.writer m.writer.phase).word 0) p.cuts refl h
-cuts_turned m p h (Reader zero) = h
-cuts_turned m p h (Reader (suc r)) = by_reader m p r (slice_get m.readers r) h
+cuts_transition m p h (Reader zero) = h
+cuts_transition m p h (Reader (suc r)) = by_reader m p r (slice_get m.readers r) h
 
-cuts_along : (events : List Event) (m : MachineState) (p : Passes) → HasCuts m.writer p.cuts → HasCuts (after m events).writer (passes m p events).cuts
+cuts_along : (events : List Event) (m : MachineState) (p : Auxiliary) → HasCuts m.writer p.cuts → HasCuts (after m events).writer (auxiliary_steps m p events).cuts
 cuts_along [] m p h = h
-cuts_along (event ∷ events) m p h = cuts_along events (turn m event).0 (passed m p event) (cuts_turned m p h event)
+cuts_along (event ∷ events) m p h = cuts_along events (transition m event).0 (auxiliary_step m p event) (cuts_transition m p h event)
 
 -- from the start
-pub run_cuts : (ledger : Ledger) (readers : ℕ) (events : List Event) → HasCuts (after (started ledger readers) events).writer (passes (started ledger readers) (opened ledger readers) events).cuts
+pub run_cuts : (ledger : Ledger) (readers : ℕ) (events : List Event) → HasCuts (after (started ledger readers) events).writer (auxiliary_steps (started ledger readers) (auxiliary_start ledger readers) events).cuts
 run_cuts ledger readers events =
-    cuts_along events (started ledger readers) (opened ledger readers) record { ascending = λ k less. absurd (omega arith); last = refl; longer = λ busy. absurd (true≢false busy) }
+    cuts_along events (started ledger readers) (auxiliary_start ledger readers) record { ascending = λ k less. absurd (omega arith); last = refl; longer = λ busy. absurd (true≢false busy) }

@@ -2,8 +2,8 @@
 use Rattle.std.proofs.Common.{◌≡◌, List, [], ◌∷◌, ◌++◌, refl, ap, ◌∙◌}
 use Rattle.council_core.specs.Sequential.{Sequential, Call, Reply, respond, replies_of, state_after}
 use Rattle.two_copy_steps.specs.declared.events.Event.{Event}
-use Rattle.two_copy_steps.specs.Turns.{MachineState, turn}
-use Rattle.two_copy_steps.specs.Effects.{Thread, beside, beside_all, effect, effects, replies_beside}
+use Rattle.two_copy_steps.specs.Transitions.{MachineState, transition}
+use Rattle.two_copy_steps.specs.Effects.{SequentialRun, sequential_step, sequential_steps, effect, effects, sequential_replies}
 
 -- calls after calls
 state_after-append : (s : Sequential) (calls more : List Call) → state_after s (calls ++ more) ≡ state_after (state_after s calls) more
@@ -15,12 +15,12 @@ replies_of-append s [] more = refl
 replies_of-append s (call ∷ calls) more = ap (λ (rs : List Reply). (respond s call).1 ∷ rs) (replies_of-append (respond s call).0 calls more)
 
 -- the run over the list of effects, event by event
-pub one_run : (events : List Event) (t : Thread) (m : MachineState) → (replies_of t.register (effects m events) ≡ replies_beside t m events) × (state_after t.register (effects m events) ≡ (beside_all t m events).register)
+pub one_run : (events : List Event) (t : SequentialRun) (m : MachineState) → (replies_of t.register (effects m events) ≡ sequential_replies t m events) × (state_after t.register (effects m events) ≡ (sequential_steps t m events).register)
 one_run [] t m = (refl, refl)
 one_run (event ∷ events) t m =
-    let later = one_run events (beside t m event) (turn m event).0 in
+    let later = one_run events (sequential_step t m event) (transition m event).0 in
     let first = effect m event in
-    let rest = effects (turn m event).0 events in (
+    let rest = effects (transition m event).0 events in (
       replies_of-append t.register first rest ∙ ap (λ (rs : List Reply). replies_of t.register first ++ rs) later.0,
       state_after-append t.register first rest ∙ later.1,
     )

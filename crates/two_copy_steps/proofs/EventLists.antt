@@ -7,62 +7,62 @@ use Rattle.council_core.specs.declared.commands.Command.{Command}
 use Rattle.council_core.specs.Ledgers.{Ledger, IsLedger}
 use Rattle.two_copy_steps.specs.declared.events.Event.{Event}
 use Rattle.two_copy_steps.specs.declared.events.Note.{Note}
-use Rattle.two_copy_steps.specs.Turns.{MachineState, turn, started, after, notes}
-use Rattle.two_copy_steps.specs.Passes.{Passes, opened, passed, passes, IsLawful, HasLegalRecords, NoneUnder}
-use Rattle.two_copy_steps.specs.Effects.{Thread, thread_of, beside, AllAnswer}
-use Rattle.two_copy_steps.proofs.TurnSteps.{turn_keeps, records_are, none_under}
+use Rattle.two_copy_steps.specs.Transitions.{MachineState, transition, started, after, notes}
+use Rattle.two_copy_steps.specs.Auxiliary.{Auxiliary, auxiliary_start, auxiliary_step, auxiliary_steps, IsLawful, HasLegalRecords, NoneUnder}
+use Rattle.two_copy_steps.specs.Effects.{SequentialRun, sequential_start, sequential_step, AllAnswer}
+use Rattle.two_copy_steps.proofs.TransitionSteps.{transition_keeps, records_are, none_under}
 use Rattle.two_copy_steps.proofs.Replies.{Agrees, event_agrees}
 use Rattle.two_copy_steps.proofs.Journals.{IsAccepted, IsWithin, journal_accepted, journal_grows, journal_within}
 use Rattle.two_copy_steps.proofs.Starts.{start_lawful, start_agrees}
 
-pub always_lawful : (events : List Event) (m : MachineState) (p : Passes) → IsLawful IsAccepted m p → IsAccepted m.ledger.opening m.ledger.journal → IsLawful IsAccepted (after m events) (passes m p events)
+pub always_lawful : (events : List Event) (m : MachineState) (p : Auxiliary) → IsLawful IsAccepted m p → IsAccepted m.ledger.opening m.ledger.journal → IsLawful IsAccepted (after m events) (auxiliary_steps m p events)
 always_lawful [] m p l h = l
-always_lawful (event ∷ events) m p l h = always_lawful events (turn m event).0 (passed m p event) (turn_keeps IsAccepted m p l h event) (journal_accepted m h event)
+always_lawful (event ∷ events) m p l h = always_lawful events (transition m event).0 (auxiliary_step m p event) (transition_keeps IsAccepted m p l h event) (journal_accepted m h event)
 
--- a lawful machine whose journal is accepted, and a register of one thread that agrees with it
-pub record Together (t : Thread) (m : MachineState) (p : Passes) : Type 0 where
+-- a lawful machine whose journal is accepted, and a run of the sequential register that agrees with it
+pub record Together (t : SequentialRun) (m : MachineState) (p : Auxiliary) : Type 0 where
   pub lawful : IsLawful IsAccepted m p
   pub accepted : IsAccepted m.ledger.opening m.ledger.journal
   pub agrees : Agrees t m
 
 -- so they are after an event, and after all events
-pub together_on : (t : Thread) (m : MachineState) (p : Passes) → Together t m p → (event : Event) → Together (beside t m event) (turn m event).0 (passed m p event)
+pub together_on : (t : SequentialRun) (m : MachineState) (p : Auxiliary) → Together t m p → (event : Event) → Together (sequential_step t m event) (transition m event).0 (auxiliary_step m p event)
 together_on t m p h event =
     record {
-      lawful = turn_keeps IsAccepted m p h.lawful h.accepted event;
+      lawful = transition_keeps IsAccepted m p h.lawful h.accepted event;
       accepted = journal_accepted m h.accepted event;
       agrees = (event_agrees IsAccepted m p h.lawful t h.agrees event).0;
     }
 
-pub together_after : (events : List Event) (t : Thread) (m : MachineState) (p : Passes) → Together t m p → (t' : Thread) × Together t' (after m events) (passes m p events)
+pub together_after : (events : List Event) (t : SequentialRun) (m : MachineState) (p : Auxiliary) → Together t m p → (t' : SequentialRun) × Together t' (after m events) (auxiliary_steps m p events)
 together_after [] t m p h = (t, h)
-together_after (event ∷ events) t m p h = together_after events (beside t m event) (turn m event).0 (passed m p event) (together_on t m p h event)
+together_after (event ∷ events) t m p h = together_after events (sequential_step t m event) (transition m event).0 (auxiliary_step m p event) (together_on t m p h event)
 
--- each note is the reply of the register of one thread
-all_answer : (events : List Event) (t : Thread) (m : MachineState) (p : Passes) → Together t m p → AllAnswer t m events
+-- each note is the sequential register's reply
+all_answer : (events : List Event) (t : SequentialRun) (m : MachineState) (p : Auxiliary) → Together t m p → AllAnswer t m events
 all_answer [] t m p h = tt
 all_answer (event ∷ events) t m p h =
-    ((event_agrees IsAccepted m p h.lawful t h.agrees event).1, all_answer events (beside t m event) (turn m event).0 (passed m p event) (together_on t m p h event))
+    ((event_agrees IsAccepted m p h.lawful t h.agrees event).1, all_answer events (sequential_step t m event) (transition m event).0 (auxiliary_step m p event) (together_on t m p h event))
 
 pub always_grows : (events : List Event) (m : MachineState) (n : ℕ) → n ≤ length m.ledger.journal → n ≤ length (after m events).ledger.journal
 always_grows [] m n h = h
-always_grows (event ∷ events) m n h = always_grows events (turn m event).0 n (journal_grows n m h event)
+always_grows (event ∷ events) m n h = always_grows events (transition m event).0 n (journal_grows n m h event)
 
 pub always_within : (events : List Event) (m : MachineState) → IsWithin m.ledger → IsWithin (after m events).ledger
 always_within [] m h = h
-always_within (event ∷ events) m h = always_within events (turn m event).0 (journal_within m h event)
+always_within (event ∷ events) m h = always_within events (transition m event).0 (journal_within m h event)
 
 -- a list of events followed by another
 pub after_append : (events more : List Event) (m : MachineState) → after m (events ++ more) ≡ after (after m events) more
 after_append [] more m = refl
-after_append (event ∷ events) more m = after_append events more (turn m event).0
+after_append (event ∷ events) more m = after_append events more (transition m event).0
 
 pub notes_append : (events more : List Event) (m : MachineState) → notes m (events ++ more) ≡ notes m events ++ notes (after m events) more
 notes_append [] more m = refl
-notes_append (event ∷ events) more m = ap (λ (l : List Note). (turn m event).1 ∷ l) (notes_append events more (turn m event).0)
+notes_append (event ∷ events) more m = ap (λ (l : List Note). (transition m event).1 ∷ l) (notes_append events more (transition m event).0)
 
 -- the records are legal, where the journal has at most a million commands
-pub legal_records : (m : MachineState) (p : Passes) → IsLawful IsAccepted m p → length m.ledger.journal ≤ 1000000 → HasLegalRecords m p
+pub legal_records : (m : MachineState) (p : Auxiliary) → IsLawful IsAccepted m p → length m.ledger.journal ≤ 1000000 → HasLegalRecords m p
 legal_records m p l few =
     let w = m.writer in
     let o = l.state.writer in
@@ -77,25 +77,25 @@ legal_records m p l few =
 
 module _ (ledger : Ledger) (readers : ℕ) (accepted : IsAccepted ledger.opening ledger.journal) where
   -- from the start
-  pub start_together : Together (thread_of ledger) (started ledger readers) (opened ledger readers)
+  pub start_together : Together (sequential_start ledger) (started ledger readers) (auxiliary_start ledger readers)
   start_together = record { lawful = start_lawful IsAccepted ledger readers accepted; accepted = accepted; agrees = start_agrees ledger readers }
 
-  run_lawful : (events : List Event) → IsLawful IsAccepted (after (started ledger readers) events) (passes (started ledger readers) (opened ledger readers) events)
-  run_lawful events = always_lawful events (started ledger readers) (opened ledger readers) (start_lawful IsAccepted ledger readers accepted) accepted
+  run_lawful : (events : List Event) → IsLawful IsAccepted (after (started ledger readers) events) (auxiliary_steps (started ledger readers) (auxiliary_start ledger readers) events)
+  run_lawful events = always_lawful events (started ledger readers) (auxiliary_start ledger readers) (start_lawful IsAccepted ledger readers accepted) accepted
 
-  pub run_answers : (events : List Event) → AllAnswer (thread_of ledger) (started ledger readers) events
-  run_answers events = all_answer events (thread_of ledger) (started ledger readers) (opened ledger readers) start_together
+  pub run_answers : (events : List Event) → AllAnswer (sequential_start ledger) (started ledger readers) events
+  run_answers events = all_answer events (sequential_start ledger) (started ledger readers) (auxiliary_start ledger readers) start_together
 
   pub run_apart : (events : List Event) → NoneUnder (after (started ledger readers) events)
-  run_apart events = none_under IsAccepted (after (started ledger readers) events) (passes (started ledger readers) (opened ledger readers) events) (run_lawful events)
+  run_apart events = none_under IsAccepted (after (started ledger readers) events) (auxiliary_steps (started ledger readers) (auxiliary_start ledger readers) events) (run_lawful events)
 
   pub run_records : (events : List Event) → length (after (started ledger readers) events).ledger.journal ≤ 1000000
-      → HasLegalRecords (after (started ledger readers) events) (passes (started ledger readers) (opened ledger readers) events)
-  run_records events few = legal_records (after (started ledger readers) events) (passes (started ledger readers) (opened ledger readers) events) (run_lawful events) few
+      → HasLegalRecords (after (started ledger readers) events) (auxiliary_steps (started ledger readers) (auxiliary_start ledger readers) events)
+  run_records events few = legal_records (after (started ledger readers) events) (auxiliary_steps (started ledger readers) (auxiliary_start ledger readers) events) (run_lawful events) few
 
 -- of a register's ledger the journal stays short enough
 pub ledger_records : (ledger : Ledger) (readers : ℕ) → IsLedger ledger → (events : List Event)
-    → HasLegalRecords (after (started ledger readers) events) (passes (started ledger readers) (opened ledger readers) events)
+    → HasLegalRecords (after (started ledger readers) events) (auxiliary_steps (started ledger readers) (auxiliary_start ledger readers) events)
 ledger_records ledger readers k events =
     let w = always_within events (started ledger readers) (k.within, k.small) in
     let short = w.0 in
@@ -109,13 +109,13 @@ one_more events k event h at =
 
 -- the first events of a list, with one more
 pub after_more : (m : MachineState) (events : List Event) (k : ℕ) (event : Event) → k < length events → event ≡ get_or events k event
-    → after m (take (k + 1) events) ≡ (turn (after m (take k events)) event).0
+    → after m (take (k + 1) events) ≡ (transition (after m (take k events)) event).0
 after_more m events k event h at = ap (after m) (one_more events k event h at) ∙ after_append (take k events) (event ∷ []) m
 
 pub notes_more : (m : MachineState) (events : List Event) (k : ℕ) (event : Event) → k < length events → event ≡ get_or events k event
-    → notes m (take (k + 1) events) ≡ notes m (take k events) ++ (turn (after m (take k events)) event).1 ∷ []
+    → notes m (take (k + 1) events) ≡ notes m (take k events) ++ (transition (after m (take k events)) event).1 ∷ []
 notes_more m events k event h at = ap (notes m) (one_more events k event h at) ∙ notes_append (take k events) (event ∷ []) m
 
 pub notes_long : (m : MachineState) (events : List Event) → length (notes m events) ≡ length events
 notes_long m [] = refl
-notes_long m (event ∷ events) = ap suc (notes_long (turn m event).0 events)
+notes_long m (event ∷ events) = ap suc (notes_long (transition m event).0 events)

@@ -17,9 +17,9 @@ use Rattle.two_copy_steps.specs.declared.views.Phase.{Phase}
 use Rattle.two_copy_steps.specs.declared.views.Phase.TheVariants.{Idle, Seeing, Filling, Swapping}
 use Rattle.two_copy_steps.specs.declared.table.TheConstants.{COPY_WORDS}
 use Rattle.two_copy_steps.specs.Actions.{stage_action, phase_action, seeing, first_false}
-use Rattle.two_copy_steps.specs.Turns.{MachineState, turn, submitted, published_by, is_pending, is_idle, reader_turn, started, after}
-use Rattle.two_copy_steps.specs.Passes.{Passes, opened, passed, passes, IsLawful}
-use Rattle.two_copy_steps.specs.Effects.{Thread, thread_of, replied_at, replied_to, beside}
+use Rattle.two_copy_steps.specs.Transitions.{MachineState, transition, submitted, published_by, is_pending, is_idle, reader_transition, started, after}
+use Rattle.two_copy_steps.specs.Auxiliary.{Auxiliary, auxiliary_start, auxiliary_step, auxiliary_steps, IsLawful}
+use Rattle.two_copy_steps.specs.Effects.{SequentialRun, sequential_start, replied_at, replied_to, sequential_step}
 use Rattle.two_copy_steps.proofs.Lists.{at_set}
 use Rattle.two_copy_steps.proofs.Journals.{IsAccepted}
 use Rattle.two_copy_steps.proofs.EventLists.{Together, together_on, together_after, start_together, after_append}
@@ -29,7 +29,7 @@ looked_published w r true = refl
 looked_published w r false = refl
 
 -- what is published never gets shorter
-published_grows : (m : MachineState) (p : Passes) → IsLawful IsAccepted m p → (event : Event) → length m.writer.published ≤ length (turn m event).0.writer.published
+published_grows : (m : MachineState) (p : Auxiliary) → IsLawful IsAccepted m p → (event : Event) → length m.writer.published ≤ length (transition m event).0.writer.published
 published_grows m p l (Submit command) =
     elim (is_idle m.writer.phase) as (λ b. length m.writer.published ≤ length (cond b (submitted m command (verdict_of m.ledger command)) (m, Skipped)).0.writer.published) [ true ↦ omega arith | false ↦ omega arith ]
 published_grows m p l Publish =
@@ -49,7 +49,7 @@ published_grows m p l Writer = by_phase m.writer.phase
     by_phase Swapping = let b = l.state.writer.begins in let longer = ap (length {A = Command}) b.1 in omega (arith, length-append m.writer.published b.0)
 published_grows m p l (Reader zero) = omega arith
 published_grows m p l (Reader (suc r)) =
-    elim (slice_get m.readers r) as (λ o. length m.writer.published ≤ length (reader_turn m r o).0.writer.published) [ None ↦ omega arith | Some stage ↦ omega arith ]
+    elim (slice_get m.readers r) as (λ o. length m.writer.published ≤ length (reader_transition m r o).0.writer.published) [ None ↦ omega arith | Some stage ↦ omega arith ]
 
 -- a reader that is reading was replied no older sheet
 abbrev FreshAt : ℕ → Option Reply → Stage → Type 0
@@ -58,17 +58,17 @@ FreshAt low given Arrived = Unit {0}
 FreshAt low given (Reading side words) = (numbers : List ℕ) × (given ≡ Some (reading numbers)) × (low ≤ front_of numbers)
 FreshAt low given (Leaving side words) = (numbers : List ℕ) × (given ≡ Some (reading numbers)) × (low ≤ front_of numbers)
 
-abbrev Fresh : ℕ → ℕ → Thread → MachineState → Type 0
+abbrev Fresh : ℕ → ℕ → SequentialRun → MachineState → Type 0
 Fresh low r t m = (low ≤ length m.writer.published) × ((stage : Stage) → slice_get m.readers r ≡ Some stage → FreshAt low (t.replied (suc r)) stage)
 
-shown_front : (m : MachineState) (p : Passes) → IsLawful IsAccepted m p → front_of (sheet m.ledger.opening (take (length m.writer.published) m.ledger.journal)) ≡ length m.writer.published
+shown_front : (m : MachineState) (p : Auxiliary) → IsLawful IsAccepted m p → front_of (sheet m.ledger.opening (take (length m.writer.published) m.ledger.journal)) ≡ length m.writer.published
 shown_front m p l =
     let begins = ap (length {A = Command}) l.state.writer.begins.1 in
     let extends = ap (length {A = Command}) l.extends.1 in
     let kept = length-take (length m.writer.published) m.ledger.journal in
     omega (arith, length-append m.writer.published l.state.writer.begins.0, length-append m.writer.taken l.extends.0)
 
-module _ (low r : ℕ) (t : Thread) (m : MachineState) (p : Passes) (h : Together t m p) (f : Fresh low r t m) where
+module _ (low r : ℕ) (t : SequentialRun) (m : MachineState) (p : Auxiliary) (h : Together t m p) (f : Fresh low r t m) where
   -- the reader's own step
   own : (stage : Stage) → slice_get m.readers r ≡ Some stage → FreshAt low (replied_at t (suc r) stage (suc r)) ((stage_action r stage).after (get_or m.words (stage_action r stage).word 0))
   own AtRest at = tt
@@ -92,7 +92,7 @@ module _ (low r : ℕ) (t : Thread) (m : MachineState) (p : Passes) (h : Togethe
   apart q (Reading side words) ne = refl
   apart q (Leaving side words) ne = refl
 
-  fresh_reader : (q : ℕ) (o : Option Stage) → slice_get m.readers q ≡ o → (stage : Stage) → slice_get (reader_turn m q o).0.readers r ≡ Some stage → FreshAt low (replied_to t (suc q) o (suc r)) stage
+  fresh_reader : (q : ℕ) (o : Option Stage) → slice_get m.readers q ≡ o → (stage : Stage) → slice_get (reader_transition m q o).0.readers r ≡ Some stage → FreshAt low (replied_to t (suc q) o (suc r)) stage
   fresh_reader q None is stage at = f.1 stage at
   fresh_reader q (Some s) is stage at =
       ⊎_elim
@@ -102,7 +102,7 @@ module _ (low r : ℕ) (t : Thread) (m : MachineState) (p : Passes) (h : Togethe
       (λ (h : (r ≢ q) × (slice_get m.readers r ≡ Some stage)). subst (λ (g : Option Reply). FreshAt low g stage) (sym (apart q s h.0)) (f.1 stage h.1))
       (at_set m.readers q r ((stage_action q s).after (get_or m.words (stage_action q s).word 0)) stage at)
 
-  fresh_stage : (event : Event) (stage : Stage) → slice_get (turn m event).0.readers r ≡ Some stage → FreshAt low ((beside t m event).replied (suc r)) stage
+  fresh_stage : (event : Event) (stage : Stage) → slice_get (transition m event).0.readers r ≡ Some stage → FreshAt low ((sequential_step t m event).replied (suc r)) stage
   fresh_stage (Submit command) =
       elim (is_idle m.writer.phase) as (λ b. (stage : Stage) → slice_get (cond b (submitted m command (verdict_of m.ledger command)) (m, Skipped)).0.readers r ≡ Some stage → FreshAt low (t.replied (suc r)) stage) [ true ↦ f.1 | false ↦ f.1 ]
   fresh_stage Publish =
@@ -114,11 +114,11 @@ module _ (low r : ℕ) (t : Thread) (m : MachineState) (p : Passes) (h : Togethe
   fresh_stage (Reader zero) = f.1
   fresh_stage (Reader (suc q)) = fresh_reader q (slice_get m.readers q) refl
 
-  stays_fresh : (event : Event) → Fresh low r (beside t m event) (turn m event).0
+  stays_fresh : (event : Event) → Fresh low r (sequential_step t m event) (transition m event).0
   stays_fresh event = (le_trans f.0 (published_grows m p h.lawful event), fresh_stage event)
 
   -- what it then reads
-  reads_fresh : (words : List ℕ) → (turn m (Reader (suc r))).1 ≡ Read (suc r) words → low ≤ front_of words
+  reads_fresh : (words : List ℕ) → (transition m (Reader (suc r))).1 ≡ Read (suc r) words → low ≤ front_of words
   reads_fresh words told = by_stage (slice_get m.readers r) refl told
     where
       same_sheet : (x y : List ℕ) → Some (reading x) ≡ Some (reading y) → x ≡ y
@@ -127,7 +127,7 @@ module _ (low r : ℕ) (t : Thread) (m : MachineState) (p : Passes) (h : Togethe
       read_words : (n k : ℕ) (x y : List ℕ) → Read n x ≡ Read k y → x ≡ y
       read_words n k x y e = cc
 
-      by_stage : (o : Option Stage) → slice_get m.readers r ≡ o → (reader_turn m r o).1 ≡ Read (suc r) words → low ≤ front_of words
+      by_stage : (o : Option Stage) → slice_get m.readers r ≡ o → (reader_transition m r o).1 ≡ Read (suc r) words → low ≤ front_of words
       by_stage None at e = absurd cc
       by_stage (Some AtRest) at e = absurd cc
       by_stage (Some Arrived) at e = absurd cc
@@ -139,21 +139,21 @@ module _ (low r : ℕ) (t : Thread) (m : MachineState) (p : Passes) (h : Togethe
           subst (λ (x : List ℕ). low ≤ front_of x) is g.2
 
 -- whatever follows
-fresh_read : (low r : ℕ) (more : List Event) (t : Thread) (m : MachineState) (p : Passes) → Together t m p → Fresh low r t m → (words : List ℕ) → (turn (after m more) (Reader (suc r))).1 ≡ Read (suc r) words
+fresh_read : (low r : ℕ) (more : List Event) (t : SequentialRun) (m : MachineState) (p : Auxiliary) → Together t m p → Fresh low r t m → (words : List ℕ) → (transition (after m more) (Reader (suc r))).1 ≡ Read (suc r) words
     → low ≤ front_of words
 fresh_read low r [] t m p h f words told = reads_fresh low r t m p h f words told
 fresh_read low r (event ∷ more) t m p h f words told =
-    fresh_read low r more (beside t m event) (turn m event).0 (passed m p event) (together_on t m p h event) (stays_fresh low r t m p h f event) words told
+    fresh_read low r more (sequential_step t m event) (transition m event).0 (auxiliary_step m p event) (together_on t m p h event) (stays_fresh low r t m p h f event) words told
 
 module _ (ledger : Ledger) (readers : ℕ) (accepted : IsAccepted ledger.opening ledger.journal) where
   -- a reader at rest after some events reads, whatever follows, nothing older than what is published by then
   pub run_fresh : (events more : List Event) (r : ℕ) (words : List ℕ) → slice_get (after (started ledger readers) events).readers r ≡ Some AtRest
-      → (turn (after (started ledger readers) (events ++ more)) (Reader (suc r))).1 ≡ Read (suc r) words → length (after (started ledger readers) events).writer.published ≤ front_of words
+      → (transition (after (started ledger readers) (events ++ more)) (Reader (suc r))).1 ≡ Read (suc r) words → length (after (started ledger readers) events).writer.published ≤ front_of words
   run_fresh events more r words rest told =
       let start : MachineState = started ledger readers in
       let m : MachineState = after start events in
-      let t = together_after events (thread_of ledger) start (opened ledger readers) (start_together ledger readers accepted) in
+      let t = together_after events (sequential_start ledger) start (auxiliary_start ledger readers) (start_together ledger readers accepted) in
       let low : ℕ = length m.writer.published in
-      fresh_read low r more t.0 m (passes start (opened ledger readers) events) t.1
+      fresh_read low r more t.0 m (auxiliary_steps start (auxiliary_start ledger readers) events) t.1
       (le_refl low, λ stage at. subst (FreshAt low (t.0.replied (suc r))) (same_Some AtRest stage (sym rest ∙ at)) tt)
-      words (ap (λ (x : MachineState). (turn x (Reader (suc r))).1) (sym (after_append events more start)) ∙ told)
+      words (ap (λ (x : MachineState). (transition x (Reader (suc r))).1) (sym (after_append events more start)) ∙ told)

@@ -13,7 +13,7 @@ use Rattle.two_copy_steps.specs.declared.events.Event.TheVariants.{Submit, Publi
 use Rattle.two_copy_steps.specs.declared.events.Note.TheVariants.{Skipped}
 use Rattle.two_copy_steps.specs.declared.views.Stage.{Stage}
 use Rattle.two_copy_steps.specs.Laws.{HandsInRange, HasVotesInRange}
-use Rattle.two_copy_steps.specs.Turns.{MachineState, turn, submitted, published_by, is_pending, is_idle, reader_turn}
+use Rattle.two_copy_steps.specs.Transitions.{MachineState, transition, submitted, published_by, is_pending, is_idle, reader_transition}
 
 -- each command is accepted in its turn
 abbrev pub IsAccepted : Opening → List Command → Type 0
@@ -60,11 +60,11 @@ module _ (P : Ledger → Type 0) (more : (ledger : Ledger) (command : Command) �
   by_verdict m command (Ok u) e h = more m.ledger command h e
   by_verdict m command (Err refusal) e h = h
 
-  by_reader : (m : MachineState) (r : ℕ) (o : Option Stage) → P m.ledger → P (reader_turn m r o).0.ledger
+  by_reader : (m : MachineState) (r : ℕ) (o : Option Stage) → P m.ledger → P (reader_transition m r o).0.ledger
   by_reader m r None h = h
   by_reader m r (Some stage) h = h
 
-  pub ledger_keeps : (m : MachineState) → P m.ledger → (event : Event) → P (turn m event).0.ledger
+  pub ledger_keeps : (m : MachineState) → P m.ledger → (event : Event) → P (transition m event).0.ledger
   ledger_keeps m h (Submit command) =
       elim (is_idle m.writer.phase) as (λ b. P (cond b (submitted m command (verdict_of m.ledger command)) (m, Skipped)).0.ledger)
       [ true ↦ by_verdict m command (verdict_of m.ledger command) refl h | false ↦ h ]
@@ -78,18 +78,18 @@ module _ (P : Ledger → Type 0) (more : (ledger : Ledger) (command : Command) �
   ledger_keeps m h (Reader (suc r)) = by_reader m r (slice_get m.readers r) h
 
 -- the journal keeps being accepted
-pub journal_accepted : (m : MachineState) → IsAccepted m.ledger.opening m.ledger.journal → (event : Event) → IsAccepted (turn m event).0.ledger.opening (turn m event).0.ledger.journal
+pub journal_accepted : (m : MachineState) → IsAccepted m.ledger.opening m.ledger.journal → (event : Event) → IsAccepted (transition m event).0.ledger.opening (transition m event).0.ledger.journal
 journal_accepted = ledger_keeps (λ l. IsAccepted l.opening l.journal) accepted_more
 
 -- it never gets shorter
-pub journal_grows : (n : ℕ) (m : MachineState) → n ≤ length m.ledger.journal → (event : Event) → n ≤ length (turn m event).0.ledger.journal
+pub journal_grows : (n : ℕ) (m : MachineState) → n ≤ length m.ledger.journal → (event : Event) → n ≤ length (transition m event).0.ledger.journal
 journal_grows n = ledger_keeps (λ l. n ≤ length l.journal) (λ l command h v. omega (arith, length-append l.journal (command ∷ [])))
 
 -- a journal within its limit, which is at most a million
 abbrev pub IsWithin : Ledger → Type 0
 IsWithin ledger = (length ledger.journal ≤ ledger.limit) × (ledger.limit ≤ 1000000)
 
-pub journal_within : (m : MachineState) → IsWithin m.ledger → (event : Event) → IsWithin (turn m event).0.ledger
+pub journal_within : (m : MachineState) → IsWithin m.ledger → (event : Event) → IsWithin (transition m event).0.ledger
 journal_within =
     ledger_keeps IsWithin (λ l command h v.
     let below = h.0 in
@@ -104,7 +104,7 @@ in_range_by : (m : MachineState) (command : Command) (v : Result ⊤ Refusal) �
 in_range_by m command (Ok u) h c = in_range_more m.ledger command h c
 in_range_by m command (Err refusal) h c = h
 
-pub stays_in_range : (m : MachineState) → HasVotesInRange m.ledger → (event : Event) → HandsInRange event → HasVotesInRange (turn m event).0.ledger
+pub stays_in_range : (m : MachineState) → HasVotesInRange m.ledger → (event : Event) → HandsInRange event → HasVotesInRange (transition m event).0.ledger
 stays_in_range m h (Submit command) c =
     elim (is_idle m.writer.phase) as (λ b. HasVotesInRange (cond b (submitted m command (verdict_of m.ledger command)) (m, Skipped)).0.ledger)
     [ true ↦ in_range_by m command (verdict_of m.ledger command) h c | false ↦ h ]
@@ -115,4 +115,4 @@ stays_in_range m h Publish c =
     ]
 stays_in_range m h Writer c = h
 stays_in_range m h (Reader zero) c = h
-stays_in_range m h (Reader (suc r)) c = elim (slice_get m.readers r) as (λ o. HasVotesInRange (reader_turn m r o).0.ledger) [ None ↦ h | Some stage ↦ h ]
+stays_in_range m h (Reader (suc r)) c = elim (slice_get m.readers r) as (λ o. HasVotesInRange (reader_transition m r o).0.ledger) [ None ↦ h | Some stage ↦ h ]

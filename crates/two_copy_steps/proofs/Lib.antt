@@ -3,7 +3,7 @@ pub mod Records
 pub mod Cuts
 pub mod ReaderSteps
 pub mod WriterSteps
-pub mod TurnSteps
+pub mod TransitionSteps
 pub mod Replies
 pub mod Journals
 pub mod Starts
@@ -16,5 +16,5 @@ pub mod EffectLists
 pub mod StateFacts
 pub mod StageFacts
 pub mod ToldRecords
-pub mod TurnFacts
+pub mod TransitionFacts
 pub mod PublicationFacts

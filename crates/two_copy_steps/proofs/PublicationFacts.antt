@@ -19,8 +19,8 @@ use Rattle.two_copy_steps.specs.declared.views.Phase.{Phase}
 use Rattle.two_copy_steps.specs.declared.views.Phase.TheVariants.{Idle, Seeing, Filling, Swapping}
 use Rattle.two_copy_steps.specs.Actions.{all_true, first_false, pin, seeing, phase_action}
 use Rattle.two_copy_steps.specs.Lawful.{IsPublishable, Fills, pin_of}
-use Rattle.two_copy_steps.specs.Turns.{MachineState, turn, submitted, published_by, is_pending, is_idle, phase_note, reader_turn, stage_note}
-use Rattle.two_copy_steps.specs.Passes.{Passes, IsLawful, state_of}
+use Rattle.two_copy_steps.specs.Transitions.{MachineState, transition, submitted, published_by, is_pending, is_idle, phase_note, reader_transition, stage_note}
+use Rattle.two_copy_steps.specs.Auxiliary.{Auxiliary, IsLawful, state_of}
 use Rattle.two_copy_steps.specs.Publications.{IsLeastUnseen, StaySeen, stores_side}
 use Rattle.two_copy_steps.proofs.Lists.{set_here, set_else, inside, there}
 use Rattle.two_copy_steps.proofs.WriterSteps.{first_inside}
@@ -57,7 +57,7 @@ pinned_one Arrived found e ne = e
 pinned_one (Reading side words) found e ne = e
 pinned_one (Leaving side words) found e ne = e
 
-module _ (m : MachineState) (p : Passes) (l : IsLawful IsPublishable m p) where
+module _ (m : MachineState) (p : Auxiliary) (l : IsLawful IsPublishable m p) where
   abbrev w : Writing
   w = m.writer
 
@@ -110,11 +110,11 @@ module _ (m : MachineState) (p : Passes) (l : IsLawful IsPublishable m p) where
   not_stage number r (Reading side words) e = none-some number e
   not_stage number r (Leaving side words) e = none-some number e
 
-  not_reader : (number r : ℕ) (o : Option Stage) → in_the_way (reader_turn m r o).1 ≡ Some number → ⊥
+  not_reader : (number r : ℕ) (o : Option Stage) → in_the_way (reader_transition m r o).1 ≡ Some number → ⊥
   not_reader number r None e = none-some number e
   not_reader number r (Some stage) e = not_stage number (suc r) stage e
 
-  pub busy_is : (event : Event) (number : ℕ) → (turn m event).1 ≡ Busy number → InTheWay number (turn m event).0.writer
+  pub busy_is : (event : Event) (number : ℕ) → (transition m event).1 ≡ Busy number → InTheWay number (transition m event).0.writer
   busy_is (Submit command) number e = absurd (not_submit number command (is_idle w.phase) (verdict_of m.ledger command) (ap in_the_way e))
   busy_is Publish number e = absurd (not_publish number (is_idle w.phase) (is_pending m) (ap in_the_way e))
   busy_is Writer number e = by_phase number w.phase refl (ap in_the_way e)
@@ -148,11 +148,11 @@ module _ (m : MachineState) where
   publish_stays true false = λ q e. e
   publish_stays false pending = λ q e. e
 
-  reader_stays : (r : ℕ) (o : Option Stage) → StaySeen m.writer.seen_out (reader_turn m r o).0.writer.seen_out
+  reader_stays : (r : ℕ) (o : Option Stage) → StaySeen m.writer.seen_out (reader_transition m r o).0.writer.seen_out
   reader_stays r None = λ q e. e
   reader_stays r (Some stage) = λ q e. e
 
-  pub stay_is : (event : Event) → stores_side event m.writer.phase ≡ false → StaySeen m.writer.seen_out (turn m event).0.writer.seen_out
+  pub stay_is : (event : Event) → stores_side event m.writer.phase ≡ false → StaySeen m.writer.seen_out (transition m event).0.writer.seen_out
   stay_is (Submit command) h = submit_stays command (is_idle m.writer.phase) (verdict_of m.ledger command)
   stay_is Publish h = publish_stays (is_idle m.writer.phase) (is_pending m)
   stay_is Writer h = phase_stays m.writer.phase h
@@ -176,5 +176,5 @@ module _ (m : MachineState) where
   begun_phase all true false e = absurd (false_not_true e)
   begun_phase all false pending e = absurd (false_not_true e)
 
-  pub at_once_is : all_true m.writer.seen_out ≡ true → (turn m Publish).1 ≡ Began → (turn m Publish).0.writer.phase ≡ Filling 0
+  pub at_once_is : all_true m.writer.seen_out ≡ true → (transition m Publish).1 ≡ Began → (transition m Publish).0.writer.phase ≡ Filling 0
   at_once_is all e = begun_phase all (is_idle m.writer.phase) (is_pending m) (ap is_beginning e)

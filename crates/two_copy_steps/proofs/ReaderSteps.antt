@@ -17,7 +17,7 @@ use Rattle.two_copy_steps.specs.declared.views.Phase.{Phase}
 use Rattle.two_copy_steps.specs.declared.views.Phase.TheVariants.{Idle, Seeing, Filling, Swapping}
 use Rattle.two_copy_steps.specs.declared.table.TheConstants.{COPY_WORDS}
 use Rattle.two_copy_steps.specs.Actions.{place, pin, other, recorded}
-use Rattle.two_copy_steps.specs.Lawful.{State, read_by, Shows, IsReadFrom, Beside, Stands, ReaderOk, Fills, WriterOk, Lawful}
+use Rattle.two_copy_steps.specs.Lawful.{State, read_by, Shows, IsReadFrom, HoldsCopy, Stands, ReaderOk, Fills, WriterOk, Lawful}
 use Rattle.two_copy_steps.proofs.Lists.{at_set, inside}
 use Rattle.two_copy_steps.proofs.Records.{sheet_long, front_of_cut, last_front-push, record-push, record-below}
 
@@ -58,8 +58,8 @@ module _ (opening : Opening) (Legal : List Command → Type 0) where
     shows_alike : (s : ℕ) (numbers : List ℕ) → Shows ws s numbers → Shows vs s numbers
     shows_alike s numbers h i l = a.low (place s i) (place_low s i l) ∙ h i l
 
-    beside_alike : (w : WriterView) (seen : List (List ℕ)) (q s : ℕ) → Beside opening Legal ws w seen q s → Beside opening Legal vs w seen q s
-    beside_alike w seen q s b =
+    holds_alike : (w : WriterView) (seen : List (List ℕ)) (q s : ℕ) → HoldsCopy opening Legal ws w seen q s → HoldsCopy opening Legal vs w seen q s
+    holds_alike w seen q s b =
         record { two = b.two; cut = b.cut; is_cut = b.is_cut; shows = shows_alike s (sheet opening (take b.cut w.state.published)) b.shows; above = b.above; late = b.late }
 
     read_alike : (s : ℕ) (xs : List ℕ) → length xs ≤ COPY_WORDS → IsReadFrom ws s xs → IsReadFrom vs s xs
@@ -68,8 +68,8 @@ module _ (opening : Opening) (Legal : List Command → Type 0) where
     stands_alike : (w : WriterView) (seen : List (List ℕ)) (q : ℕ) (st : Stage) → Stands opening Legal ws w seen q st → Stands opening Legal vs w seen q st
     stands_alike w seen q AtRest h = tt
     stands_alike w seen q Arrived h = tt
-    stands_alike w seen q (Reading s xs) h = let short : length xs < COPY_WORDS = h.1 in (beside_alike w seen q s h.0, h.1, read_alike s xs (omega arith) h.2)
-    stands_alike w seen q (Leaving s xs) h = let full : length xs ≡ COPY_WORDS = h.1 in (beside_alike w seen q s h.0, h.1, read_alike s xs (omega arith) h.2, h.3)
+    stands_alike w seen q (Reading s xs) h = let short : length xs < COPY_WORDS = h.1 in (holds_alike w seen q s h.0, h.1, read_alike s xs (omega arith) h.2)
+    stands_alike w seen q (Leaving s xs) h = let full : length xs ≡ COPY_WORDS = h.1 in (holds_alike w seen q s h.0, h.1, read_alike s xs (omega arith) h.2, h.3)
 
     ok_alike : (w : WriterView) (q : ℕ) (v : ReaderView) → q ≢ r → ReaderOk opening Legal ws w q v → ReaderOk opening Legal vs w q v
     ok_alike w q v ne k = record { pinned = a.pins q ne ∙ k.pinned; stands = stands_alike w v.readings q v.stage k.stands; record_legal = k.record_legal }
@@ -114,7 +114,7 @@ module _ (opening : Opening) (Legal : List Command → Type 0) where
             (at_set m.readers r q v u e);
       }
 
-  whole : (words : List ℕ) (w : WriterView) (seen : List (List ℕ)) (r s : ℕ) (ws : List ℕ) (b : Beside opening Legal words w seen r s) → length ws ≡ COPY_WORDS
+  whole : (words : List ℕ) (w : WriterView) (seen : List (List ℕ)) (r s : ℕ) (ws : List ℕ) (b : HoldsCopy opening Legal words w seen r s) → length ws ≡ COPY_WORDS
       → IsReadFrom words s ws → ws ≡ sheet opening (take b.cut w.state.published)
   whole words w seen r s ws b len h =
       let size = sheet_long opening (take b.cut w.state.published) in
@@ -125,8 +125,8 @@ module _ (opening : Opening) (Legal : List Command → Type 0) where
 
   -- a reader that has loaded these words of the copy that a side names: its pin is 1, and its record is legal
   record HasLoaded (words : List ℕ) (w : WriterView) (seen : List (List ℕ)) (r s : ℕ) (ws : List ℕ) : Type 0 where
-    pub beside : Beside opening Legal words w seen r s
-    pub within : beside.cut ≤ length w.state.published
+    pub holds : HoldsCopy opening Legal words w seen r s
+    pub within : holds.cut ≤ length w.state.published
     pub few : length ws ≤ COPY_WORDS
     pub read_from : IsReadFrom words s ws
     pub pinned : get_or words (pin r) 0 ≡ 1
@@ -134,7 +134,7 @@ module _ (opening : Opening) (Legal : List Command → Type 0) where
 
   loaded_ok : (words : List ℕ) (w : WriterView) (seen : List (List ℕ)) (r s : ℕ) (ws : List ℕ) → HasLoaded words w seen r s ws → ReaderOk opening Legal words w r (stepped s ws seen (eqb (length ws) COPY_WORDS))
   loaded_ok words w seen r s ws h =
-      let b = h.beside in
+      let b = h.holds in
       let few = h.few in
       dite (ℕ_discrete (length ws) COPY_WORDS)
       (λ e.
@@ -152,7 +152,7 @@ module _ (opening : Opening) (Legal : List Command → Type 0) where
       record { pinned = h.pinned; stands = (b, omega arith, h.read_from); record_legal = h.record_legal })
 
   begins_side : (m : State) (l : Lawful opening Legal m) (r : ℕ) (seen : List (List ℕ)) → IsRecordFrom opening m.writer.state.published m.writer.cuts 0 seen
-      → Beside opening Legal m.words m.writer seen r (get_or m.words 0 0)
+      → HoldsCopy opening Legal m.words m.writer seen r (get_or m.words 0 0)
   begins_side m l r seen legal =
       let o = l.writer in
       let w = m.writer in
@@ -192,7 +192,7 @@ module _ (opening : Opening) (Legal : List Command → Type 0) where
       subst (λ (vs : List ℕ). Lawful opening Legal (At vs m.writer (set m.readers r v))) (sym (set-get_or m.words i 0))
       (reader_moves m l r m.words v (same r m.words)
       (loaded_ok m.words m.writer seen r s (ws ++ x ∷ []) record {
-        beside = b;
+        holds = b;
         within = (l.writer.cuts b.cut b.is_cut).0;
         few = omega arith;
         read_from = λ j g. read_more m.words ws s x refl h.2 j (omega arith);

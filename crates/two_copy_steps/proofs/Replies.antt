@@ -1,4 +1,4 @@
--- What each event tells is what the register of one thread replies.
+-- What each event tells is what the sequential register replies.
 use Rattle.std.proofs.Common.{◌≡◌, ◌≢◌, ℕ, zero, suc, eqb, ◌+◌, ◌<◌, ◌≤◌, Bool, true, false, cond, List, [], ◌∷◌, ◌++◌, length, get_or, take, set, Option, None, Some, slice_get, Result, Ok, Err, refl, sym, ap, ◌∙◌, subst, ⊎_elim, arith, length-append, append_assoc, get_or-set_other, eq-eqb, ne_eqb, ltb-false}
 use Rattle.std.specs.Prelude.{⊤}
 use Rattle.std.proofs.lemmas.List.{ext_get_or, set-get_or}
@@ -22,17 +22,17 @@ use Rattle.two_copy_steps.specs.declared.views.Phase.{Phase}
 use Rattle.two_copy_steps.specs.declared.views.Phase.TheVariants.{Idle, Seeing, Filling, Swapping}
 use Rattle.two_copy_steps.specs.declared.table.TheConstants.{COPY_WORDS}
 use Rattle.two_copy_steps.specs.Actions.{first_false, other, pin, place, begun, seeing, loaded, phase_action}
-use Rattle.two_copy_steps.specs.Lawful.{Shows, Beside, Stands, Fills}
-use Rattle.two_copy_steps.specs.Turns.{MachineState, turn, submitted, published_by, is_pending, is_idle, read, reader_turn, phase_note, stage_note}
-use Rattle.two_copy_steps.specs.Passes.{Passes, record_at, state_of, IsLawful}
-use Rattle.two_copy_steps.specs.Effects.{phase_effect, stage_effect, reader_effect, Thread, replied_at, replied_to, begun_after, beside, Tells, SwapsOnce, Answers}
+use Rattle.two_copy_steps.specs.Lawful.{Shows, HoldsCopy, Stands, Fills}
+use Rattle.two_copy_steps.specs.Transitions.{MachineState, transition, submitted, published_by, is_pending, is_idle, read, reader_transition, phase_note, stage_note}
+use Rattle.two_copy_steps.specs.Auxiliary.{Auxiliary, record_at, state_of, IsLawful}
+use Rattle.two_copy_steps.specs.Effects.{phase_effect, stage_effect, reader_effect, SequentialRun, replied_at, replied_to, begun_after, sequential_step, Tells, SwapsOnce, Answers}
 use Rattle.two_copy_steps.proofs.Lists.{at_set}
 use Rattle.two_copy_steps.proofs.Records.{sheet_long}
 use Rattle.two_copy_steps.proofs.ReaderSteps.{Alike, same, pin_set, place_low, read_more}
 use Rattle.two_copy_steps.proofs.WriterSteps.{place_above, place_apart, all_at}
-use Rattle.two_copy_steps.proofs.TurnSteps.{view_at, viewed_at}
+use Rattle.two_copy_steps.proofs.TransitionSteps.{view_at, viewed_at}
 
--- the register of one thread that goes with a machine
+-- the sequential register that goes with a machine
 abbrev pub sequential_of : MachineState → Sequential
 sequential_of m = record { ledger = m.ledger; published = length m.writer.published }
 
@@ -46,13 +46,13 @@ Held words given (Leaving side loaded) = given ≡ Some (reading loaded)
 abbrev pub AllHeld : List ℕ → (ℕ → Option Reply) → List Stage → Type 0
 AllHeld words replied readers = (r : ℕ) (stage : Stage) → slice_get readers r ≡ Some stage → Held words (replied (suc r)) stage
 
-pub record Agrees (t : Thread) (m : MachineState) : Type 0 where
+pub record Agrees (t : SequentialRun) (m : MachineState) : Type 0 where
   pub register : t.register ≡ sequential_of m
   pub held : AllHeld m.words t.replied m.readers
   pub begun : is_idle m.writer.phase ≡ false → t.begun ≡ true
 
-abbrev thread : MachineState → (ℕ → Option Reply) → Bool → Thread
-thread m replied b = record { register = sequential_of m; replied = replied; begun = b }
+abbrev sequential_run : MachineState → (ℕ → Option Reply) → Bool → SequentialRun
+sequential_run m replied b = record { register = sequential_of m; replied = replied; begun = b }
 
 -- what is to be shown of an event, by its calls, its note, the machine after it, and what the readers have been replied
 abbrev Goes : MachineState → Bool → List Call → Note → MachineState → (ℕ → Option Reply) → (ℕ → Option Reply) → Type 0
@@ -75,8 +75,8 @@ module _ (Legal : Opening → List Command → Type 0) where
       subst (λ (z : Option Reply). Held vs z other) (sym (stays (suc q) (λ e. apart (omega arith)))) (held_alike r m.words vs alike (replied (suc q)) other (all q other t.1)))
       (at_set m.readers r q stage other at)
 
-  -- what the register of one thread shows is what is published
-  is_shown : (m : MachineState) (p : Passes) → IsLawful Legal m p → take (length m.writer.published) m.ledger.journal ≡ m.writer.published
+  -- what the sequential register shows is what is published
+  is_shown : (m : MachineState) (p : Auxiliary) → IsLawful Legal m p → take (length m.writer.published) m.ledger.journal ≡ m.writer.published
   is_shown m p l =
       let w = m.writer in
       let b = l.state.writer.begins in
@@ -94,12 +94,12 @@ module _ (Legal : Opening → List Command → Type 0) where
 
   abbrev ReadGoes : MachineState → Bool → (ℕ → Option Reply) → ℕ → Stage → Type 0
   ReadGoes m b replied r stage =
-      Goes m b (stage_effect stage) (stage_note (suc r) stage) (read m r stage) replied (λ k. replied_at (thread m replied b) (suc r) stage k)
+      Goes m b (stage_effect stage) (stage_note (suc r) stage) (read m r stage) replied (λ k. replied_at (sequential_run m replied b) (suc r) stage k)
 
   others_none : (number : ℕ) (given : Option Reply) (replied : ℕ → Option Reply) (k : ℕ) → k ≢ number → cond (eqb k number) given (replied k) ≡ replied k
   others_none number given replied k ne = ap (λ (b : Bool). cond b given (replied k)) (ne_eqb k number ne)
 
-  read_goes : (m : MachineState) (p : Passes) → IsLawful Legal m p → (b : Bool) (replied : ℕ → Option Reply) → Agrees (thread m replied b) m
+  read_goes : (m : MachineState) (p : Auxiliary) → IsLawful Legal m p → (b : Bool) (replied : ℕ → Option Reply) → Agrees (sequential_run m replied b) m
       → (r : ℕ) (stage : Stage) → slice_get m.readers r ≡ Some stage → ReadGoes m b replied r stage
   read_goes m p l b replied a r AtRest at = (
     record {
@@ -154,19 +154,19 @@ module _ (Legal : Opening → List Command → Type 0) where
   )
 
   -- the copies that readers read are left as they are
-  abbrev Unharmed : MachineState → Passes → List ℕ → Type 0
+  abbrev Unharmed : MachineState → Auxiliary → List ℕ → Type 0
   Unharmed m p vs =
-      (r s : ℕ) (readings : List (List ℕ)) → Beside m.ledger.opening (Legal m.ledger.opening) m.words (state_of m p).writer readings r s
+      (r s : ℕ) (readings : List (List ℕ)) → HoldsCopy m.ledger.opening (Legal m.ledger.opening) m.words (state_of m p).writer readings r s
       → (i : ℕ) → i < COPY_WORDS → get_or vs (place s i) 0 ≡ get_or m.words (place s i) 0
 
-  held_on : (m : MachineState) (p : Passes) (vs : List ℕ) → Unharmed m p vs → (given : Option Reply) (readings : List (List ℕ)) (r : ℕ) (stage : Stage)
+  held_on : (m : MachineState) (p : Auxiliary) (vs : List ℕ) → Unharmed m p vs → (given : Option Reply) (readings : List (List ℕ)) (r : ℕ) (stage : Stage)
       → Stands m.ledger.opening (Legal m.ledger.opening) m.words (state_of m p).writer readings r stage → Held m.words given stage → Held vs given stage
   held_on m p vs u given readings r AtRest h k = tt
   held_on m p vs u given readings r Arrived h k = tt
   held_on m p vs u given readings r (Reading s ws) h k = (k.0, k.1, k.2, λ i l. u r s readings h.0 i l ∙ k.3 i l)
   held_on m p vs u given readings r (Leaving s ws) h k = k
 
-  all_held_on : (m : MachineState) (p : Passes) → IsLawful Legal m p → (vs : List ℕ) → Unharmed m p vs → (replied : ℕ → Option Reply) → AllHeld m.words replied m.readers → AllHeld vs replied m.readers
+  all_held_on : (m : MachineState) (p : Auxiliary) → IsLawful Legal m p → (vs : List ℕ) → Unharmed m p vs → (replied : ℕ → Option Reply) → AllHeld m.words replied m.readers → AllHeld vs replied m.readers
   all_held_on m p l vs u replied all r stage at =
       let ok = l.state.each_reader r (view_at stage (record_at p.records r)) (viewed_at m.readers p.records r stage at) in
       held_on m p vs u (replied (suc r)) (record_at p.records r) r stage ok.stands (all r stage at)
@@ -197,7 +197,7 @@ module _ (Legal : Opening → List Command → Type 0) where
   true_not_false : true ≡ false → ⊥
   true_not_false e = cc
 
-  write_goes : (m : MachineState) (p : Passes) → IsLawful Legal m p → (b : Bool) (replied : ℕ → Option Reply) → Agrees (thread m replied b) m
+  write_goes : (m : MachineState) (p : Auxiliary) → IsLawful Legal m p → (b : Bool) (replied : ℕ → Option Reply) → Agrees (sequential_run m replied b) m
       → (phase : Phase) → m.writer.phase ≡ phase → WriteGoes m b replied phase
   write_goes m p l b replied a Idle is = (
     (
@@ -234,8 +234,8 @@ module _ (Legal : Opening → List Command → Type 0) where
           record {
             register = refl;
             held = all_held_on m p l (set m.words place' x)
-                (λ r s readings beside i lt.
-                let here : s ≡ w.side = dite (ℕ_discrete s w.side) (λ z. z) (λ ne. absurd (all_at w.seen_out r f.1.0 (beside.late ne))) in
+                (λ r s readings holds i lt.
+                let here : s ≡ w.side = dite (ℕ_discrete s w.side) (λ z. z) (λ ne. absurd (all_at w.seen_out r f.1.0 (holds.late ne))) in
                 get_or-set_other m.words place' (place s i) x 0 (subst (λ (z : ℕ). place z i ≢ place') (sym here) (place_apart w.side i k o.two lt f.0)))
                 replied a.held;
             begun = λ _. a.begun (ap is_idle is);
@@ -252,7 +252,7 @@ module _ (Legal : Opening → List Command → Type 0) where
           record {
             register = ap (λ (z : ℕ). let s : Sequential = record { ledger = m.ledger; published = z } in s) long;
             held = all_held_on m p l (set m.words 0 (other w.side))
-                (λ r s readings beside i lt. get_or-set_other m.words 0 (place s i) (other w.side) 0 (λ z. let g = place_above s i in omega arith))
+                (λ r s readings holds i lt. get_or-set_other m.words 0 (place s i) (other w.side) 0 (λ z. let g = place_above s i in omega arith))
                 replied a.held;
             begun = λ e. absurd (true_not_false e);
           },
@@ -266,14 +266,14 @@ module _ (Legal : Opening → List Command → Type 0) where
       let after = cond idle (published_by m pending) (m, Skipped) in
       Goes m b (cond idle (cond pending [] (publish ∷ [])) []) after.1 after.0 replied replied
 
-  not_pending : (m : MachineState) (p : Passes) → IsLawful Legal m p → is_pending m ≡ false → length m.ledger.journal ≡ length m.writer.published
+  not_pending : (m : MachineState) (p : Auxiliary) → IsLawful Legal m p → is_pending m ≡ false → length m.ledger.journal ≡ length m.writer.published
   not_pending m p l none =
       let b = ap (length {A = Command}) l.state.writer.begins.1 in
       let e = ap (length {A = Command}) l.extends.1 in
       let ge = ltb-false (length m.writer.published) (length m.ledger.journal) none in
       omega (arith, length-append m.writer.published l.state.writer.begins.0, length-append m.writer.taken l.extends.0)
 
-  publish_goes : (m : MachineState) (p : Passes) → IsLawful Legal m p → (b : Bool) (replied : ℕ → Option Reply) → Agrees (thread m replied b) m
+  publish_goes : (m : MachineState) (p : Auxiliary) → IsLawful Legal m p → (b : Bool) (replied : ℕ → Option Reply) → Agrees (sequential_run m replied b) m
       → (idle pending : Bool) → is_idle m.writer.phase ≡ idle → is_pending m ≡ pending → PublishGoes m b replied idle pending
   publish_goes m p l b replied a false pending is now = (a, refl)
   publish_goes m p l b replied a true true is now = (record { register = refl; held = a.held; begun = λ _. refl }, refl)
@@ -299,31 +299,31 @@ module _ (Legal : Opening → List Command → Type 0) where
       let replies = sequential.submitted (sequential_of m) command v in
       Agrees (record { register = replies.0; replied = replied; begun = begun_after b after.1 }) after.0 × Tells (replies.1 ∷ []) replied after.1
 
-  verdict_goes : (m : MachineState) (b : Bool) (replied : ℕ → Option Reply) → Agrees (thread m replied b) m → (command : Command) → (v : Result ⊤ Refusal) → VerdictGoes m b replied command v
+  verdict_goes : (m : MachineState) (b : Bool) (replied : ℕ → Option Reply) → Agrees (sequential_run m replied b) m → (command : Command) → (v : Result ⊤ Refusal) → VerdictGoes m b replied command v
   verdict_goes m b replied a command (Ok u) = (record { register = refl; held = a.held; begun = a.begun }, refl)
   verdict_goes m b replied a command (Err refusal) = (record { register = refl; held = a.held; begun = a.begun }, refl)
 
-  submit_goes : (m : MachineState) (b : Bool) (replied : ℕ → Option Reply) → Agrees (thread m replied b) m → (command : Command) → (idle : Bool) → SubmitGoes m b replied command idle
+  submit_goes : (m : MachineState) (b : Bool) (replied : ℕ → Option Reply) → Agrees (sequential_run m replied b) m → (command : Command) → (idle : Bool) → SubmitGoes m b replied command idle
   submit_goes m b replied a command false = (a, refl)
   submit_goes m b replied a command true = verdict_goes m b replied a command (verdict_of m.ledger command)
 
-  reader_goes : (m : MachineState) (p : Passes) → IsLawful Legal m p → (b : Bool) (replied : ℕ → Option Reply) → Agrees (thread m replied b) m → (r : ℕ) (o : Option Stage) → slice_get m.readers r ≡ o
-      → Goes m b (reader_effect o) (reader_turn m r o).1 (reader_turn m r o).0 replied (λ k. replied_to (thread m replied b) (suc r) o k)
+  reader_goes : (m : MachineState) (p : Auxiliary) → IsLawful Legal m p → (b : Bool) (replied : ℕ → Option Reply) → Agrees (sequential_run m replied b) m → (r : ℕ) (o : Option Stage) → slice_get m.readers r ≡ o
+      → Goes m b (reader_effect o) (reader_transition m r o).1 (reader_transition m r o).0 replied (λ k. replied_to (sequential_run m replied b) (suc r) o k)
   reader_goes m p l b replied a r None at = (a, refl)
   reader_goes m p l b replied a r (Some stage) at = read_goes m p l b replied a r stage at
 
-  abbrev EventGoes : Thread → MachineState → Event → Type 0
-  EventGoes t m event = Agrees (beside t m event) (turn m event).0 × Answers t m event
+  abbrev EventGoes : SequentialRun → MachineState → Event → Type 0
+  EventGoes t m event = Agrees (sequential_step t m event) (transition m event).0 × Answers t m event
 
-  event_goes : (m : MachineState) (p : Passes) → IsLawful Legal m p → (b : Bool) (replied : ℕ → Option Reply) → Agrees (thread m replied b) m → (event : Event) → EventGoes (thread m replied b) m event
+  event_goes : (m : MachineState) (p : Auxiliary) → IsLawful Legal m p → (b : Bool) (replied : ℕ → Option Reply) → Agrees (sequential_run m replied b) m → (event : Event) → EventGoes (sequential_run m replied b) m event
   event_goes m p l b replied a (Submit command) = let g = submit_goes m b replied a command (is_idle m.writer.phase) in (g.0, (g.1, tt))
   event_goes m p l b replied a Publish = let g = publish_goes m p l b replied a (is_idle m.writer.phase) (is_pending m) refl refl in (g.0, (g.1, tt))
   event_goes m p l b replied a Writer = let g = write_goes m p l b replied a m.writer.phase refl in (g.0.0, (g.0.1, g.1))
   event_goes m p l b replied a (Reader zero) = (a, (refl, tt))
   event_goes m p l b replied a (Reader (suc r)) = let g = reader_goes m p l b replied a r (slice_get m.readers r) refl in (g.0, (g.1, tt))
 
-  -- an event keeps the machine in agreement with the register of one thread, and tells what that register replies
-  pub event_agrees : (m : MachineState) (p : Passes) → IsLawful Legal m p → (t : Thread) → Agrees t m → (event : Event) → EventGoes t m event
+  -- an event keeps the machine in agreement with the sequential register, and tells what that register replies
+  pub event_agrees : (m : MachineState) (p : Auxiliary) → IsLawful Legal m p → (t : SequentialRun) → Agrees t m → (event : Event) → EventGoes t m event
   event_agrees m p l t a event =
-      subst (λ (s : Sequential). EventGoes (let z : Thread = record { register = s; replied = t.replied; begun = t.begun } in z) m event) (sym a.register)
+      subst (λ (s : Sequential). EventGoes (let z : SequentialRun = record { register = s; replied = t.replied; begun = t.begun } in z) m event) (sym a.register)
       (event_goes m p l t.begun t.replied record { register = refl; held = a.held; begun = a.begun } event)

@@ -12,12 +12,12 @@ use Rattle.two_copy_steps.specs.declared.views.Stage.{Stage}
 use Rattle.two_copy_steps.specs.declared.views.Stage.TheVariants.{AtRest}
 use Rattle.two_copy_steps.specs.declared.table.TheConstants.{COPY_WORDS}
 use Rattle.two_copy_steps.specs.Lawful.{ReaderOk, WriterOk}
-use Rattle.two_copy_steps.specs.Turns.{started}
-use Rattle.two_copy_steps.specs.Passes.{opened, viewed, state_of, IsLawful}
-use Rattle.two_copy_steps.specs.Effects.{thread_of}
+use Rattle.two_copy_steps.specs.Transitions.{started}
+use Rattle.two_copy_steps.specs.Auxiliary.{auxiliary_start, viewed, state_of, IsLawful}
+use Rattle.two_copy_steps.specs.Effects.{sequential_start}
 use Rattle.two_copy_steps.proofs.Records.{sheet_long}
 use Rattle.two_copy_steps.proofs.Replies.{Agrees, Held}
-use Rattle.two_copy_steps.proofs.TurnSteps.{view_at}
+use Rattle.two_copy_steps.proofs.TransitionSteps.{view_at}
 use Rattle.two_copy_steps.specs.Actions.{pin, place}
 
 -- the words at the start, by place
@@ -69,7 +69,7 @@ module _ (Legal : Opening → List Command → Type 0) (ledger : Ledger) (reader
   abbrev long : length (sheet_of ledger) ≡ COPY_WORDS
   long = sheet_long ledger.opening ledger.journal
 
-  start_writer : WriterOk ledger.opening (Legal ledger.opening) words (state_of (started ledger readers) (opened ledger readers)).writer (length (viewed (replicate readers AtRest) (replicate readers [])))
+  start_writer : WriterOk ledger.opening (Legal ledger.opening) words (state_of (started ledger readers) (auxiliary_start ledger readers)).writer (length (viewed (replicate readers AtRest) (replicate readers [])))
   start_writer =
       record {
         two = omega arith;
@@ -86,10 +86,10 @@ module _ (Legal : Opening → List Command → Type 0) (ledger : Ledger) (reader
       }
 
   start_reader : (r : ℕ) (v : ReaderView) → slice_get (viewed (replicate readers AtRest) (replicate readers [])) r ≡ Some v
-      → ReaderOk ledger.opening (Legal ledger.opening) words (state_of (started ledger readers) (opened ledger readers)).writer r v
+      → ReaderOk ledger.opening (Legal ledger.opening) words (state_of (started ledger readers) (auxiliary_start ledger readers)).writer r v
   start_reader r v e =
       let at = at_replicate readers r (view_at AtRest []) v (sym (ap (λ (l : List ReaderView). slice_get l r) (viewed_start readers)) ∙ e) in
-      subst (ReaderOk ledger.opening (Legal ledger.opening) words (state_of (started ledger readers) (opened ledger readers)).writer r) at.0
+      subst (ReaderOk ledger.opening (Legal ledger.opening) words (state_of (started ledger readers) (auxiliary_start ledger readers)).writer r) at.0
       record {
         pinned = start_pin (sheet_of ledger) (replicate readers 0) long r ∙ get_or-replicate readers r 0 0 at.1;
         stands = tt;
@@ -97,7 +97,7 @@ module _ (Legal : Opening → List Command → Type 0) (ledger : Ledger) (reader
       }
 
   -- the machine at its start is lawful
-  pub start_lawful : IsLawful Legal (started ledger readers) (opened ledger readers)
+  pub start_lawful : IsLawful Legal (started ledger readers) (auxiliary_start ledger readers)
   start_lawful =
       record {
         state = record {
@@ -110,11 +110,11 @@ module _ (Legal : Opening → List Command → Type 0) (ledger : Ledger) (reader
         each_record = length-replicate readers [] ∙ sym (length-replicate readers AtRest);
       }
 
--- and agrees with the register of one thread
-pub start_agrees : (ledger : Ledger) (readers : ℕ) → Agrees (thread_of ledger) (started ledger readers)
+-- and agrees with the sequential register
+pub start_agrees : (ledger : Ledger) (readers : ℕ) → Agrees (sequential_start ledger) (started ledger readers)
 start_agrees ledger readers =
     record {
       register = refl;
-      held = λ r stage e. subst (λ (s : Stage). Held (started ledger readers).words ((thread_of ledger).replied (suc r)) s) (at_replicate readers r AtRest stage e).0 tt;
+      held = λ r stage e. subst (λ (s : Stage). Held (started ledger readers).words ((sequential_start ledger).replied (suc r)) s) (at_replicate readers r AtRest stage e).0 tt;
       begun = λ busy. absurd (true≢false busy);
     }

@@ -12,8 +12,8 @@ use Rattle.two_copy_steps.specs.declared.views.Stage.TheVariants.{AtRest, Arrive
 use Rattle.two_copy_steps.specs.declared.views.Phase.{Phase}
 use Rattle.two_copy_steps.specs.declared.views.Phase.TheVariants.{Idle, Seeing, Filling, Swapping}
 use Rattle.two_copy_steps.specs.Actions.{other}
-use Rattle.two_copy_steps.specs.Lawful.{State, IsPublishable, Beside, Stands}
-use Rattle.two_copy_steps.specs.Passes.{side_held, side_filled}
+use Rattle.two_copy_steps.specs.Lawful.{State, IsPublishable, HoldsCopy, Stands}
+use Rattle.two_copy_steps.specs.Auxiliary.{side_held, side_filled}
 use Rattle.two_copy_steps.specs.Stages.{IsReadable}
 use Rattle.two_copy_steps.specs.States.{LawfulFor, readings_of, EndsWith, IsKnown, HasRecords, IsApart}
 use Rattle.two_copy_steps.proofs.ReaderSteps.{reader, leaving_reads}
@@ -47,12 +47,12 @@ module _ (opening : Opening) (s : State) (l : LawfulFor opening s) where
   pub state_records : HasRecords opening s
   state_records = with_records (map readings_of s.readers) (from_each s.readers (λ r v e. (l.each_reader r v e).record_legal))
 
-  beside : (r side : ℕ) (readings : List (List ℕ)) (stage : Stage) → Stands opening (IsPublishable opening) s.words s.writer readings r stage → side_held stage ≡ Some side
-      → Beside opening (IsPublishable opening) s.words s.writer readings r side
-  beside r side readings AtRest h e = absurd (none-some side e)
-  beside r side readings Arrived h e = absurd (none-some side e)
-  beside r side readings (Reading t words) h e = subst (Beside opening (IsPublishable opening) s.words s.writer readings r) (same_Some t side e) h.0
-  beside r side readings (Leaving t words) h e = subst (Beside opening (IsPublishable opening) s.words s.writer readings r) (same_Some t side e) h.0
+  holds_held : (r side : ℕ) (readings : List (List ℕ)) (stage : Stage) → Stands opening (IsPublishable opening) s.words s.writer readings r stage → side_held stage ≡ Some side
+      → HoldsCopy opening (IsPublishable opening) s.words s.writer readings r side
+  holds_held r side readings AtRest h e = absurd (none-some side e)
+  holds_held r side readings Arrived h e = absurd (none-some side e)
+  holds_held r side readings (Reading t words) h e = subst (HoldsCopy opening (IsPublishable opening) s.words s.writer readings r) (same_Some t side e) h.0
+  holds_held r side readings (Leaving t words) h e = subst (HoldsCopy opening (IsPublishable opening) s.words s.writer readings r) (same_Some t side e) h.0
 
   not_other : (side : ℕ) → side ≡ other side → ⊥
   not_other zero e = omega arith
@@ -63,7 +63,7 @@ module _ (opening : Opening) (s : State) (l : LawfulFor opening s) where
   apart_at Seeing is side r v e at held = none-some side e
   apart_at Swapping is side r v e at held = none-some side e
   apart_at (Filling k) is side r v e at held =
-      let same = no_reader_there opening (IsPublishable opening) s k l is r side v.readings (beside r side v.readings v.stage (l.each_reader r v at).stands held) in
+      let same = no_reader_there opening (IsPublishable opening) s k l is r side v.readings (holds_held r side v.readings v.stage (l.each_reader r v at).stands held) in
       not_other s.writer.state.side (sym same ∙ sym (same_Some (other s.writer.state.side) side e))
 
   -- no word is stored under a reader

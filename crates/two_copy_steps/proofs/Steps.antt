@@ -22,13 +22,13 @@ use Rattle.two_copy_steps.specs.declared.views.Phase.TheVariants.{Idle, Seeing, 
 use Rattle.two_copy_steps.specs.declared.table.TheConstants.{COPY_WORDS, READERS}
 use Rattle.two_copy_steps.specs.Actions.{all_true, first_false, place, seeing, stage_action, phase_action, pin}
 use Rattle.two_copy_steps.specs.Lawful.{IsPublishable, Stands, Fills}
-use Rattle.two_copy_steps.specs.Turns.{MachineState, turn, handed, started, submitted, published_by, is_pending, is_idle, reader_turn, stage_note}
-use Rattle.two_copy_steps.specs.Passes.{Passes, opened, passed, record_at, state_of, IsLawful}
+use Rattle.two_copy_steps.specs.Transitions.{MachineState, transition, handed, started, submitted, published_by, is_pending, is_idle, reader_transition, stage_note}
+use Rattle.two_copy_steps.specs.Auxiliary.{Auxiliary, auxiliary_start, auxiliary_step, record_at, state_of, IsLawful}
 use Rattle.two_copy_steps.specs.Machines.{seen_as, IsMachine}
 use Rattle.two_copy_steps.specs.Stages.{IsReadable}
 use Rattle.two_copy_steps.proofs.ReaderSteps.{leaving_reads}
 use Rattle.two_copy_steps.proofs.WriterSteps.{first_inside}
-use Rattle.two_copy_steps.proofs.TurnSteps.{view_at, viewed_at, viewed_length, written_keeps, publish_keeps, accepted_keeps, step_keeps}
+use Rattle.two_copy_steps.proofs.TransitionSteps.{view_at, viewed_at, viewed_length, written_keeps, publish_keeps, accepted_keeps, step_keeps}
 use Rattle.two_copy_steps.proofs.Starts.{start_lawful}
 
 -- what a register is asked for its sheet tells of its journal
@@ -42,7 +42,7 @@ wrote m phase =
     let found = get_or m.words d.word 0 in
     record m { words = set m.words d.word (d.becomes found); writer = d.after found }
 
-wrote_at : (m : MachineState) (phase : Phase) → m.writer.phase ≡ phase → wrote m phase ≡ (turn m Writer).0
+wrote_at : (m : MachineState) (phase : Phase) → m.writer.phase ≡ phase → wrote m phase ≡ (transition m Writer).0
 wrote_at m phase e = ap (wrote m) (sym e)
 
 module _ (L : Ledger) (W : List ℕ) (s n : ℕ) (t : List ℕ) (ph : Phase) (so : List Bool) (R : List Stage) where
@@ -56,33 +56,33 @@ module _ (L : Ledger) (W : List ℕ) (s n : ℕ) (t : List ℕ) (ph : Phase) (so
   abbrev looked : Bool → Writing
   looked b = cond b (seeing old.writer (set so (first_false so) true)) (record old.writer { phase = Idle })
 
-  pub gave_up : ph ≡ Seeing → get_or W (pin (first_false so)) 0 ≢ 0 → seen_as L W s n t Idle so R ≡ (turn old Writer).0
+  pub gave_up : ph ≡ Seeing → get_or W (pin (first_false so)) 0 ≢ 0 → seen_as L W s n t Idle so R ≡ (transition old Writer).0
   gave_up e ne =
       ap (λ (b : Bool). let m : MachineState = record old { writer = looked b } in m) (sym (ne_eqb (get_or W (pin (first_false so)) 0) 0 ne))
       ∙ (loads (pin (first_false so)) (looked (eqb (get_or W (pin (first_false so)) 0) 0)) ∙ wrote_at old Seeing e)
 
   pub saw_out : ph ≡ Seeing → get_or W (pin (first_false so)) 0 ≡ 0
-      → seen_as L W s n t (cond (all_true (set so (first_false so) true)) (Filling 0) Seeing) (set so (first_false so) true) R ≡ (turn old Writer).0
+      → seen_as L W s n t (cond (all_true (set so (first_false so) true)) (Filling 0) Seeing) (set so (first_false so) true) R ≡ (transition old Writer).0
   saw_out e is =
       ap (λ (b : Bool). let m : MachineState = record old { writer = looked b } in m) (sym (eq-eqb (get_or W (pin (first_false so)) 0) 0 is))
       ∙ (loads (pin (first_false so)) (looked (eqb (get_or W (pin (first_false so)) 0) 0)) ∙ wrote_at old Seeing e)
 
   -- the reader's step
-  pub no_reader : (number : ℕ) → (number ≡ 0) ⊎ (length R < number) → (turn old (Reader number)) ≡ (old, Skipped)
+  pub no_reader : (number : ℕ) → (number ≡ 0) ⊎ (length R < number) → (transition old (Reader number)) ≡ (old, Skipped)
   no_reader zero none = refl
-  no_reader (suc r) none = ap (reader_turn old r) (slice_get_past R r (⊎_elim (λ (e : suc r ≡ 0). let z : length R ≤ r = omega arith in z) (λ (past : length R < suc r). let z : length R ≤ r = omega arith in z) none))
+  no_reader (suc r) none = ap (reader_transition old r) (slice_get_past R r (⊎_elim (λ (e : suc r ≡ 0). let z : length R ≤ r = omega arith in z) (λ (past : length R < suc r). let z : length R ≤ r = omega arith in z) none))
 
   pub reader_reads : (number r : ℕ) (stage : Stage) (W' : List ℕ) (R' : List Stage) → number ≡ suc r → slice_get R r ≡ Some stage
       → (let d = stage_action r stage in (W' ≡ set W d.word (d.becomes (get_or W d.word 0))) × (R' ≡ set R r (d.after (get_or W d.word 0))))
-      → seen_as L W' s n t ph so R' ≡ (turn old (Reader number)).0
+      → seen_as L W' s n t ph so R' ≡ (transition old (Reader number)).0
   reader_reads number r stage W' R' e at h =
-      (λ i. seen_as L (h.0 i) s n t ph so (h.1 i)) ∙ (ap (λ (o : Option Stage). (reader_turn old r o).0) (sym at) ∙ ap (λ (k : ℕ). (turn old (Reader k)).0) (sym e))
+      (λ i. seen_as L (h.0 i) s n t ph so (h.1 i)) ∙ (ap (λ (o : Option Stage). (reader_transition old r o).0) (sym at) ∙ ap (λ (k : ℕ). (transition old (Reader k)).0) (sym e))
 
-  pub reader_tells : (number r : ℕ) (stage : Stage) → number ≡ suc r → slice_get R r ≡ Some stage → stage_note (suc r) stage ≡ (turn old (Reader number)).1
-  reader_tells number r stage e at = ap (λ (o : Option Stage). (reader_turn old r o).1) (sym at) ∙ ap (λ (k : ℕ). (turn old (Reader k)).1) (sym e)
+  pub reader_tells : (number r : ℕ) (stage : Stage) → number ≡ suc r → slice_get R r ≡ Some stage → stage_note (suc r) stage ≡ (transition old (Reader number)).1
+  reader_tells number r stage e at = ap (λ (o : Option Stage). (reader_transition old r o).1) (sym at) ∙ ap (λ (k : ℕ). (transition old (Reader k)).1) (sym e)
 
   module _ (k : IsMachine L W s n t ph so R) where
-    abbrev p : Passes
+    abbrev p : Auxiliary
     p = k.lawful.0
 
     -- a reader's step stands in its place
@@ -114,21 +114,21 @@ module _ (L : Ledger) (W : List ℕ) (s n : ℕ) (t : List ℕ) (ph : Phase) (so
 
     -- a word is stored
     pub filled_in : (j : ℕ) (W' : List ℕ) → ph ≡ Filling j → W' ≡ set W (place (1 - s) j) (get_or t j 0)
-        → seen_as L W' s n t (cond (eqb (j + 1) COPY_WORDS) Swapping (Filling (j + 1))) so R ≡ (turn old Writer).0
+        → seen_as L W' s n t (cond (eqb (j + 1) COPY_WORDS) Swapping (Filling (j + 1))) so R ≡ (transition old Writer).0
     filled_in j W' e is =
         ap (λ (words : List ℕ). seen_as L words s n t (cond (eqb (j + 1) COPY_WORDS) Swapping (Filling (j + 1))) so R)
         (is ∙ ap (λ (numbers : List ℕ). set W (place (1 - s) j) (get_or numbers j 0)) k.sheet_is)
         ∙ wrote_at old (Filling j) e
 
     -- side is stored
-    pub swapped_in : ph ≡ Swapping → seen_as L (set W 0 (1 - s)) (1 - s) (front_of t) t Idle (replicate (length so) false) R ≡ (turn old Writer).0
+    pub swapped_in : ph ≡ Swapping → seen_as L (set W 0 (1 - s)) (1 - s) (front_of t) t Idle (replicate (length so) false) R ≡ (transition old Writer).0
     swapped_in e = wrote_at old Swapping e
 
     -- a publication begins
     published_long : length (take n L.journal) ≡ n
     published_long = let within = k.published_within in length-take n L.journal ∙ omega arith
 
-    pub begun_in : is_idle ph ≡ true → n < length L.journal → seen_as L W s n (sheet_of L) (cond (all_true so) (Filling 0) Seeing) so R ≡ (turn old Publish).0
+    pub begun_in : is_idle ph ≡ true → n < length L.journal → seen_as L W s n (sheet_of L) (cond (all_true so) (Filling 0) Seeing) so R ≡ (transition old Publish).0
     begun_in idle pending =
         let is : is_pending old ≡ true = ap (λ (x : ℕ). nat_lt x (length L.journal)) published_long ∙ lt-ltb n (length L.journal) pending in
         ap (λ (commands : List Command). let m : MachineState = record old { writer = record { side = s; published = take n L.journal; taken = commands; phase = cond (all_true so) (Filling 0) Seeing; seen_out = so } } in m) (take-length L.journal)
@@ -136,12 +136,12 @@ module _ (L : Ledger) (W : List ℕ) (s n : ℕ) (t : List ℕ) (ph : Phase) (so
 
     -- what is kept after an event: the machine then, lawful, with as many readers, and as taken last the sheet of some commands of the journal
     record KeptAfter (event : Event) (words : List ℕ) (side published : ℕ) (taken : List ℕ) (phase : Phase) (seen_out : List Bool) (readers : List Stage) : Type 0 where
-      pub machine : seen_as L words side published taken phase seen_out readers ≡ (turn old event).0
+      pub machine : seen_as L words side published taken phase seen_out readers ≡ (transition old event).0
       pub published_within : published ≤ length L.journal
       pub taken_within : front_of taken ≤ length L.journal
       pub sheet_is : taken ≡ sheet L.opening (take (front_of taken) L.journal)
       pub as_many : length readers ≡ length R
-      pub lawful : IsLawful IsPublishable (turn old event).0 (passed old p event)
+      pub lawful : IsLawful IsPublishable (transition old event).0 (auxiliary_step old p event)
 
     stays : (event : Event) (W' : List ℕ) (s' n' : ℕ) (t' : List ℕ) (ph' : Phase) (so' : List Bool) (R' : List Stage) → KeptAfter event W' s' n' t' ph' so' R' → IsMachine L W' s' n' t' ph' so' R'
     stays event W' s' n' t' ph' so' R' h =
@@ -150,11 +150,11 @@ module _ (L : Ledger) (W : List ℕ) (s n : ℕ) (t : List ℕ) (ph : Phase) (so
           taken_within = h.taken_within;
           sheet_is = h.sheet_is;
           few = subst (λ (x : ℕ). x ≤ READERS) (sym h.as_many) k.few;
-          lawful = (passed old p event, subst (λ (m : MachineState). IsLawful IsPublishable m (passed old p event)) (sym h.machine) h.lawful);
+          lawful = (auxiliary_step old p event, subst (λ (m : MachineState). IsLawful IsPublishable m (auxiliary_step old p event)) (sym h.machine) h.lawful);
         }
 
     -- the writer's steps
-    pub writer_stays : (W' : List ℕ) (s' n' : ℕ) (ph' : Phase) (so' : List Bool) → seen_as L W' s' n' t ph' so' R ≡ (turn old Writer).0 → n' ≤ length L.journal → IsMachine L W' s' n' t ph' so' R
+    pub writer_stays : (W' : List ℕ) (s' n' : ℕ) (ph' : Phase) (so' : List Bool) → seen_as L W' s' n' t ph' so' R ≡ (transition old Writer).0 → n' ≤ length L.journal → IsMachine L W' s' n' t ph' so' R
     writer_stays W' s' n' ph' so' is within =
         stays Writer W' s' n' t ph' so' R record {
           machine = is;
@@ -165,7 +165,7 @@ module _ (L : Ledger) (W : List ℕ) (s n : ℕ) (t : List ℕ) (ph : Phase) (so
           lawful = written_keeps IsPublishable old p k.lawful.1;
         }
 
-    reader_stays : (number : ℕ) (W' : List ℕ) (R' : List Stage) → seen_as L W' s n t ph so R' ≡ (turn old (Reader number)).0 → length R' ≡ length R → IsMachine L W' s n t ph so R'
+    reader_stays : (number : ℕ) (W' : List ℕ) (R' : List Stage) → seen_as L W' s n t ph so R' ≡ (transition old (Reader number)).0 → length R' ≡ length R → IsMachine L W' s n t ph so R'
     reader_stays number W' R' is long =
         stays (Reader number) W' s n t ph so R' record {
           machine = is;
@@ -176,7 +176,7 @@ module _ (L : Ledger) (W : List ℕ) (s n : ℕ) (t : List ℕ) (ph : Phase) (so
           lawful = step_keeps IsPublishable old p k.lawful.1 number;
         }
 
-    pub publish_stays : (t' : List ℕ) (ph' : Phase) → t' ≡ sheet_of L → IsPublishable L.opening L.journal → seen_as L W s n t' ph' so R ≡ (turn old Publish).0 → IsMachine L W s n t' ph' so R
+    pub publish_stays : (t' : List ℕ) (ph' : Phase) → t' ≡ sheet_of L → IsPublishable L.opening L.journal → seen_as L W s n t' ph' so R ≡ (transition old Publish).0 → IsMachine L W s n t' ph' so R
     publish_stays t' ph' e legal is =
         let front : front_of t' ≡ length L.journal = ap front_of e in
         stays Publish W s n t' ph' so R record {
@@ -233,13 +233,13 @@ module _ (L : Ledger) (W : List ℕ) (s n : ℕ) (t : List ℕ) (ph : Phase) (so
     handed_machine L' command (Ok note) idle told same = handed_stays L' command (verdict_of L command) (ap (λ (x : Ledger × Note). x.0) told) idle
     handed_machine L' command (Err refusal) idle told same = let F : Ledger → Type 0 = λ l. IsMachine l W s n t ph so R in subst F (sym same) k
 
-    pub handed_turn : (L' : Ledger) (command : Command) (r : Result Note Refusal) → is_idle ph ≡ true → IfOk r (λ note. (L', note) ≡ handed L command (verdict_of L command))
-        → IfOk r (λ note. seen_as L' W s n t ph so R ≡ (turn old (Submit command)).0) × IfOk r (λ note. note ≡ (turn old (Submit command)).1)
-    handed_turn L' command (Ok note) idle told = (
+    pub handed_transition : (L' : Ledger) (command : Command) (r : Result Note Refusal) → is_idle ph ≡ true → IfOk r (λ note. (L', note) ≡ handed L command (verdict_of L command))
+        → IfOk r (λ note. seen_as L' W s n t ph so R ≡ (transition old (Submit command)).0) × IfOk r (λ note. note ≡ (transition old (Submit command)).1)
+    handed_transition L' command (Ok note) idle told = (
       handed_in L' command (verdict_of L command) (ap (λ (x : Ledger × Note). x.0) told) ∙ ap (λ (b : Bool). (cond b (submitted old command (verdict_of L command)) (old, Skipped)).0) (sym idle),
       ap (λ (x : Ledger × Note). x.1) told ∙ ap (λ (b : Bool). (cond b (submitted old command (verdict_of L command)) (old, Skipped)).1) (sym idle),
     )
-    handed_turn L' command (Err refusal) idle told = (tt, tt)
+    handed_transition L' command (Err refusal) idle told = (tt, tt)
 
     -- the same steps, as the code takes them
     module _ (now : MachineState) (is : old ≡ now) where
@@ -249,33 +249,33 @@ module _ (L : Ledger) (W : List ℕ) (s n : ℕ) (t : List ℕ) (ph : Phase) (so
       pub first_at : now.writer.phase ≡ Seeing → (r : ℕ) → r ≡ first_false so → (r < length so) × (r < READERS) × (pin r < length W)
       first_at e r first = subst (λ (x : ℕ). (x < length so) × (x < READERS) × (pin x < length W)) (sym first) (first_there (phase_is Seeing e))
 
-      pub gave_up_at : now.writer.phase ≡ Seeing → (r found : ℕ) → r ≡ first_false so → found ≡ get_or W (pin r) 0 → (found ≡ 0 → ⊥) → seen_as L W s n t Idle so R ≡ (turn old Writer).0
+      pub gave_up_at : now.writer.phase ≡ Seeing → (r found : ℕ) → r ≡ first_false so → found ≡ get_or W (pin r) 0 → (found ≡ 0 → ⊥) → seen_as L W s n t Idle so R ≡ (transition old Writer).0
       gave_up_at e r found first load ne =
           gave_up (phase_is Seeing e) (λ z. ne (load ∙ (ap (λ (x : ℕ). get_or W (pin x) 0) first ∙ z)))
 
       pub saw_out_at : now.writer.phase ≡ Seeing → (r found : ℕ) (so' : List Bool) (ph' : Phase) → r ≡ first_false so → found ≡ get_or W (pin r) 0 → found ≡ 0 → so' ≡ set so r true
-          → ph' ≡ cond (all_true so') (Filling 0) Seeing → seen_as L W s n t ph' so' R ≡ (turn old Writer).0
+          → ph' ≡ cond (all_true so') (Filling 0) Seeing → seen_as L W s n t ph' so' R ≡ (transition old Writer).0
       saw_out_at e r found so' ph' first load z out next =
           let set_is : so' ≡ set so (first_false so) true = out ∙ ap (λ (x : ℕ). set so x true) first in
           let phase : ph' ≡ cond (all_true (set so (first_false so) true)) (Filling 0) Seeing = next ∙ ap (λ (x : List Bool). let y : Phase = cond (all_true x) (Filling 0) Seeing in y) set_is in
           (λ i. seen_as L W s n t (phase i) (set_is i) R) ∙ saw_out (phase_is Seeing e) (sym (load ∙ ap (λ (x : ℕ). get_or W (pin x) 0) first) ∙ z)
 
       pub filled_at : (j at : ℕ) (words W' : List ℕ) (ph' : Phase) → now.writer.phase ≡ Filling j → words ≡ t → at ≡ place (1 - s) j → W' ≡ set W at (get_or words j 0)
-          → ph' ≡ cond (eqb (j + 1) COPY_WORDS) Swapping (Filling (j + 1)) → seen_as L W' s n t ph' so R ≡ (turn old Writer).0
+          → ph' ≡ cond (eqb (j + 1) COPY_WORDS) Swapping (Filling (j + 1)) → seen_as L W' s n t ph' so R ≡ (transition old Writer).0
       filled_at j at words W' ph' e same there stored next =
           ap (λ (x : Phase). seen_as L W' s n t x so R) next
           ∙ filled_in j W' (phase_is (Filling j) e) (stored ∙ ((λ i. set W (there i) (get_or words j 0)) ∙ ap (λ (x : List ℕ). set W (place (1 - s) j) (get_or x j 0)) same))
 
       pub swapped_at : (W' : List ℕ) (n' : ℕ) (so' : List Bool) → now.writer.phase ≡ Swapping → W' ≡ set W 0 (1 - s) → n' ≡ front_of t → so' ≡ replicate (length so) false
-          → seen_as L W' (1 - s) n' t Idle so' R ≡ (turn old Writer).0
+          → seen_as L W' (1 - s) n' t Idle so' R ≡ (transition old Writer).0
       swapped_at W' n' so' e stored front out = (λ i. seen_as L (stored i) (1 - s) (front i) t Idle (out i) R) ∙ swapped_in (phase_is Swapping e)
 
       pub swap_machine : (W' : List ℕ) (n' : ℕ) (so' : List Bool) → now.writer.phase ≡ Swapping → W' ≡ set W 0 (1 - s) → n' ≡ front_of t → so' ≡ replicate (length so) false
           → IsMachine L W' (1 - s) n' t Idle so' R
       swap_machine W' n' so' e stored front out = writer_stays W' (1 - s) n' Idle so' (swapped_at W' n' so' e stored front out) (let within = k.taken_within in omega arith)
 
-      pub skipped_at : (number : ℕ) → (number ≡ 0) ⊎ (length R < number) → (turn now (Reader number)) ≡ (now, Skipped)
-      skipped_at number none = subst (λ (m : MachineState). (turn m (Reader number)) ≡ (m, Skipped)) is (no_reader number none)
+      pub skipped_at : (number : ℕ) → (number ≡ 0) ⊎ (length R < number) → (transition now (Reader number)) ≡ (now, Skipped)
+      skipped_at number none = subst (λ (m : MachineState). (transition m (Reader number)) ≡ (m, Skipped)) is (no_reader number none)
 
       module _ (number : ℕ) (some : number ≡ 0 → ⊥) (within : number ≤ length R) where
         number_is : number ≡ suc (number - 1)
@@ -305,13 +305,13 @@ module _ (L : Ledger) (W : List ℕ) (s n : ℕ) (t : List ℕ) (ph : Phase) (so
 
         module _ (W' : List ℕ) (R' : List Stage) (words : let d = stage_action (number - 1) stage in W' ≡ set W d.word (d.becomes (get_or W d.word 0)))
             (stages : let d = stage_action (number - 1) stage in R' ≡ set R (number - 1) (d.after (get_or W d.word 0))) where
-          pub read_at : seen_as L W' s n t ph so R' ≡ (turn old (Reader number)).0
+          pub read_at : seen_as L W' s n t ph so R' ≡ (transition old (Reader number)).0
           read_at = reader_reads number (number - 1) stage W' R' number_is found (words, stages)
 
           pub read_machine : IsMachine L W' s n t ph so R'
           read_machine = reader_stays number W' R' read_at (ap (length {A = Stage}) stages ∙ length-set R (number - 1) _)
 
-        pub read_note : (note : Note) → note ≡ stage_note (suc (number - 1)) stage → note ≡ (turn old (Reader number)).1
+        pub read_note : (note : Note) → note ≡ stage_note (suc (number - 1)) stage → note ≡ (transition old (Reader number)).1
         read_note note e = e ∙ reader_tells number (number - 1) stage number_is found
 
 -- the machine at its start
@@ -346,6 +346,6 @@ start_is L readers W n t so R h =
         taken_within = omega arith;
         sheet_is = h.taken_all ∙ ap (sheet L.opening) (sym (take-length L.journal) ∙ ap (λ (y : ℕ). take y L.journal) (sym front));
         few = subst (λ (y : ℕ). y ≤ READERS) (sym (ap (length {A = Stage}) h.all_rest ∙ length-replicate readers AtRest)) h.few;
-        lawful = (opened L readers, subst (λ (m : MachineState). IsLawful IsPublishable m (opened L readers)) (sym is) (start_lawful IsPublishable L readers h.legal));
+        lawful = (auxiliary_start L readers, subst (λ (m : MachineState). IsLawful IsPublishable m (auxiliary_start L readers)) (sym is) (start_lawful IsPublishable L readers h.legal));
       },
     )

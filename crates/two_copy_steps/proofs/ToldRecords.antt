@@ -22,8 +22,8 @@ use Rattle.two_copy_steps.specs.declared.views.Phase.TheVariants.{Idle, Seeing, 
 use Rattle.two_copy_steps.specs.declared.table.TheConstants.{COPY_WORDS}
 use Rattle.two_copy_steps.specs.Actions.{recorded, entered, stage_action}
 use Rattle.two_copy_steps.specs.Stages.{about_to_leave}
-use Rattle.two_copy_steps.specs.Turns.{MachineState, turn, submitted, published_by, is_pending, is_idle, phase_note, reader_turn, stage_note, started, after, notes}
-use Rattle.two_copy_steps.specs.Passes.{Passes, opened, passed, passes, reader_passed, record_at, HasLegalRecords}
+use Rattle.two_copy_steps.specs.Transitions.{MachineState, transition, submitted, published_by, is_pending, is_idle, phase_note, reader_transition, stage_note, started, after, notes}
+use Rattle.two_copy_steps.specs.Auxiliary.{Auxiliary, auxiliary_start, auxiliary_step, auxiliary_steps, auxiliary_reader_step, record_at, HasLegalRecords}
 use Rattle.two_copy_steps.specs.Records.{told_of, sheets_told, RecordsAreTold, FrontsNeverFall}
 use Rattle.two_copy_steps.proofs.Lists.{at_set, inside, there}
 
@@ -62,20 +62,20 @@ others r number (Reading side words) ne = refl
 others r number (Leaving side words) ne = ap (λ (b : Bool). cond b (words ∷ []) []) (ne_eqb (suc r) number (λ e. ne (sym e)))
 
 -- where readers and records stand as they did, and nothing is told of a reader
-abbrev Tells : MachineState → Passes → (ℕ → List (List ℕ)) → Type 0
+abbrev Tells : MachineState → Auxiliary → (ℕ → List (List ℕ)) → Type 0
 Tells m p told = (r : ℕ) (stage : Stage) → slice_get m.readers r ≡ Some stage → record_at p.records r ≡ told r ++ about_to_leave stage
 
-abbrev After : MachineState → Passes → (ℕ → List (List ℕ)) → Note → Type 0
+abbrev After : MachineState → Auxiliary → (ℕ → List (List ℕ)) → Note → Type 0
 After m p told note = Tells m p (λ r. told r ++ told_of (suc r) note)
 
-silent : (m : MachineState) (p : Passes) (told : ℕ → List (List ℕ)) → Tells m p told → Tells m p (λ r. told r ++ [])
+silent : (m : MachineState) (p : Auxiliary) (told : ℕ → List (List ℕ)) → Tells m p told → Tells m p (λ r. told r ++ [])
 silent m p told h r stage at = h r stage at ∙ ap (λ (l : List (List ℕ)). l ++ about_to_leave stage) (sym (append-nil (told r)))
 
-after_submit : (m : MachineState) (p : Passes) (told : ℕ → List (List ℕ)) → Tells m p told → (command : Command) (v : Result ⊤ Refusal) → let t = submitted m command v in After t.0 p told t.1
+after_submit : (m : MachineState) (p : Auxiliary) (told : ℕ → List (List ℕ)) → Tells m p told → (command : Command) (v : Result ⊤ Refusal) → let t = submitted m command v in After t.0 p told t.1
 after_submit m p told h command (Ok u) = silent m p told h
 after_submit m p told h command (Err refusal) = silent m p told h
 
-after_publish : (m : MachineState) (p : Passes) (told : ℕ → List (List ℕ)) → Tells m p told → (b : Bool) → let t = published_by m b in After t.0 p told t.1
+after_publish : (m : MachineState) (p : Auxiliary) (told : ℕ → List (List ℕ)) → Tells m p told → (b : Bool) → let t = published_by m b in After t.0 p told t.1
 after_publish m p told h true = silent m p told h
 after_publish m p told h false = silent m p told h
 
@@ -89,8 +89,8 @@ quiet_writer m number Seeing = quiet_look m number _ _
 quiet_writer m number (Filling k) = refl
 quiet_writer m number Swapping = refl
 
-after_read : (m : MachineState) (p : Passes) (told : ℕ → List (List ℕ)) → Tells m p told → length p.records ≡ length m.readers → (r : ℕ) (o : Option Stage) → slice_get m.readers r ≡ o
-    → let t = reader_turn m r o in After t.0 (reader_passed m p r o) told t.1
+after_read : (m : MachineState) (p : Auxiliary) (told : ℕ → List (List ℕ)) → Tells m p told → length p.records ≡ length m.readers → (r : ℕ) (o : Option Stage) → slice_get m.readers r ≡ o
+    → let t = reader_transition m r o in After t.0 (auxiliary_reader_step m p r o) told t.1
 after_read m p told h long r None at = silent m p told h
 after_read m p told h long r (Some stage) at = λ q later there.
     let d = stage_action r stage in
@@ -109,7 +109,7 @@ after_read m p told h long r (Some stage) at = λ q later there.
     ∙ ap (λ (l : List (List ℕ)). l ++ about_to_leave later) (sym (append-nil (told q)) ∙ ap (λ (l : List (List ℕ)). told q ++ l) (sym (others r (suc q) stage (λ s. e.0 (omega arith)))))))
     (at_set m.readers r q (d.after found) later there)
 
-after_event : (m : MachineState) (p : Passes) (told : ℕ → List (List ℕ)) → Tells m p told → length p.records ≡ length m.readers → (event : Event) → After (turn m event).0 (passed m p event) told (turn m event).1
+after_event : (m : MachineState) (p : Auxiliary) (told : ℕ → List (List ℕ)) → Tells m p told → length p.records ≡ length m.readers → (event : Event) → After (transition m event).0 (auxiliary_step m p event) told (transition m event).1
 after_event m p told h long (Submit command) =
     elim (is_idle m.writer.phase) as (λ b. let t = cond b (submitted m command (verdict_of m.ledger command)) (m, Skipped) in After t.0 p told t.1) [ true ↦ after_submit m p told h command (verdict_of m.ledger command) | false ↦ silent m p told h ]
 after_event m p told h long Publish =
@@ -120,7 +120,7 @@ after_event m p told h long (Reader zero) = silent m p told h
 after_event m p told h long (Reader (suc r)) = after_read m p told h long r (slice_get m.readers r) refl
 
 -- there are as many records as readers
-as_many : (m : MachineState) (p : Passes) → length p.records ≡ length m.readers → (event : Event) → length (passed m p event).records ≡ length (turn m event).0.readers
+as_many : (m : MachineState) (p : Auxiliary) → length p.records ≡ length m.readers → (event : Event) → length (auxiliary_step m p event).records ≡ length (transition m event).0.readers
 as_many m p long (Submit command) =
     elim (is_idle m.writer.phase) as (λ b. length p.records ≡ length (cond b (submitted m command (verdict_of m.ledger command)) (m, Skipped)).0.readers) [ true ↦ long | false ↦ long ]
 as_many m p long Publish =
@@ -131,19 +131,19 @@ as_many m p long Publish =
 as_many m p long Writer = long
 as_many m p long (Reader zero) = long
 as_many m p long (Reader (suc r)) =
-    elim (slice_get m.readers r) as (λ o. length (reader_passed m p r o).records ≡ length (reader_turn m r o).0.readers) [
+    elim (slice_get m.readers r) as (λ o. length (auxiliary_reader_step m p r o).records ≡ length (reader_transition m r o).0.readers) [
       | None ↦ long
       | Some stage ↦ let d = stage_action r stage in
           let found : ℕ = get_or m.words d.word 0 in
           length-set p.records r (recorded stage (d.after found) (record_at p.records r)) ∙ (long ∙ sym (length-set m.readers r (d.after found)))
     ]
 
-told_all : (events : List Event) (m : MachineState) (p : Passes) (told : ℕ → List (List ℕ)) → Tells m p told → length p.records ≡ length m.readers
-    → Tells (after m events) (passes m p events) (λ r. told r ++ sheets_told (suc r) (notes m events))
+told_all : (events : List Event) (m : MachineState) (p : Auxiliary) (told : ℕ → List (List ℕ)) → Tells m p told → length p.records ≡ length m.readers
+    → Tells (after m events) (auxiliary_steps m p events) (λ r. told r ++ sheets_told (suc r) (notes m events))
 told_all [] m p told h long = silent m p told h
 told_all (event ∷ events) m p told h long = λ r stage at.
-    told_all events (turn m event).0 (passed m p event) (λ q. told q ++ told_of (suc q) (turn m event).1) (after_event m p told h long event) (as_many m p long event) r stage at
-    ∙ ap (λ (l : List (List ℕ)). l ++ about_to_leave stage) (append_assoc (told r) (told_of (suc r) (turn m event).1) (sheets_told (suc r) (notes (turn m event).0 events)))
+    told_all events (transition m event).0 (auxiliary_step m p event) (λ q. told q ++ told_of (suc q) (transition m event).1) (after_event m p told h long event) (as_many m p long event) r stage at
+    ∙ ap (λ (l : List (List ℕ)). l ++ about_to_leave stage) (append_assoc (told r) (told_of (suc r) (transition m event).1) (sheets_told (suc r) (notes (transition m event).0 events)))
 
 stage_at_start : (n r : ℕ) (stage : Stage) → slice_get (replicate n AtRest) r ≡ Some stage → AtRest ≡ stage
 stage_at_start zero r stage e = absurd (none-some stage e)
@@ -170,7 +170,7 @@ absent_set (y ∷ xs) (suc i) (suc j) x e = absent_set xs i j x e
 abbrev IsAbsent : MachineState → ℕ → Type 0
 IsAbsent m number = (r : ℕ) → number ≡ suc r → slice_get m.readers r ≡ None
 
-absent_after : (m : MachineState) (number : ℕ) → IsAbsent m number → (event : Event) → IsAbsent (turn m event).0 number × (told_of number (turn m event).1 ≡ [])
+absent_after : (m : MachineState) (number : ℕ) → IsAbsent m number → (event : Event) → IsAbsent (transition m event).0 number × (told_of number (transition m event).1 ≡ [])
 absent_after m number h (Submit command) =
     elim (is_idle m.writer.phase) as (λ b. let t = cond b (submitted m command (verdict_of m.ledger command)) (m, Skipped) in IsAbsent t.0 number × (told_of number t.1 ≡ [])) [
       | true ↦ elim (verdict_of m.ledger command) as (λ v. let t = submitted m command v in IsAbsent t.0 number × (told_of number t.1 ≡ [])) [ Ok u ↦ (h, refl) | Err refusal ↦ (h, refl) ]
@@ -185,7 +185,7 @@ absent_after m number h Writer = (h, quiet_writer m number m.writer.phase)
 absent_after m number h (Reader zero) = (h, refl)
 absent_after m number h (Reader (suc r)) = by_stage (slice_get m.readers r) refl
   where
-    by_stage : (o : Option Stage) → slice_get m.readers r ≡ o → IsAbsent (reader_turn m r o).0 number × (told_of number (reader_turn m r o).1 ≡ [])
+    by_stage : (o : Option Stage) → slice_get m.readers r ≡ o → IsAbsent (reader_transition m r o).0 number × (told_of number (reader_transition m r o).1 ≡ [])
     by_stage None at = (h, refl)
     by_stage (Some stage) at =
         let d = stage_action r stage in (
@@ -197,7 +197,7 @@ absent_all : (events : List Event) (m : MachineState) (number : ℕ) → IsAbsen
 absent_all [] m number h = refl
 absent_all (event ∷ events) m number h =
     let t = absent_after m number h event in
-    ap (λ (l : List (List ℕ)). l ++ sheets_told number (notes (turn m event).0 events)) t.1 ∙ absent_all events (turn m event).0 number t.0
+    ap (λ (l : List (List ℕ)). l ++ sheets_told number (notes (transition m event).0 events)) t.1 ∙ absent_all events (transition m event).0 number t.0
 
 -- the fronts of a record never fall
 fronts_above : (opening : Opening) (commands : List Command) (cuts : List ℕ) (low : ℕ) (readings : List (List ℕ)) → IsRecordFrom opening commands cuts low readings
@@ -228,7 +228,7 @@ nothing_falls : IsNonDecreasingBy front_of []
 nothing_falls = IsNonDecreasingBy-short front_of [] (omega arith)
 
 -- there are always as many readers
-same_readers : (m : MachineState) (event : Event) → length (turn m event).0.readers ≡ length m.readers
+same_readers : (m : MachineState) (event : Event) → length (transition m event).0.readers ≡ length m.readers
 same_readers m (Submit command) =
     elim (is_idle m.writer.phase) as (λ b. length (cond b (submitted m command (verdict_of m.ledger command)) (m, Skipped)).0.readers ≡ length m.readers) [ true ↦ refl | false ↦ refl ]
 same_readers m Publish =
@@ -239,28 +239,28 @@ same_readers m Publish =
 same_readers m Writer = refl
 same_readers m (Reader zero) = refl
 same_readers m (Reader (suc r)) =
-    elim (slice_get m.readers r) as (λ o. length (reader_turn m r o).0.readers ≡ length m.readers) [
+    elim (slice_get m.readers r) as (λ o. length (reader_transition m r o).0.readers ≡ length m.readers) [
       | None ↦ refl
       | Some stage ↦ let d = stage_action r stage in length-set m.readers r (d.after (get_or m.words d.word 0))
     ]
 
 readers_all : (events : List Event) (m : MachineState) → length (after m events).readers ≡ length m.readers
 readers_all [] m = refl
-readers_all (event ∷ events) m = readers_all events (turn m event).0 ∙ same_readers m event
+readers_all (event ∷ events) m = readers_all events (transition m event).0 ∙ same_readers m event
 
 module _ (ledger : Ledger) (readers : ℕ) (events : List Event) where
   abbrev m : MachineState
   m = after (started ledger readers) events
 
-  abbrev p : Passes
-  p = passes (started ledger readers) (opened ledger readers) events
+  abbrev p : Auxiliary
+  p = auxiliary_steps (started ledger readers) (auxiliary_start ledger readers) events
 
   abbrev told : ℕ → List (List ℕ)
   told number = sheets_told number (notes (started ledger readers) events)
 
-  pub run_told : RecordsAreTold (after (started ledger readers) events) (passes (started ledger readers) (opened ledger readers) events) (notes (started ledger readers) events)
+  pub run_told : RecordsAreTold (after (started ledger readers) events) (auxiliary_steps (started ledger readers) (auxiliary_start ledger readers) events) (notes (started ledger readers) events)
   run_told =
-      told_all events (started ledger readers) (opened ledger readers) (λ r. [])
+      told_all events (started ledger readers) (auxiliary_start ledger readers) (λ r. [])
       (λ r stage at. record_at_start readers r ∙ ap about_to_leave (stage_at_start readers r stage at)) (as_many_at_start readers)
 
   from_record : AreRecords m.ledger.opening m.writer.published p.cuts p.records → (r : ℕ) (stage : Stage) → slice_get m.readers r ≡ Some stage → IsNonDecreasingBy front_of (told (suc r))
@@ -276,6 +276,6 @@ module _ (ledger : Ledger) (readers : ℕ) (events : List Event) where
   never_older_of legal r None at =
       subst (IsNonDecreasingBy front_of) (sym (absent_all events (started ledger readers) (suc r) (λ q e. ap (slice_get (started ledger readers).readers) (let same : q ≡ r = omega arith in same) ∙ at))) nothing_falls
 
-  pub run_never_older : HasLegalRecords (after (started ledger readers) events) (passes (started ledger readers) (opened ledger readers) events) → FrontsNeverFall (notes (started ledger readers) events)
+  pub run_never_older : HasLegalRecords (after (started ledger readers) events) (auxiliary_steps (started ledger readers) (auxiliary_start ledger readers) events) → FrontsNeverFall (notes (started ledger readers) events)
   run_never_older legal zero = subst (IsNonDecreasingBy front_of) (sym (absent_all events (started ledger readers) zero (λ r e. absurd (omega arith)))) nothing_falls
   run_never_older legal (suc r) = never_older_of legal.readings r (slice_get (started ledger readers).readers r) refl

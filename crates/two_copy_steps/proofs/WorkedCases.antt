@@ -9,14 +9,14 @@ use Rattle.two_copy_steps.specs.declared.table.TheConstants.{COPY_WORDS, READERS
 use Rattle.two_copy_steps.specs.declared.views.Stage.{Stage}
 use Rattle.two_copy_steps.specs.declared.views.Stage.TheVariants.{AtRest, Reading, Leaving}
 use Rattle.two_copy_steps.specs.declared.views.Phase.TheVariants.{Idle, Filling, Swapping}
-use Rattle.two_copy_steps.specs.Effects.{Thread, begun_after, replied_at}
+use Rattle.two_copy_steps.specs.Effects.{SequentialRun, begun_after, replied_at}
 use Rattle.two_copy_steps.specs.Lawful.{State}
 use Rattle.two_copy_steps.specs.Laws.{HandsInRange, HasVotesInRange}
-use Rattle.two_copy_steps.specs.Passes.{NoneUnder, side_filled, side_held}
+use Rattle.two_copy_steps.specs.Auxiliary.{NoneUnder, side_filled, side_held}
 use Rattle.two_copy_steps.specs.Publications.{stores_side}
 use Rattle.two_copy_steps.specs.Stages.{reading_steps, steps_taken}
 use Rattle.two_copy_steps.specs.States.{HasRecords}
-use Rattle.two_copy_steps.specs.Turns.{MachineState, started, notes}
+use Rattle.two_copy_steps.specs.Transitions.{MachineState, started, notes}
 
 abbrev one_member : Ledger
 one_member = record { opening = (65 ∷ 65 ∷ 65 ∷ [], 10) ∷ []; journal = []; limit = 100 }
@@ -52,7 +52,7 @@ ended : begun_after true (Published 3) ≡ false
 ended = refl
 
 -- what a reader was replied is forgotten where it arrives anew
-forgotten : (t : Thread) → replied_at t 1 AtRest 1 ≡ None
+forgotten : (t : SequentialRun) → replied_at t 1 AtRest 1 ≡ None
 forgotten t = refl
 
 -- no writer may fill the copy that a reader reads, or has read and not left

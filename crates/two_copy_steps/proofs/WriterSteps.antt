@@ -16,8 +16,8 @@ use Rattle.two_copy_steps.specs.declared.views.Stage.TheVariants.{AtRest, Arrive
 use Rattle.two_copy_steps.specs.declared.views.Phase.{Phase}
 use Rattle.two_copy_steps.specs.declared.views.Phase.TheVariants.{Idle, Seeing, Filling, Swapping}
 use Rattle.two_copy_steps.specs.declared.table.TheConstants.{COPY_WORDS}
-use Rattle.two_copy_steps.specs.Actions.{all_true, first_false, other, cuts_after, place, pin, seeing, begun, filled, swapped, phase_action}
-use Rattle.two_copy_steps.specs.Lawful.{State, written_by, begun_by, pin_of, IsReadFrom, Beside, Stands, ReaderOk, Stored, Fills, WriterOk, Lawful}
+use Rattle.two_copy_steps.specs.Actions.{all_true, first_false, other, cuts_past, place, pin, seeing, begun, filled, swapped, phase_action}
+use Rattle.two_copy_steps.specs.Lawful.{State, written_by, begun_by, pin_of, IsReadFrom, HoldsCopy, Stands, ReaderOk, Stored, Fills, WriterOk, Lawful}
 use Rattle.two_copy_steps.proofs.Lists.{set_else, inside}
 use Rattle.two_copy_steps.proofs.Records.{record-grows, ascends-push}
 use Rattle.two_copy_steps.proofs.ReaderSteps.{place_low}
@@ -62,8 +62,8 @@ module _ (opening : Opening) (Legal : List Command → Type 0) where
         → ((i : ℕ) → i < COPY_WORDS → get_or vs (place s i) 0 ≡ get_or words (place s i) 0) × (s ≢ w'.state.side → slice_get w'.state.seen_out q ≡ Some false)
 
   module _ (words vs : List ℕ) (w w' : WriterView) (q : ℕ) (k : Leaves words vs w w' q) where
-    beside_left : (seen : List (List ℕ)) (s : ℕ) → get_or words (pin q) 0 ≡ 1 → (b : Beside opening Legal words w seen q s) → Beside opening Legal vs w' seen q s
-    beside_left seen s pinned b =
+    holds_left : (seen : List (List ℕ)) (s : ℕ) → get_or words (pin q) 0 ≡ 1 → (b : HoldsCopy opening Legal words w seen q s) → HoldsCopy opening Legal vs w' seen q s
+    holds_left seen s pinned b =
         let t = k.sides s b.two pinned b.late in
         record {
           two = b.two;
@@ -74,14 +74,14 @@ module _ (opening : Opening) (Legal : List Command → Type 0) where
           late = t.1;
         }
 
-    read_left : (seen : List (List ℕ)) (s : ℕ) (xs : List ℕ) → length xs ≤ COPY_WORDS → get_or words (pin q) 0 ≡ 1 → Beside opening Legal words w seen q s → IsReadFrom words s xs → IsReadFrom vs s xs
+    read_left : (seen : List (List ℕ)) (s : ℕ) (xs : List ℕ) → length xs ≤ COPY_WORDS → get_or words (pin q) 0 ≡ 1 → HoldsCopy opening Legal words w seen q s → IsReadFrom words s xs → IsReadFrom vs s xs
     read_left seen s xs short p b h i l = h i l ∙ sym ((k.sides s b.two p b.late).0 i (omega arith))
 
     stands_left : (seen : List (List ℕ)) (st : Stage) → get_or words (pin q) 0 ≡ pin_of st → Stands opening Legal words w seen q st → Stands opening Legal vs w' seen q st
     stands_left seen AtRest p h = tt
     stands_left seen Arrived p h = tt
-    stands_left seen (Reading s xs) p h = let short : length xs < COPY_WORDS = h.1 in (beside_left seen s p h.0, short, read_left seen s xs (omega arith) p h.0 h.2)
-    stands_left seen (Leaving s xs) p h = let full : length xs ≡ COPY_WORDS = h.1 in (beside_left seen s p h.0, full, read_left seen s xs (omega arith) p h.0 h.2, h.3)
+    stands_left seen (Reading s xs) p h = let short : length xs < COPY_WORDS = h.1 in (holds_left seen s p h.0, short, read_left seen s xs (omega arith) p h.0 h.2)
+    stands_left seen (Leaving s xs) p h = let full : length xs ≡ COPY_WORDS = h.1 in (holds_left seen s p h.0, full, read_left seen s xs (omega arith) p h.0 h.2, h.3)
 
     left : (v : ReaderView) → ReaderOk opening Legal words w q v → ReaderOk opening Legal vs w' q v
     left v ok =
@@ -267,7 +267,7 @@ module _ (opening : Opening) (Legal : List Command → Type 0) where
   wrote m p =
       let d = phase_action (sheet opening) m.writer.state p in
       let found = get_or m.words d.word 0 in
-      At (set m.words d.word (d.becomes found)) (Known (d.after found) (cuts_after p m.writer.state.taken m.writer.cuts)) m.readers
+      At (set m.words d.word (d.becomes found)) (Known (d.after found) (cuts_past p m.writer.state.taken m.writer.cuts)) m.readers
 
   writes : (m : State) (p : Phase) → Lawful opening Legal m → Fills opening Legal m.words m.writer.state p → Lawful opening Legal (wrote m p)
   writes m Idle l h = subst (λ (vs : List ℕ). Lawful opening Legal (At vs m.writer m.readers)) (sym (set-get_or m.words 0 0)) l
@@ -284,7 +284,7 @@ module _ (opening : Opening) (Legal : List Command → Type 0) where
   writer_keeps m l = writes m m.writer.state.phase l l.writer.fills
 
   -- where the writer stores a word, no reader is between a load of that side and its leave
-  pub no_reader_there : (m : State) (k : ℕ) → Lawful opening Legal m → m.writer.state.phase ≡ Filling k → (q s : ℕ) (seen : List (List ℕ)) → Beside opening Legal m.words m.writer seen q s → s ≡ m.writer.state.side
+  pub no_reader_there : (m : State) (k : ℕ) → Lawful opening Legal m → m.writer.state.phase ≡ Filling k → (q s : ℕ) (seen : List (List ℕ)) → HoldsCopy opening Legal m.words m.writer seen q s → s ≡ m.writer.state.side
   no_reader_there m k l is q s seen b =
       let h = subst (Fills opening Legal m.words m.writer.state) is l.writer.fills in
       dite (ℕ_discrete s m.writer.state.side) (λ e. e) (λ ne. absurd (all_at m.writer.state.seen_out q h.1.0 (b.late ne)))

@@ -46,11 +46,11 @@ recorded Arrived after readings = readings
 recorded (Leaving side words) after readings = readings
 
 -- the cuts after a step from a phase: a cut comes where side is stored
-abbrev pub cuts_after : Phase → List Command → List ℕ → List ℕ
-cuts_after Swapping taken cuts = cuts ++ length taken ∷ []
-cuts_after Idle taken cuts = cuts
-cuts_after Seeing taken cuts = cuts
-cuts_after (Filling k) taken cuts = cuts
+abbrev pub cuts_past : Phase → List Command → List ℕ → List ℕ
+cuts_past Swapping taken cuts = cuts ++ length taken ∷ []
+cuts_past Idle taken cuts = cuts
+cuts_past Seeing taken cuts = cuts
+cuts_past (Filling k) taken cuts = cuts
 
 -- word 0 is side, the two copies follow, and then a pin for each reader; word i of the copy that a side names:
 abbrev pub place : ℕ → ℕ → ℕ
@@ -135,5 +135,5 @@ module _ (sheet : List Command → List ℕ) where
       record {
         word = d.word;
         becomes = d.becomes;
-        after = λ found. record { state = d.after found; cuts = cuts_after v.state.phase v.state.taken v.cuts };
+        after = λ found. record { state = d.after found; cuts = cuts_past v.state.phase v.state.taken v.cuts };
       }

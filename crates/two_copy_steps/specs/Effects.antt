@@ -1,4 +1,4 @@
--- The register of one thread beside the machine: its calls, and what it replies to them.
+-- The sequential register beside the machine: its calls, and what it replies to them.
 use Rattle.std.specs.Prelude.{◌≡◌, ℕ, zero, suc, Bool, true, false, List, [], ◌∷◌, ◌++◌, length}
 use Rattle.std.specs.Prelude.{slice_get, if◌then◌else◌, ◌==◌, Option, None, Some}
 use Rattle.council_core.specs.Ledgers.{Ledger}
@@ -14,7 +14,7 @@ use Rattle.two_copy_steps.specs.declared.views.Stage.{Stage}
 use Rattle.two_copy_steps.specs.declared.views.Stage.TheVariants.{AtRest, Arrived, Reading, Leaving}
 use Rattle.two_copy_steps.specs.declared.views.Phase.{Phase}
 use Rattle.two_copy_steps.specs.declared.views.Phase.TheVariants.{Idle, Seeing, Filling, Swapping}
-use Rattle.two_copy_steps.specs.Turns.{MachineState, is_idle, is_pending, turn}
+use Rattle.two_copy_steps.specs.Transitions.{MachineState, is_idle, is_pending, transition}
 
 -- a reading has its effect at its load of side
 abbrev pub stage_effect : Stage → List Call
@@ -34,7 +34,7 @@ abbrev pub reader_effect : Option Stage → List Call
 reader_effect None = []
 reader_effect (Some stage) = stage_effect stage
 
--- the call of the register of one thread that an event stands for, if it does for one, the machine being that before
+-- the call of the sequential register that an event stands for, if it does for one, the machine being that before
 -- the event
 abbrev pub effect : MachineState → Event → List Call
 effect m (Submit command) = if is_idle m.writer.phase then submit command ∷ [] else []
@@ -46,18 +46,18 @@ effect m (Reader (suc r)) = reader_effect (slice_get m.readers r)
 -- the calls that a list of events stands for, in order
 abbrev pub effects : MachineState → List Event → List Call
 effects m [] = []
-effects m (event ∷ events) = effect m event ++ effects (turn m event).0 events
+effects m (event ∷ events) = effect m event ++ effects (transition m event).0 events
 
--- the register of one thread, what it replied to each reader's last load of side since that reader arrived, and
--- whether a publication has begun and has neither stored side nor been given up
-pub record Thread : Type 0 where
+-- a run of the sequential register: its state, what it replied to each reader's last load of side since that reader
+-- arrived, and whether a publication has begun and has neither stored side nor been given up
+pub record SequentialRun : Type 0 where
   pub register : Sequential
   pub replied : ℕ → Option Reply
   pub begun : Bool
 
--- it begins with the register given, all of it published
-abbrev pub thread_of : Ledger → Thread
-thread_of ledger = record {
+-- it starts with the register given, all of it published
+abbrev pub sequential_start : Ledger → SequentialRun
+sequential_start ledger = record {
   register = record { ledger = ledger; published = length ledger.journal };
   replied = λ number. None;
   begun = false;
@@ -65,18 +65,18 @@ thread_of ledger = record {
 
 -- what the reader of that number has been replied after its step at a stage: nothing at its arrival, and at its load
 -- of side the reply to a read
-abbrev pub replied_at : Thread → ℕ → Stage → ℕ → Option Reply
+abbrev pub replied_at : SequentialRun → ℕ → Stage → ℕ → Option Reply
 replied_at t number AtRest k = if k == number then None else t.replied k
 replied_at t number Arrived k =
     if k == number then slice_get (replies_of t.register (stage_effect Arrived)) 0 else t.replied k
 replied_at t number (Reading side words) k = t.replied k
 replied_at t number (Leaving side words) k = t.replied k
 
-abbrev pub replied_to : Thread → ℕ → Option Stage → ℕ → Option Reply
+abbrev pub replied_to : SequentialRun → ℕ → Option Stage → ℕ → Option Reply
 replied_to t number None k = t.replied k
 replied_to t number (Some stage) k = replied_at t number stage k
 
-abbrev pub replied_after : Thread → MachineState → Event → ℕ → Option Reply
+abbrev pub replied_after : SequentialRun → MachineState → Event → ℕ → Option Reply
 replied_after t m (Submit command) k = t.replied k
 replied_after t m Publish k = t.replied k
 replied_after t m Writer k = t.replied k
@@ -95,15 +95,15 @@ begun_after begun (Read number words) = begun
 begun_after begun Skipped = begun
 
 -- after an event, the machine being that before it
-abbrev pub beside : Thread → MachineState → Event → Thread
-beside t m event =
+abbrev pub sequential_step : SequentialRun → MachineState → Event → SequentialRun
+sequential_step t m event =
     record {
       register = state_after t.register (effect m event);
       replied = λ k. replied_after t m event k;
-      begun = begun_after t.begun (turn m event).1;
+      begun = begun_after t.begun (transition m event).1;
     }
 
--- what an event tells is what the register of one thread replies: to the call that the event stands for, or, of a
+-- what an event tells is what the sequential register replies: to the call that the event stands for, or, of a
 -- reading, at that reader's last load of side since it arrived
 abbrev pub Tells : List Reply → (ℕ → Option Reply) → Note → Type 0
 Tells replies replied (Accepted count) = replies ≡ accepted count ∷ []
@@ -120,22 +120,22 @@ abbrev pub SwapsOnce : Bool → Event → Phase → Type 0
 SwapsOnce begun Writer Swapping = begun ≡ true
 SwapsOnce begun event phase = Unit {0}
 
-abbrev pub Answers : Thread → MachineState → Event → Type 0
-Answers t m event = Tells (replies_of t.register (effect m event)) t.replied (turn m event).1
+abbrev pub Answers : SequentialRun → MachineState → Event → Type 0
+Answers t m event = Tells (replies_of t.register (effect m event)) t.replied (transition m event).1
     × SwapsOnce t.begun event m.writer.phase
 
 -- so it is at each event of a list
-abbrev pub AllAnswer : Thread → MachineState → List Event → Type 0
+abbrev pub AllAnswer : SequentialRun → MachineState → List Event → Type 0
 AllAnswer t m [] = Unit {0}
-AllAnswer t m (event ∷ events) = Answers t m event × AllAnswer (beside t m event) (turn m event).0 events
+AllAnswer t m (event ∷ events) = Answers t m event × AllAnswer (sequential_step t m event) (transition m event).0 events
 
--- the register beside a machine after each event in turn
-abbrev pub beside_all : Thread → MachineState → List Event → Thread
-beside_all t m [] = t
-beside_all t m (event ∷ events) = beside_all (beside t m event) (turn m event).0 events
+-- the run beside a machine after a list of events
+abbrev pub sequential_steps : SequentialRun → MachineState → List Event → SequentialRun
+sequential_steps t m [] = t
+sequential_steps t m (event ∷ events) = sequential_steps (sequential_step t m event) (transition m event).0 events
 
 -- what it replies to the calls that each event stands for, event by event
-abbrev pub replies_beside : Thread → MachineState → List Event → List Reply
-replies_beside t m [] = []
-replies_beside t m (event ∷ events) = replies_of t.register (effect m event)
-    ++ replies_beside (beside t m event) (turn m event).0 events
+abbrev pub sequential_replies : SequentialRun → MachineState → List Event → List Reply
+sequential_replies t m [] = []
+sequential_replies t m (event ∷ events) = replies_of t.register (effect m event)
+    ++ sequential_replies (sequential_step t m event) (transition m event).0 events

@@ -76,7 +76,7 @@ IsPublishable opening commands = IsLegal opening commands × IsSheet (sheet open
 module _ (opening : Opening) (Legal : List Command → Type 0) where
   -- the reader at r has loaded this side and not left: that copy has the sheet of one cut, not below any front of its
   -- record, and where that side isn't the writer's, the reader isn't seen out
-  pub record Beside (words : List ℕ) (v : WriterView) (readings : List (List ℕ)) (r side : ℕ) : Type 0 where
+  pub record HoldsCopy (words : List ℕ) (v : WriterView) (readings : List (List ℕ)) (r side : ℕ) : Type 0 where
     pub two : side < 2
     pub cut : ℕ
     pub is_cut : Contains v.cuts cut
@@ -87,10 +87,10 @@ module _ (opening : Opening) (Legal : List Command → Type 0) where
   abbrev pub Stands : List ℕ → WriterView → List (List ℕ) → ℕ → Stage → Type 0
   Stands words v readings r AtRest = Unit {0}
   Stands words v readings r Arrived = Unit {0}
-  Stands words v readings r (Reading side loaded) = Beside words v readings r side × (length loaded < COPY_WORDS)
+  Stands words v readings r (Reading side loaded) = HoldsCopy words v readings r side × (length loaded < COPY_WORDS)
       × IsReadFrom words side loaded
   Stands words v readings r (Leaving side loaded) =
-      Beside words v readings r side × (length loaded ≡ COPY_WORDS) × IsReadFrom words side loaded
+      HoldsCopy words v readings r side × (length loaded ≡ COPY_WORDS) × IsReadFrom words side loaded
       × ((earlier : List (List ℕ)) × (readings ≡ earlier ++ loaded ∷ []))
 
   pub record ReaderOk (words : List ℕ) (v : WriterView) (r : ℕ) (reader : ReaderView) : Type 0 where

@@ -15,21 +15,22 @@ use Rattle.two_copy_steps.specs.declared.views.Phase.TheVariants.{Filling}
 use Rattle.two_copy_steps.specs.declared.views.ReaderView.{ReaderView}
 use Rattle.two_copy_steps.specs.Lawful.{State, IsPublishable, read_by, written_by, begun_by}
 use Rattle.two_copy_steps.specs.States.{LawfulFor, HasRecords, IsApart, IsKnown}
-use Rattle.two_copy_steps.specs.Turns.{MachineState, turn, started, after, notes}
-use Rattle.two_copy_steps.specs.Passes.{Passes, opened, passed, record_at, state_of, IsLawful, HasLegalRecords}
-use Rattle.two_copy_steps.specs.Passes.{NoneUnder}
+use Rattle.two_copy_steps.specs.Transitions.{MachineState, transition, started, after, notes}
+use Rattle.two_copy_steps.specs.Auxiliary.{Auxiliary, auxiliary_start, auxiliary_step, record_at, state_of, IsLawful}
+use Rattle.two_copy_steps.specs.Auxiliary.{HasLegalRecords}
+use Rattle.two_copy_steps.specs.Auxiliary.{NoneUnder}
 use Rattle.two_copy_steps.specs.Actions.{all_true, pin, stage_action, reader_action}
 use Rattle.two_copy_steps.specs.Stages.{steps_taken, last_load, last_step, sheet_read, IsReadable}
 use Rattle.two_copy_steps.specs.Publications.{IsLeastUnseen, StaySeen, stores_side}
 use Rattle.two_copy_steps.specs.Records.{RecordsAreTold, FrontsNeverFall}
 use Rattle.council_core.specs.Sequential.{replies_of, state_after}
-use Rattle.two_copy_steps.specs.Effects.{Thread, effects, beside_all, replies_beside}
-use Rattle.two_copy_steps.specs.Runs.{machine_after, passes_after, TellsReplies}
+use Rattle.two_copy_steps.specs.Effects.{SequentialRun, effects, sequential_steps, sequential_replies}
+use Rattle.two_copy_steps.specs.Runs.{machine_after, auxiliary_after, TellsReplies}
 
 -- the start over a legal journal, whose sheet is in range, is lawful
 abbrev pub StartLaw : Type 0
 StartLaw = (ledger : Ledger) (readers : ℕ) → IsPublishable ledger.opening ledger.journal
-    → IsLawful IsPublishable (started ledger readers) (opened ledger readers)
+    → IsLawful IsPublishable (started ledger readers) (auxiliary_start ledger readers)
 
 -- a reader's step keeps words and views lawful
 abbrev pub ReaderLaw : Type 0
@@ -60,51 +61,51 @@ abbrev pub StateKnownLaw : Type 0
 StateKnownLaw = (opening : Opening) (s : State) → LawfulFor opening s → (r : ℕ) (v : ReaderView)
     → slice_get s.readers r ≡ Some v → IsKnown opening v
 
--- the writer's turn is its step of words and views
-abbrev pub WriterTurnLaw : Type 0
-WriterTurnLaw = (m : MachineState) (p : Passes)
-    → state_of (turn m Writer).0 (passed m p Writer) ≡ written_by m.ledger.opening (state_of m p)
+-- the transition at a step of the writer's is its step of words and views
+abbrev pub WriterTransitionLaw : Type 0
+WriterTransitionLaw = (m : MachineState) (p : Auxiliary)
+    → state_of (transition m Writer).0 (auxiliary_step m p Writer) ≡ written_by m.ledger.opening (state_of m p)
 
 -- so is a reader's
-abbrev pub ReaderTurnLaw : Type 0
-ReaderTurnLaw =
-    (m : MachineState) (p : Passes) → length p.records ≡ length m.readers → (r : ℕ) (stage : Stage)
+abbrev pub ReaderTransitionLaw : Type 0
+ReaderTransitionLaw =
+    (m : MachineState) (p : Auxiliary) → length p.records ≡ length m.readers → (r : ℕ) (stage : Stage)
     → slice_get m.readers r ≡ Some stage
-    → state_of (turn m (Reader (suc r))).0 (passed m p (Reader (suc r)))
+    → state_of (transition m (Reader (suc r))).0 (auxiliary_step m p (Reader (suc r)))
     ≡ read_by (state_of m p) r (record { stage = stage; readings = record_at p.records r })
 
 -- a publication that begins takes the whole journal, and touches no word
-abbrev pub BeginTurnLaw : Type 0
-BeginTurnLaw = (m : MachineState) (p : Passes) → (turn m Publish).1 ≡ Began
-    → state_of (turn m Publish).0 (passed m p Publish) ≡ begun_by (state_of m p) m.ledger.journal
+abbrev pub BeginTransitionLaw : Type 0
+BeginTransitionLaw = (m : MachineState) (p : Auxiliary) → (transition m Publish).1 ≡ Began
+    → state_of (transition m Publish).0 (auxiliary_step m p Publish) ≡ begun_by (state_of m p) m.ledger.journal
 
 -- one that doesn't begin leaves words and views as they were, and so does a command
-abbrev pub IdleTurnLaw : Type 0
-IdleTurnLaw = (m : MachineState) (p : Passes) → (turn m Publish).1 ≢ Began
-    → state_of (turn m Publish).0 (passed m p Publish) ≡ state_of m p
+abbrev pub IdleTransitionLaw : Type 0
+IdleTransitionLaw = (m : MachineState) (p : Auxiliary) → (transition m Publish).1 ≢ Began
+    → state_of (transition m Publish).0 (auxiliary_step m p Publish) ≡ state_of m p
 
-abbrev pub SubmitTurnLaw : Type 0
-SubmitTurnLaw = (m : MachineState) (p : Passes) (command : Command)
-    → state_of (turn m (Submit command)).0 (passed m p (Submit command)) ≡ state_of m p
+abbrev pub SubmitTransitionLaw : Type 0
+SubmitTransitionLaw = (m : MachineState) (p : Auxiliary) (command : Command)
+    → state_of (transition m (Submit command)).0 (auxiliary_step m p (Submit command)) ≡ state_of m p
 
 -- a reader that is in the way is the least that isn't seen out, and its pin is 1; the publication that is given up
 -- changes nobody
 abbrev pub BusyLaw : Type 0
 BusyLaw =
-    (m : MachineState) (p : Passes) → IsLawful IsPublishable m p → (event : Event) (number : ℕ)
-    → (turn m event).1 ≡ Busy number
+    (m : MachineState) (p : Auxiliary) → IsLawful IsPublishable m p → (event : Event) (number : ℕ)
+    → (transition m event).1 ≡ Busy number
     → (r : ℕ) × (number ≡ suc r) × IsLeastUnseen m.writer.seen_out r × (slice_index m.words (pin r) ≡ 1)
-    × ((turn m event).0.writer.seen_out ≡ m.writer.seen_out)
+    × ((transition m event).0.writer.seen_out ≡ m.writer.seen_out)
 
 -- who is seen out stays so until side is stored
 abbrev pub StayLaw : Type 0
 StayLaw = (m : MachineState) (event : Event) → stores_side event m.writer.phase ≡ false
-    → StaySeen m.writer.seen_out (turn m event).0.writer.seen_out
+    → StaySeen m.writer.seen_out (transition m event).0.writer.seen_out
 
 -- with everybody seen out a publication that begins fills at once
 abbrev pub AtOnceLaw : Type 0
-AtOnceLaw = (m : MachineState) → all_true m.writer.seen_out ≡ true → (turn m Publish).1 ≡ Began
-    → (turn m Publish).0.writer.phase ≡ Filling 0
+AtOnceLaw = (m : MachineState) → all_true m.writer.seen_out ≡ true → (transition m Publish).1 ≡ Began
+    → (transition m Publish).0.writer.phase ≡ Filling 0
 
 -- a step moves a reader on by one of the steps of a reading
 abbrev pub CountLaw : Type 0
@@ -124,13 +125,13 @@ GrowthLaw =
 
 -- each event keeps the machine lawful, with its cuts and records
 abbrev pub EventLaw : Type 0
-EventLaw = (m : MachineState) (p : Passes) → IsLawful IsPublishable m p
+EventLaw = (m : MachineState) (p : Auxiliary) → IsLawful IsPublishable m p
     → IsPublishable m.ledger.opening m.ledger.journal
-    → (event : Event) → IsLawful IsPublishable (turn m event).0 (passed m p event)
+    → (event : Event) → IsLawful IsPublishable (transition m event).0 (auxiliary_step m p event)
 
 -- each event keeps the journal legal and within its limit
 abbrev pub LedgerLaw : Type 0
-LedgerLaw = (m : MachineState) → IsLedger m.ledger → (event : Event) → IsLedger (turn m event).0.ledger
+LedgerLaw = (m : MachineState) → IsLedger m.ledger → (event : Event) → IsLedger (transition m event).0.ledger
 
 -- a register whose members and commands have votes in range
 abbrev pub HasVotesInRange : Ledger → Type 0
@@ -146,20 +147,20 @@ HandsInRange (Reader number) = Unit {0}
 -- each such event keeps the votes in range, and the journal publishable
 abbrev pub RangeLaw : Type 0
 RangeLaw = (m : MachineState) → IsLedger m.ledger → HasVotesInRange m.ledger → (event : Event)
-    → HandsInRange event → HasVotesInRange (turn m event).0.ledger
-    × IsPublishable (turn m event).0.ledger.opening (turn m event).0.ledger.journal
+    → HandsInRange event → HasVotesInRange (transition m event).0.ledger
+    × IsPublishable (transition m event).0.ledger.opening (transition m event).0.ledger.journal
 
 -- over every list of events the records are legal
 abbrev pub RecordsLaw : Type 0
 RecordsLaw = (ledger : Ledger) (readers : ℕ) → IsLedger ledger → (events : List Event)
-    → HasLegalRecords (machine_after ledger readers events) (passes_after ledger readers events)
+    → HasLegalRecords (machine_after ledger readers events) (auxiliary_after ledger readers events)
 
 -- over every list of events no word is stored under a reader
 abbrev pub UnderLaw : Type 0
 UnderLaw = (ledger : Ledger) (readers : ℕ) → IsLedger ledger → (events : List Event)
     → NoneUnder (machine_after ledger readers events)
 
--- over every list of events what is told is what the register of one thread replies
+-- over every list of events what is told is what the sequential register replies
 abbrev pub RepliesLaw : Type 0
 RepliesLaw = (ledger : Ledger) (readers : ℕ) → IsLedger ledger → (events : List Event)
     → TellsReplies ledger readers events
@@ -168,7 +169,7 @@ RepliesLaw = (ledger : Ledger) (readers : ℕ) → IsLedger ledger → (events :
 abbrev pub ToldLaw : Type 0
 ToldLaw =
     (ledger : Ledger) (readers : ℕ) → (events : List Event)
-    → RecordsAreTold (machine_after ledger readers events) (passes_after ledger readers events)
+    → RecordsAreTold (machine_after ledger readers events) (auxiliary_after ledger readers events)
     (notes (started ledger readers) events)
 
 -- over every list of events no note of a reader tells an older sheet than one before
@@ -181,16 +182,16 @@ abbrev pub FreshLaw : Type 0
 FreshLaw =
     (ledger : Ledger) (readers : ℕ) → IsLedger ledger → (events more : List Event) (r : ℕ) (words : List ℕ)
     → slice_get (machine_after ledger readers events).readers r ≡ Some AtRest
-    → (turn (machine_after ledger readers (events ++ more)) (Reader (suc r))).1 ≡ Read (suc r) words
+    → (transition (machine_after ledger readers (events ++ more)) (Reader (suc r))).1 ≡ Read (suc r) words
     → length (machine_after ledger readers events).writer.published ≤ front_of words
 
 -- the replies that events are compared with, one by one, are those of one run of the sequential register over the
 -- list of their effects, which ends where that run ends
 abbrev pub EffectsLaw : Type 0
 EffectsLaw =
-    (t : Thread) (m : MachineState) (events : List Event)
-    → (replies_of t.register (effects m events) ≡ replies_beside t m events)
-    × (state_after t.register (effects m events) ≡ (beside_all t m events).register)
+    (t : SequentialRun) (m : MachineState) (events : List Event)
+    → (replies_of t.register (effects m events) ≡ sequential_replies t m events)
+    × (state_after t.register (effects m events) ≡ (sequential_steps t m events).register)
 
 -- the notes of one list followed by another are those of the first, and then those of the second from where the first
 -- ended

@@ -1,8 +1,8 @@
 pub mod Actions
 pub mod Stages
 pub mod Lawful
-pub mod Turns
-pub mod Passes
+pub mod Transitions
+pub mod Auxiliary
 pub mod Records
 pub mod Effects
 pub mod Publications

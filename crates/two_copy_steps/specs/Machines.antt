@@ -9,8 +9,8 @@ use Rattle.two_copy_steps.specs.declared.views.Stage.{Stage}
 use Rattle.two_copy_steps.specs.declared.views.Phase.{Phase}
 use Rattle.two_copy_steps.specs.declared.table.TheConstants.{READERS}
 use Rattle.two_copy_steps.specs.Lawful.{IsPublishable}
-use Rattle.two_copy_steps.specs.Turns.{MachineState, is_idle}
-use Rattle.two_copy_steps.specs.Passes.{Passes, IsLawful}
+use Rattle.two_copy_steps.specs.Transitions.{MachineState, is_idle}
+use Rattle.two_copy_steps.specs.Auxiliary.{Auxiliary, IsLawful}
 
 -- the machine by what it keeps: how many commands are published, and the sheet of those last taken
 abbrev pub seen_as : Ledger → List ℕ → ℕ → ℕ → List ℕ → Phase → List Bool → List Stage
@@ -36,7 +36,7 @@ pub record IsMachine (ledger : Ledger) (words : List ℕ) (side published : ℕ)
   pub taken_within : front_of taken ≤ length ledger.journal
   pub sheet_is : taken ≡ sheet ledger.opening (take (front_of taken) ledger.journal)
   pub few : length readers ≤ READERS
-  pub lawful : (p : Passes)
+  pub lawful : (p : Auxiliary)
       × IsLawful IsPublishable (seen_as ledger words side published taken phase seen_out readers) p
 
 -- one, and no more than there may be

@@ -7,8 +7,8 @@ use Rattle.two_copy_steps.specs.declared.events.Note.{Note}
 use Rattle.two_copy_steps.specs.declared.events.Note.TheVariants.{Accepted, Refused, Began, Moved, Published, Busy}
 use Rattle.two_copy_steps.specs.declared.events.Note.TheVariants.{Read, Skipped}
 use Rattle.two_copy_steps.specs.declared.views.Stage.{Stage}
-use Rattle.two_copy_steps.specs.Turns.{MachineState}
-use Rattle.two_copy_steps.specs.Passes.{Passes, record_at}
+use Rattle.two_copy_steps.specs.Transitions.{MachineState}
+use Rattle.two_copy_steps.specs.Auxiliary.{Auxiliary, record_at}
 use Rattle.two_copy_steps.specs.Stages.{about_to_leave}
 
 -- the sheet that a note tells of the reader of a number, if it does
@@ -28,7 +28,7 @@ sheets_told number [] = []
 sheets_told number (note ∷ rest) = told_of number note ++ sheets_told number rest
 
 -- each reader's record is the sheets told of it, in order, and the words of the reading that it is about to leave
-abbrev pub RecordsAreTold : MachineState → Passes → List Note → Type 0
+abbrev pub RecordsAreTold : MachineState → Auxiliary → List Note → Type 0
 RecordsAreTold m p told =
     (r : ℕ) (stage : Stage) → slice_get m.readers r ≡ Some stage
     → record_at p.records r ≡ sheets_told (suc r) told ++ about_to_leave stage

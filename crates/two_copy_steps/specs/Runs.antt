@@ -5,28 +5,28 @@ use Rattle.council_core.specs.declared.refusals.Refusal.{Refusal}
 use Rattle.council_core.specs.declared.refusals.Refusal.TheVariants.{OutOfMemory, BadLimit}
 use Rattle.two_copy_steps.specs.declared.events.Event.{Event}
 use Rattle.two_copy_steps.specs.declared.events.Note.{Note}
-use Rattle.two_copy_steps.specs.Turns.{MachineState, started, after}
+use Rattle.two_copy_steps.specs.Transitions.{MachineState, started, after}
 use Rattle.two_copy_steps.specs.Records.{RecordsAreTold}
-use Rattle.two_copy_steps.specs.Passes.{Passes, opened, passes, HasLegalRecords, NoneUnder}
-use Rattle.two_copy_steps.specs.Effects.{thread_of, AllAnswer}
+use Rattle.two_copy_steps.specs.Auxiliary.{Auxiliary, auxiliary_start, auxiliary_steps, HasLegalRecords, NoneUnder}
+use Rattle.two_copy_steps.specs.Effects.{sequential_start, AllAnswer}
 use Rattle.two_copy_steps.specs.Machines.{IsFew, WantsMemory}
 
 -- from the start over a register with so many readers: the machine, and the cuts and records
 abbrev pub machine_after : Ledger → ℕ → List Event → MachineState
 machine_after ledger readers events = after (started ledger readers) events
 
-abbrev pub passes_after : Ledger → ℕ → List Event → Passes
-passes_after ledger readers events = passes (started ledger readers) (opened ledger readers) events
+abbrev pub auxiliary_after : Ledger → ℕ → List Event → Auxiliary
+auxiliary_after ledger readers events = auxiliary_steps (started ledger readers) (auxiliary_start ledger readers) events
 
--- what each event tells is what the register of one thread replies at its effect
+-- what each event tells is what the sequential register replies at its effect
 abbrev pub TellsReplies : Ledger → ℕ → List Event → Type 0
-TellsReplies ledger readers events = AllAnswer (thread_of ledger) (started ledger readers) events
+TellsReplies ledger readers events = AllAnswer (sequential_start ledger) (started ledger readers) events
 
 -- the records are legal after every event, and before the first
 abbrev pub KeepsRecordsLegal : Ledger → ℕ → List Event → Type 0
 KeepsRecordsLegal ledger readers events =
     (k : ℕ) → HasLegalRecords (machine_after ledger readers (take k events))
-    (passes_after ledger readers (take k events))
+    (auxiliary_after ledger readers (take k events))
 
 -- before each event, no reader holds the copy of which the writer's next step stores a word
 abbrev pub StoresUnderNobody : Ledger → ℕ → List Event → Type 0
@@ -35,7 +35,7 @@ StoresUnderNobody ledger readers events = (k : ℕ) → NoneUnder (machine_after
 -- each reader's record is what the notes tell of it, and the words that it is about to leave
 abbrev pub KeepsRecordsTold : Ledger → ℕ → List Event → List Note → Type 0
 KeepsRecordsTold ledger readers events told =
-    RecordsAreTold (machine_after ledger readers events) (passes_after ledger readers events) told
+    RecordsAreTold (machine_after ledger readers events) (auxiliary_after ledger readers events) told
 
 -- the event at a place can want memory, from this machine on
 abbrev pub WantsMemoryFrom : MachineState → List Event → ℕ → Type 0

@@ -7,7 +7,7 @@ use Rattle.two_copy_steps.specs.declared.views.ReaderView.{ReaderView}
 use Rattle.two_copy_steps.specs.declared.views.Stage.{Stage}
 use Rattle.two_copy_steps.specs.declared.views.Stage.TheVariants.{AtRest, Arrived, Reading, Leaving}
 use Rattle.two_copy_steps.specs.Lawful.{State, Lawful, IsPublishable}
-use Rattle.two_copy_steps.specs.Passes.{side_held, side_filled}
+use Rattle.two_copy_steps.specs.Auxiliary.{side_held, side_filled}
 use Rattle.two_copy_steps.specs.Stages.{IsReadable}
 
 abbrev pub LawfulFor : Opening → State → Type 0

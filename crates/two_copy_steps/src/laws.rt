@@ -1,7 +1,9 @@
 //! Laws of the machine, as contracts of functions that do nothing: for whoever builds on it.
 ghost use Rattle.two_copy_steps.specs.Laws.{StartLaw, ReaderLaw, WriterLaw, BeginLaw, StateRecordsLaw, StateUnderLaw};
-ghost use Rattle.two_copy_steps.specs.Laws.{StateKnownLaw, WriterTurnLaw, ReaderTurnLaw, BeginTurnLaw, IdleTurnLaw};
-ghost use Rattle.two_copy_steps.specs.Laws.{SubmitTurnLaw, BusyLaw, StayLaw, AtOnceLaw, CountLaw, GrowthLaw, EventLaw};
+ghost use Rattle.two_copy_steps.specs.Laws.{StateKnownLaw, WriterTransitionLaw, ReaderTransitionLaw};
+ghost use Rattle.two_copy_steps.specs.Laws.{BeginTransitionLaw, IdleTransitionLaw};
+ghost use Rattle.two_copy_steps.specs.Laws.{SubmitTransitionLaw, BusyLaw, StayLaw, AtOnceLaw, CountLaw, GrowthLaw};
+ghost use Rattle.two_copy_steps.specs.Laws.{EventLaw};
 ghost use Rattle.two_copy_steps.specs.Laws.{LedgerLaw, RangeLaw, RecordsLaw, UnderLaw, RepliesLaw, FreshLaw, ToldLaw};
 ghost use Rattle.two_copy_steps.specs.Laws.{NeverOlderLaw, EffectsLaw, NotesLaw, AfterLaw};
 
@@ -26,14 +28,14 @@ pub fn state_laws()
     ensures known { StateKnownLaw }
 {}
 
-/// The machine's turn is one step of words and views: of the writer, of a reader, or the beginning of
-/// a publication; no other event changes them.
-pub fn turn_laws()
-    ensures writer { WriterTurnLaw }
-    ensures reader { ReaderTurnLaw }
-    ensures begin { BeginTurnLaw }
-    ensures idle { IdleTurnLaw }
-    ensures submit { SubmitTurnLaw }
+/// The machine's transition at an event is one step of words and views: of the writer, of a reader, or the
+/// beginning of a publication; no other event changes them.
+pub fn transition_laws()
+    ensures writer { WriterTransitionLaw }
+    ensures reader { ReaderTransitionLaw }
+    ensures begin { BeginTransitionLaw }
+    ensures idle { IdleTransitionLaw }
+    ensures submit { SubmitTransitionLaw }
 {}
 
 /// A publication that is given up names the least reader not seen out, whose pin is 1; who is seen
@@ -60,9 +62,8 @@ pub fn event_law()
     ensures in_range { RangeLaw }
 {}
 
-/// Over every list of events: the records are legal, no word is stored under a reader, each answer
-/// is that of a register of one thread, and a reading that begins after a publication is no older
-/// than that publication.
+/// Over every list of events: the records are legal, no word is stored under a reader, each answer is the
+/// sequential register's, and a reading that begins after a publication is no older than that publication.
 pub fn run_laws()
     ensures records { RecordsLaw }
     ensures apart { UnderLaw }
@@ -84,8 +85,8 @@ pub fn effects_law()
     ensures run { EffectsLaw }
 {}
 
-/// A list of events may be cut anywhere: what follows goes on from where the first part ended.
-pub fn cut_laws()
+/// Of one list of events appended to another: what follows goes on from where the first list ended.
+pub fn append_laws()
     ensures notes { NotesLaw }
     ensures machine { AfterLaw }
 {}

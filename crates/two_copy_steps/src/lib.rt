@@ -3,23 +3,23 @@
 #![tactic(auto)]
 
 mod events;
+mod flags;
 mod laws;
 mod machine;
 mod readers;
 mod runs;
-mod seats;
 mod stages;
 mod table;
 mod views;
 
 pub use events::{Event, Note};
+pub use flags::Flags;
 pub use laws::{
-    cut_laws, effects_law, event_law, publication_laws, reading_laws, record_laws, run_laws,
-    start_law, state_laws, step_laws, turn_laws,
+    append_laws, effects_law, event_law, publication_laws, reading_laws, record_laws, run_laws,
+    start_law, state_laws, step_laws, transition_laws,
 };
 pub use machine::Machine;
 pub use runs::{Notes, RunFault, RunLog, run};
-pub use seats::Flags;
 pub use stages::{Access, ReaderStage};
 pub use table::{COPY_WORDS, READERS, SIDE, Table, pin, place};
 pub use views::{Phase, ReaderView, Stage, WriterView, Writing};

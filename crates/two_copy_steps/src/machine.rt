@@ -6,12 +6,13 @@ ghost use Rattle.council_core.specs.declared.refusals.Refusal.TheVariants.{OutOf
 ghost use Rattle.two_copy_steps.specs.declared.events.Event.TheVariants.{Submit, Publish, Writer, Reader};
 ghost use Rattle.two_copy_steps.specs.declared.views.Phase.TheVariants.{Idle, Seeing, Filling, Swapping};
 ghost use Rattle.two_copy_steps.specs.Actions.{all_true};
-ghost use Rattle.two_copy_steps.specs.Turns.{turn, handed, started, is_idle};
+ghost use Rattle.two_copy_steps.specs.Transitions.{transition, handed, started, is_idle};
 ghost use Rattle.two_copy_steps.specs.Machines.{IsFew, WantsMemory};
 ghost use Rattle.two_copy_steps.specs.Publications.{seen_out_at};
 
 use crate::events::{Event, Note};
-use crate::seats::{Flags, ReaderStages};
+use crate::flags::Flags;
+use crate::readers::ReaderStages;
 use crate::table::{COPY_WORDS, READERS, SIDE, Table, pin, place};
 use crate::views::Phase;
 use council_core::{Command, Refusal, Register, Sheet};
@@ -31,7 +32,7 @@ pub struct Machine {
 }
 
 impl Model for Machine {
-    ghost use Rattle.two_copy_steps.specs.Turns.{MachineState};
+    ghost use Rattle.two_copy_steps.specs.Transitions.{MachineState};
     ghost use Rattle.two_copy_steps.specs.Machines.{seen_as, IsMachine};
 
     ghost Value = { MachineState };
@@ -108,8 +109,8 @@ impl Machine {
     /// One event, and what it tells. Only the handing over of a command that the register accepts can
     /// be answered `OutOfMemory`, while no publication is under way; the machine is then unchanged.
     pub fn step(&mut self, event: Event) -> Result<Note, Refusal>
-        ensures machine { IfOk result (λ note. self.new ≡ (turn self.old event).0) }
-        ensures note { IfOk result (λ note. note ≡ (turn self.old event).1) }
+        ensures machine { IfOk result (λ note. self.new ≡ (transition self.old event).0) }
+        ensures note { IfOk result (λ note. note ≡ (transition self.old event).1) }
         ensures unchanged { OnErr result (self.new ≡ self.old) }
         ensures memory { IsOkUnless result OutOfMemory }
         ensures submit_alone { OnErr result (WantsMemory self.old event) }
@@ -124,8 +125,8 @@ impl Machine {
 
     // Hands a command to the register, unless a publication is under way.
     fn submit(&mut self, command: Command) -> Result<Note, Refusal>
-        ensures machine { IfOk result (λ note. self.new ≡ (turn self.old (Submit command)).0) }
-        ensures note { IfOk result (λ note. note ≡ (turn self.old (Submit command)).1) }
+        ensures machine { IfOk result (λ note. self.new ≡ (transition self.old (Submit command)).0) }
+        ensures note { IfOk result (λ note. note ≡ (transition self.old (Submit command)).1) }
         ensures unchanged { OnErr result (self.new ≡ self.old) }
         ensures memory { IsOkUnless result OutOfMemory }
         ensures accepted { OnErr result (WantsMemory self.old (Submit command)) }
@@ -145,8 +146,8 @@ impl Machine {
 
     // Begins a publication, unless one is under way or nothing is pending.
     fn begin(&mut self) -> Note
-        ensures machine { self.new ≡ (turn self.old Publish).0 }
-        ensures note { result ≡ (turn self.old Publish).1 }
+        ensures machine { self.new ≡ (transition self.old Publish).0 }
+        ensures note { result ≡ (transition self.old Publish).1 }
     {
         if !self.is_idle() {
             return Note::Skipped;
@@ -161,8 +162,8 @@ impl Machine {
 
     // The writer's next step.
     fn write(&mut self) -> Note
-        ensures machine { self.new ≡ (turn self.old Writer).0 }
-        ensures note { result ≡ (turn self.old Writer).1 }
+        ensures machine { self.new ≡ (transition self.old Writer).0 }
+        ensures note { result ≡ (transition self.old Writer).1 }
     {
         match self.phase {
             Phase::Idle => Note::Skipped,
@@ -175,8 +176,8 @@ impl Machine {
     // Loads the pin of the least reader that isn't seen out.
     fn see(&mut self) -> Note
         requires { self.old.writer.phase ≡ Seeing }
-        ensures machine { self.new ≡ (turn self.old Writer).0 }
-        ensures note { result ≡ (turn self.old Writer).1 }
+        ensures machine { self.new ≡ (transition self.old Writer).0 }
+        ensures note { result ≡ (transition self.old Writer).1 }
     {
         let r = self.seen_out.first_false();
         if self.table.load(pin(r)) != 0 {
@@ -191,8 +192,8 @@ impl Machine {
     // Stores a word of the copy that isn't published.
     fn fill(&mut self, k: u64) -> Note
         requires { self.old.writer.phase ≡ Filling k }
-        ensures machine { self.new ≡ (turn self.old Writer).0 }
-        ensures note { result ≡ (turn self.old Writer).1 }
+        ensures machine { self.new ≡ (transition self.old Writer).0 }
+        ensures note { result ≡ (transition self.old Writer).1 }
     {
         let word = self.taken.words()[k as usize];
         self.table.store(place(1 - self.side, k as usize), word);
@@ -203,8 +204,8 @@ impl Machine {
     // Stores side: the sheet taken is published.
     fn swap(&mut self) -> Note
         requires { self.old.writer.phase ≡ Swapping }
-        ensures machine { self.new ≡ (turn self.old Writer).0 }
-        ensures note { result ≡ (turn self.old Writer).1 }
+        ensures machine { self.new ≡ (transition self.old Writer).0 }
+        ensures note { result ≡ (transition self.old Writer).1 }
     {
         self.side = 1 - self.side;
         self.table.store(SIDE, self.side);
@@ -216,8 +217,8 @@ impl Machine {
 
     // The next step of the reader of a number, if there is one.
     fn read(&mut self, number: u8) -> Note
-        ensures machine { self.new ≡ (turn self.old (Reader number)).0 }
-        ensures note { result ≡ (turn self.old (Reader number)).1 }
+        ensures machine { self.new ≡ (transition self.old (Reader number)).0 }
+        ensures note { result ≡ (transition self.old (Reader number)).1 }
     {
         if number == 0 || self.stages.len() < number as usize {
             return Note::Skipped;

@@ -1,15 +1,71 @@
-//! The step of a reader.
-ghost use Rattle.std.specs.Prelude.{◌≡◌, suc, ◌<◌, length, slice_index, slice_set};
+//! The readers' stages, and a step of one of them.
+ghost use Rattle.std.specs.Prelude.{◌≡◌, List, suc, ◌<◌, ◌≤◌, length, take, replicate};
+ghost use Rattle.std.specs.Prelude.{slice_index, slice_index_or, slice_set};
+ghost use Rattle.two_copy_steps.specs.declared.views.Stage.{Stage};
+ghost use Rattle.two_copy_steps.specs.declared.views.Stage.TheVariants.{AtRest};
+ghost use Rattle.two_copy_steps.specs.declared.table.TheConstants.{READERS};
 ghost use Rattle.two_copy_steps.specs.Actions.{pin, stage_action};
-ghost use Rattle.two_copy_steps.specs.Turns.{stage_note};
 ghost use Rattle.two_copy_steps.specs.Stages.{IsReadable};
+ghost use Rattle.two_copy_steps.specs.Transitions.{stage_note};
 
 use crate::events::Note;
 use crate::stages::ReaderStage;
 use crate::table::{COPY_WORDS, READERS, Table};
+use std::array;
+use std::marker::Model;
+
+// The stage of each reader, of at most `READERS`.
+#[derive(Debug, Drop)]
+pub(crate) struct ReaderStages {
+    stages: [ReaderStage; READERS],
+    len: usize,
+}
+
+impl Model for ReaderStages {
+    ghost Value = { List Stage };
+
+    ghost view = { λ s. take s.len s.stages };
+
+    ghost invariant = { λ s. (s.len ≤ READERS) × (length s.stages ≡ READERS) };
+}
+
+impl ReaderStages {
+    // All at rest.
+    pub(crate) fn start(readers: u8) -> ReaderStages
+        requires { readers ≤ READERS }
+        ensures { result ≡ replicate readers AtRest }
+    {
+        ReaderStages {
+            stages: array::from_fn(|_| ReaderStage::new()),
+            len: readers as usize,
+        }
+    }
+
+    // How many readers there are.
+    pub(crate) fn len(&self) -> usize
+        ensures { result ≡ length self.now }
+    {
+        self.len
+    }
+
+    // One step of the reader at a place, and what it tells.
+    pub(crate) fn advance(&mut self, table: &mut Table, r: usize) -> Note
+        requires here { r < length self.old }
+        requires few { r < READERS }
+        requires within { pin r < length table.old }
+        requires readable { IsReadable (slice_index_or self.old r AtRest) }
+        ensures words { let d = stage_action r (slice_index_or self.old r AtRest)
+            in table.new ≡ slice_set table.old d.word (d.becomes (slice_index table.old d.word)) }
+        ensures stages { let d = stage_action r (slice_index_or self.old r AtRest)
+            in self.new ≡ slice_set self.old r (d.after (slice_index table.old d.word)) }
+        ensures note { result ≡ stage_note (suc r) (slice_index_or self.old r AtRest) }
+    {
+        advance(table, r, &mut self.stages[r])
+    }
+}
 
 // One step of the reader at a place, and what it tells.
-pub(crate) fn advance(table: &mut Table, r: usize, stage: &mut ReaderStage) -> Note
+fn advance(table: &mut Table, r: usize, stage: &mut ReaderStage) -> Note
     requires within { pin r < length table.old }
     requires few { r < READERS }
     requires readable { IsReadable stage.old }

@@ -1,7 +1,7 @@
 //! Whole lists of events.
 ghost use Rattle.std.specs.Prelude.{◌≡◌, ◌≤◌, [], length, take, vec_capacity, IfOk, IfErr, OnOk};
 ghost use Rattle.council_core.specs.declared.refusals.Refusal.TheVariants.{OutOfMemory};
-ghost use Rattle.two_copy_steps.specs.Turns.{started, after, notes};
+ghost use Rattle.two_copy_steps.specs.Transitions.{started, after, notes};
 ghost use Rattle.two_copy_steps.specs.Machines.{IsFew};
 ghost use Rattle.two_copy_steps.specs.Records.{FrontsNeverFall};
 ghost use Rattle.two_copy_steps.specs.declared.events.Event.{Event};
@@ -69,7 +69,7 @@ pub struct RunFault {
 }
 
 /// A machine over this register, taken through the events. Room for the notes is reserved before
-/// the first event. Where it answers the notes, they are those of a register of one thread: each
+/// the first event. Where it answers the notes, they are those of the sequential register: each
 /// command, each publication and each reading acts as one of its calls.
 pub fn run(
     alloc: Global,

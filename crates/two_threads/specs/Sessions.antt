@@ -6,11 +6,11 @@ use Rattle.council_core.specs.declared.commands.Command.{Command}
 use Rattle.majority_rule.specs.declared.majorities.Majority.TheVariants.{EightyFive}
 use Rattle.power_index.specs.Indices.{AreIndices}
 use Rattle.two_copy_steps.specs.declared.views.Stage.TheVariants.{AtRest}
-use Rattle.board_share.specs.Readers.{IsLegalSheet, Pass}
+use Rattle.board_share.specs.Readers.{IsLegalSheet, ReaderSeen}
 use Rattle.two_threads.specs.declared.sessions.Session.{Session}
 
 -- a reader that has read nothing
-pub record IsNew (p : Pass) : Type 0 where
+pub record IsNew (p : ReaderSeen) : Type 0 where
   pub rest : p.stage ≡ AtRest
   pub none : p.readings ≡ []
 

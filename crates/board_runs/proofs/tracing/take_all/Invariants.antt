@@ -1,6 +1,6 @@
 use Rattle.std.proofs.Common.{◌≡◌, ◌-◌, ◌++◌, List, replicate}
 use Rattle.std.specs.Io.KnownBytes.{Appends}
-use Rattle.two_copy_steps.specs.Turns.{after}
+use Rattle.two_copy_steps.specs.Transitions.{after}
 use Rattle.board_text.specs.Lines.{Line}
 use Rattle.board_text.specs.Pens.{GoesOn}
 use Rattle.board_text.specs.Text.{text_of}

@@ -1,13 +1,13 @@
 use Rattle.two_copy_steps.proofs.EventLists.{run_answers}
 use Rattle.two_copy_steps.proofs.ToldRecords.{run_told}
-use Rattle.board_share.proofs.Fronts.{front_or_front}
+use Rattle.board_share.proofs.Prefixes.{prefix_or_prefix}
 use Rattle.board_share.proofs.laws.order_laws.Goals as goal
 
 pub returns-clause-replies : goal.returns-clause-replies
 returns-clause-replies c = λ begun s l k. (k.history, k.begun_is, k.after, run_answers begun.register begun.readers l.legal.0 k.history.events)
 
 pub returns-clause-one_order : goal.returns-clause-one_order
-returns-clause-one_order c = λ begun s k i j v w at there. front_or_front v w k.history (k.after.fronts i v at) (k.after.fronts j w there)
+returns-clause-one_order c = λ begun s k i j v w at there. prefix_or_prefix v w k.history (k.after.prefixes i v at) (k.after.prefixes j w there)
 
 pub returns-clause-told : goal.returns-clause-told
 returns-clause-told c = λ h l. (run_answers h.begun.register h.begun.readers l.legal.0 h.events, run_told h.begun.register h.begun.readers h.events)

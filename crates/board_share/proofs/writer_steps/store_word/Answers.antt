@@ -11,4 +11,4 @@ pub store-requires-clause-alike : goal.store-requires-clause-alike
 store-requires-clause-alike c = same_after _ _ _ _ _ _ c.requires.fills c.requires.within _
 
 pub returns-clause-stored : goal.returns-clause-stored
-returns-clause-stored c = word_stored _ _ _ _ _ _ c.requires.fills c.requires.within _ _ c.store.ensures.view c.store.ensures.acted
+returns-clause-stored c = word_stored _ _ _ _ _ _ c.requires.fills c.requires.within _ _ _ c.store.ensures.step

@@ -2,7 +2,7 @@ use Rattle.std.proofs.Common.{◌≡◌, ℕ, ◌≤◌, length, take, ap, sym, 
 use Rattle.council_core.specs.Ledgers.{IsLedger}
 use Rattle.two_copy_steps.specs.Records.{FrontsNeverFall}
 use Rattle.two_copy_steps.specs.Runs.{KeepsRecordsTold, WantsMemoryFrom}
-use Rattle.two_copy_steps.specs.Turns.{MachineState, started, after, notes}
+use Rattle.two_copy_steps.specs.Transitions.{MachineState, started, after, notes}
 use Rattle.two_copy_steps.proofs.EventLists.{ledger_records, run_answers, run_apart}
 use Rattle.two_copy_steps.proofs.ToldRecords.{run_told, run_never_older}
 use Rattle.two_copy_steps.proofs.runs.run.Goals as goal

@@ -1,5 +1,5 @@
 use Rattle.std.proofs.Common.{◌<◌, ◌++◌, ◌∷◌, [], length, ap, sym, ◌∙◌, arith}
-use Rattle.two_copy_steps.specs.Turns.{MachineState, turn}
+use Rattle.two_copy_steps.specs.Transitions.{MachineState, transition}
 use Rattle.two_copy_steps.proofs.EventLists.{after_more, notes_more}
 use Rattle.two_copy_steps.proofs.runs.take_all.Goals as goal
 
@@ -14,9 +14,9 @@ loop-done-preserved c =
     let room = c.push_reserved.ensures.capacity in
     let kept = v.2 in
     let count = v.3 in (
-      step.machine ∙ (ap (λ (m : MachineState). (turn m event).0) v.0 ∙ sym (after_more start c.args.events.now c.loop-done.done event below c.index-events-done.is)),
+      step.machine ∙ (ap (λ (m : MachineState). (transition m event).0) v.0 ∙ sym (after_more start c.args.events.now c.loop-done.done event below c.index-events-done.is)),
       c.push_reserved.ensures.items
-          ∙ ((λ i. v.1 i ++ (step.note ∙ ap (λ (m : MachineState). (turn m event).1) v.0) i ∷ []) ∙ sym (notes_more start c.args.events.now c.loop-done.done event below c.index-events-done.is)),
+          ∙ ((λ i. v.1 i ++ (step.note ∙ ap (λ (m : MachineState). (transition m event).1) v.0) i ∷ []) ∙ sym (notes_more start c.args.events.now c.loop-done.done event below c.index-events-done.is)),
       omega arith,
       omega arith,
     )

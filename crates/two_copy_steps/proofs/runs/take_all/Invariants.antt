@@ -1,5 +1,5 @@
 use Rattle.std.proofs.Common.{◌≡◌, ◌≤◌, length, take, vec_len, vec_capacity}
-use Rattle.two_copy_steps.specs.Turns.{after, notes}
+use Rattle.two_copy_steps.specs.Transitions.{after, notes}
 use Rattle.two_copy_steps.proofs.runs.take_all.Given as goal
 
 abbrev pub invariant-loop-done : goal.invariant-loop-done

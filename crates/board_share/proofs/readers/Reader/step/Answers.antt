@@ -1,8 +1,8 @@
 use Rattle.std.proofs.Common.{◌∙◌, ap, subst}
 use Rattle.two_copy_steps.specs.States.{EndsWith}
 use Rattle.two_copy_steps.specs.Stages.{IsReadable, sheet_read}
-use Rattle.board_share.specs.Readers.{Pass}
-use Rattle.board_share.proofs.Passes.{took_from}
+use Rattle.board_share.specs.Readers.{ReaderSeen}
+use Rattle.board_share.proofs.ReaderSeats.{took_from}
 use Rattle.board_share.proofs.WholeReadings.{counted, ended}
 use Rattle.board_share.proofs.readers.Reader.step.Goals as goal
 
@@ -11,10 +11,10 @@ returns-clause-step c = took_from _ _ _ _ _ _ c.self.view_is c.advance.ensures.s
 
 pub returns-clause-count : goal.returns-clause-count
 returns-clause-count c =
-    counted _ _ (took_from _ _ _ _ _ _ c.self.view_is c.advance.ensures.seat) (subst (λ (p : Pass). IsReadable p.stage) c.self.view_is c.self.invariant.known.readable)
+    counted _ _ (took_from _ _ _ _ _ _ c.self.view_is c.advance.ensures.seat) (subst (λ (p : ReaderSeen). IsReadable p.stage) c.self.view_is c.self.invariant.known.readable)
 
 pub returns-clause-last : goal.returns-clause-last
 returns-clause-last c =
     ended _ _ _ (took_from _ _ _ _ _ _ c.self.view_is c.advance.ensures.seat)
-    (c.advance.ensures.sheet ∙ ap (λ (p : Pass). sheet_read p.stage) c.self.view_is)
-    (subst (λ (p : Pass). EndsWith p.readings p.stage) c.self.view_is c.self.invariant.known.ends)
+    (c.advance.ensures.sheet ∙ ap (λ (p : ReaderSeen). sheet_read p.stage) c.self.view_is)
+    (subst (λ (p : ReaderSeen). EndsWith p.readings p.stage) c.self.view_is c.self.invariant.known.ends)

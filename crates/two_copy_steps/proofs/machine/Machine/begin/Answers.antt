@@ -1,13 +1,13 @@
 use Rattle.std.proofs.Common.{◌≡◌, sym, ap, ◌∙◌, arith}
 use Rattle.two_copy_steps.specs.declared.events.Event.TheVariants.{Publish}
-use Rattle.two_copy_steps.specs.Turns.{MachineState, is_idle, turn}
+use Rattle.two_copy_steps.specs.Transitions.{MachineState, is_idle, transition}
 use Rattle.two_copy_steps.specs.Machines.{seen_as}
 use Rattle.two_copy_steps.proofs.Steps.{begun_in, publishable, publish_stays}
 use Rattle.two_copy_steps.proofs.machine.Machine.begin.Goals as goal
 
 began : (c : goal.After-self-2-1) → let i = c.self.inside in
     seen_as i.register i.table i.side i.published c.sheet-self-inside.result c.phase_after-self-inside.result i.seen_out i.stages
-    ≡ (turn (seen_as i.register i.table i.side i.published i.taken i.phase i.seen_out i.stages) Publish).0
+    ≡ (transition (seen_as i.register i.table i.side i.published i.taken i.phase i.seen_out i.stages) Publish).0
 began c =
     let i = c.self.inside in
     let later = c.if-accepted-self.false in
@@ -20,4 +20,4 @@ invariant_of-self c =
     publish_stays _ _ _ _ _ _ _ _ c.self.invariant _ _ c.sheet-self-inside.ensures.same (publishable _ _ c.sheet-self-inside.ensures.ledger c.sheet-self-inside.ensures.same c.sheet-self-inside.ensures.in_range) (began c)
 
 pub returns-clause-machine : goal.returns-clause-machine
-returns-clause-machine c = began c ∙ ap (λ (m : MachineState). (turn m Publish).0) c.self.view_is
+returns-clause-machine c = began c ∙ ap (λ (m : MachineState). (transition m Publish).0) c.self.view_is

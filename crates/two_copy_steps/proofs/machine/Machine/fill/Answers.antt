@@ -1,6 +1,6 @@
 use Rattle.std.proofs.Common.{◌∙◌, ap}
 use Rattle.two_copy_steps.specs.declared.events.Event.TheVariants.{Writer}
-use Rattle.two_copy_steps.specs.Turns.{MachineState, turn}
+use Rattle.two_copy_steps.specs.Transitions.{MachineState, transition}
 use Rattle.two_copy_steps.proofs.Steps.{filled_at, writer_stays}
 use Rattle.two_copy_steps.proofs.machine.Machine.fill.Goals as goal
 
@@ -13,4 +13,4 @@ invariant_of-self c =
 pub returns-clause-machine : goal.returns-clause-machine
 returns-clause-machine c =
     filled_at _ _ _ _ _ _ _ _ c.self.invariant _ c.self.view_is _ _ _ _ _ c.requires c.words.ensures.same c.place.ensures.same c.store.ensures c.phase_past-self-inside.ensures
-    ∙ ap (λ (m : MachineState). (turn m Writer).0) c.self.view_is
+    ∙ ap (λ (m : MachineState). (transition m Writer).0) c.self.view_is

@@ -1,7 +1,7 @@
 use Rattle.std.proofs.Common.{◌≡◌, ◌<◌, ◌⊎◌, inl, inr, length, ◌∙◌, ap, sym, arith}
 use Rattle.two_copy_steps.specs.declared.events.Note.{Note}
 use Rattle.two_copy_steps.specs.declared.events.Event.TheVariants.{Reader}
-use Rattle.two_copy_steps.specs.Turns.{MachineState, turn}
+use Rattle.two_copy_steps.specs.Transitions.{MachineState, transition}
 use Rattle.two_copy_steps.proofs.Steps.{skipped_at, seat_here, seat_few, seat_within, seat_readable, read_at, read_machine, read_note}
 use Rattle.two_copy_steps.proofs.machine.Machine.read.Goals as goal
 use Rattle.two_copy_steps.proofs.machine.Machine.read.Goals.{then-number-eq0-via-then-number-eq0, then-number-eq0-via-else-number-eq0+then-len-number}
@@ -41,11 +41,11 @@ returns-clause-machine c =
     let e = c.len.ensures in
     let h = c.if-len-number.false in
     read_at _ _ _ _ _ _ _ _ c.self.invariant _ c.self.view_is _ c.if-number-eq0.false (omega arith) _ _ c.advance.ensures.words c.advance.ensures.stages
-    ∙ ap (λ (m : MachineState). (turn m (Reader c.args.number)).0) c.self.view_is
+    ∙ ap (λ (m : MachineState). (transition m (Reader c.args.number)).0) c.self.view_is
 
 pub returns-clause-note : goal.returns-clause-note
 returns-clause-note c =
     let e = c.len.ensures in
     let h = c.if-len-number.false in
     read_note _ _ _ _ _ _ _ _ c.self.invariant _ c.self.view_is _ c.if-number-eq0.false (omega arith) _ c.advance.ensures.note
-    ∙ ap (λ (m : MachineState). (turn m (Reader c.args.number)).1) c.self.view_is
+    ∙ ap (λ (m : MachineState). (transition m (Reader c.args.number)).1) c.self.view_is

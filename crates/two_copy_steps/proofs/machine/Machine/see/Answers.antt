@@ -1,6 +1,6 @@
 use Rattle.std.proofs.Common.{ℕ, ◌<◌, length, get_or, ◌∙◌, ap, sym, subst, arith}
 use Rattle.two_copy_steps.specs.declared.events.Event.TheVariants.{Writer}
-use Rattle.two_copy_steps.specs.Turns.{MachineState, turn}
+use Rattle.two_copy_steps.specs.Transitions.{MachineState, transition}
 use Rattle.two_copy_steps.proofs.Steps.{first_at, gave_up_at, saw_out_at, writer_stays}
 use Rattle.two_copy_steps.proofs.machine.Machine.see.Goals as goal
 
@@ -26,7 +26,7 @@ invariant_of-self c =
 pub returns-then-load-ne0-clause-machine : goal.returns-then-load-ne0-clause-machine
 returns-then-load-ne0-clause-machine c =
     gave_up_at _ _ _ _ _ _ _ _ c.self.invariant _ c.self.view_is c.requires _ _ c.first_false-r.ensures (c.load.ensures ∙ ap (λ (x : ℕ). get_or c.self.inside.table x 0) c.pin.ensures.same) c.if-load-ne0.true
-    ∙ ap (λ (m : MachineState). (turn m Writer).0) c.self.view_is
+    ∙ ap (λ (m : MachineState). (transition m Writer).0) c.self.view_is
 
 pub set-requires-clause-within : goal.set-requires-clause-within
 set-requires-clause-within c = (first_at _ _ _ _ _ _ _ _ c.self.invariant _ c.self.view_is c.requires _ c.first_false-r.ensures).0

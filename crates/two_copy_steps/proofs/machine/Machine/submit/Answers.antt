@@ -1,9 +1,9 @@
 use Rattle.std.proofs.Common.{◌≡◌, sym, ap, ◌∙◌, subst, IfOk}
 use Rattle.two_copy_steps.specs.declared.events.Note.{Note}
 use Rattle.two_copy_steps.specs.declared.events.Event.TheVariants.{Submit}
-use Rattle.two_copy_steps.specs.Turns.{MachineState, is_idle, turn}
+use Rattle.two_copy_steps.specs.Transitions.{MachineState, is_idle, transition}
 use Rattle.two_copy_steps.specs.Machines.{seen_as}
-use Rattle.two_copy_steps.proofs.Steps.{handed_machine, handed_turn}
+use Rattle.two_copy_steps.proofs.Steps.{handed_machine, handed_transition}
 use Rattle.two_copy_steps.proofs.machine.Machine.submit.Goals as goal
 
 pub invariant_of-self : goal.invariant_of-self
@@ -14,6 +14,6 @@ invariant_of-self c =
 pub returns-clause-machine : goal.returns-clause-machine
 returns-clause-machine c =
     let i = c.self.inside in
-    subst (λ (m : MachineState). IfOk c.hand_over.result (λ (note : Note). seen_as c.hand_over.new.register i.table i.side i.published i.taken i.phase i.seen_out i.stages ≡ (turn m (Submit c.args.command)).0)) c.self.view_is
-    (handed_turn i.register i.table i.side i.published i.taken i.phase i.seen_out i.stages c.self.invariant c.hand_over.new.register c.args.command c.hand_over.result
+    subst (λ (m : MachineState). IfOk c.hand_over.result (λ (note : Note). seen_as c.hand_over.new.register i.table i.side i.published i.taken i.phase i.seen_out i.stages ≡ (transition m (Submit c.args.command)).0)) c.self.view_is
+    (handed_transition i.register i.table i.side i.published i.taken i.phase i.seen_out i.stages c.self.invariant c.hand_over.new.register c.args.command c.hand_over.result
     (ap (λ (m : MachineState). is_idle m.writer.phase) c.self.view_is ∙ (sym c.is_idle.ensures ∙ c.if-not-is_idle.false)) c.hand_over.ensures.handed).0

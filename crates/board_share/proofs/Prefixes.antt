@@ -1,0 +1,92 @@
+-- The histories of all seats after a step of one.
+use Rattle.std.proofs.Common.{◌≡◌, ◌≢◌, ℕ, suc, Bool, List, [], ◌∷◌, ◌++◌, set, Some, refl, sym, ap, ◌∙◌, subst, ⊎_elim, inl, inr, ◌⊎◌}
+use Rattle.std.specs.List.{filter}
+use Rattle.std.proofs.lemmas.List.Elements.{filter-append}
+use mathlib.Core.Option.{some}
+use lib.ListN.{get_elem?}
+use Rattle.atomic_table.proofs.Lists.{at_set}
+use Rattle.council_core.specs.Rolls.{Opening}
+use Rattle.two_copy_steps.specs.declared.events.Event.{Event}
+use Rattle.two_copy_steps.specs.declared.views.WriterView.{WriterView}
+use Rattle.board_share.specs.declared.views.History.{History}
+use Rattle.board_share.specs.declared.views.View.{View}
+use Rattle.board_share.specs.Histories.{longer, is_writers, is_readers, Adds}
+use Rattle.board_share.specs.Seats.{Part, as_reader}
+use Rattle.board_share.specs.Rule.{KnowsPrefix}
+use Rattle.board_share.proofs.Histories.{longer_none, longer_twice}
+
+-- of some events none is of those for whom a seat stands
+pub record NoneOf (v : View) (events : List Event) : Type 0 where
+  pub writer : (x : Opening × WriterView) → v.writer ≡ Some x → filter is_writers events ≡ []
+  pub readers : (r : ℕ) (x : Part) → as_reader r v ≡ Some x → filter (is_readers (suc r)) events ≡ []
+
+-- two lists without any, one behind the other
+none_both : (own : Event → Bool) (xs ys : List Event) → filter own xs ≡ [] → filter own ys ≡ [] → filter own (xs ++ ys) ≡ []
+none_both own xs ys e f = filter-append own xs ys ∙ (λ i. e i ++ f i)
+
+-- a seat's history is still a prefix
+pub prefix_on : (v : View) (whole : History) (more : List Event) → KnowsPrefix v whole → NoneOf v more → KnowsPrefix v (longer whole more)
+prefix_on v whole more f none =
+    record {
+      rest = f.rest ++ more;
+      whole_is = ap (λ (h : History). longer h more) f.whole_is ∙ longer_twice v.history f.rest more;
+      writer = λ x e. none_both is_writers f.rest more (f.writer x e) (none.writer x e);
+      readers = λ r x e. none_both (is_readers (suc r)) f.rest more (f.readers r x e) (none.readers r x e);
+    }
+
+-- the whole history is a prefix of itself
+pub prefix_whole : (v : View) (whole : History) → v.history ≡ whole → KnowsPrefix v whole
+prefix_whole v whole e = record { rest = []; whole_is = sym (longer_none v.history ∙ e); writer = λ x f. refl; readers = λ r x f. refl }
+
+-- after a step of one seat all histories are prefixes
+pub prefixes_set : (views : List View) (id : ℕ) (w : View) (whole : History) (more : List Event) → ((j : ℕ) (u : View) → get_elem? views j ≡ some u → KnowsPrefix u whole)
+    → w.history ≡ longer whole more → ((j : ℕ) (u : View) → j ≢ id → get_elem? views j ≡ some u → NoneOf u more)
+    → (j : ℕ) (u : View) → get_elem? (set views id w) j ≡ some u → KnowsPrefix u (longer whole more)
+prefixes_set views id w whole more prefixes is others j u at =
+    ⊎_elim
+    (λ (t : (j ≡ id) × (w ≡ u)). subst (λ (z : View). KnowsPrefix z (longer whole more)) t.1 (prefix_whole w (longer whole more) is))
+    (λ (t : (j ≢ id) × (get_elem? views j ≡ some u)). prefix_on u whole more (prefixes j u t.1) (others j u t.0 t.1))
+    (at_set views id j w u at)
+
+-- what is added to a seat's own history, where the whole one goes on
+pub adds_on : (own : Event → Bool) (h whole : History) (rest more mine : List Event) → whole ≡ longer h rest → filter own rest ≡ [] → filter own more ≡ mine → Adds own mine h (longer whole more)
+adds_on own h whole rest more mine e none is =
+    record {
+      events = rest ++ more;
+      longer_by = ap (λ (x : History). longer x more) e ∙ longer_twice h rest more;
+      own_are = filter-append own rest more ∙ (λ i. none i ++ is i);
+    }
+
+-- what is added in two parts
+pub adds_then : (own : Event → Bool) (a b c : History) (first second : List Event) → Adds own first a b → Adds own second b c → Adds own (first ++ second) a c
+adds_then own a b c first second x y =
+    record {
+      events = x.events ++ y.events;
+      longer_by = y.longer_by ∙ (ap (λ (h : History). longer h y.events) x.longer_by ∙ longer_twice a x.events y.events);
+      own_are = filter-append own x.events y.events ∙ (λ i. x.own_are i ++ y.own_are i);
+    }
+
+pub adds_none : (own : Event → Bool) (h : History) → Adds own [] h h
+adds_none own h = record { events = []; longer_by = sym (longer_none h); own_are = refl }
+
+-- of two prefixes of one list one is a prefix of the other
+one_is_prefix : (xs ys a b : List Event) → xs ++ a ≡ ys ++ b → ((more : List Event) × (ys ≡ xs ++ more)) ⊎ ((more : List Event) × (xs ≡ ys ++ more))
+one_is_prefix [] ys a b e = inl (ys, refl)
+one_is_prefix (x ∷ xs) [] a b e = inr (x ∷ xs, refl)
+one_is_prefix (x ∷ xs) (y ∷ ys) a b e =
+    let head : x ≡ y = cc in
+    ⊎_elim (λ t. inl (t.0, (λ i. sym head i ∷ t.1 i))) (λ t. inr (t.0, (λ i. head i ∷ t.1 i))) (one_is_prefix xs ys a b (ap rest_of_list e))
+  where
+    rest_of_list : List Event → List Event
+    rest_of_list [] = []
+    rest_of_list (z ∷ zs) = zs
+
+pub prefix_or_prefix : (v w : View) (whole : History) → KnowsPrefix v whole → KnowsPrefix w whole
+    → ((more : List Event) × (w.history ≡ longer v.history more)) ⊎ ((more : List Event) × (v.history ≡ longer w.history more))
+prefix_or_prefix v w whole f g =
+    let same : longer v.history f.rest ≡ longer w.history g.rest = sym f.whole_is ∙ g.whole_is in
+    let begun : v.history.begun ≡ w.history.begun = ap (λ (h : History). h.begun) same in
+    ⊎_elim
+    (λ (t : (more : List Event) × (w.history.events ≡ v.history.events ++ more)). inl (t.0, (λ i. record { begun = sym begun i; events = t.1 i })))
+    (λ (t : (more : List Event) × (v.history.events ≡ w.history.events ++ more)). inr (t.0, (λ i. record { begun = begun i; events = t.1 i })))
+    (one_is_prefix v.history.events w.history.events f.rest g.rest (ap (λ (h : History). h.events) same))

@@ -1,0 +1,83 @@
+-- What a reader's seat knows after a step.
+use Rattle.std.proofs.Common.{◌<◌, take, arith, ◌≡◌, ℕ, zero, suc, Bool, cond, eq-eqb, ne_eqb, length, List, Some, refl, sym, ap, ◌∙◌, subst}
+use Rattle.std.proofs.lemmas.List.{take_all, length-take-le}
+use mathlib.Core.Option as maybe
+use Rattle.atomic_table.specs.Table.{Me, step, Allows}
+use Rattle.atomic_table.specs.Seated.{TableId}
+use Rattle.council_core.specs.Rolls.{Opening}
+use Rattle.two_copy_steps.specs.declared.views.ReaderView.{ReaderView}
+use Rattle.two_copy_steps.specs.declared.views.Stage.{Stage}
+use Rattle.two_copy_steps.specs.declared.views.Stage.TheVariants.{Reading, Leaving}
+use Rattle.two_copy_steps.specs.Actions.{loaded, reader_action}
+use Rattle.two_copy_steps.specs.States.{IsKnown}
+use Rattle.two_copy_steps.specs.declared.table.TheConstants.{COPY_WORDS}
+use Rattle.board_share.specs.declared.views.View.{View}
+use Rattle.board_share.specs.declared.views.Beginning.{Beginning}
+use Rattle.board_share.specs.Seats.{Part, only, reads}
+use Rattle.board_share.specs.Rule.{RuleHolds}
+use Rattle.board_share.specs.Steps.{bare, read_then}
+use Rattle.board_share.specs.Readers.{ReaderSeen, known_by, TookStep, TookSteps, sole, reader_at, IsReader, Stepped}
+use Rattle.board_share.proofs.Accesses.{load_of, store_of}
+use Rattle.board_share.proofs.ReaderSteps.{reads_allows}
+
+pub sole_only : (r : ℕ) (x : Part) → sole (only r x) ≡ x
+sole_only zero x = refl
+sole_only (suc r) x = sole_only r x
+
+module _ (begun : Beginning) (table seat : TableId) (me : Me Unit View) (p : ReaderSeen) (h : IsReader table seat me p) (slots id : ℕ) where
+  pub loads : (i : ℕ) → i ≡ (reader_action p.index (known_by p)).word → ((n : ℕ) → n ≡ (reader_action p.index (known_by p)).becomes n)
+      → Allows (RuleHolds begun) slots id me i (λ n. n) (read_then (step slots i 0 0 maybe.none) me)
+  loads i at_word becomes =
+      subst (λ (z : Me Unit View). Allows (RuleHolds begun) slots id z i (λ n. n) (read_then (step slots i 0 0 maybe.none) z)) (sym h.alone)
+      (reads_allows begun slots id p.index p.history p.opening (known_by p) (load_of slots i) at_word record { becomes = becomes; leads = λ n. refl })
+
+  pub stores : (i x : ℕ) → i ≡ (reader_action p.index (known_by p)).word → ((n : ℕ) → x ≡ (reader_action p.index (known_by p)).becomes n)
+      → ((n : ℕ) → (reader_action p.index (known_by p)).after x ≡ (reader_action p.index (known_by p)).after n)
+      → Allows (RuleHolds begun) slots id me i (λ _. x) (λ _. read_then (step slots i x 0 maybe.none) me x)
+  stores i x at_word becomes alike =
+      subst (λ (z : Me Unit View). Allows (RuleHolds begun) slots id z i (λ _. x) (λ _. read_then (step slots i x 0 maybe.none) z x)) (sym h.alone)
+      (reads_allows begun slots id p.index p.history p.opening (known_by p) (store_of slots i x) at_word record { becomes = becomes; leads = alike })
+
+-- a reader's seat took its step: which seat it is now, what it knows, and how far the reader is
+pub record ReaderMoved (p : ReaderSeen) (seat seat' : TableId) (me me' : Me Unit View) (found : ℕ) (stage : Stage) : Type 0 where
+  pub same : seat' ≡ seat
+  pub next : read_then (step 0 0 0 0 maybe.none) me found me'
+  pub stage_is : stage ≡ ((reader_action p.index (known_by p)).after found).stage
+
+-- what a step leaves
+pub left : (table seat seat' : TableId) (me me' : Me Unit View) (p : ReaderSeen) (h : IsReader table seat me p) (found : ℕ) (stage : Stage) → ReaderMoved p seat seat' me me' found stage → Stepped table p seat' me' stage
+left table seat seat' me me' p h found stage moved =
+    let w : ReaderView = (reader_action p.index (known_by p)).after found in
+    let t = moved.next p.index p.opening (known_by p) p.history h.alone in
+    let F : Me Unit View → Type 0 = λ m. Stepped table p seat' m stage in
+    let m : Me Unit View = bare (reads t.0 p.index (p.opening, w)) in
+    let s : sole m.0.readers ≡ (p.opening, w) = sole_only p.index (p.opening, w) in
+    let know : known_by (reader_at m.0 p.index stage) ≡ w = (λ i. let v : ReaderView = record { stage = moved.stage_is i; readings = (s i).1.readings } in v) in
+    subst F (sym t.1) record {
+      seat_is = record {
+        same = moved.same ∙ h.same;
+        within = h.within;
+        few = h.few;
+        alone = λ i. bare (reads t.0 p.index (sym (ap (λ (x : Part). x.0) s) i, sym know i));
+        known = subst (λ (x : Opening × ReaderView). IsKnown x.0 x.1) (λ i. (sym (ap (λ (x : Part). x.0) s) i, sym know i)) t.2;
+      };
+      opening_is = ap (λ (x : Part). x.0) s;
+      took = record { found = found; knows = know };
+      steps = record { adds = t.3.adds; knows = t.3.knows ∙ ap (λ (v : ReaderView). Some v) (sym know) };
+      told = t.3.told;
+    }
+
+-- a reader that has loaded all words leaves next
+pub loaded_all : (side : ℕ) (ws : List ℕ) → length ws ≡ COPY_WORDS → loaded side (take COPY_WORDS ws) ≡ Leaving side ws
+loaded_all side ws e = ap (loaded side) (take_all COPY_WORDS ws (omega arith)) ∙ ap (λ (b : Bool). cond b (Leaving side ws) (Reading side ws)) (eq-eqb (length ws) COPY_WORDS e)
+
+pub loaded_some : (side n : ℕ) (ws : List ℕ) → length ws ≡ COPY_WORDS → n < COPY_WORDS → loaded side (take n ws) ≡ Reading side (take n ws)
+loaded_some side n ws e few =
+    ap (λ (b : Bool). cond b (Leaving side (take n ws)) (Reading side (take n ws)))
+    (ne_eqb (length (take n ws)) COPY_WORDS (let short : length (take n ws) ≡ n = length-take-le n ws (omega arith) in (λ f. omega arith)))
+
+pub took_from : (table seat : TableId) (me : Me Unit View) (next : Stage) (p q : ReaderSeen) → p ≡ q → Stepped table p seat me next → TookStep q (reader_at me.0 p.index next)
+took_from table seat me next p q e h = subst (λ (z : ReaderSeen). TookStep z (reader_at me.0 p.index next)) e h.took
+
+pub steps_from : (table seat : TableId) (me : Me Unit View) (next : Stage) (p q : ReaderSeen) → p ≡ q → Stepped table p seat me next → TookSteps 1 q (reader_at me.0 p.index next)
+steps_from table seat me next p q e h = subst (λ (z : ReaderSeen). TookSteps 1 z (reader_at me.0 p.index next)) e h.steps

@@ -1,9 +1,0 @@
-use Rattle.std.proofs.Common.{◌≡◌, None, ap, ◌∙◌}
-use Rattle.board_share.specs.Writers.{Desk, due_of}
-use Rattle.board_share.proofs.Publications.{went_from}
-use Rattle.board_share.proofs.word_writers.WordWriter.fill_rest.Goals as goal
-
-pub returns-clause-steps : goal.returns-clause-steps
-returns-clause-steps c =
-    let none : due_of c.self.inside.begun c.self.inside.register.journal ≡ None = ap (λ (d : Desk). d.due) c.self.view_is ∙ c.requires.begun in
-    went_from _ _ _ _ c.self.view_is none none c.store_rest.ensures.stored.adds

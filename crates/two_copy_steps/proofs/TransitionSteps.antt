@@ -1,0 +1,205 @@
+-- Each event keeps the machine lawful, with its cuts and records.
+use Rattle.std.proofs.Common.{◌≡◌, ◌≢◌, ℕ, zero, suc, eqb, ◌<◌, Bool, true, false, cond, List, [], ◌∷◌, ◌++◌, length, get_or, set, Option, None, Some, slice_get, Result, Ok, Err, refl, sym, ap, ◌∙◌, subst, arith, length-set, append_assoc, append-nil}
+use Rattle.std.specs.Prelude.{⊤}
+use Rattle.std.proofs.lemmas.Option.{none-some, same_Some}
+use Rattle.council_core.specs.declared.commands.Command.{Command}
+use Rattle.council_core.specs.declared.refusals.Refusal.{Refusal}
+use Rattle.council_core.specs.Rolls.{Opening, sheet}
+use Rattle.council_core.specs.Ledgers.{verdict_of, appended}
+use Rattle.council_core.specs.Sequential.{IsRecordFrom, AreRecords}
+use Rattle.two_copy_steps.specs.declared.events.Event.{Event}
+use Rattle.two_copy_steps.specs.declared.events.Event.TheVariants.{Submit, Publish, Writer, Reader}
+use Rattle.two_copy_steps.specs.declared.events.Note.TheVariants.{Skipped}
+use Rattle.two_copy_steps.specs.declared.views.ReaderView.{ReaderView}
+use Rattle.two_copy_steps.specs.declared.views.Writing.{Writing}
+use Rattle.two_copy_steps.specs.declared.views.Stage.{Stage}
+use Rattle.two_copy_steps.specs.declared.views.Stage.TheVariants.{AtRest, Arrived, Reading, Leaving}
+use Rattle.two_copy_steps.specs.declared.views.Phase.{Phase}
+use Rattle.two_copy_steps.specs.declared.views.Phase.TheVariants.{Idle, Seeing, Filling, Swapping}
+use Rattle.two_copy_steps.specs.Actions.{recorded, first_false, other, seeing, stage_action, phase_action, writing_action}
+use Rattle.two_copy_steps.specs.Lawful.{State, Lawful, HoldsCopy, Stands}
+use Rattle.two_copy_steps.specs.Transitions.{MachineState, transition, submitted, published_by, is_pending, is_idle, reader_transition}
+use Rattle.two_copy_steps.specs.Auxiliary.{Auxiliary, auxiliary_step, auxiliary_reader_step, record_at, viewed, state_of, IsLawful, NoneUnder, side_held, side_filled}
+use Rattle.two_copy_steps.proofs.Lists.{inside}
+use Rattle.two_copy_steps.proofs.Records.{records_from_each}
+use Rattle.two_copy_steps.proofs.ReaderSteps.{reader_keeps}
+use Rattle.two_copy_steps.proofs.WriterSteps.{writer_keeps, begin_keeps, no_reader_there}
+
+-- stages with their records
+abbrev pub view_at : Stage → List (List ℕ) → ReaderView
+view_at stage readings = record { stage = stage; readings = readings }
+
+pub viewed_length : (stages : List Stage) (records : List (List (List ℕ))) → length (viewed stages records) ≡ length stages
+viewed_length [] records = refl
+viewed_length (stage ∷ stages) [] = ap suc (viewed_length stages [])
+viewed_length (stage ∷ stages) (x ∷ records) = ap suc (viewed_length stages records)
+
+pub viewed_at : (stages : List Stage) (records : List (List (List ℕ))) (r : ℕ) (stage : Stage) → slice_get stages r ≡ Some stage
+    → slice_get (viewed stages records) r ≡ Some (view_at stage (record_at records r))
+viewed_at [] records r stage e = absurd (none-some stage e)
+viewed_at (x ∷ stages) [] zero stage e = ap (λ z. Some (view_at z [])) (same_Some x stage e)
+viewed_at (x ∷ stages) [] (suc r) stage e = viewed_at stages [] r stage e
+viewed_at (x ∷ stages) (y ∷ records) zero stage e = ap (λ z. Some (view_at z y)) (same_Some x stage e)
+viewed_at (x ∷ stages) (y ∷ records) (suc r) stage e = viewed_at stages records r stage e
+
+pub viewed_set : (stages : List Stage) (records : List (List (List ℕ))) (r : ℕ) (stage : Stage) (readings : List (List ℕ)) → r < length records
+    → viewed (set stages r stage) (set records r readings) ≡ set (viewed stages records) r (view_at stage readings)
+viewed_set [] records r stage readings h = refl
+viewed_set (x ∷ stages) [] r stage readings h = absurd (omega arith)
+viewed_set (x ∷ stages) (y ∷ records) zero stage readings h = refl
+viewed_set (x ∷ stages) (y ∷ records) (suc r) stage readings h = ap (λ l. view_at x y ∷ l) (viewed_set stages records r stage readings (omega arith))
+
+-- a stage stands where a record does
+stage_there : (stages : List Stage) (r : ℕ) → r < length stages → (stage : Stage) × (slice_get stages r ≡ Some stage)
+stage_there [] r h = absurd (omega arith)
+stage_there (x ∷ stages) zero h = (x, refl)
+stage_there (x ∷ stages) (suc r) h = stage_there stages r (omega arith)
+
+record_there : (records : List (List (List ℕ))) (r : ℕ) (readings : List (List ℕ)) → slice_get records r ≡ Some readings → record_at records r ≡ readings
+record_there [] r readings e = absurd (none-some readings e)
+record_there (x ∷ records) zero readings e = same_Some x readings e
+record_there (x ∷ records) (suc r) readings e = record_there records r readings e
+
+looked_taken : (w : Writing) (r : ℕ) (b : Bool) → let y = cond b (seeing w (set w.seen_out r true)) (record w { phase = Idle }) in (y.published ≡ w.published) × (y.taken ≡ w.taken)
+looked_taken w r true = (refl, refl)
+looked_taken w r false = (refl, refl)
+
+-- a step of the writer keeps the list taken
+pub taken_kept : (opening : Opening) (w : Writing) (p : Phase) (found : ℕ) → ((phase_action (sheet opening) w p).after found).taken ≡ w.taken
+taken_kept opening w Idle found = refl
+taken_kept opening w Seeing found = (looked_taken w (first_false w.seen_out) (eqb found 0)).1
+taken_kept opening w (Filling k) found = refl
+taken_kept opening w Swapping found = refl
+
+still_whole : (opening : Opening) (w : Writing) (p : Phase) (found : ℕ) (journal : List Command) → w.phase ≡ p → (is_idle w.phase ≡ false → w.taken ≡ journal)
+    → is_idle ((phase_action (sheet opening) w p).after found).phase ≡ false → ((phase_action (sheet opening) w p).after found).taken ≡ journal
+still_whole opening w Idle found journal e h = h
+still_whole opening w Seeing found journal e h = λ _. taken_kept opening w Seeing found ∙ h (ap is_idle e)
+still_whole opening w (Filling k) found journal e h = λ _. h (ap is_idle e)
+still_whole opening w Swapping found journal e h = λ _. h (ap is_idle e)
+
+module _ (Legal : Opening → List Command → Type 0) where
+  abbrev Keeps : MachineState → Auxiliary → Event → Type 0
+  Keeps m p event = IsLawful Legal (transition m event).0 (auxiliary_step m p event)
+
+  -- a reader's step
+  read_keeps : (m : MachineState) (p : Auxiliary) → IsLawful Legal m p → (r : ℕ) (o : Option Stage) → slice_get m.readers r ≡ o
+      → IsLawful Legal (reader_transition m r o).0 (auxiliary_reader_step m p r o)
+  read_keeps m p l r None at = l
+  read_keeps m p l r (Some stage) at =
+      let d = stage_action r stage in
+      let found : ℕ = get_or m.words d.word 0 in
+      let readings : List (List ℕ) = recorded stage (d.after found) (record_at p.records r) in
+      let here : r < length p.records = subst (λ (n : ℕ). r < n) (sym l.each_record) (inside m.readers r stage at) in
+      let kept = reader_keeps m.ledger.opening (Legal m.ledger.opening) (state_of m p) l.state r (view_at stage (record_at p.records r)) (viewed_at m.readers p.records r stage at) in
+      record {
+        state = subst (λ (views : List ReaderView). Lawful m.ledger.opening (Legal m.ledger.opening)
+            (let s : State = record { words = set m.words d.word (d.becomes found); writer = record { state = m.writer; cuts = p.cuts }; readers = views } in s))
+            (sym (viewed_set m.readers p.records r (d.after found) readings here)) kept;
+        extends = l.extends;
+        whole = l.whole;
+        each_record = length-set p.records r readings ∙ (l.each_record ∙ sym (length-set m.readers r (d.after found)));
+      }
+
+  -- the writer's step
+  pub written_keeps : (m : MachineState) (p : Auxiliary) → IsLawful Legal m p → Keeps m p Writer
+  written_keeps m p l =
+      let w = m.writer in
+      let opening = m.ledger.opening in
+      let found : ℕ = get_or m.words (writing_action (sheet opening) w).word 0 in
+      record {
+        state = writer_keeps opening (Legal opening) (state_of m p) l.state;
+        extends = (l.extends.0, ap (λ (commands : List Command). commands ++ l.extends.0) (taken_kept opening w w.phase found) ∙ l.extends.1);
+        whole = still_whole opening w w.phase found m.ledger.journal refl l.whole;
+        each_record = l.each_record;
+      }
+
+  -- a publication begins, or nothing is pending
+  published_keeps : (m : MachineState) (p : Auxiliary) → IsLawful Legal m p → Legal m.ledger.opening m.ledger.journal → (b : Bool) → IsLawful Legal (published_by m b).0 p
+  published_keeps m p l legal false = l
+  published_keeps m p l legal true =
+      record {
+        state = begin_keeps m.ledger.opening (Legal m.ledger.opening) (state_of m p) l.state m.ledger.journal l.extends.0 legal l.extends.1;
+        extends = ([], append-nil m.ledger.journal);
+        whole = λ _. refl;
+        each_record = l.each_record;
+      }
+
+  pub publish_keeps : (m : MachineState) (p : Auxiliary) → IsLawful Legal m p → Legal m.ledger.opening m.ledger.journal → Keeps m p Publish
+  publish_keeps m p l legal =
+      elim (is_idle m.writer.phase) as (λ b. IsLawful Legal (cond b (published_by m (is_pending m)) (m, Skipped)).0 p) [ true ↦ published_keeps m p l legal (is_pending m) | false ↦ l ]
+
+  true_not_false : true ≡ false → ⊥
+  true_not_false e = cc
+
+  -- the register accepts a command
+  pub accepted_keeps : (m : MachineState) (p : Auxiliary) → IsLawful Legal m p → (command : Command) → is_idle m.writer.phase ≡ true → IsLawful Legal (record m { ledger = appended m.ledger command }) p
+  accepted_keeps m p l command idle =
+      record {
+        state = l.state;
+        extends = (l.extends.0 ++ command ∷ [], sym (append_assoc m.writer.taken l.extends.0 (command ∷ [])) ∙ ap (λ (commands : List Command). commands ++ command ∷ []) l.extends.1);
+        whole = λ busy. absurd (true_not_false (sym idle ∙ busy));
+        each_record = l.each_record;
+      }
+
+  submitted_keeps : (m : MachineState) (p : Auxiliary) → IsLawful Legal m p → (command : Command) (v : Result ⊤ Refusal) → is_idle m.writer.phase ≡ true → IsLawful Legal (submitted m command v).0 p
+  submitted_keeps m p l command (Ok u) idle = accepted_keeps m p l command idle
+  submitted_keeps m p l command (Err refusal) idle = l
+
+  pub submit_keeps : (m : MachineState) (p : Auxiliary) → IsLawful Legal m p → (command : Command) → Keeps m p (Submit command)
+  submit_keeps m p l command =
+      elim (is_idle m.writer.phase) as (λ b. is_idle m.writer.phase ≡ b → IsLawful Legal (cond b (submitted m command (verdict_of m.ledger command)) (m, Skipped)).0 p)
+      [ true ↦ λ idle. submitted_keeps m p l command (verdict_of m.ledger command) idle | false ↦ λ busy. l ] refl
+
+  -- the step of an actor
+  pub step_keeps : (m : MachineState) (p : Auxiliary) → IsLawful Legal m p → (number : ℕ) → Keeps m p (Reader number)
+  step_keeps m p l zero = l
+  step_keeps m p l (suc r) = read_keeps m p l r (slice_get m.readers r) refl
+
+  -- whatever the event
+  pub transition_keeps : (m : MachineState) (p : Auxiliary) → IsLawful Legal m p → Legal m.ledger.opening m.ledger.journal → (event : Event) → Keeps m p event
+  transition_keeps m p l legal (Submit command) = submit_keeps m p l command
+  transition_keeps m p l legal Publish = publish_keeps m p l legal
+  transition_keeps m p l legal Writer = written_keeps m p l
+  transition_keeps m p l legal (Reader number) = step_keeps m p l number
+
+  -- the records of a lawful machine are legal
+  pub records_are : (m : MachineState) (p : Auxiliary) → IsLawful Legal m p → AreRecords m.ledger.opening m.writer.published p.cuts p.records
+  records_are m p l =
+      records_from_each m.ledger.opening m.writer.published p.cuts p.records
+      (λ r readings e.
+      let here : r < length m.readers = subst (λ (n : ℕ). r < n) l.each_record (inside p.records r readings e) in
+      let there = stage_there m.readers r here in
+      subst (λ (x : List (List ℕ)). IsRecordFrom m.ledger.opening m.writer.published p.cuts 0 x) (record_there p.records r readings e)
+      (l.state.each_reader r (view_at there.0 (record_at p.records r)) (viewed_at m.readers p.records r there.0 there.1)).record_legal)
+
+  holds_held : (m : MachineState) (p : Auxiliary) → IsLawful Legal m p → (side r : ℕ) (stage : Stage) → Stands m.ledger.opening (Legal m.ledger.opening) m.words (state_of m p).writer (record_at p.records r) r stage
+      → side_held stage ≡ Some side → HoldsCopy m.ledger.opening (Legal m.ledger.opening) m.words (state_of m p).writer (record_at p.records r) r side
+  holds_held m p l side r AtRest h e = absurd (none-some side e)
+  holds_held m p l side r Arrived h e = absurd (none-some side e)
+  holds_held m p l side r (Reading s words) h e = subst (λ (z : ℕ). HoldsCopy m.ledger.opening (Legal m.ledger.opening) m.words (state_of m p).writer (record_at p.records r) r z) (same_Some s side e) h.0
+  holds_held m p l side r (Leaving s words) h e = subst (λ (z : ℕ). HoldsCopy m.ledger.opening (Legal m.ledger.opening) m.words (state_of m p).writer (record_at p.records r) r z) (same_Some s side e) h.0
+
+  not_other : (side : ℕ) → side ≢ other side
+  not_other zero e = omega arith
+  not_other (suc s) e = omega arith
+
+  -- the reader at r holds the copy that a side names
+  record Holds (m : MachineState) (side r : ℕ) : Type 0 where
+    pub stage : Stage
+    pub at : slice_get m.readers r ≡ Some stage
+    pub held : side_held stage ≡ Some side
+
+  none_there : (m : MachineState) (p : Auxiliary) → IsLawful Legal m p → (phase : Phase) → m.writer.phase ≡ phase → (side r : ℕ) → side_filled m.writer.side phase ≡ Some side → Holds m side r → ⊥
+  none_there m p l Idle is side r e h = none-some side e
+  none_there m p l Seeing is side r e h = none-some side e
+  none_there m p l Swapping is side r e h = none-some side e
+  none_there m p l (Filling k) is side r e h =
+      let ok = l.state.each_reader r (view_at h.stage (record_at p.records r)) (viewed_at m.readers p.records r h.stage h.at) in
+      let b = holds_held m p l side r h.stage ok.stands h.held in
+      let same : side ≡ m.writer.side = no_reader_there m.ledger.opening (Legal m.ledger.opening) (state_of m p) k l.state is r side (record_at p.records r) b in
+      not_other m.writer.side (sym same ∙ sym (same_Some (other m.writer.side) side e))
+
+  -- no word is stored under a reader
+  pub none_under : (m : MachineState) (p : Auxiliary) → IsLawful Legal m p → NoneUnder m
+  none_under m p l side r stage e at held = none_there m p l m.writer.phase refl side r e record { stage = stage; at = at; held = held }

@@ -1,0 +1,94 @@
+-- Auxiliary variables of the machine: the cuts of the writer and the records of the readers. The machine doesn't store
+-- them and no step reads them.
+use Rattle.std.specs.Prelude.{◌≡◌, ℕ, zero, suc, false, List, [], ◌∷◌, ◌++◌, length, replicate}
+use Rattle.std.specs.Prelude.{slice_index, slice_index_or, slice_get, slice_set, Option, None, Some}
+use Rattle.council_core.specs.declared.commands.Command.{Command}
+use Rattle.council_core.specs.Rolls.{Opening}
+use Rattle.council_core.specs.Ledgers.{Ledger}
+use Rattle.two_copy_steps.specs.declared.events.Event.{Event}
+use Rattle.two_copy_steps.specs.declared.events.Event.TheVariants.{Submit, Publish, Writer, Reader}
+use Rattle.two_copy_steps.specs.declared.views.ReaderView.{ReaderView}
+use Rattle.two_copy_steps.specs.declared.views.Stage.{Stage}
+use Rattle.two_copy_steps.specs.declared.views.Phase.{Phase}
+use Rattle.two_copy_steps.specs.declared.views.Phase.TheVariants.{Filling}
+use Rattle.two_copy_steps.specs.declared.views.Stage.TheVariants.{AtRest, Arrived, Reading, Leaving}
+use Rattle.two_copy_steps.specs.Actions.{recorded, cuts_past, stage_action, other}
+use Rattle.two_copy_steps.specs.Lawful.{State, Lawful}
+use Rattle.council_core.specs.Sequential.{AreLegalRecords}
+use Rattle.two_copy_steps.specs.Transitions.{MachineState, transition, is_idle}
+
+pub record Auxiliary : Type 0 where
+  pub cuts : List ℕ
+  pub records : List (List (List ℕ))
+
+-- the one cut is the length of the journal, and nobody has read
+abbrev pub auxiliary_start : Ledger → ℕ → Auxiliary
+auxiliary_start ledger readers = record { cuts = length ledger.journal ∷ []; records = replicate readers [] }
+
+-- the record of the reader at r
+abbrev pub record_at : List (List (List ℕ)) → ℕ → List (List ℕ)
+record_at records r = slice_index_or records r []
+
+abbrev pub auxiliary_reader_step : MachineState → Auxiliary → ℕ → Option Stage → Auxiliary
+auxiliary_reader_step m p r None = p
+auxiliary_reader_step m p r (Some stage) =
+    let d = stage_action r stage in
+    record p {
+      records = slice_set p.records r
+          (recorded stage (d.after (slice_index m.words d.word)) (record_at p.records r));
+    }
+
+-- the cuts and the records after an event, the machine being that before it
+abbrev pub auxiliary_step : MachineState → Auxiliary → Event → Auxiliary
+auxiliary_step m p (Submit command) = p
+auxiliary_step m p Publish = p
+auxiliary_step m p Writer = record p { cuts = cuts_past m.writer.phase m.writer.taken p.cuts }
+auxiliary_step m p (Reader zero) = p
+auxiliary_step m p (Reader (suc r)) = auxiliary_reader_step m p r (slice_get m.readers r)
+
+-- the cuts and the records after a list of events
+abbrev pub auxiliary_steps : MachineState → Auxiliary → List Event → Auxiliary
+auxiliary_steps m p [] = p
+auxiliary_steps m p (event ∷ events) = auxiliary_steps (transition m event).0 (auxiliary_step m p event) events
+
+-- each stage with its record
+abbrev pub viewed : List Stage → List (List (List ℕ)) → List ReaderView
+viewed [] records = []
+viewed (stage ∷ stages) [] = record { stage = stage; readings = [] } ∷ viewed stages []
+viewed (stage ∷ stages) (readings ∷ records) =
+    record { stage = stage; readings = readings } ∷ viewed stages records
+
+-- the words and all views
+abbrev pub state_of : MachineState → Auxiliary → State
+state_of m p = record
+    { words = m.words; writer = record { state = m.writer; cuts = p.cuts }; readers = viewed m.readers p.records }
+
+-- the words and views are lawful, and the journal extends the list last taken, which is all of it while a publication
+-- is under way
+pub record IsLawful (Legal : Opening → List Command → Type 0) (m : MachineState) (p : Auxiliary) : Type 0 where
+  pub state : Lawful m.ledger.opening (Legal m.ledger.opening) (state_of m p)
+  pub extends : (rest : List Command) × (m.writer.taken ++ rest ≡ m.ledger.journal)
+  pub whole : is_idle m.writer.phase ≡ false → m.writer.taken ≡ m.ledger.journal
+  pub each_record : length p.records ≡ length m.readers
+
+-- the published list is legal, the cuts are in order, and the records hold sheets of cuts whose fronts never fall
+abbrev pub HasLegalRecords : MachineState → Auxiliary → Type 0
+HasLegalRecords m p = AreLegalRecords m.ledger.opening m.writer.published p.cuts p.records
+
+-- the side that a reader has loaded, if it has and has not left
+abbrev pub side_held : Stage → Option ℕ
+side_held AtRest = None
+side_held Arrived = None
+side_held (Reading side words) = Some side
+side_held (Leaving side words) = Some side
+
+-- the side of the copy of which the writer's next step stores a word, if it does
+abbrev pub side_filled : ℕ → Phase → Option ℕ
+side_filled side (Filling k) = Some (other side)
+side_filled side phase = None
+
+-- no reader holds the copy of which the writer's next step stores a word
+abbrev pub NoneUnder : MachineState → Type 0
+NoneUnder m =
+    (side r : ℕ) (stage : Stage) → side_filled m.writer.side m.writer.phase ≡ Some side
+    → slice_get m.readers r ≡ Some stage → side_held stage ≡ Some side → ⊥

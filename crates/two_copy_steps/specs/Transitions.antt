@@ -1,0 +1,119 @@
+-- The machine as contracts see it, and its transition at each event: what that does to it and tells.
+use Rattle.std.specs.Prelude.{ℕ, zero, suc, ◌+◌, Bool, true, false, List, [], ◌∷◌, ◌++◌, length}
+use Rattle.std.specs.Prelude.{replicate, slice_index, slice_get, slice_set, if◌then◌else◌, ◌==◌, nat_lt}
+use Rattle.std.specs.Prelude.{Option, None, Some, Result, Ok, Err, ⊤}
+use Rattle.council_core.specs.declared.commands.Command.{Command}
+use Rattle.council_core.specs.declared.refusals.Refusal.{Refusal}
+use Rattle.council_core.specs.Rolls.{sheet}
+use Rattle.council_core.specs.Ledgers.{Ledger, verdict_of, appended, sheet_of}
+use Rattle.two_copy_steps.specs.declared.events.Event.{Event}
+use Rattle.two_copy_steps.specs.declared.events.Event.TheVariants.{Submit, Publish, Writer, Reader}
+use Rattle.two_copy_steps.specs.declared.events.Note.{Note}
+use Rattle.two_copy_steps.specs.declared.events.Note.TheVariants.{Accepted, Refused, Began, Moved, Published, Busy}
+use Rattle.two_copy_steps.specs.declared.events.Note.TheVariants.{Read, Skipped}
+use Rattle.two_copy_steps.specs.declared.views.Writing.{Writing}
+use Rattle.two_copy_steps.specs.declared.views.Stage.{Stage}
+use Rattle.two_copy_steps.specs.declared.views.Stage.TheVariants.{AtRest, Arrived, Reading, Leaving}
+use Rattle.two_copy_steps.specs.declared.views.Phase.{Phase}
+use Rattle.two_copy_steps.specs.declared.views.Phase.TheVariants.{Idle, Seeing, Filling, Swapping}
+use Rattle.two_copy_steps.specs.Actions.{first_false, pin, stage_action, writing_action, begun}
+
+-- the register, the words (word 0 is side, then copy 0, copy 1 and a pin for each reader), how far the writer is, and
+-- each reader's stage
+pub record MachineState : Type 0 where
+  pub ledger : Ledger
+  pub words : List ℕ
+  pub writer : Writing
+  pub readers : List Stage
+
+abbrev pub is_idle : Phase → Bool
+is_idle Idle = true
+is_idle Seeing = false
+is_idle (Filling k) = false
+is_idle Swapping = false
+
+-- both copies have the register's sheet, everybody is seen out, and nobody is on the way
+abbrev pub started : Ledger → ℕ → MachineState
+started ledger readers =
+    record {
+      ledger = ledger;
+      words = 0 ∷ sheet_of ledger ++ sheet_of ledger ++ replicate readers 0;
+      writer = record {
+        side = 0;
+        published = ledger.journal;
+        taken = ledger.journal;
+        phase = Idle;
+        seen_out = replicate readers true;
+      };
+      readers = replicate readers AtRest;
+    }
+
+-- a command is handed to the register: the register after its verdict, and the note
+abbrev pub handed : Ledger → Command → Result ⊤ Refusal → Ledger × Note
+handed ledger command (Ok u) = (appended ledger command, Accepted (length ledger.journal + 1))
+handed ledger command (Err refusal) = (ledger, Refused refusal)
+
+abbrev pub submitted : MachineState → Command → Result ⊤ Refusal → MachineState × Note
+submitted m command v = let after = handed m.ledger command v in (record m { ledger = after.0 }, after.1)
+
+-- a publication of the whole journal begins, if there is something pending
+abbrev pub published_by : MachineState → Bool → MachineState × Note
+published_by m true = (record m { writer = begun m.ledger.journal m.writer }, Began)
+published_by m false = (m, Published (length m.writer.published))
+
+-- the register has accepted more commands than are published
+abbrev pub is_pending : MachineState → Bool
+is_pending m = nat_lt (length m.writer.published) (length m.ledger.journal)
+
+-- what the writer's step tells, by its phase
+abbrev pub phase_note : MachineState → Phase → Note
+phase_note m Idle = Skipped
+phase_note m Seeing = let r = first_false m.writer.seen_out
+    in if slice_index m.words (pin r) == 0 then Moved else Busy (suc r)
+phase_note m (Filling k) = Moved
+phase_note m Swapping = Published (length m.writer.taken)
+
+-- the writer takes its step
+abbrev pub written : MachineState → MachineState
+written m =
+    let d = writing_action (sheet m.ledger.opening) m.writer in
+    let found = slice_index m.words d.word in
+    record m { words = slice_set m.words d.word (d.becomes found); writer = d.after found }
+
+-- what the step of the reader of that number tells, by its stage
+abbrev pub stage_note : ℕ → Stage → Note
+stage_note number AtRest = Moved
+stage_note number Arrived = Moved
+stage_note number (Reading side words) = Moved
+stage_note number (Leaving side words) = Read number words
+
+-- the reader at r takes its step
+abbrev pub read : MachineState → ℕ → Stage → MachineState
+read m r stage =
+    let d = stage_action r stage in
+    let found = slice_index m.words d.word in
+    record m { words = slice_set m.words d.word (d.becomes found); readers = slice_set m.readers r (d.after found) }
+
+-- the reader at r, if there is one
+abbrev pub reader_transition : MachineState → ℕ → Option Stage → MachineState × Note
+reader_transition m r None = (m, Skipped)
+reader_transition m r (Some stage) = (read m r stage, stage_note (suc r) stage)
+
+-- the transition at an event: the machine after it, and the note
+abbrev pub transition : MachineState → Event → MachineState × Note
+transition m (Submit command) =
+    if is_idle m.writer.phase then submitted m command (verdict_of m.ledger command) else (m, Skipped)
+transition m Publish = if is_idle m.writer.phase then published_by m (is_pending m) else (m, Skipped)
+transition m Writer = (written m, phase_note m m.writer.phase)
+transition m (Reader zero) = (m, Skipped)
+transition m (Reader (suc r)) = reader_transition m r (slice_get m.readers r)
+
+-- the machine after a list of events
+abbrev pub after : MachineState → List Event → MachineState
+after m [] = m
+after m (event ∷ events) = after (transition m event).0 events
+
+-- the notes of the events, in order
+abbrev pub notes : MachineState → List Event → List Note
+notes m [] = []
+notes m (event ∷ events) = (transition m event).1 ∷ notes (transition m event).0 events

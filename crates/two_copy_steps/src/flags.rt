@@ -1,0 +1,112 @@
+//! Who of the readers is seen out.
+ghost use Rattle.std.specs.Prelude.{◌≡◌, List, Bool, ◌<◌, ◌≤◌, true, false, Some, length, take, replicate};
+ghost use Rattle.std.specs.Prelude.{slice_get, slice_set};
+ghost use Rattle.two_copy_steps.specs.declared.table.TheConstants.{READERS};
+ghost use Rattle.two_copy_steps.specs.Actions.{all_true, first_false};
+ghost use Rattle.two_copy_steps.specs.Publications.{seen_out_at};
+
+use crate::table::READERS;
+use std::marker::Model;
+
+/// Whether each reader is seen out, of at most `READERS`.
+#[derive(Debug, Drop)]
+pub struct Flags {
+    flags: [bool; READERS],
+    len: usize,
+}
+
+impl Model for Flags {
+    ghost Value = { List Bool };
+
+    ghost view = { λ f. take f.len f.flags };
+
+    ghost invariant = { λ f. (f.len ≤ READERS) × (length f.flags ≡ READERS) };
+}
+
+impl Flags {
+    // Of each reader, whether it is seen out.
+    fn as_slice(&self) -> &[bool]
+        ensures same { result.now ≡ self.now }
+        ensures few { length result.now ≤ READERS }
+    {
+        &self.flags[..self.len]
+    }
+
+    /// How many readers there are, at most `READERS`.
+    pub fn len(&self) -> usize
+        ensures number { result ≡ length self.now }
+        ensures few { result ≤ READERS }
+    {
+        self.as_slice().len()
+    }
+
+    /// Whether the reader at r, counted from 0, is seen out.
+    pub fn get(&self, r: usize) -> bool
+        requires within { r < length self.now }
+        ensures same { slice_get self.now r ≡ Some result }
+    {
+        self.as_slice()[r]
+    }
+
+    /// Whether the reader of this number, counted from 1, is seen out. False where there is no such
+    /// reader.
+    pub fn has(&self, number: u8) -> bool
+        ensures same { result ≡ seen_out_at self.now number }
+    {
+        if number == 0 || self.len < number as usize {
+            return false;
+        }
+        self.flags[number as usize - 1]
+    }
+
+    /// Everybody is seen out.
+    pub fn start(readers: u8) -> Flags
+        requires { readers ≤ READERS }
+        ensures { result ≡ replicate readers true }
+    {
+        Flags {
+            flags: [true; READERS],
+            len: readers as usize,
+        }
+    }
+
+    /// The least reader that isn't seen out, counted from 0, or else how many readers there are.
+    pub fn first_false(&self) -> usize
+        ensures { result ≡ first_false self.now }
+    {
+        for i in 0..self.len {
+            if !self.flags[i] {
+                return i;
+            }
+        }
+        self.len
+    }
+
+    /// Whether everybody is seen out.
+    pub fn all_true(&self) -> bool
+        ensures { result ≡ all_true self.now }
+    {
+        for i in 0..self.len {
+            if !self.flags[i] {
+                return false;
+            }
+        }
+        true
+    }
+
+    /// This reader is seen out.
+    pub fn set(&mut self, r: usize)
+        requires within { r < length self.old }
+        requires few { r < READERS }
+        ensures { self.new ≡ slice_set self.old r true }
+    {
+        self.flags[r] = true;
+    }
+
+    /// Nobody is seen out.
+    pub fn clear(&mut self)
+        ensures { self.new ≡ replicate (length self.old) false }
+    {
+        self.flags = [false; READERS];
+    }
+}
