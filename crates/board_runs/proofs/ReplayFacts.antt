@@ -21,20 +21,20 @@ use Rattle.board_text.proofs.PlayFacts.{FaultTold, front-then, line-then}
 nothing-written : (a : Option (List ℕ)) (lines : List Line) → AppendsLines a a lines
 nothing-written a lines = ([], front-none lines, Appends-nil a)
 
-fails-stop : (a : Option (List ℕ)) (e : Stop) (play : Begun → Run) (spec : Result Begun Fault) → Fails e spec → StopsIn a a e (begun_run play spec)
-fails-stop a stop.OutOfMemory play spec p = nothing-written a _
-fails-stop a stop.ReadFault play spec p = nothing-written a _
-fails-stop a stop.WriteFault play spec p = absurd p
-fails-stop a (stop.Told f) play spec p = rw p (refl, Appends-nil a)
+fails-stop : (a : Option (List ℕ)) (e : Stop) (interpret : Begun → Run) (spec : Result Begun Fault) → Fails e spec → StopsIn a a e (begun_run interpret spec)
+fails-stop a stop.OutOfMemory interpret spec p = nothing-written a _
+fails-stop a stop.ReadFault interpret spec p = nothing-written a _
+fails-stop a stop.WriteFault interpret spec p = absurd p
+fails-stop a (stop.Told f) interpret spec p = rw p (refl, Appends-nil a)
 
 -- where nothing came of the input, nothing was written
-pub plays-failed : (a : Option (List ℕ)) (e d : Stop) (play : Begun → Run) (spec : Result Begun Fault) → d ≡ e → Fails e spec → Plays a a (Err d) (begun_run play spec)
-plays-failed a e d play spec same p = let P : Stop → Type 0 = λ s. StopsIn a a s (begun_run play spec) in subst P (sym same) (fails-stop a e play spec p)
+pub plays-failed : (a : Option (List ℕ)) (e d : Stop) (interpret : Begun → Run) (spec : Result Begun Fault) → d ≡ e → Fails e spec → Plays a a (Err d) (begun_run interpret spec)
+plays-failed a e d interpret spec same p = let P : Stop → Type 0 = λ s. StopsIn a a s (begun_run interpret spec) in subst P (sym same) (fails-stop a e interpret spec p)
 
 -- the same of an input
-pub plays-failed_input : (from to : Giving) (a : Option (List ℕ)) (e d : Stop) (lim : Limits) (play : Begun → Run) → d ≡ e
-    → OfInput from to (λ bytes. Fails e (begun_of lim bytes)) → OfInput from to (λ bytes. Plays a a (Err d) (begun_run play (begun_of lim bytes)))
-plays-failed_input from to a e d lim play same p = λ bytes is. plays-failed a e d play (begun_of lim bytes) same (p bytes is)
+pub plays-failed_input : (from to : Giving) (a : Option (List ℕ)) (e d : Stop) (lim : Limits) (interpret : Begun → Run) → d ≡ e
+    → OfInput from to (λ bytes. Fails e (begun_of lim bytes)) → OfInput from to (λ bytes. Plays a a (Err d) (begun_run interpret (begun_of lim bytes)))
+plays-failed_input from to a e d lim interpret same p = λ bytes is. plays-failed a e d interpret (begun_of lim bytes) same (p bytes is)
 
 -- a text that was read: an input that is not too long, where the limits are in range
 pub record TextRead (lim : Limits) (text : List ℕ) : Type 0 where
@@ -44,10 +44,10 @@ pub record TextRead (lim : Limits) (text : List ℕ) : Type 0 where
   pub short : length input ≤ 4194304
 
 -- the text that was read is the input
-pub played-input : (from to : Giving) (a b : Option (List ℕ)) (r : Result (Unit {0}) Stop) (lim : Limits) (play : Begun → Run) (text : List ℕ) (read : TextRead lim text)
-    → OfInput from to (λ bytes. read.input ≡ bytes) → Plays a b r (begun_run play (begun_with lim (opened_of (records default_config (strip_bom text)))))
-    → OfInput from to (λ bytes. Plays a b r (begun_run play (begun_of lim bytes)))
-played-input from to a b r lim play text read whole p = λ bytes is.
+pub interpreted-input : (from to : Giving) (a b : Option (List ℕ)) (r : Result (Unit {0}) Stop) (lim : Limits) (interpret : Begun → Run) (text : List ℕ) (read : TextRead lim text)
+    → OfInput from to (λ bytes. read.input ≡ bytes) → Plays a b r (begun_run interpret (begun_with lim (opened_of (records default_config (strip_bom text)))))
+    → OfInput from to (λ bytes. Plays a b r (begun_run interpret (begun_of lim bytes)))
+interpreted-input from to a b r lim interpret text read whole p = λ bytes is.
     rw (← whole bytes is, begun-records lim read.input read.fits read.short, ← read.same) p
 
 -- a run cut by the writer

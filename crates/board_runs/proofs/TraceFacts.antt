@@ -35,6 +35,6 @@ module _ (m : MachineState) (e : Event) (n i : ℕ) (within : i < n) where
     pub told-stops : (s d : Stop) → d ≡ s → Plays b c (Err s) (prints (note_lines (transition m e).1)) → Plays a c (Err d) (prints whole)
     told-stops s d same p =
         let rest = told (transition m e).0 (replicate (n - (i + 1)) e) in
-        let played : PlayedTo a b (prints whole) (prints (note_lines (transition m e).1 ++ rest)) =
+        let interpreted : PlayedTo a b (prints whole) (prints (note_lines (transition m e).1 ++ rest)) =
         record { lines = done; written = so_far; goes_on = ap prints (parts ∙ ap (λ ls. done ++ ls) told-left) } in
-        plays-passed a c s d (prints whole) same (plays-whole a b c (Err s) _ _ played (plays-more b c s (note_lines (transition m e).1) (prints rest) p))
+        plays-passed a c s d (prints whole) same (plays-whole a b c (Err s) _ _ interpreted (plays-more b c s (note_lines (transition m e).1) (prints rest) p))

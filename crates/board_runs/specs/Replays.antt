@@ -8,7 +8,7 @@ use Rattle.board_text.specs.Lines.{reply_lines}
 use Rattle.board_text.specs.Requests.{Row, call_of, request_of}
 use Rattle.board_text.specs.declared.bounds.Limits.{Limits}
 use Rattle.board_text.specs.declared.requests.Request.{Request}
-use Rattle.board_runs.specs.Scripts.{Turn, played_run}
+use Rattle.board_runs.specs.Scripts.{Turn, interpreted_run}
 use Rattle.board_text.specs.Text.{Run, fresh, is_served}
 
 -- a request is a call of the sequential register, and its lines say the reply
@@ -30,4 +30,4 @@ replay_start lim ledger = fresh ledger
 
 -- what `replay` writes on these bytes, and how it ends, where memory is found and the devices work
 abbrev pub run_of : Limits → List ℕ → Run
-run_of lim bytes = played_run replay_start replay_step lim bytes
+run_of lim bytes = interpreted_run replay_start replay_step lim bytes

@@ -30,15 +30,15 @@ script_run step s k (r ∷ rs) = run_step k (step s r) (λ t. script_run step t 
 
 -- the run of what a script begins with, or of the fault before it
 abbrev pub begun_run : (Begun → Run) → Result Begun Fault → Run
-begun_run play (Err f) = stops f
-begun_run play (Ok b) = play b
+begun_run interpret (Err f) = stops f
+begun_run interpret (Ok b) = interpret b
 
 -- the run of a script on what the register at its start is made into
-abbrev pub played : {S : Type 0} → (Limits → Ledger → S) → (Limits → S → Row → Turn S)
+abbrev pub interpreted : {S : Type 0} → (Limits → Ledger → S) → (Limits → S → Row → Turn S)
     → Limits → Begun → Run
-played opened step lim b = script_run (step lim) (opened lim b.0) b.1 b.2
+interpreted opened step lim b = script_run (step lim) (opened lim b.0) b.1 b.2
 
 -- the run of these bytes, where each record of their script does such a step
-abbrev pub played_run : {S : Type 0} → (Limits → Ledger → S) → (Limits → S → Row → Turn S)
+abbrev pub interpreted_run : {S : Type 0} → (Limits → Ledger → S) → (Limits → S → Row → Turn S)
     → Limits → List ℕ → Run
-played_run opened step lim bytes = begun_run (played opened step lim) (begun_of lim bytes)
+interpreted_run opened step lim bytes = begun_run (interpreted opened step lim) (begun_of lim bytes)

@@ -11,7 +11,7 @@ use Rattle.two_copy_steps.specs.declared.events.Event.TheVariants as event
 use Rattle.board_text.specs.Lines.{Line, note_lines}
 use Rattle.board_text.specs.Requests.{Row}
 use Rattle.board_text.specs.Text.{Run}
-use Rattle.board_runs.specs.Scripts.{Turn, played_run}
+use Rattle.board_runs.specs.Scripts.{Turn, interpreted_run}
 use Rattle.board_text.specs.declared.bounds.Limits.{Limits}
 use Rattle.board_text.specs.declared.schedules.Act.{Act}
 use Rattle.board_text.specs.declared.schedules.Act.TheVariants as act
@@ -46,4 +46,4 @@ trace_start lim ledger = machine.started ledger lim.readers
 
 -- what `trace` writes on these bytes, and how it ends, where memory is found and the devices work
 abbrev pub trace_of : Limits → List ℕ → Run
-trace_of lim bytes = played_run trace_start trace_step lim bytes
+trace_of lim bytes = interpreted_run trace_start trace_step lim bytes

@@ -3,7 +3,7 @@
 #![tactic(auto)]
 
 mod desks;
-mod players;
+mod interpreters;
 mod replaying;
 mod tracing;
 

@@ -11,7 +11,7 @@ ghost use Rattle.told_streams.specs.Tapes.{OfInput};
 ghost use Rattle.board_runs.specs.Replays.{replay_start, replay_step, run_of};
 
 use crate::desks::Desk;
-use crate::players::{Player, play};
+use crate::interpreters::{Interpreter, interpret};
 use board_text::{
     Fault, Limits, Output, Request, Stop, is_served, line_of_answer, line_of_chair,
     line_of_reading, request_in,
@@ -79,7 +79,7 @@ fn replay_request<W: Write>(
     }
 }
 
-impl Player for Desk {
+impl Interpreter for Desk {
     ghost opened = { replay_start };
 
     ghost step = { replay_step };
@@ -124,5 +124,5 @@ pub fn replay<R: Read + Drop, W: Write>(
         (λ bytes. Replays (W.contents out.old) (W.contents out.new) result (run_of limits bytes)) }
     ensures limits_first { in_range limits ≡ false → IsBadLimit result × (input.new ≡ input.old) }
 {
-    play::<Desk, R, W>(alloc, input, out, limits)
+    interpret::<Desk, R, W>(alloc, input, out, limits)
 }

@@ -10,7 +10,7 @@ ghost use Rattle.told_streams.specs.Tapes.{OfInput};
 ghost use Rattle.board_runs.specs.Traces.{events_of, told, trace_of, trace_start, trace_step};
 ghost use Rattle.board_text.specs.Schedules.{is_scheduled};
 
-use crate::players::{Player, play};
+use crate::interpreters::{Interpreter, interpret};
 use board_text::{Act, Fault, Limits, Output, Stop, act_in, is_scheduled, line_of_note};
 use council_core::{Refusal, Register};
 use csv::ByteRecord;
@@ -79,7 +79,7 @@ fn act_on<W: Write>(
     }
 }
 
-impl Player for Machine {
+impl Interpreter for Machine {
     ghost opened = { trace_start };
 
     ghost step = { trace_step };
@@ -125,5 +125,5 @@ pub fn trace<R: Read + Drop, W: Write>(
         (λ bytes. Replays (W.contents out.old) (W.contents out.new) result (trace_of limits bytes)) }
     ensures limits_first { in_range limits ≡ false → IsBadLimit result × (input.new ≡ input.old) }
 {
-    play::<Machine, R, W>(alloc, input, out, limits)
+    interpret::<Machine, R, W>(alloc, input, out, limits)
 }

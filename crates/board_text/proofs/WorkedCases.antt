@@ -1,11 +1,12 @@
--- Records and lines of the three chairs' input, computed.
-use Rattle.std.proofs.Common.{◌≡◌, [], ◌∷◌, Some, None, refl}
+-- Records and lines of the three chairs' input, computed; and what definitions of writing take and refuse.
+use Rattle.std.proofs.Common.{◌≡◌, ℕ, [], ◌∷◌, Some, None, Ok, Err, refl, arith}
 use Rattle.std.specs.Prelude.{codes}
 use Rattle.std.specs.Fmt.{digits}
 use Rattle.council_core.specs.declared.commands.Command.TheVariants.{Open, Move}
 use Rattle.council_core.specs.declared.refusals.Refusal.TheVariants.{ChairOpen}
 use Rattle.board_text.specs.Requests.{member_of, request_of}
 use Rattle.board_text.specs.Lines.{accepted_line, refused_line, published_line, chair_line}
+use Rattle.board_text.specs.Pens.{AsksAtMost, GoesOn, NoWriteInVain, Pen}
 use Rattle.board_text.specs.declared.requests.Request.TheVariants as ask
 
 pub member : member_of (codes "BBB" ∷ codes "49" ∷ []) ≡ Some (66 ∷ 66 ∷ 66 ∷ [], 49)
@@ -44,3 +45,37 @@ pub second_chair : chair_line record {
 } ≡ codes "chair,2,49,1,1/4,1/5,1/3,1/5"
 unfolding digits
 second_chair = refl
+
+-- a sink after so many interruptions that were retried, so many writes, and so many of these that took no byte
+abbrev sink : ℕ → ℕ → ℕ → Pen
+sink interrupted asks vain = record { lender = 0; held = None; interrupted = interrupted; asks = asks; vain = vain }
+
+goes_on : GoesOn (sink 1 2 1) (sink 2 5 2)
+goes_on = (refl, omega arith)
+
+-- an interruption is not forgotten, and the writer stays
+forgotten_interruption : GoesOn (sink 1 1 1) (sink 0 1 1) → ⊥
+forgotten_interruption h = absurd (omega (arith, h.1))
+
+another_writer : GoesOn (sink 1 1 1) (record (sink 1 1 1) { lender = 7 }) → ⊥
+another_writer h = let e = h.0 in cc e
+
+-- of two bytes, two writes and an interruption that was retried
+asks_thrice : AsksAtMost (sink 0 0 0) (sink 1 3 1) 2
+asks_thrice = omega arith
+
+asks_too_often : AsksAtMost (sink 0 0 0) (sink 0 3 1) 2 → ⊥
+asks_too_often h = absurd (omega (arith, h))
+
+-- one write of both bytes, and another of none
+one_write : NoWriteInVain {A = Unit {0}} {E = Unit {0}} (sink 0 0 0) (sink 0 1 0) (Ok tt)
+one_write = omega arith
+
+write_in_vain : NoWriteInVain {A = Unit {0}} {E = Unit {0}} (sink 0 0 0) (sink 0 2 1) (Ok tt) → ⊥
+write_in_vain h = absurd (omega (arith, h))
+
+failed_write : NoWriteInVain {A = Unit {0}} {E = Unit {0}} (sink 0 0 0) (sink 0 1 1) (Err tt)
+failed_write = omega arith
+
+written_after_a_failure : NoWriteInVain {A = Unit {0}} {E = Unit {0}} (sink 0 0 0) (sink 0 2 2) (Err tt) → ⊥
+written_after_a_failure h = absurd (omega (arith, h))

@@ -1,5 +1,5 @@
 -- What the fields of a record say.
-use Rattle.std.specs.Prelude.{ℕ, List, Option, Some, None, nat_le, ◌&&◌, ◌^◌, if◌then◌else◌, option_map}
+use Rattle.std.specs.Prelude.{ℕ, List, [], ◌∷◌, Option, Some, None, nat_le, ◌&&◌, ◌^◌, if◌then◌else◌, option_map}
 use Rattle.std.specs.Prelude.{codes}
 use Rattle.std.specs.Option.{option_and_then}
 use Rattle.std.specs.Str.{bytes_eq}
@@ -28,21 +28,21 @@ code_of_member field = if is_code field then Some field else None
 abbrev pub seat_of : List ℕ → Option (Option ℕ)
 seat_of field = if bytes_eq field (codes "none") then Some None else option_map Some (chair_of field)
 
--- a majority
-abbrev pub majority_of : List ℕ → Option Majority
-majority_of field =
-    if bytes_eq field (codes "half") then Some Half
-    else if bytes_eq field (codes "70") then Some Seventy
-    else if bytes_eq field (codes "85") then Some EightyFive
-    else if bytes_eq field (codes "quorum") then Some Quorum
-    else None
-
 -- the word of a majority
 abbrev pub word_of_majority : Majority → List ℕ
 word_of_majority Half = codes "half"
 word_of_majority Seventy = codes "70"
 word_of_majority EightyFive = codes "85"
 word_of_majority Quorum = codes "quorum"
+
+-- the first of these whose word a field is
+abbrev pub first_worded : List Majority → List ℕ → Option Majority
+first_worded [] field = None
+first_worded (m ∷ ms) field = if bytes_eq field (word_of_majority m) then Some m else first_worded ms field
+
+-- a majority, by its word
+abbrev pub majority_of : List ℕ → Option Majority
+majority_of field = first_worded (Half ∷ Seventy ∷ EightyFive ∷ Quorum ∷ []) field
 
 -- two things that are both there, joined
 abbrev pub both : {A B C : Type 0} → (A → B → C) → Option A → Option B → Option C

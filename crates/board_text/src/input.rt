@@ -2,7 +2,7 @@
 ghost use Rattle.std.specs.Prelude.{◌≡◌, ◌≤◌, ◌<◌, ◌+◌, length, IfOk, IfErr, ◌⊎◌, IsErrOf, IsOkUnless};
 ghost use Rattle.told_streams.specs.Tapes.{OfInput};
 ghost use Rattle.council_core.specs.declared.refusals.Refusal.TheVariants as why;
-ghost use Rattle.board_text.specs.Inputs.{Reads};
+ghost use Rattle.board_text.specs.Inputs.{NoReadInVain, Reads, WastesAtMost};
 ghost use Rattle.board_text.specs.Text.{fault_at};
 ghost use Rattle.board_text.specs.declared.stops.Stop.TheVariants as stop;
 
@@ -35,6 +35,7 @@ fn read_some<R: Read + Drop>(
     ensures once { input.new.asks ≡ input.old.asks + 1 }
     ensures read { IfOk result (Reads input.old input.new interrupted.old interrupted.new piece.new) }
     ensures few { interrupted.new ≤ INTERRUPTIONS }
+    ensures vain { WastesAtMost 1 input.old input.new }
     ensures only { IsOkUnless result stop.ReadFault }
 {
     match input.read(piece) {
@@ -56,6 +57,7 @@ pub(crate) fn read_input<R: Read + Drop>(
     ensures causes { IfErr result
         (λ e. (e ≡ Stop.OutOfMemory) ⊎ (e ≡ Stop.ReadFault) ⊎ (e ≡ Stop.Told (fault_at why.TooLong 0))) }
     ensures asks { input.new.asks ≤ input.old.asks + READS }
+    ensures vain { NoReadInVain input.old input.new result }
     ensures fits { IfOk result (λ text. length text.items ≤ INPUT_LIMIT) }
     ensures too_long { IsErrOf result (Stop.Told (fault_at why.TooLong 0))
         → OfInput input.old input.new (λ bytes. INPUT_LIMIT < length bytes) }

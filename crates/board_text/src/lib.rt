@@ -10,6 +10,7 @@ mod fields;
 mod input;
 mod line;
 mod lines;
+mod majorities;
 mod numbers;
 mod opening;
 mod output;

@@ -4,13 +4,12 @@ ghost use Rattle.board_text.specs.Replies.{reply_of};
 ghost use Rattle.board_text.specs.Lines.{accepted_line, busy_line, chair_line, fault_line, published_line};
 ghost use Rattle.board_text.specs.Lines.{reading_line, refused_line, reply_line, note_lines, sheet_line};
 ghost use Rattle.board_text.specs.Lines.{audit_line, reader_line};
-ghost use Rattle.board_text.specs.Words.{word_of_majority};
 
 use crate::faults::Fault;
 use crate::line::{LINE, Line};
+use crate::majorities::word_of_majority;
 use crate::replies::Answer;
 use council_core::{Refusal, Sheet};
-use majority_rule::Majority;
 use power_index::{ChairPower, Indices};
 use two_copy_steps::Note;
 
@@ -92,18 +91,6 @@ fn sheet_line(reader: u8, sheet: &Sheet) -> Line
     line.number(sheet.cast());
     line.number(sheet.total());
     line
-}
-
-fn word_of_majority(majority: Majority) -> &'static str
-    ensures word { result.now ≡ word_of_majority majority }
-    ensures short { length result.now ≤ 6 }
-{
-    match majority {
-        Majority::Half => "half",
-        Majority::Seventy => "70",
-        Majority::EightyFive => "85",
-        Majority::Quorum => "quorum",
-    }
 }
 
 /// What a reader reads of the board as a whole.

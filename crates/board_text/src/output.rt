@@ -1,7 +1,7 @@
 //! Writing a text whole.
 ghost use Rattle.std.specs.Prelude.{◌≡◌, ◌≤◌, ◌+◌, length, IfOk};
 ghost use Rattle.board_text.specs.Output.{AppendsFront, Writes, WritesSome};
-ghost use Rattle.board_text.specs.Pens.{AsksAtMost, GoesOn};
+ghost use Rattle.board_text.specs.Pens.{AsksAtMost, GoesOn, NoWriteInVain};
 ghost use Rattle.board_text.specs.Text.{line_text};
 
 use crate::input::INTERRUPTIONS;
@@ -30,6 +30,7 @@ impl<'a, W: Write> Model for Output<'a, W> {
       held = o.out.held;
       interrupted = o.interrupted;
       asks = o.out.asks;
+      vain = o.out.vain;
     } };
 
     ghost invariant = { λ o. (o.interrupted ≤ 1000) × (o.interrupted ≤ o.out.interruptions) };
@@ -57,6 +58,7 @@ impl<'a, W: Write> Output<'a, W> {
     // One write: how many bytes of a text it took, which is none where it was interrupted.
     fn write_some(&mut self, text: &[u8]) -> Result<usize, Stop>
         ensures once { self.new.asks ≡ self.old.asks + 1 }
+        ensures vain { NoWriteInVain self.old self.new result }
         ensures taken { WritesSome self.old.held self.new.held result text.now }
         ensures turn { IfOk result (λ n. self.old.interrupted + 1 ≤ n + self.new.interrupted) }
         ensures few { self.new.interrupted ≤ INTERRUPTIONS }
@@ -77,6 +79,7 @@ impl<'a, W: Write> Output<'a, W> {
     pub(crate) fn write_text(&mut self, text: &[u8]) -> Result<(), Stop>
         ensures written { Writes self.old.held self.new.held result text.now }
         ensures asks { AsksAtMost self.old self.new (length text.now) }
+        ensures vain { NoWriteInVain self.old self.new result }
         ensures on { GoesOn self.old self.new }
     {
         let mut at = 0;
@@ -104,6 +107,7 @@ impl<'a, W: Write> Output<'a, W> {
         requires room { length line + 1 ≤ LINE }
         ensures written { Writes self.old.held self.new.held result (line_text line) }
         ensures asks { AsksAtMost self.old self.new (length (line_text line)) }
+        ensures vain { NoWriteInVain self.old self.new result }
         ensures on { GoesOn self.old self.new }
     {
         line.end();

@@ -10,6 +10,7 @@ ghost use Rattle.board_text.specs.Words.{both, chair_of, code_of_member, majorit
 
 use crate::bounds::Limits;
 use crate::fields::{Fields, fields_in, is_word};
+use crate::majorities::majority_in;
 use crate::numbers::number_of_field;
 use council_core::{ChairId, Command, MemberCode, Votes};
 use csv::ByteRecord;
@@ -52,22 +53,6 @@ fn seat_in(field: &[u8]) -> Option<Option<ChairId>>
     }
     let chair = chair_in(field)?;
     Some(Some(chair))
-}
-
-fn majority_in(field: &[u8]) -> Option<Majority>
-    ensures { result ≡ majority_of field.now }
-{
-    if is_word(field, "half") {
-        Some(Majority::Half)
-    } else if is_word(field, "70") {
-        Some(Majority::Seventy)
-    } else if is_word(field, "85") {
-        Some(Majority::EightyFive)
-    } else if is_word(field, "quorum") {
-        Some(Majority::Quorum)
-    } else {
-        None
-    }
 }
 
 pub(crate) fn command_of_one(word: &[u8], argument: &[u8]) -> Option<Command>

@@ -11,12 +11,12 @@ one = 7 ∷ []
 abbrev two : List ℕ
 two = 7 ∷ 8 ∷ []
 
--- a writer after so many writes, and a reader after so many reads, none interrupted
+-- a writer after so many writes, and a reader after so many reads, none in vain or interrupted
 abbrev taking : List ℕ → ℕ → Taking
-taking took asks = record { lender = 0; held = None; took = took; asks = asks; interruptions = 0 }
+taking took asks = record { lender = 0; held = None; took = took; asks = asks; vain = 0; interruptions = 0 }
 
 abbrev giving : List ℕ → Bool → ℕ → Giving
-giving gave ended asks = record { left = None; gave = gave; ended = ended; asks = asks; interruptions = 0 }
+giving gave ended asks = record { left = None; gave = gave; ended = ended; asks = asks; vain = 0; interruptions = 0 }
 
 -- none went past though there was room
 is_the_last : is_last two 0 ≡ true
@@ -30,17 +30,17 @@ some_went = refl
 
 -- a write is counted, and takes what it says
 takes_one : Takes (taking [] 0) (taking one 1) (Ok 1) two
-takes_one = (refl, refl, refl)
+takes_one = (refl, refl, (refl, refl))
 
 uncounted_write : Takes (taking [] 0) (taking one 0) (Ok 1) two → ⊥
 uncounted_write h = let e = h.0 in cc e
 
 unnoted_write : Takes (taking [] 0) (taking [] 1) (Ok 1) two → ⊥
-unnoted_write h = let e = h.2 in cc e
+unnoted_write h = let e = h.2.0 in cc e
 
 -- so is a read, which tells whether it was the last
 gives_one : Gives (giving [] false 0) (giving one false 1) (Ok 1) two
-gives_one = (refl, refl, (refl, refl))
+gives_one = (refl, refl, (refl, refl, refl))
 
 uncounted_read : Gives (giving [] false 0) (giving one false 0) (Ok 1) two → ⊥
 uncounted_read h = let e = h.0 in cc e
@@ -51,19 +51,29 @@ unnoted_read h = let e = h.2.0 in cc e
 unheeded_end : Gives (giving one false 1) (giving one false 2) (Ok 0) two → ⊥
 unheeded_end h = let e = h.2.1 in cc e
 
+-- a call that moves nothing is in vain
+unnoted_vain_write : Takes (taking one 1) (taking one 2) (Ok 0) two → ⊥
+unnoted_vain_write h = let e = h.2.1 in cc e
+
+unnoted_vain_read : Gives (giving one false 1) (giving one true 2) (Ok 0) two → ⊥
+unnoted_vain_read h = let e = h.2.2 in cc e
+
 no_interruption : CountsInterruptions 0 1 (Ok 1) → ⊥
 no_interruption h = cc h
 
 -- where one fails nothing goes past, and an interruption is counted and no other failure
 module _ (e : Error) where
-  takes_none : error_kind e ≢ Interrupted → Takes (taking one 1) (taking one 2) (Err e) two
-  takes_none other = (refl, ((λ same. absurd (other same)), (λ not. refl)), refl)
+  takes_none : error_kind e ≢ Interrupted → Takes (taking one 1) (record (taking one 2) { vain = 1 }) (Err e) two
+  takes_none other = (refl, ((λ same. absurd (other same)), (λ not. refl)), (refl, refl))
+
+  unnoted_vain_failure : Takes (taking one 1) (taking one 2) (Err e) two → ⊥
+  unnoted_vain_failure h = let d = h.2.1 in cc d
 
   noted_failure : Takes (taking [] 0) (taking one 1) (Err e) two → ⊥
-  noted_failure h = let d = h.2 in cc d
+  noted_failure h = let d = h.2.0 in cc d
 
   noted_failed_read : Gives (giving [] false 0) (giving one false 1) (Err e) two → ⊥
-  noted_failed_read h = let d = h.2 in cc d
+  noted_failed_read h = let d = h.2.0 in cc d
 
   uncounted_interruption : error_kind e ≡ Interrupted → CountsInterruptions 0 0 (Err e) → ⊥
   uncounted_interruption same h = let d = h.0 same in cc d

@@ -1,5 +1,5 @@
 -- What contracts see of a writer and of a reader with a tape.
-use Rattle.std.specs.Prelude.{◌≡◌, ℕ, ◌+◌, Bool, true, ◌&&◌, nat_eq, nat_lt, ◌⊎◌, List, [], ◌++◌, length, take, drop}
+use Rattle.std.specs.Prelude.{◌≡◌, ℕ, ◌+◌, Bool, true, ◌&&◌, nat_eq, nat_lt, if◌then◌else◌, ◌⊎◌, List, [], ◌++◌, length, take, drop}
 use Rattle.std.specs.Prelude.{Option, Some, Result, Ok, Err, MatchResult, ◌≢◌}
 use Rattle.std.specs.IoError.{error_kind}
 use Rattle.std.specs.declared.io.Error.{Error}
@@ -10,22 +10,29 @@ use Rattle.std.specs.Io.KnownBytes.{Consumes, IsAtEnd}
 abbrev pub is_last : List ℕ → ℕ → Bool
 is_last room count = nat_eq count 0 && nat_lt 0 (length room)
 
+-- a call that moves no byte is in vain
+abbrev pub vain_of : ℕ → ℕ
+vain_of count = if nat_eq count 0 then 1 else 0
+
 -- of a writer that is lent: whose it is, and what it holds by its own account; and since it was wrapped what its writes
--- said were taken, how many writes it was asked for, and how many of these were interrupted
+-- said were taken, how many writes it was asked for, how many of these took no byte, and how many were interrupted
 pub record Taking : Type 0 where
   pub lender : ℕ
   pub held : Option (List ℕ)
   pub took : List ℕ
   pub asks : ℕ
+  pub vain : ℕ
   pub interruptions : ℕ
 
 -- of a reader: what it will give by its own account; and since it was wrapped what its reads gave, whether the last one
--- said that this is all, how many reads it was asked for, and how many of these were interrupted
+-- said that this is all, how many reads it was asked for, how many of these gave no byte, and how many were
+-- interrupted
 pub record Giving : Type 0 where
   pub left : Option (List ℕ)
   pub gave : List ℕ
   pub ended : Bool
   pub asks : ℕ
+  pub vain : ℕ
   pub interruptions : ℕ
 
 -- how many interruptions there were before a call, and after it answered so
@@ -37,14 +44,16 @@ CountsInterruptions before after (Err e) =
 -- one write: at `Ok` what was taken, and at `Err` nothing
 abbrev pub Takes : Taking → Taking → Result ℕ Error → List ℕ → Type 0
 Takes old new r buf = (new.asks ≡ old.asks + 1) × CountsInterruptions old.interruptions new.interruptions r
-    × MatchResult r (λ n. new.took ≡ old.took ++ take n buf) (λ _. new.took ≡ old.took)
+    × MatchResult r
+    (λ n. (new.took ≡ old.took ++ take n buf) × (new.vain ≡ old.vain + vain_of n))
+    (λ _. (new.took ≡ old.took) × (new.vain ≡ old.vain + 1))
 
 -- one read: at `Ok` what was given and whether that is all, and at `Err` nothing
 abbrev pub Gives : Giving → Giving → Result ℕ Error → List ℕ → Type 0
 Gives old new r buf = (new.asks ≡ old.asks + 1) × CountsInterruptions old.interruptions new.interruptions r
     × MatchResult r
-    (λ n. (new.gave ≡ old.gave ++ take n buf) × (new.ended ≡ is_last buf n))
-    (λ _. new.gave ≡ old.gave)
+    (λ n. (new.gave ≡ old.gave ++ take n buf) × (new.ended ≡ is_last buf n) × (new.vain ≡ old.vain + vain_of n))
+    (λ _. (new.gave ≡ old.gave) × (new.vain ≡ old.vain + 1))
 
 -- a reader gave just these from one moment to a later one
 pub record WasGiven (from to : Giving) (given : List ℕ) : Type 0 where

@@ -28,6 +28,7 @@ impl<R: Read + Drop> Model for Given<R> {
       gave = g.tape.bytes;
       ended = g.tape.ended;
       asks = g.tape.asks;
+      vain = g.tape.vain;
       interruptions = g.interruptions.asks;
     } };
 }
@@ -38,7 +39,7 @@ impl<R: Read + Drop> Given<R> {
         ensures left { result.left ≡ R.remaining from }
         ensures gave { result.gave ≡ [] }
         ensures ended { result.ended ≡ false }
-        ensures asks { result.asks ≡ 0 }
+        ensures asks { (result.asks ≡ 0) × (result.vain ≡ 0) }
         ensures interruptions { result.interruptions ≡ 0 }
     {
         Given {

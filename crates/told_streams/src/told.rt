@@ -29,6 +29,7 @@ impl<'a, W: Write> Model for Told<'a, W> {
       held = W.contents t.to.now;
       took = t.tape.bytes;
       asks = t.tape.asks;
+      vain = t.tape.vain;
       interruptions = t.interruptions.asks;
     } };
 }
@@ -39,7 +40,7 @@ impl<'a, W: Write> Told<'a, W> {
         ensures lender { result.lender ≡ to.entry.ghost_name }
         ensures held { result.held ≡ W.contents to.entry.now }
         ensures took { result.took ≡ [] }
-        ensures asks { result.asks ≡ 0 }
+        ensures asks { (result.asks ≡ 0) × (result.vain ≡ 0) }
         ensures interruptions { result.interruptions ≡ 0 }
     {
         Told {
@@ -89,6 +90,7 @@ impl<'a, W: Write> Write for Told<'a, W> {
     fn flush(&mut self) -> io::Result<()>
         ensures held { Keeps self.old.held self.new.held }
         ensures same { (self.new.took ≡ self.old.took) × (self.new.asks ≡ self.old.asks) }
+        ensures vain { self.new.vain ≡ self.old.vain }
         ensures interruptions { self.new.interruptions ≡ self.old.interruptions }
         ensures bytes { Keeps (Some self.old.took) (Some self.new.took) }
         ensures lender { self.new.lender ≡ self.old.lender }

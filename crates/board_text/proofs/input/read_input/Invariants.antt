@@ -1,4 +1,5 @@
 use Rattle.std.proofs.Common.{◌≡◌, ◌≤◌, ◌+◌, length}
+use Rattle.board_text.specs.Inputs.{WastesAtMost}
 use Rattle.told_streams.specs.Tapes.{WasGiven}
 use Rattle.board_text.proofs.input.read_input.Given as goal
 
@@ -10,5 +11,6 @@ invariant-loop-turn g l = record {
   fits : length l.text.items ≤ 4194304;
   asked : l.interrupted ≤ 1000;
   reads : l.input.asks ≡ l.fn.input.asks + l._turn;
+  vain : WastesAtMost 0 l.fn.input l.input;
   turns : l._turn ≤ length l.text.items + l.interrupted;
 }

@@ -10,6 +10,11 @@ returns-in_err-at-clause-written g c =
     let stopped = c.in_err-at.ensures.taken in
     rw p.1 (p.2 ∙ stopped.0, front-and-front _ _ _ c.loop-turn.at c.args.text.now c.loop-turn.invariant.front stopped.1)
 
+pub returns-in_err-at-clause-vain : goal.returns-in_err-at-clause-vain
+returns-in_err-at-clause-vain g c =
+    let p = err_from_is_err_and c.from_residual.result c.from_residual.ensures.1 in
+    rw p.1 (omega (arith, c.loop-turn.invariant.vain, c.in_err-at.ensures.vain))
+
 pub loop-turn-preserved : goal.loop-turn-preserved
 loop-turn-preserved g c =
     let took : c.in_ok-at.field-0 ≤ length (drop c.loop-turn.at c.args.text.now) = rw rest-of at c.in_ok-at.ensures.taken.0 in
@@ -20,4 +25,5 @@ loop-turn-preserved g c =
       on = (c.in_ok-at.ensures.on.0 ∙ c.loop-turn.invariant.on.0, omega (arith, c.loop-turn.invariant.on.1, c.in_ok-at.ensures.on.1));
       turns = omega (arith, c.loop-turn.invariant.turns, c.in_ok-at.ensures.turn);
       asked = omega (arith, c.loop-turn.invariant.asked, c.in_ok-at.ensures.once);
+      vain = omega (arith, c.loop-turn.invariant.vain, c.in_ok-at.ensures.vain);
     }

@@ -2,13 +2,13 @@ use Rattle.std.proofs.Common.{◌<◌, ◌+◌, ◌^◌, length}
 use Rattle.board_text.specs.Pens.{GoesOn}
 use Rattle.board_runs.specs.Scripts.{script_run}
 use Rattle.board_text.proofs.PlayFacts.{PlayedTo}
-use Rattle.board_runs.proofs.players.play_script.Given as goal
+use Rattle.board_runs.proofs.interpreters.interpret_script.Given as goal
 
 -- of the run of all records, the run of those that are left is left
 abbrev pub invariant-records : goal.invariant-records
 invariant-records g l = record {
   so_far : PlayedTo l.fn.out.held l.out.held
-      (script_run (g.P.Player.step l.fn.limits) l.fn.player l.fn.first l.fn.script) (script_run (g.P.Player.step l.limits) l.player l.place l.script);
+      (script_run (g.I.Interpreter.step l.fn.limits) l.fn.interpreter l.fn.first l.fn.script) (script_run (g.I.Interpreter.step l.limits) l.interpreter l.place l.script);
   on : GoesOn l.fn.out l.out;
   places : l.place + length l.script < 2 ^ 32;
 }

@@ -1,4 +1,4 @@
-//! Playing an input: the run that `replay` and `trace` share.
+//! Interpreting an input: the run that `replay` and `trace` share.
 ghost use Rattle.std.specs.Prelude.{◌≡◌, ◌≤◌, ◌<◌, ◌+◌, ◌^◌, [], true, false, length, IfOk};
 ghost use Rattle.std.specs.Prelude.{IsErrOf, OnOk, IsOkUnless};
 ghost use Rattle.told_streams.specs.Tapes.{OfInput};
@@ -10,7 +10,7 @@ ghost use Rattle.board_text.specs.Output.{IsBadLimit, Plays};
 ghost use Rattle.board_runs.specs.Ended.{Replays};
 ghost use Rattle.board_text.specs.Pens.{GoesOn};
 ghost use Rattle.board_text.specs.Requests.{Row};
-ghost use Rattle.board_runs.specs.Scripts.{Turn, begun_run, played, played_run};
+ghost use Rattle.board_runs.specs.Scripts.{Turn, begun_run, interpreted, interpreted_run};
 ghost use Rattle.board_text.specs.Text.{begun_with, fault_at, in_range, opened_of};
 ghost use Rattle.board_runs.specs.Scripts.{script_run, step_run};
 ghost use Rattle.board_text.specs.declared.bounds.Limits.{Limits};
@@ -26,7 +26,7 @@ use std::io::{Read, Write};
 use told_streams::Given;
 
 /// What the records of a script are carried out on.
-pub(crate) trait Player: Sized + Drop {
+pub(crate) trait Interpreter: Sized + Drop {
     // What the register at its start is made into.
     ghost opened: { Limits → Ledger → Self };
 
@@ -36,7 +36,7 @@ pub(crate) trait Player: Sized + Drop {
     fn open(alloc: Global, register: Register, limits: Limits) -> Result<Self, Stop>
         requires none { register.journal ≡ [] }
         requires in_range { in_range limits ≡ true }
-        ensures opened { IfOk result (λ player. player ≡ opened limits register) }
+        ensures opened { IfOk result (λ interpreter. interpreter ≡ opened limits register) }
         ensures memory { IsOkUnless result stop.OutOfMemory };
 
     // Carries out one record.
@@ -54,16 +54,16 @@ pub(crate) trait Player: Sized + Drop {
 }
 
 // Carries out the script's records in order. `first` is the number of the first.
-fn play_script<P: Player, W: Write>(
+fn interpret_script<I: Interpreter, W: Write>(
     script: &mut Script<'_>,
     row: &mut ByteRecord,
     limits: Limits,
-    mut player: P,
+    mut interpreter: I,
     first: u32,
     out: &mut Output<'_, W>,
 ) -> Result<(), Stop>
     requires places { first + length script.old < 2 ^ 32 }
-    ensures wrote { Plays out.old.held out.new.held result (script_run (P.step limits) player first script.old) }
+    ensures wrote { Plays out.old.held out.new.held result (script_run (I.step limits) interpreter first script.old) }
     ensures on { GoesOn out.old out.new }
 {
     let mut place = first;
@@ -71,13 +71,13 @@ fn play_script<P: Player, W: Write>(
         if !script.next(row)? {
             return Ok(());
         }
-        player.carry_out(limits, row, place, out)?;
+        interpreter.carry_out(limits, row, place, out)?;
         place += 1;
     }
 }
 
-// Plays the records of a text.
-fn play_text<P: Player, W: Write>(
+// Interprets the records of a text.
+fn interpret_text<I: Interpreter, W: Write>(
     alloc: Global,
     text: &[u8],
     limits: Limits,
@@ -86,47 +86,47 @@ fn play_text<P: Player, W: Write>(
     requires short { length text.now ≤ INPUT_LIMIT }
     requires in_range { in_range limits ≡ true }
     ensures wrote { Plays out.old.held out.new.held result
-        (begun_run (played P.opened P.step limits)
+        (begun_run (interpreted I.opened I.step limits)
         (begun_with limits (opened_of (records default_config (strip_bom text.now))))) }
     ensures on { GoesOn out.old out.new }
 {
     let mut script = Script::new(alloc, text);
     let mut row = ByteRecord::new(alloc);
     let begun = begin(alloc, &mut script, &mut row, limits)?;
-    let player = P::open(alloc, begun.register, limits)?;
-    play_script(&mut script, &mut row, limits, player, begun.place, out)
+    let interpreter = I::open(alloc, begun.register, limits)?;
+    interpret_script(&mut script, &mut row, limits, interpreter, begun.place, out)
 }
 
-// Plays the input, and leaves out the line of a fault.
-fn play_input<P: Player, R: Read + Drop, W: Write>(
+// Interprets the input, and leaves out the line of a fault.
+fn interpret_input<I: Interpreter, R: Read + Drop, W: Write>(
     alloc: Global,
     input: &mut Given<R>,
     out: &mut Output<'_, W>,
     limits: Limits,
 ) -> Result<(), Stop>
     ensures wrote { OfInput input.old input.new
-        (λ bytes. Plays out.old.held out.new.held result (played_run P.opened P.step limits bytes)) }
+        (λ bytes. Plays out.old.held out.new.held result (interpreted_run I.opened I.step limits bytes)) }
     ensures limits_first { in_range limits ≡ false
         → IsErrOf result (stop.Told (fault_at why.BadLimit 0)) × (input.new ≡ input.old) }
     ensures on { GoesOn out.old out.new }
 {
     let text = read_within(alloc, input, limits)?;
-    play_text::<P, W>(alloc, text.as_slice(), limits, out)
+    interpret_text::<I, W>(alloc, text.as_slice(), limits, out)
 }
 
-// Plays the input.
-fn play_all<P: Player, R: Read + Drop, W: Write>(
+// Interprets the input.
+fn interpret_all<I: Interpreter, R: Read + Drop, W: Write>(
     alloc: Global,
     input: &mut Given<R>,
     out: &mut Output<'_, W>,
     limits: Limits,
 ) -> Result<(), Fault>
     ensures wrote { OfInput input.old input.new
-        (λ bytes. Replays out.old.held out.new.held result (played_run P.opened P.step limits bytes)) }
+        (λ bytes. Replays out.old.held out.new.held result (interpreted_run I.opened I.step limits bytes)) }
     ensures limits_first { in_range limits ≡ false → IsBadLimit result × (input.new ≡ input.old) }
     ensures on { GoesOn out.old out.new }
 {
-    let Err(stop) = play_input::<P, R, W>(alloc, input, out, limits) else {
+    let Err(stop) = interpret_input::<I, R, W>(alloc, input, out, limits) else {
         return Ok(());
     };
     let Some(fault) = stop.to_fault() else {
@@ -136,18 +136,18 @@ fn play_all<P: Player, R: Read + Drop, W: Write>(
 }
 
 // The same, into a writer.
-pub(crate) fn play<P: Player, R: Read + Drop, W: Write>(
+pub(crate) fn interpret<I: Interpreter, R: Read + Drop, W: Write>(
     alloc: Global,
     input: &mut Given<R>,
     out: &mut W,
     limits: Limits,
 ) -> Result<(), Fault>
     ensures wrote { OfInput input.old input.new
-        (λ bytes. Replays (W.contents out.old) (W.contents out.new) result (played_run P.opened P.step limits bytes)) }
+        (λ bytes. Replays (W.contents out.old) (W.contents out.new) result (interpreted_run I.opened I.step limits bytes)) }
     ensures limits_first { in_range limits ≡ false → IsBadLimit result × (input.new ≡ input.old) }
 {
     let mut output = Output::new(out);
-    let result = play_all::<P, R, W>(alloc, input, &mut output, limits);
+    let result = interpret_all::<I, R, W>(alloc, input, &mut output, limits);
     let _out = output.finish();
     result
 }

@@ -3,18 +3,18 @@ use Rattle.std.proofs.lemmas.Result.{err_from_is_err_and}
 use Rattle.board_text.specs.Output.{Fails}
 use Rattle.board_text.specs.Requests.{Row}
 use Rattle.board_text.specs.Text.{begun_with, opened_of}
-use Rattle.board_runs.specs.Scripts.{played}
+use Rattle.board_runs.specs.Scripts.{interpreted}
 use Rattle.board_text.proofs.PlayFacts.{played-none, plays-broken, plays-passed}
 use Rattle.board_runs.proofs.ReplayFacts.{plays-failed}
-use Rattle.board_runs.proofs.players.play_text.Goals as goal
+use Rattle.board_runs.proofs.interpreters.interpret_text.Goals as goal
 
 pub returns-in_err-begun-clause-wrote : goal.returns-in_err-begun-clause-wrote
 returns-in_err-begun-clause-wrote g c =
     let p = err_from_is_err_and c.from_residual.result c.from_residual.ensures.1 in
     let fault = subst (λ (rs : List Row). Fails c.in_err-begun.field-0.0 (begun_with c.args.limits (opened_of rs))) c.new-script.ensures.records c.in_err-begun.ensures.fault in
-    rw p.1 (plays-failed c.args.out.now.held c.in_err-begun.field-0.0 p.0 (played g.P.Player.opened g.P.Player.step c.args.limits) _ p.2 fault)
+    rw p.1 (plays-failed c.args.out.now.held c.in_err-begun.field-0.0 p.0 (interpreted g.I.Interpreter.opened g.I.Interpreter.step c.args.limits) _ p.2 fault)
 
-pub returns-in_err-player-clause-wrote : goal.returns-in_err-player-clause-wrote
-returns-in_err-player-clause-wrote g c =
-    let p = err_from_is_err_and c.from_residual-in_err-player.result c.from_residual-in_err-player.ensures.1 in
-    rw p.1 (plays-passed _ _ c.in_err-player.field-0.0 p.0 _ p.2 (plays-broken _ _ c.in_err-player.field-0.0 _ _ (inl c.in_err-player.ensures.memory) (played-none _ _)))
+pub returns-in_err-interpreter-clause-wrote : goal.returns-in_err-interpreter-clause-wrote
+returns-in_err-interpreter-clause-wrote g c =
+    let p = err_from_is_err_and c.from_residual-in_err-interpreter.result c.from_residual-in_err-interpreter.ensures.1 in
+    rw p.1 (plays-passed _ _ c.in_err-interpreter.field-0.0 p.0 _ p.2 (plays-broken _ _ c.in_err-interpreter.field-0.0 _ _ (inl c.in_err-interpreter.ensures.memory) (played-none _ _)))
