@@ -27,13 +27,6 @@ first_at (false ∷ bs) zero e h = (refl, refl)
 first_at (true ∷ bs) (suc r) e h = let f = first_at bs r e h in (ap suc f.0, f.1)
 first_at (false ∷ bs) (suc r) e h = absurd cc
 
-pub one_more_out : (bs : List Bool) (r : ℕ) → slice_get bs r ≡ Some true → all_true (take r bs) ≡ true → all_true (take (suc r) bs) ≡ true
-one_more_out [] r e h = absurd (none-some true e)
-one_more_out (true ∷ bs) zero e h = refl
-one_more_out (false ∷ bs) zero e h = absurd cc
-one_more_out (true ∷ bs) (suc r) e h = one_more_out bs r e h
-one_more_out (false ∷ bs) (suc r) e h = absurd cc
-
 pub one_set_out : (bs : List Bool) (r : ℕ) → r < length bs → all_true (take r bs) ≡ true → all_true (take (suc r) (set bs r true)) ≡ true
 one_set_out [] r l h = absurd (omega arith)
 one_set_out (b ∷ bs) zero l h = refl
