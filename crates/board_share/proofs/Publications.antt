@@ -6,17 +6,17 @@ use Rattle.council_core.specs.declared.commands.Command.{Command}
 use Rattle.two_copy_steps.specs.declared.events.Event.{Event}
 use Rattle.two_copy_steps.specs.declared.events.Event.TheVariants.{Writer}
 use Rattle.two_copy_steps.specs.declared.events.Note.{Note}
-use Rattle.two_copy_steps.specs.declared.events.Note.TheVariants.{Busy, Moved, Published}
+use Rattle.two_copy_steps.specs.declared.events.Note.TheVariants.{Busy, Moved}
 use Rattle.two_copy_steps.specs.declared.views.WriterView.{WriterView}
 use Rattle.two_copy_steps.specs.declared.views.Phase.{Phase}
-use Rattle.two_copy_steps.specs.declared.views.Phase.TheVariants.{Idle, Seeing, Filling, Swapping}
+use Rattle.two_copy_steps.specs.declared.views.Phase.TheVariants.{Idle, Seeing, Filling}
 use Rattle.two_copy_steps.specs.Actions.{all_true, filled, first_false, seeing}
 use Rattle.two_copy_steps.specs.Publications.{StaySeen}
 use Rattle.board_share.specs.declared.views.History.{History}
 use Rattle.board_share.specs.Histories.{Adds, is_writers, last_told}
 use Rattle.board_share.specs.Steps.{begin_events, step_note}
 use Rattle.board_share.specs.Writers.{WriterSeen, known_at, WroteSteps, Wrote, Underway, Filled, IsFilling, IsIdle, IsSeeing, unseen}
-use Rattle.board_share.proofs.Prefixes.{adds_none, adds_then}
+use Rattle.board_share.proofs.Prefixes.{adds_then}
 use Rattle.board_share.proofs.WriterSeats.{action_in}
 
 -- who is seen out, one by one
@@ -26,13 +26,6 @@ first_at (true ∷ bs) zero e h = absurd cc
 first_at (false ∷ bs) zero e h = (refl, refl)
 first_at (true ∷ bs) (suc r) e h = let f = first_at bs r e h in (ap suc f.0, f.1)
 first_at (false ∷ bs) (suc r) e h = absurd cc
-
-pub one_more_out : (bs : List Bool) (r : ℕ) → slice_get bs r ≡ Some true → all_true (take r bs) ≡ true → all_true (take (suc r) bs) ≡ true
-one_more_out [] r e h = absurd (none-some true e)
-one_more_out (true ∷ bs) zero e h = refl
-one_more_out (false ∷ bs) zero e h = absurd cc
-one_more_out (true ∷ bs) (suc r) e h = one_more_out bs r e h
-one_more_out (false ∷ bs) (suc r) e h = absurd cc
 
 pub one_set_out : (bs : List Bool) (r : ℕ) → r < length bs → all_true (take r bs) ≡ true → all_true (take (suc r) (set bs r true)) ≡ true
 one_set_out [] r l h = absurd (omega arith)
@@ -112,9 +105,6 @@ pub seeing_next : (d : WriterSeen) → IsSeeing d → all_true (known_at d).stat
 seeing_next d s e = s.phase ∙ ap (λ (b : Bool). cond b (Filling 0) Seeing) e
 
 -- the steps from one moment to a later one
-pub wrote_none : (a : WriterSeen) → WroteSteps 0 a a
-wrote_none a = record { own = []; adds = adds_none is_writers a.history; whole = sym (append-nil (begin_events a.due a.held)) }
-
 pub wrote_on : (n : ℕ) (a b : WriterSeen) → a.due ≡ None → b.due ≡ None → Adds is_writers (replicate n Writer) a.history b.history → WroteSteps n a b
 wrote_on n a b e f adds =
     record {
@@ -181,7 +171,3 @@ none_unseen (false ∷ bs) e = absurd cc
 pub told_busy : (d d' : WriterSeen) (found : ℕ) (out : Bool) → Wrote d d' found → (known_at d).state.phase ≡ Seeing → out ≡ eqb found 0 → out ≡ false → last_told d'.history ≡ Some (Busy (suc (first_false (known_at d).state.seen_out)))
 told_busy d d' found out w e is was_in =
     w.told ∙ (ap (λ (p : Phase). Some (step_note (known_at d).state p found)) e ∙ ap (λ (b : Bool). Some (let n : Note = cond b Moved (Busy (suc (first_false (known_at d).state.seen_out))) in n)) (sym is ∙ was_in))
-
--- and so is what was published
-pub told_published : (d d' : WriterSeen) (found : ℕ) → Wrote d d' found → (known_at d).state.phase ≡ Swapping → last_told d'.history ≡ Some (Published (length (known_at d).state.taken))
-told_published d d' found w e = w.told ∙ ap (λ (p : Phase). Some (step_note (known_at d).state p found)) e

@@ -16,7 +16,7 @@ use Rattle.board_share.specs.declared.views.Beginning.{Beginning}
 use Rattle.board_share.specs.Seats.{Part, only, reads}
 use Rattle.board_share.specs.Rule.{RuleHolds}
 use Rattle.board_share.specs.Steps.{bare, read_then}
-use Rattle.board_share.specs.Readers.{ReaderSeen, known_by, TookStep, TookSteps, sole, reader_at, IsReader, Stepped}
+use Rattle.board_share.specs.Readers.{ReaderSeen, known_by, TookStep, sole, reader_at, IsReader, Stepped}
 use Rattle.board_share.proofs.Accesses.{load_of, store_of}
 use Rattle.board_share.proofs.ReaderSteps.{reads_allows}
 
@@ -78,6 +78,3 @@ loaded_some side n ws e few =
 
 pub took_from : (table seat : TableId) (me : Me Unit View) (next : Stage) (p q : ReaderSeen) → p ≡ q → Stepped table p seat me next → TookStep q (reader_at me.0 p.index next)
 took_from table seat me next p q e h = subst (λ (z : ReaderSeen). TookStep z (reader_at me.0 p.index next)) e h.took
-
-pub steps_from : (table seat : TableId) (me : Me Unit View) (next : Stage) (p q : ReaderSeen) → p ≡ q → Stepped table p seat me next → TookSteps 1 q (reader_at me.0 p.index next)
-steps_from table seat me next p q e h = subst (λ (z : ReaderSeen). TookSteps 1 z (reader_at me.0 p.index next)) e h.steps

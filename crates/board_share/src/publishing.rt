@@ -4,8 +4,8 @@ ghost use Rattle.std.specs.Prelude.{OnOk, IfOk, OnErr, IfErr, IsOk};
 ghost use Rattle.two_copy_steps.specs.declared.events.Note.TheVariants.{Published};
 ghost use Rattle.two_copy_steps.specs.Actions.{all_true};
 ghost use Rattle.board_share.specs.Histories.{KnowsAfter, last_told};
-ghost use Rattle.board_share.specs.Writers.{AddsTry, GaveUp, IsFilling, IsIdle, IsSeeing, Underway, WroteSteps, known_at};
-ghost use Rattle.board_share.specs.Writers.{looks, publication_steps, seen_out_of, unseen};
+ghost use Rattle.board_share.specs.Writers.{AddsTry, GaveUp, IsFilling, IsIdle, IsSeeing, Underway, WroteSteps};
+ghost use Rattle.board_share.specs.Writers.{known_at, looks, publication_steps, seen_out_of, unseen};
 
 use crate::busy::Busy;
 use crate::writer_steps::WordWriter;

@@ -12,7 +12,7 @@ use Rattle.two_copy_steps.specs.Auxiliary.{Auxiliary, auxiliary_start, auxiliary
 use Rattle.two_copy_steps.specs.Effects.{SequentialRun, sequential_start, sequential_step, AllAnswer}
 use Rattle.two_copy_steps.proofs.TransitionSteps.{transition_keeps, records_are, none_under}
 use Rattle.two_copy_steps.proofs.Replies.{Agrees, event_agrees}
-use Rattle.two_copy_steps.proofs.Journals.{IsAccepted, IsWithin, journal_accepted, journal_grows, journal_within}
+use Rattle.two_copy_steps.proofs.Journals.{IsAccepted, IsWithin, journal_accepted, journal_within}
 use Rattle.two_copy_steps.proofs.Starts.{start_lawful, start_agrees}
 
 pub always_lawful : (events : List Event) (m : MachineState) (p : Auxiliary) → IsLawful IsAccepted m p → IsAccepted m.ledger.opening m.ledger.journal → IsLawful IsAccepted (after m events) (auxiliary_steps m p events)
@@ -43,10 +43,6 @@ all_answer : (events : List Event) (t : SequentialRun) (m : MachineState) (p : A
 all_answer [] t m p h = tt
 all_answer (event ∷ events) t m p h =
     ((event_agrees IsAccepted m p h.lawful t h.agrees event).1, all_answer events (sequential_step t m event) (transition m event).0 (auxiliary_step m p event) (together_on t m p h event))
-
-pub always_grows : (events : List Event) (m : MachineState) (n : ℕ) → n ≤ length m.ledger.journal → n ≤ length (after m events).ledger.journal
-always_grows [] m n h = h
-always_grows (event ∷ events) m n h = always_grows events (transition m event).0 n (journal_grows n m h event)
 
 pub always_within : (events : List Event) (m : MachineState) → IsWithin m.ledger → IsWithin (after m events).ledger
 always_within [] m h = h
@@ -115,7 +111,3 @@ after_more m events k event h at = ap (after m) (one_more events k event h at) �
 pub notes_more : (m : MachineState) (events : List Event) (k : ℕ) (event : Event) → k < length events → event ≡ get_or events k event
     → notes m (take (k + 1) events) ≡ notes m (take k events) ++ (transition (after m (take k events)) event).1 ∷ []
 notes_more m events k event h at = ap (notes m) (one_more events k event h at) ∙ notes_append (take k events) (event ∷ []) m
-
-pub notes_long : (m : MachineState) (events : List Event) → length (notes m events) ≡ length events
-notes_long m [] = refl
-notes_long m (event ∷ events) = ap suc (notes_long (transition m event).0 events)

@@ -1,11 +1,11 @@
 -- Lists kept in storage of a fixed size.
-use Rattle.std.proofs.Common.{◌≡◌, ℕ, zero, suc, ◌+◌, ◌-◌, ◌<◌, ◌≤◌, Bool, true, false, List, [], ◌∷◌, length, get_or, take, set, replicate, refl, sym, ap, ◌∙◌, subst, arith, length-take, true≢false}
+use Rattle.std.proofs.Common.{◌≡◌, ℕ, zero, suc, ◌+◌, ◌-◌, ◌<◌, ◌≤◌, List, length, get_or, take, set, replicate, refl, sym, ap, ◌∙◌, subst, arith, length-take}
 use Rattle.std.proofs.lemmas.List.{get_or-take, ext_get_or, get_or-replicate, length-replicate}
 use Rattle.std.proofs.Math.Seq.{take-set-lt}
 use mathlib.Core.Logic.{dite}
 use native.Mathlib.Decide.{ℕ_discrete, dec_le}
 use Rattle.two_copy_steps.specs.declared.table.TheConstants.{COPY_WORDS, READERS}
-use Rattle.two_copy_steps.specs.Actions.{first_false, pin, place}
+use Rattle.two_copy_steps.specs.Actions.{pin, place}
 use Rattle.two_copy_steps.proofs.Starts.{words_at_start, start_length, start_first, start_second, start_pin}
 
 module _ {A : Type 0} where
@@ -18,14 +18,6 @@ module _ {A : Type 0} where
 
   pub kept_length : (n k : ℕ) (xs ys : List A) → take n xs ≡ ys → n ≤ k → length xs ≡ k → length ys ≡ n
   kept_length n k xs ys e h len = let l = ap (length {A = A}) e in omega (arith, length-take n xs)
-
-pub first_false_here : (bs : List Bool) (i n : ℕ) → first_false (take i bs) ≡ i → i < n → i < length bs → get_or bs i false ≡ false → first_false (take n bs) ≡ i
-first_false_here [] i n e lt h at = absurd (omega arith)
-first_false_here bs i zero e lt h at = absurd (omega arith)
-first_false_here (true ∷ bs) zero (suc n) e lt h at = absurd (true≢false at)
-first_false_here (false ∷ bs) zero (suc n) e lt h at = refl
-first_false_here (true ∷ bs) (suc i) (suc n) e lt h at = let r = first_false_here bs i n (omega arith) (omega arith) (omega arith) at in omega arith
-first_false_here (false ∷ bs) (suc i) (suc n) e lt h at = absurd (omega arith)
 
 pub zeros : (n k : ℕ) → ◌≡◌ {A = ℕ} (get_or (replicate {A = ℕ} n 0) k 0) 0
 zeros zero k = refl

@@ -33,12 +33,6 @@ accepted_push r [] command h g = both (is_ok (step r command)) true g refl
 accepted_push r (c ∷ cs) command h g =
     and_on (is_ok (step r c)) (all_accepted (after r c) cs) (all_accepted (after r c) (cs ++ command ∷ [])) (λ q. accepted_push (after r c) cs command q g) h
 
--- the first commands of a list are accepted where all are
-accepted_first : (r : Roll) (commands rest : List Command) → IsTrue (all_accepted r (commands ++ rest)) → IsTrue (all_accepted r commands)
-accepted_first r [] rest h = refl
-accepted_first r (c ∷ cs) rest h =
-    and_on (is_ok (step r c)) (all_accepted (after r c) (cs ++ rest)) (all_accepted (after r c) cs) (λ q. accepted_first (after r c) cs rest q) h
-
 step_ok : (v : Result Roll Refusal) (room : Result ⊤ Refusal) → verdict v room ≡ Ok tt → IsTrue (is_ok v) × (room ≡ Ok tt)
 step_ok (Ok r) room e = (refl, e)
 step_ok (Err refusal) room e = absurd (true≢false (sym (ap is_ok e)))
@@ -80,10 +74,6 @@ module _ (P : Ledger → Type 0) (more : (ledger : Ledger) (command : Command) �
 -- the journal keeps being accepted
 pub journal_accepted : (m : MachineState) → IsAccepted m.ledger.opening m.ledger.journal → (event : Event) → IsAccepted (transition m event).0.ledger.opening (transition m event).0.ledger.journal
 journal_accepted = ledger_keeps (λ l. IsAccepted l.opening l.journal) accepted_more
-
--- it never gets shorter
-pub journal_grows : (n : ℕ) (m : MachineState) → n ≤ length m.ledger.journal → (event : Event) → n ≤ length (transition m event).0.ledger.journal
-journal_grows n = ledger_keeps (λ l. n ≤ length l.journal) (λ l command h v. omega (arith, length-append l.journal (command ∷ [])))
 
 -- a journal within its limit, which is at most a million
 abbrev pub IsWithin : Ledger → Type 0

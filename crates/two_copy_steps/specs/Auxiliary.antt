@@ -30,26 +30,26 @@ abbrev pub record_at : List (List (List ℕ)) → ℕ → List (List ℕ)
 record_at records r = slice_index_or records r []
 
 abbrev pub auxiliary_reader_step : MachineState → Auxiliary → ℕ → Option Stage → Auxiliary
-auxiliary_reader_step m p r None = p
-auxiliary_reader_step m p r (Some stage) =
+auxiliary_reader_step m a r None = a
+auxiliary_reader_step m a r (Some stage) =
     let d = stage_action r stage in
-    record p {
-      records = slice_set p.records r
-          (recorded stage (d.after (slice_index m.words d.word)) (record_at p.records r));
+    record a {
+      records = slice_set a.records r
+          (recorded stage (d.after (slice_index m.words d.word)) (record_at a.records r));
     }
 
 -- the cuts and the records after an event, the machine being that before it
 abbrev pub auxiliary_step : MachineState → Auxiliary → Event → Auxiliary
-auxiliary_step m p (Submit command) = p
-auxiliary_step m p Publish = p
-auxiliary_step m p Writer = record p { cuts = cuts_past m.writer.phase m.writer.taken p.cuts }
-auxiliary_step m p (Reader zero) = p
-auxiliary_step m p (Reader (suc r)) = auxiliary_reader_step m p r (slice_get m.readers r)
+auxiliary_step m a (Submit command) = a
+auxiliary_step m a Publish = a
+auxiliary_step m a Writer = record a { cuts = cuts_past m.writer.phase m.writer.taken a.cuts }
+auxiliary_step m a (Reader zero) = a
+auxiliary_step m a (Reader (suc r)) = auxiliary_reader_step m a r (slice_get m.readers r)
 
 -- the cuts and the records after a list of events
 abbrev pub auxiliary_steps : MachineState → Auxiliary → List Event → Auxiliary
-auxiliary_steps m p [] = p
-auxiliary_steps m p (event ∷ events) = auxiliary_steps (transition m event).0 (auxiliary_step m p event) events
+auxiliary_steps m a [] = a
+auxiliary_steps m a (event ∷ events) = auxiliary_steps (transition m event).0 (auxiliary_step m a event) events
 
 -- each stage with its record
 abbrev pub viewed : List Stage → List (List (List ℕ)) → List ReaderView
@@ -60,20 +60,20 @@ viewed (stage ∷ stages) (readings ∷ records) =
 
 -- the words and all views
 abbrev pub state_of : MachineState → Auxiliary → State
-state_of m p = record
-    { words = m.words; writer = record { state = m.writer; cuts = p.cuts }; readers = viewed m.readers p.records }
+state_of m a = record
+    { words = m.words; writer = record { state = m.writer; cuts = a.cuts }; readers = viewed m.readers a.records }
 
 -- the words and views are lawful, and the journal extends the list last taken, which is all of it while a publication
 -- is under way
-pub record IsLawful (Legal : Opening → List Command → Type 0) (m : MachineState) (p : Auxiliary) : Type 0 where
-  pub state : Lawful m.ledger.opening (Legal m.ledger.opening) (state_of m p)
+pub record IsLawful (Legal : Opening → List Command → Type 0) (m : MachineState) (a : Auxiliary) : Type 0 where
+  pub state : Lawful m.ledger.opening (Legal m.ledger.opening) (state_of m a)
   pub extends : (rest : List Command) × (m.writer.taken ++ rest ≡ m.ledger.journal)
   pub whole : is_idle m.writer.phase ≡ false → m.writer.taken ≡ m.ledger.journal
-  pub each_record : length p.records ≡ length m.readers
+  pub each_record : length a.records ≡ length m.readers
 
 -- the published list is legal, the cuts are in order, and the records hold sheets of cuts whose fronts never fall
 abbrev pub HasLegalRecords : MachineState → Auxiliary → Type 0
-HasLegalRecords m p = AreLegalRecords m.ledger.opening m.writer.published p.cuts p.records
+HasLegalRecords m a = AreLegalRecords m.ledger.opening m.writer.published a.cuts a.records
 
 -- the side that a reader has loaded, if it has and has not left
 abbrev pub side_held : Stage → Option ℕ

@@ -63,36 +63,36 @@ StateKnownLaw = (opening : Opening) (s : State) → LawfulFor opening s → (r :
 
 -- the transition at a step of the writer's is its step of words and views
 abbrev pub WriterTransitionLaw : Type 0
-WriterTransitionLaw = (m : MachineState) (p : Auxiliary)
-    → state_of (transition m Writer).0 (auxiliary_step m p Writer) ≡ written_by m.ledger.opening (state_of m p)
+WriterTransitionLaw = (m : MachineState) (a : Auxiliary)
+    → state_of (transition m Writer).0 (auxiliary_step m a Writer) ≡ written_by m.ledger.opening (state_of m a)
 
 -- so is a reader's
 abbrev pub ReaderTransitionLaw : Type 0
 ReaderTransitionLaw =
-    (m : MachineState) (p : Auxiliary) → length p.records ≡ length m.readers → (r : ℕ) (stage : Stage)
+    (m : MachineState) (a : Auxiliary) → length a.records ≡ length m.readers → (r : ℕ) (stage : Stage)
     → slice_get m.readers r ≡ Some stage
-    → state_of (transition m (Reader (suc r))).0 (auxiliary_step m p (Reader (suc r)))
-    ≡ read_by (state_of m p) r (record { stage = stage; readings = record_at p.records r })
+    → state_of (transition m (Reader (suc r))).0 (auxiliary_step m a (Reader (suc r)))
+    ≡ read_by (state_of m a) r (record { stage = stage; readings = record_at a.records r })
 
 -- a publication that begins takes the whole journal, and touches no word
 abbrev pub BeginTransitionLaw : Type 0
-BeginTransitionLaw = (m : MachineState) (p : Auxiliary) → (transition m Publish).1 ≡ Began
-    → state_of (transition m Publish).0 (auxiliary_step m p Publish) ≡ begun_by (state_of m p) m.ledger.journal
+BeginTransitionLaw = (m : MachineState) (a : Auxiliary) → (transition m Publish).1 ≡ Began
+    → state_of (transition m Publish).0 (auxiliary_step m a Publish) ≡ begun_by (state_of m a) m.ledger.journal
 
 -- one that doesn't begin leaves words and views as they were, and so does a command
 abbrev pub IdleTransitionLaw : Type 0
-IdleTransitionLaw = (m : MachineState) (p : Auxiliary) → (transition m Publish).1 ≢ Began
-    → state_of (transition m Publish).0 (auxiliary_step m p Publish) ≡ state_of m p
+IdleTransitionLaw = (m : MachineState) (a : Auxiliary) → (transition m Publish).1 ≢ Began
+    → state_of (transition m Publish).0 (auxiliary_step m a Publish) ≡ state_of m a
 
 abbrev pub SubmitTransitionLaw : Type 0
-SubmitTransitionLaw = (m : MachineState) (p : Auxiliary) (command : Command)
-    → state_of (transition m (Submit command)).0 (auxiliary_step m p (Submit command)) ≡ state_of m p
+SubmitTransitionLaw = (m : MachineState) (a : Auxiliary) (command : Command)
+    → state_of (transition m (Submit command)).0 (auxiliary_step m a (Submit command)) ≡ state_of m a
 
 -- a reader that is in the way is the least that isn't seen out, and its pin is 1; the publication that is given up
 -- changes nobody
 abbrev pub BusyLaw : Type 0
 BusyLaw =
-    (m : MachineState) (p : Auxiliary) → IsLawful IsPublishable m p → (event : Event) (number : ℕ)
+    (m : MachineState) (a : Auxiliary) → IsLawful IsPublishable m a → (event : Event) (number : ℕ)
     → (transition m event).1 ≡ Busy number
     → (r : ℕ) × (number ≡ suc r) × IsLeastUnseen m.writer.seen_out r × (slice_index m.words (pin r) ≡ 1)
     × ((transition m event).0.writer.seen_out ≡ m.writer.seen_out)
@@ -125,9 +125,9 @@ GrowthLaw =
 
 -- each event keeps the machine lawful, with its cuts and records
 abbrev pub EventLaw : Type 0
-EventLaw = (m : MachineState) (p : Auxiliary) → IsLawful IsPublishable m p
+EventLaw = (m : MachineState) (a : Auxiliary) → IsLawful IsPublishable m a
     → IsPublishable m.ledger.opening m.ledger.journal
-    → (event : Event) → IsLawful IsPublishable (transition m event).0 (auxiliary_step m p event)
+    → (event : Event) → IsLawful IsPublishable (transition m event).0 (auxiliary_step m a event)
 
 -- each event keeps the journal legal and within its limit
 abbrev pub LedgerLaw : Type 0

@@ -36,8 +36,8 @@ pub record IsMachine (ledger : Ledger) (words : List ℕ) (side published : ℕ)
   pub taken_within : front_of taken ≤ length ledger.journal
   pub sheet_is : taken ≡ sheet ledger.opening (take (front_of taken) ledger.journal)
   pub few : length readers ≤ READERS
-  pub lawful : (p : Auxiliary)
-      × IsLawful IsPublishable (seen_as ledger words side published taken phase seen_out readers) p
+  pub lawful : (a : Auxiliary)
+      × IsLawful IsPublishable (seen_as ledger words side published taken phase seen_out readers) a
 
 -- one, and no more than there may be
 abbrev pub IsFew : ℕ → Type 0

@@ -29,9 +29,9 @@ sheets_told number (note ∷ rest) = told_of number note ++ sheets_told number r
 
 -- each reader's record is the sheets told of it, in order, and the words of the reading that it is about to leave
 abbrev pub RecordsAreTold : MachineState → Auxiliary → List Note → Type 0
-RecordsAreTold m p told =
+RecordsAreTold m a told =
     (r : ℕ) (stage : Stage) → slice_get m.readers r ≡ Some stage
-    → record_at p.records r ≡ sheets_told (suc r) told ++ about_to_leave stage
+    → record_at a.records r ≡ sheets_told (suc r) told ++ about_to_leave stage
 
 -- among the notes of one reader the fronts never fall
 abbrev pub FrontsNeverFall : List Note → Type 0

@@ -1,4 +1,9 @@
-//! The shared words.
+//! The shared words, and where each of them lies:
+//!
+//!     word  0          side: the copy that is published, 0 or 1
+//!     words 1 to 34    copy 0, the words of a sheet
+//!     words 35 to 68   copy 1
+//!     words 69 on      a pin for each reader: 1 while it is in a reading, else 0
 ghost use Rattle.std.specs.Prelude.{◌≡◌, ℕ, List, ◌<◌, ◌≤◌, ◌++◌, ◌∷◌, length, replicate};
 ghost use Rattle.std.specs.Prelude.{take, slice_index, slice_set};
 ghost use Rattle.two_copy_steps.specs.declared.table.TheConstants.{WORDS};

@@ -12,12 +12,6 @@ load-requires-clause-within c =
     let h = (first_at _ _ _ _ _ _ _ _ c.self.invariant _ c.self.view_is c.requires _ c.first_false-r.ensures).2 in
     subst (λ (x : ℕ). x < length c.self.inside.table) (sym c.pin.ensures.same) h
 
-pub overflow_cast-result : goal.overflow_cast-result
-overflow_cast-result c = let h = (first_at _ _ _ _ _ _ _ _ c.self.invariant _ c.self.view_is c.requires _ c.first_false-r.ensures).1 in omega arith
-
-pub overflow_add-result : goal.overflow_add-result
-overflow_add-result c = let h = (first_at _ _ _ _ _ _ _ _ c.self.invariant _ c.self.view_is c.requires _ c.first_false-r.ensures).1 in omega arith
-
 pub invariant_of-self : goal.invariant_of-self
 invariant_of-self c =
     writer_stays _ _ _ _ _ _ _ _ c.self.invariant _ _ _ _ _
@@ -30,9 +24,6 @@ returns-then-load-ne0-clause-machine c =
 
 pub set-requires-clause-within : goal.set-requires-clause-within
 set-requires-clause-within c = (first_at _ _ _ _ _ _ _ _ c.self.invariant _ c.self.view_is c.requires _ c.first_false-r.ensures).0
-
-pub set-requires-clause-few : goal.set-requires-clause-few
-set-requires-clause-few c = (first_at _ _ _ _ _ _ _ _ c.self.invariant _ c.self.view_is c.requires _ c.first_false-r.ensures).1
 
 pub invariant_of-self-2 : goal.invariant_of-self-2
 invariant_of-self-2 c =
