@@ -94,7 +94,7 @@ impl SumList {
         self.count = 1;
     }
 
-    /// Writes to the upper half what each set of the lower half leaves of all chairs, that of the first set last.
+    // Writes to the upper half what each set of the lower half leaves of all chairs, that of the first set last.
     pub(crate) fn mirror(&mut self, all: Entry)
         requires within { (i j : ℕ) → i + j + 1 ≡ length self.old → i < j
             → ((entry_at self.old i).sum ≤ all.sum) × ((entry_at self.old i).mask ≤ all.mask) }

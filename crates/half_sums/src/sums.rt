@@ -1,6 +1,6 @@
 //! The ascending list of a half, and the same by size.
-ghost use Rattle.std.specs.Prelude.{◌≡◌, ◌==◌, ◌-◌, ◌^◌, ◌<◌, ◌≤◌};
-ghost use Rattle.std.specs.Prelude.{List, [], ◌∷◌, length, map, take, drop, IfOk, IsOkUnless};
+ghost use Rattle.std.specs.Prelude.{◌≡◌, ◌==◌, ◌^◌, ◌<◌, ◌≤◌};
+ghost use Rattle.std.specs.Prelude.{List, [], ◌∷◌, length, map, take, IfOk, IsOkUnless};
 ghost use Rattle.std.specs.Box.{boxed_slice_items};
 ghost use Rattle.std.specs.List.{All, IsDistinct};
 ghost use Rattle.std.specs.List.Sorted.{IsPermutation};
@@ -11,6 +11,7 @@ ghost use Rattle.half_sums.specs.declared.lists.TheConstants.{ROOM};
 ghost use Rattle.half_sums.specs.Entries.{AreSubsets, IsHalf};
 ghost use Rattle.half_sums.specs.Groups.{group_of, grouped, AreGroups};
 
+use crate::choices::part;
 use crate::groups::{SIZES, SLOTS, STARTS, regroup};
 use crate::lists::ROOM;
 use crate::{Entry, OrderedSums, SumList};
@@ -98,13 +99,4 @@ impl HalfSums {
         self.ordered.rebuild(chairs);
         self.starts = regroup(self.ordered.ascending(), &mut self.groups);
     }
-}
-
-// The entries from a place on, up to another.
-fn part(entries: &[Entry], from: usize, to: usize) -> &[Entry]
-    requires ordered { from ≤ to }
-    requires within { to ≤ length entries.now }
-    ensures part { result.now ≡ take (to - from) (drop from entries.now) }
-{
-    &entries[from..to]
 }
