@@ -6,10 +6,11 @@ use Rattle.std.proofs.lemmas.Simd.{length-zip2, get_or-zip2}
 use Rattle.half_sums.specs.declared.entry.Entry.{Entry}
 use Rattle.half_sums.specs.Entries.{entries_from, zero_entry}
 use Rattle.half_sums.specs.Merges.{rest_of}
+use Rattle.half_sums.specs.declared.lists.TheConstants.{ROOM}
 
 -- what a list keeps
 abbrev pub Kept : ℕ → List ℕ → List ℕ → Type 0
-Kept count sums masks = (length sums ≡ 65536) × (length masks ≡ 65536) × (count ≤ 65536)
+Kept count sums masks = (length sums ≡ ROOM) × (length masks ≡ ROOM) × (count ≤ ROOM)
 
 abbrev pub both : ℕ → ℕ → Entry
 both sum mask = record { sum = sum; mask = mask }

@@ -18,6 +18,8 @@ use Rattle.council_core.specs.Sheets.{weight_of}
 use Rattle.council_core.specs.Coalitions.{subsets}
 use Rattle.half_sums.specs.Masks.{mask_of}
 use Rattle.half_sums.specs.Entries.{joined, entry_of, entries_of, AreSubsets, IsHalf}
+use Rattle.half_sums.specs.declared.groups.TheConstants.{SLOTS}
+use Rattle.half_sums.specs.declared.lists.TheConstants.{ROOM}
 
 map_joined : (chair : ℕ × ℕ) (sets : List (List (ℕ × ℕ))) → map entry_of (map (λ s. chair ∷ s) sets) ≡ map (joined chair.1 (2 ^ chair.0)) (map entry_of sets)
 map_joined chair [] = refl
@@ -70,14 +72,14 @@ slot_found : (xs : List ℕ) (n q : ℕ) → All (λ x. x < n) xs → list_any (
 slot_found xs n q small found = All-contains (λ x. x < n) xs q small (Contains-from_any eqb-true q xs found)
 
 -- chairs at distinct slots below 16 are at most 16
-pub few : (chairs : List (ℕ × ℕ)) → All (λ c. c.0 < 16) chairs → IsDistinct eqb (map (λ c. c.0) chairs) → length chairs ≤ 16
+pub few : (chairs : List (ℕ × ℕ)) → All (λ c. c.0 < SLOTS) chairs → IsDistinct eqb (map (λ c. c.0) chairs) → length chairs ≤ SLOTS
 few chairs small apart =
     let slots : List ℕ = map (λ (c : ℕ × ℕ). c.0) chairs in
-    let below : All (λ x. x < 16) slots = All-map (λ x. x < 16) (λ (c : ℕ × ℕ). c.0) chairs small in
-    omega (arith, length-map chairs (λ (c : ℕ × ℕ). c.0), length-le_from_distinct_below slots 16 apart (λ q found. slot_found slots 16 q below found))
+    let below : All (λ x. x < SLOTS) slots = All-map (λ x. x < SLOTS) (λ (c : ℕ × ℕ). c.0) chairs small in
+    omega (arith, length-map chairs (λ (c : ℕ × ℕ). c.0), length-le_from_distinct_below slots SLOTS apart (λ q found. slot_found slots SLOTS q below found))
 
 -- the room and the sums of the next chair, at place `at - 1`
-pub room_left : (chairs : List (ℕ × ℕ)) (at : ℕ) (es : List Entry) → AreSubsets (drop at chairs) es → length chairs ≤ 16 → 0 < at → at ≤ length chairs → 2 * length es ≤ 65536
+pub room_left : (chairs : List (ℕ × ℕ)) (at : ℕ) (es : List Entry) → AreSubsets (drop at chairs) es → length chairs ≤ SLOTS → 0 < at → at ≤ length chairs → 2 * length es ≤ ROOM
 room_left chairs at es are fits some within =
     let few_left : length (drop at chairs) ≤ 15 = omega (arith, length-drop at chairs) in
     let bound : 2 ^ length (drop at chairs) ≤ 2 ^ 15 = pow-le-pow_right (omega arith) few_left in
@@ -119,16 +121,16 @@ IsHalf-one =
       few = omega arith;
       ascending = IsNonDecreasingBy-short (λ (e : Entry). e.sum) one (omega arith);
       small = All-cons (λ (e : Entry). e.sum ≤ 2 ^ 48) (record { sum = 0; mask = 0 }) [] (omega arith) (All-nil (λ (e : Entry). e.sum ≤ 2 ^ 48));
-      slots = All-cons (λ (e : Entry). e.mask < 2 ^ 16) (record { sum = 0; mask = 0 }) [] (omega arith) (All-nil (λ (e : Entry). e.mask < 2 ^ 16));
+      slots = All-cons (λ (e : Entry). e.mask < 2 ^ SLOTS) (record { sum = 0; mask = 0 }) [] (omega arith) (All-nil (λ (e : Entry). e.mask < 2 ^ SLOTS));
     }
 
-pub IsHalf-more : (es out : List Entry) (weight bit : ℕ) → IsHalf es → bit < 2 ^ 16 → 2 * length es ≤ 65536 → All (λ e. e.sum + weight ≤ 2 ^ 48) es → IsPermutation (es ++ map (joined weight bit) es) out → IsNonDecreasingBy (λ e. e.sum) out → IsHalf out
+pub IsHalf-more : (es out : List Entry) (weight bit : ℕ) → IsHalf es → bit < 2 ^ SLOTS → 2 * length es ≤ ROOM → All (λ e. e.sum + weight ≤ 2 ^ 48) es → IsPermutation (es ++ map (joined weight bit) es) out → IsNonDecreasingBy (λ e. e.sum) out → IsHalf out
 IsHalf-more es out weight bit half slot room small moves up =
     let P : Entry → Type 0 = λ e. e.sum ≤ 2 ^ 48 in
-    let Q : Entry → Type 0 = λ e. e.mask < 2 ^ 16 in
+    let Q : Entry → Type 0 = λ e. e.mask < 2 ^ SLOTS in
     record {
       few = omega (arith, length_permutation _ _ moves, length-append es (map (joined weight bit) es), length-map es (joined weight bit));
       ascending = up;
       small = All-permutation P _ _ moves (All-append P es _ half.small (All-map P (joined weight bit) es small));
-      slots = All-permutation Q _ _ moves (All-append Q es _ half.slots (All-map Q (joined weight bit) es (All-weaker Q (λ e. Q (joined weight bit e)) (λ e h. or_lt 16 e.mask bit h slot) es half.slots)));
+      slots = All-permutation Q _ _ moves (All-append Q es _ half.slots (All-map Q (joined weight bit) es (All-weaker Q (λ e. Q (joined weight bit e)) (λ e h. or_lt SLOTS e.mask bit h slot) es half.slots)));
     }

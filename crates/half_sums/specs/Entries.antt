@@ -8,6 +8,8 @@ use Rattle.half_sums.specs.declared.entry.Entry.{Entry}
 use Rattle.council_core.specs.Sheets.{weight_of}
 use Rattle.council_core.specs.Coalitions.{subsets}
 use Rattle.half_sums.specs.Masks.{mask_of}
+use Rattle.half_sums.specs.declared.groups.TheConstants.{SLOTS}
+use Rattle.half_sums.specs.declared.lists.TheConstants.{ROOM}
 
 -- a set of chairs, each a slot and a weight, by its weight and its slots
 abbrev pub entry_of : List (ℕ × ℕ) → Entry
@@ -32,10 +34,10 @@ pub record AreSubsets (chairs : List (ℕ × ℕ)) (entries : List Entry) : Type
 
 -- what every list of a half has: at most 65,536 entries, ascending, no sum above 2^48, and no slot from 16 on
 pub record IsHalf (entries : List Entry) : Type 0 where
-  pub few : length entries ≤ 65536
+  pub few : length entries ≤ ROOM
   pub ascending : IsNonDecreasingBy (λ e. e.sum) entries
   pub small : All (λ e. e.sum ≤ 2 ^ 48) entries
-  pub slots : All (λ e. e.mask < 2 ^ 16) entries
+  pub slots : All (λ e. e.mask < 2 ^ SLOTS) entries
 
 -- what is read where there is no entry
 abbrev pub zero_entry : Entry

@@ -1,6 +1,7 @@
 //! Subset sums by meeting in the middle (Horowitz and Sahni 1974): a half's, for up to sixteen chairs, ascending.
 #![tactic(auto)]
 
+mod choices;
 mod entry;
 mod groups;
 mod laws;
@@ -9,6 +10,7 @@ mod merge;
 mod ordered;
 mod sums;
 
+pub use choices::{either, part, size};
 pub use entry::Entry;
 pub use groups::{SIZES, SLOTS};
 pub use laws::mask_law;

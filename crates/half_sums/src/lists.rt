@@ -1,6 +1,7 @@
 //! Lists of sets in the room of the longest half's.
 ghost use Rattle.std.specs.Prelude.{◌≡◌, ℕ, ◌+◌, ◌-◌, ◌*◌, ◌<◌, ◌≤◌, List, [], ◌∷◌, length, take};
 ghost use Rattle.std.specs.Prelude.{slice_index_or, set, IfOk, IsOkUnless};
+ghost use Rattle.std.specs.Box.{boxed_slice_items};
 ghost use Rattle.council_core.specs.declared.refusals.Refusal.TheVariants.{OutOfMemory};
 ghost use Rattle.half_sums.specs.declared.entry.Entry.{Entry};
 ghost use Rattle.half_sums.specs.declared.lists.TheConstants.{ROOM};
@@ -10,27 +11,30 @@ ghost use Rattle.half_sums.specs.Merges.{entry_at, rest_of};
 use crate::Entry;
 use council_core::Refusal;
 use std::alloc::Global;
+use std::boxed::BoxedSlice;
 use std::marker::Model;
 
 /// The sets of a half of sixteen chairs: 2 to the power 16.
 pub const ROOM: usize = 65_536;
 
-/// A list of at most 65,536 sets, whose room is taken once: to write it anew takes no memory. Sums and masks stand in
-/// vectors of their own, so that a set takes ten bytes in place of the sixteen of an `Entry`.
+/// A list of at most 65,536 sets, whose room is taken once and can't grow: to write it anew takes no memory. Sums and
+/// masks stand in slices of their own, so that a set takes ten bytes in place of the sixteen of an `Entry`.
 #[derive(Debug, Drop)]
 pub struct SumList {
     // The list is the first `count` of these. Behind them stand those of earlier lists.
-    sums: Vec<u64>,
-    masks: Vec<u16>,
+    sums: BoxedSlice<u64>,
+    masks: BoxedSlice<u16>,
     count: usize,
 }
 
 impl Model for SumList {
     ghost Value = { List Entry };
 
-    ghost view = { λ l. entries_from (take l.count l.sums.items) (take l.count l.masks.items) };
+    ghost view = { λ l. entries_from (take l.count (boxed_slice_items l.sums))
+        (take l.count (boxed_slice_items l.masks)) };
 
-    ghost invariant = { λ l. (length l.sums.items ≡ ROOM) × (length l.masks.items ≡ ROOM) × (l.count ≤ ROOM) };
+    ghost invariant = { λ l. (length (boxed_slice_items l.sums) ≡ ROOM) × (length (boxed_slice_items l.masks) ≡ ROOM)
+        × (l.count ≤ ROOM) };
 }
 
 impl SumList {
@@ -40,8 +44,8 @@ impl SumList {
         ensures memory { IsOkUnless result OutOfMemory }
     {
         Ok(SumList {
-            sums: Vec::from_elem(alloc, 0, ROOM)?,
-            masks: Vec::from_elem(alloc, 0, ROOM)?,
+            sums: Vec::from_elem(alloc, 0, ROOM)?.into_boxed_slice(),
+            masks: Vec::from_elem(alloc, 0, ROOM)?.into_boxed_slice(),
             count: 1,
         })
     }
@@ -90,7 +94,7 @@ impl SumList {
         self.count = 1;
     }
 
-    /// Writes to the upper half what each set of the lower half leaves of all chairs, that of the first set last.
+    // Writes to the upper half what each set of the lower half leaves of all chairs, that of the first set last.
     pub(crate) fn mirror(&mut self, all: Entry)
         requires within { (i j : ℕ) → i + j + 1 ≡ length self.old → i < j
             → ((entry_at self.old i).sum ≤ all.sum) × ((entry_at self.old i).mask ≤ all.mask) }

@@ -1,6 +1,7 @@
 //! The ascending list of a half, and the same by size.
-ghost use Rattle.std.specs.Prelude.{◌≡◌, ◌==◌, ◌-◌, ◌^◌, ◌<◌, ◌≤◌};
-ghost use Rattle.std.specs.Prelude.{List, [], ◌∷◌, length, map, take, drop, IfOk, IsOkUnless};
+ghost use Rattle.std.specs.Prelude.{◌≡◌, ◌==◌, ◌^◌, ◌<◌, ◌≤◌};
+ghost use Rattle.std.specs.Prelude.{List, [], ◌∷◌, length, map, take, IfOk, IsOkUnless};
+ghost use Rattle.std.specs.Box.{boxed_slice_items};
 ghost use Rattle.std.specs.List.{All, IsDistinct};
 ghost use Rattle.std.specs.List.Sorted.{IsPermutation};
 ghost use Rattle.council_core.specs.declared.refusals.Refusal.TheVariants.{OutOfMemory};
@@ -10,11 +11,13 @@ ghost use Rattle.half_sums.specs.declared.lists.TheConstants.{ROOM};
 ghost use Rattle.half_sums.specs.Entries.{AreSubsets, IsHalf};
 ghost use Rattle.half_sums.specs.Groups.{group_of, grouped, AreGroups};
 
+use crate::choices::part;
 use crate::groups::{SIZES, SLOTS, STARTS, regroup};
 use crate::lists::ROOM;
 use crate::{Entry, OrderedSums, SumList};
 use council_core::Refusal;
 use std::alloc::Global;
+use std::boxed::BoxedSlice;
 use std::marker::Model;
 
 // The set of no chair.
@@ -25,7 +28,7 @@ const NO_CHAIR: Entry = Entry { sum: 0, mask: 0 };
 pub struct HalfSums {
     ordered: OrderedSums,
     // The same sets by size, and behind them those of earlier halves.
-    groups: Vec<Entry>,
+    groups: BoxedSlice<Entry>,
     starts: [usize; STARTS],
 }
 
@@ -34,8 +37,9 @@ impl Model for HalfSums {
 
     ghost view = { λ h. h.ordered };
 
-    ghost invariant = { λ h. IsHalf h.ordered × AreGroups h.ordered (take (length h.ordered) h.groups.items) h.starts
-        × (length h.groups.items ≡ ROOM) };
+    ghost invariant = { λ h. IsHalf h.ordered
+        × AreGroups h.ordered (take (length h.ordered) (boxed_slice_items h.groups)) h.starts
+        × (length (boxed_slice_items h.groups) ≡ ROOM) };
 }
 
 impl HalfSums {
@@ -46,7 +50,7 @@ impl HalfSums {
         ensures memory { IsOkUnless result OutOfMemory }
     {
         let ordered = OrderedSums::new(alloc)?;
-        let mut groups = Vec::from_elem(alloc, NO_CHAIR, ROOM)?;
+        let mut groups = Vec::from_elem(alloc, NO_CHAIR, ROOM)?.into_boxed_slice();
         let starts = regroup(ordered.ascending(), &mut groups);
         Ok(HalfSums {
             ordered,
@@ -95,13 +99,4 @@ impl HalfSums {
         self.ordered.rebuild(chairs);
         self.starts = regroup(self.ordered.ascending(), &mut self.groups);
     }
-}
-
-// The entries from a place on, up to another.
-fn part(entries: &[Entry], from: usize, to: usize) -> &[Entry]
-    requires ordered { from ≤ to }
-    requires within { to ≤ length entries.now }
-    ensures part { result.now ≡ take (to - from) (drop from entries.now) }
-{
-    &entries[from..to]
 }

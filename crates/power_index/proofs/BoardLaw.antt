@@ -23,6 +23,8 @@ use Rattle.power_index.specs.Halves.{weights, slotted, left_count, left_weights,
 use Rattle.power_index.specs.Counts.{eta_at, EvaluationLaw}
 use Rattle.power_index.proofs.HalfLemmas.{slotted_slots, slotted_distinct, slotted_weights, slotted_length, slotted_at, left_few, right_few}
 use Rattle.power_index.proofs.RowLemmas.{front_chairs, open_split, eta_open, front_before}
+use Rattle.half_sums.specs.declared.groups.TheConstants.{SLOTS}
+use Rattle.council_core.specs.declared.limits.TheConstants.{CHAIRS, SHEET_WORDS}
 
 -- a set of these weights wins
 abbrev enough : ℕ → ℕ → List ℕ → Bool
@@ -166,14 +168,14 @@ seated words i inside =
       | inl below ↦
           ap (λ c. c.0) (get_or_append_left (left_of words) (map shifted (right_of words)) none i (omega (arith, lefts)) ∙ slotted_at 0 (left_weights words) i none (omega (arith, lefts, slotted_length 0 (left_weights words))))
           ∙ (let number : 0 + i ≡ i = omega arith in number)
-          ∙ sym (ap (λ b. cond b i (16 + (i - h))) (lt-ltb i h below))
+          ∙ sym (ap (λ b. cond b i (SLOTS + (i - h))) (lt-ltb i h below))
       | inr above ↦
           ap (λ c. c.0)
           (get_or-append_right (left_of words) (map shifted (right_of words)) h i none lefts above
           ∙ get_or-map shifted (right_of words) (i - h) none none (omega (arith, rights, slotted_length 0 (right_weights words)))
           ∙ ap shifted (slotted_at 0 (right_weights words) (i - h) none (omega (arith, rights))))
-          ∙ (let number : 0 + (i - h) + 16 ≡ 16 + (i - h) = omega arith in number)
-          ∙ sym (ap (λ b. cond b i (16 + (i - h))) (le-ltb i h above))
+          ∙ (let number : 0 + (i - h) + SLOTS ≡ SLOTS + (i - h) = omega arith in number)
+          ∙ sym (ap (λ b. cond b i (SLOTS + (i - h))) (le-ltb i h above))
     ]
 
 -- what the law of two halves says, of the halves of a sheet
@@ -181,7 +183,7 @@ abbrev Meet : ℕ → ℕ → List ℕ → List Entry → List Entry → Type 0
 Meet quota least_size words from to = laws.CountsMeet quota least_size (left_of words) (right_of words) from to
 
 -- the swings that the counts give at a seat are those of its chair
-swings_place : (quota least_size : ℕ) (words : List ℕ) (from to : List Entry) (place : ℕ) → length words ≡ 34 → place < 32 → 0 < get_or words place 0 → Meet quota least_size words from to →
+swings_place : (quota least_size : ℕ) (words : List ℕ) (from to : List Entry) (place : ℕ) → length words ≡ SHEET_WORDS → place < CHAIRS → 0 < get_or words place 0 → Meet quota least_size words from to →
     swings_of (large_pairs quota least_size from to) (large_with quota least_size (seat_of words place) from to) ≡ eta_at (reaching quota least_size) words place
 swings_place quota least_size words from to place long within some law =
     let i : ℕ = length (front_chairs place words) in
@@ -192,7 +194,7 @@ swings_place quota least_size words from to place long within some law =
     ∙ law.swings (take i (board words)) (drop (suc i) (board words)) chair (split_at (board words) i none on_board)
     ∙ eta_weights quota least_size (board words) i (board_distinct words) on_board
     ∙ ap (eta_by quota least_size i) (board_weights words)
-    ∙ sym (eta_weights quota least_size (open_chairs words) i (numbers_distinct 1 (take 32 words)) inside)
+    ∙ sym (eta_weights quota least_size (open_chairs words) i (numbers_distinct 1 (take CHAIRS words)) inside)
     ∙ ap (λ c. eta_of (reaching quota least_size) c (open_chairs words)) (open_split words place none long within some)
     ∙ sym (eta_open (reaching quota least_size) words place some)
 

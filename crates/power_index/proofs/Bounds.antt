@@ -13,6 +13,7 @@ use Rattle.majority_rule.specs.Winning.{wins, rule_of}
 use Rattle.half_sums.proofs.SetSums.{sum_agree}
 use Rattle.swing_walk.proofs.Coalitions.{both_true}
 use Rattle.power_index.specs.Counts.{eta_at}
+use Rattle.council_core.specs.declared.limits.TheConstants.{CHAIRS}
 
 pub omega_bound : (wins : Rule) (chairs : List Chair) → omega_of wins chairs ≤ 2 ^ length chairs
 omega_bound wins chairs = omega (arith, count_by-le-length wins (subsets chairs), length-subsets chairs)
@@ -20,8 +21,8 @@ omega_bound wins chairs = omega (arith, count_by-le-length wins (subsets chairs)
 pub eta_bound : (wins : Rule) (chair : Chair) (chairs : List Chair) → eta_of wins chair chairs ≤ 2 ^ length chairs
 eta_bound wins chair chairs = omega (arith, count_by-le-length (λ s. not (has_chair chair.0 s) && (not (wins s) && wins (chair ∷ s))) (subsets chairs), length-subsets chairs)
 
-pub few_chairs : (words : List ℕ) → length (open_chairs words) ≤ 32
-few_chairs words = omega (arith, length-open 1 (take 32 words), length-take 32 words)
+pub few_chairs : (words : List ℕ) → length (open_chairs words) ≤ CHAIRS
+few_chairs words = omega (arith, length-open 1 (take CHAIRS words), length-take CHAIRS words)
 
 -- a quota and a least size that the winning weights and sizes reach
 abbrev pub IsQuota : ℕ → ℕ → Majority → List ℕ → Type 0

@@ -11,6 +11,8 @@ use Rattle.council_core.specs.Sheets.{Chair, open_from, open_chairs, weight_of, 
 use Rattle.council_core.proofs.OpenChairs.{open_from-cons, chair_of-open, chair_of, weight_of-open, numbers_within, numbers_distinct}
 use Rattle.power_index.proofs.Bounds.{few_chairs}
 use Rattle.power_index.specs.Halves.{weights, slotted, left_count, left_weights, right_weights}
+use Rattle.half_sums.specs.declared.groups.TheConstants.{SLOTS}
+use Rattle.council_core.specs.declared.limits.TheConstants.{CHAIRS, SHEET_WORDS}
 
 -- chairs at slots are the open chairs of words of one more
 abbrev more : List ℕ → List ℕ
@@ -23,10 +25,10 @@ slotted_is c (w ∷ ws) =
     let one : chair_of c (w + 1) ≡ (c, w) ∷ [] = chair_of-open c (w + 1) (λ e. absurd (omega arith)) ∙ ap (λ v. (c, v) ∷ []) back in
     sym (open_from-cons c (w + 1) (more ws) ∙ ap (λ l. l ++ open_from (c + 1) (more ws)) one ∙ ap (λ l. (c, w) ∷ l) (sym (slotted_is (c + 1) ws)))
 
-pub slotted_slots : (ws : List ℕ) → length ws ≤ 16 → All (λ chair. chair.0 < 16) (slotted 0 ws)
+pub slotted_slots : (ws : List ℕ) → length ws ≤ SLOTS → All (λ chair. chair.0 < SLOTS) (slotted 0 ws)
 slotted_slots ws few =
     rw (slotted_is 0 ws)
-    (All-weaker (λ (ch : Chair). (0 ≤ ch.0) × (ch.0 < 0 + length (more ws))) (λ ch. ch.0 < 16)
+    (All-weaker (λ (ch : Chair). (0 ≤ ch.0) × (ch.0 < 0 + length (more ws))) (λ ch. ch.0 < SLOTS)
     (λ ch h. omega (arith, h.1, length-map ws (λ w. w + 1))) (open_from 0 (more ws)) (numbers_within 0 (more ws)))
 
 pub slotted_distinct : (c : ℕ) (ws : List ℕ) → IsDistinct eqb (map (λ ch. ch.0) (slotted c ws))
@@ -65,7 +67,7 @@ slotted_at c (w ∷ ws) (suc i) d h =
 
 -- the weights add up to the votes cast
 pub weights_sum : (words : List ℕ) → sum_by (λ n. n) (weights words) ≡ cast_of words
-weights_sum words = sum_by-map (λ n. n) (λ (ch : Chair). ch.1) (open_chairs words) ∙ weight_of-open 1 (take 32 words)
+weights_sum words = sum_by-map (λ n. n) (λ (ch : Chair). ch.1) (open_chairs words) ∙ weight_of-open 1 (take CHAIRS words)
 
 pub left_small : (words : List ℕ) → IsSheet words → sum_by (λ n. n) (left_weights words) ≤ 2 ^ 48
 left_small words lawful =
@@ -89,19 +91,19 @@ one_later xs i f done same p below = elim (cases_eq p i) as (λ _. get_or xs p 0
   | inr n ↦ done p (let apart : p ≢ i = n in omega arith)
 ]
 
-pub left_few : (words : List ℕ) → length (left_weights words) ≤ 16
+pub left_few : (words : List ℕ) → length (left_weights words) ≤ SLOTS
 left_few words =
     let h : ℕ = left_count (length (open_chairs words)) in
     omega (arith, length-take h (weights words), length-map (open_chairs words) (λ ch. ch.1), few_chairs words)
 
-pub right_few : (words : List ℕ) → length (right_weights words) ≤ 16
+pub right_few : (words : List ℕ) → length (right_weights words) ≤ SLOTS
 right_few words =
     let h : ℕ = left_count (length (open_chairs words)) in
     omega (arith, length-drop h (weights words), length-map (open_chairs words) (λ ch. ch.1), few_chairs words)
 
-pub blank_lawful : IsSheet (replicate 34 0)
+pub blank_lawful : IsSheet (replicate SHEET_WORDS 0)
 blank_lawful = record {
-  chairs = λ k h. (let z : get_or (replicate 34 0) k 0 ≡ 0 = get_or-replicate 34 k 0 0 (omega arith) in subst (λ (n : ℕ). n ≤ 2 ^ 48 + 1) (sym z) (omega arith));
+  chairs = λ k h. (let z : get_or (replicate SHEET_WORDS 0) k 0 ≡ 0 = get_or-replicate SHEET_WORDS k 0 0 (omega arith) in subst (λ (n : ℕ). n ≤ 2 ^ 48 + 1) (sym z) (omega arith));
   cast = omega arith;
   total = omega arith;
   front = omega arith;

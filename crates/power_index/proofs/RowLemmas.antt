@@ -12,6 +12,7 @@ use Rattle.council_core.proofs.OpenChairs.{open_more, closed_more, open_from-app
 use Rattle.power_index.specs.Halves.{left_count, seat_of}
 use Rattle.power_index.specs.Counts.{eta_at}
 use Rattle.power_index.proofs.Bounds.{few_chairs}
+use Rattle.council_core.specs.declared.limits.TheConstants.{CHAIRS, SHEET_WORDS}
 
 -- the open chairs among the first places
 abbrev pub front_chairs : ℕ → List ℕ → List Chair
@@ -31,22 +32,22 @@ front_closed words i h shut = closed_more 1 words i h shut
 
 -- what stands behind a place
 abbrev behind : ℕ → List ℕ → List Chair
-behind i words = open_from (1 + length (take (i + 1) words)) (drop (i + 1) (take 32 words))
+behind i words = open_from (1 + length (take (i + 1) words)) (drop (i + 1) (take CHAIRS words))
 
 -- the open chairs before a place, its chair, and those behind it
-open_parts : (words : List ℕ) (i : ℕ) → length words ≡ 34 → i < 32 → 0 < get_or words i 0 → open_chairs words ≡ front_chairs i words ++ chair_at i words ∷ behind i words
+open_parts : (words : List ℕ) (i : ℕ) → length words ≡ SHEET_WORDS → i < CHAIRS → 0 < get_or words i 0 → open_chairs words ≡ front_chairs i words ++ chair_at i words ∷ behind i words
 open_parts words i long h some =
-    ap (open_from 1) (sym (take-append-drop (i + 1) (take 32 words)) ∙ ap (λ l. l ++ drop (i + 1) (take 32 words)) (take-take (i + 1) 32 words (omega arith)))
-    ∙ open_from-append 1 (take (i + 1) words) (drop (i + 1) (take 32 words))
+    ap (open_from 1) (sym (take-append-drop (i + 1) (take CHAIRS words)) ∙ ap (λ l. l ++ drop (i + 1) (take CHAIRS words)) (take-take (i + 1) CHAIRS words (omega arith)))
+    ∙ open_from-append 1 (take (i + 1) words) (drop (i + 1) (take CHAIRS words))
     ∙ ap (λ l. l ++ behind i words) (front_open words i (omega arith) some)
     ∙ append_assoc (front_chairs i words) (chair_at i words ∷ []) (behind i words)
 
 -- an open chair is one more among all
-pub front_before : (words : List ℕ) (i : ℕ) → length words ≡ 34 → i < 32 → 0 < get_or words i 0 → length (front_chairs i words) < length (open_chairs words)
+pub front_before : (words : List ℕ) (i : ℕ) → length words ≡ SHEET_WORDS → i < CHAIRS → 0 < get_or words i 0 → length (front_chairs i words) < length (open_chairs words)
 front_before words i long h some =
     omega (arith, ap length (open_parts words i long h some), length-append (front_chairs i words) (chair_at i words ∷ behind i words))
 
-pub open_split : (words : List ℕ) (i : ℕ) (d : Chair) → length words ≡ 34 → i < 32 → 0 < get_or words i 0 → get_or (open_chairs words) (length (front_chairs i words)) d ≡ chair_at i words
+pub open_split : (words : List ℕ) (i : ℕ) (d : Chair) → length words ≡ SHEET_WORDS → i < CHAIRS → 0 < get_or words i 0 → get_or (open_chairs words) (length (front_chairs i words)) d ≡ chair_at i words
 open_split words i d long h some =
     ap (λ l. get_or l (length (front_chairs i words)) d) (open_parts words i long h some)
     ∙ get_or-append_seam (front_chairs i words) (chair_at i words) (behind i words) d
@@ -61,17 +62,17 @@ map_open f words i h some = ap (map f) (front_open words i h some) ∙ map-appen
 pub eta_open : (wins : Rule) (words : List ℕ) (i : ℕ) → 0 < get_or words i 0 → eta_at wins words i ≡ eta_of wins (chair_at i words) (open_chairs words)
 eta_open wins words i some = ap (λ b. cond b 0 (eta_of wins (chair_at i words) (open_chairs words))) (ne_eqb (get_or words i 0) 0 (λ e. absurd (omega arith)))
 
-pub set_count_few : (n : ℕ) → n ≤ 32 → 2 ^ n ≤ 2 ^ 32
+pub set_count_few : (n : ℕ) → n ≤ CHAIRS → 2 ^ n ≤ 2 ^ 32
 set_count_few n h = pow-le-pow_right (omega arith) h
 
 -- a seat is one of the 32
-pub seat_below : (words : List ℕ) (place : ℕ) → length words ≡ 34 → place < 32 → 0 < get_or words place 0 → seat_of words place < 32
+pub seat_below : (words : List ℕ) (place : ℕ) → length words ≡ SHEET_WORDS → place < CHAIRS → 0 < get_or words place 0 → seat_of words place < CHAIRS
 seat_below words place long h some =
     let n : ℕ = length (open_chairs words) in
     let i : ℕ = length (front_chairs place words) in
     let inside : i < n = front_before words place long h some in
-    let few : n ≤ 32 = few_chairs words in
-    elim (cases_lt i (left_count n)) as (λ _. seat_of words place < 32) [
+    let few : n ≤ CHAIRS = few_chairs words in
+    elim (cases_lt i (left_count n)) as (λ _. seat_of words place < CHAIRS) [
       | inl below ↦ rw (lt-ltb i (left_count n) below) (omega arith)
       | inr above ↦ rw (le-ltb i (left_count n) above) (omega arith)
     ]

@@ -14,11 +14,12 @@ use Rattle.power_index.specs.declared.rows.SwingTally.{SwingTally}
 use Rattle.power_index.proofs.BoardLaw.{evaluation_law}
 use Rattle.power_index.proofs.Bounds.{eta_bound, few_chairs, omega_bound}
 use Rattle.power_index.proofs.RowLemmas.{chair_at, eta_open, set_count_few, seat_below}
+use Rattle.council_core.specs.declared.limits.TheConstants.{CHAIRS, SHEET_WORDS}
 
-pub swings_open : (words : List ℕ) (tally : SwingTally) (i : ℕ) → IsSwingTally words tally → i < 32 → 0 < get_or words i 0 → get_or tally.swings i 0 ≡ eta_of (rule_of tally.majority words) (chair_at i words) (open_chairs words)
+pub swings_open : (words : List ℕ) (tally : SwingTally) (i : ℕ) → IsSwingTally words tally → i < CHAIRS → 0 < get_or words i 0 → get_or tally.swings i 0 ≡ eta_of (rule_of tally.majority words) (chair_at i words) (open_chairs words)
 swings_open words tally i is h some = is.each i h ∙ eta_open (rule_of tally.majority words) words i some
 
-pub swings_small : (words : List ℕ) (tally : SwingTally) (i : ℕ) → IsSwingTally words tally → i < 32 → 0 < get_or words i 0 → get_or tally.swings i 0 ≤ 2 ^ 32
+pub swings_small : (words : List ℕ) (tally : SwingTally) (i : ℕ) → IsSwingTally words tally → i < CHAIRS → 0 < get_or words i 0 → get_or tally.swings i 0 ≤ 2 ^ 32
 swings_small words tally i is h some =
     omega (arith, swings_open words tally i is h some, eta_bound (rule_of tally.majority words) (chair_at i words) (open_chairs words), set_count_few (length (open_chairs words)) (few_chairs words))
 
@@ -27,7 +28,7 @@ winning_part words tally n is count =
     subst (λ (m : ℕ). tally.winning ≤ 2 ^ m) (sym count) (omega (arith, is.omega, omega_bound (rule_of tally.majority words) (open_chairs words)))
 
 -- the numbers of a row by the tally are those of the chair
-pub row_agree : (words : List ℕ) (tally : SwingTally) (n etas i : ℕ) → IsSwingTally words tally → n ≡ length (open_chairs words) → etas ≡ swings_among (rule_of tally.majority words) (open_chairs words) (open_chairs words) → i < 32 → 0 < get_or words i 0 →
+pub row_agree : (words : List ℕ) (tally : SwingTally) (n etas i : ℕ) → IsSwingTally words tally → n ≡ length (open_chairs words) → etas ≡ swings_among (rule_of tally.majority words) (open_chairs words) (open_chairs words) → i < CHAIRS → 0 < get_or words i 0 →
     let rule = rule_of tally.majority words in let board = open_chairs words in power_of n tally.winning etas (get_or tally.swings i 0) (chair_at i words) ≡ power_of (length board) (omega_of rule board) (swings_among rule board board) (eta_of rule (chair_at i words) board) (chair_at i words)
 row_agree words tally n etas i is count sum h some =
     let rule : Rule = rule_of tally.majority words in
@@ -40,7 +41,7 @@ row_agree words tally n etas i is count sum h some =
     ∙ ap (λ x. power_of (length board) (omega_of rule board) (swings_among rule board board) x ch) (swings_open words tally i is h some)
 
 pub are_counts : (quota least_size : ℕ) (words : List ℕ) (from to : List Entry) (winning : ℕ) (with_chair : ℕ → ℕ) → AreHalves words from to →
-    winning ≡ large_pairs quota least_size from to → ((place : ℕ) → place < 32 → with_chair place ≡ large_with quota least_size place from to) → AreCounts quota least_size words winning with_chair
+    winning ≡ large_pairs quota least_size from to → ((place : ℕ) → place < CHAIRS → with_chair place ≡ large_with quota least_size place from to) → AreCounts quota least_size words winning with_chair
 are_counts quota least_size words from to winning with_chair halves w each =
     let law : AreCounts quota least_size words (large_pairs quota least_size from to) (λ place. large_with quota least_size place from to) = evaluation_law quota least_size words from to halves in
     record {
@@ -52,8 +53,8 @@ are_counts quota least_size words from to winning with_chair halves w each =
     }
 
 -- the swings by seat, put at the places of their chairs
-pub each_swings : (quota least_size : ℕ) (words : List ℕ) (winning : ℕ) (with_chair seated : List ℕ) (place : ℕ) → length words ≡ 34 → place < 32 → AreCounts quota least_size words winning (λ seat. get_or with_chair seat 0) →
-    ((seat : ℕ) → seat < 32 → get_or seated seat 0 ≡ swings_of winning (get_or with_chair seat 0)) →
+pub each_swings : (quota least_size : ℕ) (words : List ℕ) (winning : ℕ) (with_chair seated : List ℕ) (place : ℕ) → length words ≡ SHEET_WORDS → place < CHAIRS → AreCounts quota least_size words winning (λ seat. get_or with_chair seat 0) →
+    ((seat : ℕ) → seat < CHAIRS → get_or seated seat 0 ≡ swings_of winning (get_or with_chair seat 0)) →
     cond (eqb (get_or words place 0) 0) 0 (get_or seated (seat_of words place) 0) ≡ eta_at (reaching quota least_size) words place
 each_swings quota least_size words winning with_chair seated place long h counts each =
     let eta : ℕ = eta_of (reaching quota least_size) (chair_at place words) (open_chairs words) in

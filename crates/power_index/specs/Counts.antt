@@ -6,6 +6,7 @@ use Rattle.council_core.specs.Coalitions.{Rule, omega_of, eta_of, reaching}
 use Rattle.half_sums.specs.declared.entry.Entry.{Entry}
 use Rattle.swing_walk.specs.Pairs.{large_pairs, large_with, swings_of}
 use Rattle.power_index.specs.Halves.{AreHalves, seat_of}
+use Rattle.council_core.specs.declared.limits.TheConstants.{CHAIRS}
 
 -- the swings of the chair of a place, 0 where it is closed
 abbrev pub eta_at : Rule → List ℕ → ℕ → ℕ
@@ -19,9 +20,9 @@ pub record AreCounts (quota least_size : ℕ) (words : List ℕ) (winning : ℕ)
     : Type 0 where
   pub omega : winning ≡ omega_of (reaching quota least_size) (open_chairs words)
   pub few : winning ≤ 2 ^ 32
-  pub within : (place : ℕ) → place < 32 → with_chair place ≤ winning
-  pub half : (place : ℕ) → place < 32 → 0 < with_chair place → winning ≤ 2 * with_chair place
-  pub swings : (place : ℕ) → place < 32 → 0 < slice_index words place
+  pub within : (place : ℕ) → place < CHAIRS → with_chair place ≤ winning
+  pub half : (place : ℕ) → place < CHAIRS → 0 < with_chair place → winning ≤ 2 * with_chair place
+  pub swings : (place : ℕ) → place < CHAIRS → 0 < slice_index words place
       → swings_of winning (with_chair (seat_of words place)) ≡ eta_at (reaching quota least_size) words place
 
 -- the pairs of the entries of the two halves count the coalitions of the sheet

@@ -6,6 +6,8 @@ use Rattle.std.specs.Cmp.Lexicographic.{pointwise}
 use Rattle.council_core.specs.Sheets.{Chair, open_from, open_chairs}
 use Rattle.half_sums.specs.declared.entry.Entry.{Entry}
 use Rattle.half_sums.specs.Entries.{AreSubsets}
+use Rattle.half_sums.specs.declared.groups.TheConstants.{SLOTS}
+use Rattle.council_core.specs.declared.limits.TheConstants.{SHEET_WORDS}
 
 -- the weights of the open chairs, by number
 abbrev pub weights : List ℕ → List ℕ
@@ -28,14 +30,14 @@ slotted slot (weight ∷ rest) = (slot, weight) ∷ slotted (slot + 1) rest
 
 -- two lists of entries are those of the two halves of a sheet
 pub record AreHalves (words : List ℕ) (left right : List Entry) : Type 0 where
-  pub long : length words ≡ 34
+  pub long : length words ≡ SHEET_WORDS
   pub left_half : AreSubsets (slotted 0 (left_weights words)) left
   pub right_half : AreSubsets (slotted 0 (right_weights words)) right
 
 -- where an open chair stands with so many open chairs before it and so many on the left: its slot on the left, or 16
 -- and its slot on the right
 abbrev pub seat : ℕ → ℕ → ℕ
-seat on_left before = if nat_lt before on_left then before else 16 + (before - on_left)
+seat on_left before = if nat_lt before on_left then before else SLOTS + (before - on_left)
 
 -- where the open chair of a place of a sheet stands
 abbrev pub seat_of : List ℕ → ℕ → ℕ
@@ -43,7 +45,7 @@ seat_of words place = seat (left_count (length (open_chairs words))) (length (op
 
 -- the sixteen words of the chairs from a place on
 abbrev pub half_words : ℕ → List ℕ → List ℕ
-half_words from words = take 16 (drop from words)
+half_words from words = take SLOTS (drop from words)
 
 -- whether the sixteen chairs from a place on have the same words on two sheets
 abbrev pub same_half : ℕ → List ℕ → List ℕ → Bool
@@ -54,4 +56,4 @@ one_if b = if b then 1 else 0
 
 -- in how many of chairs 1 to 16 and chairs 17 to 32 two sheets differ
 abbrev pub changed_halves : List ℕ → List ℕ → ℕ
-changed_halves old new = one_if (not (same_half 0 old new)) + one_if (not (same_half 16 old new))
+changed_halves old new = one_if (not (same_half 0 old new)) + one_if (not (same_half SLOTS old new))

@@ -5,18 +5,12 @@
 //! 1974), so that 32 chairs cost two lists of 65,536 sums in place of 2^32 coalitions, and 24 chairs two of 4,096.
 #![tactic(auto)]
 
-ghost use Rattle.power_index.specs.Counts.{EvaluationLaw};
-
 mod evaluator;
 mod halves;
 mod indices;
+mod laws;
 mod rows;
 
 pub use evaluator::Evaluator;
 pub use indices::{ChairPower, Fraction, Indices};
-
-/// The law on which an evaluation stands: pairs of sets of the two halves of a sheet are the coalitions of its open
-/// chairs, each once. So their counts give omega and the swings of every place, and meet what `swings` asks for.
-pub fn evaluation_law()
-    ensures counts { EvaluationLaw }
-{}
+pub use laws::evaluation_law;

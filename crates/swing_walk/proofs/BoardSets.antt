@@ -22,6 +22,8 @@ use Rattle.swing_walk.specs.Laws.{board_of, CoalitionLaw, AreHalf, TwoHalvesLaw,
 use Rattle.swing_walk.proofs.Counting.{count_none, pairs_bound}
 use Rattle.swing_walk.proofs.Coalitions.{swing_law, count_law, bound_law, reaching_rule}
 use Rattle.swing_walk.proofs.PairLaws.{shifted, none_below, as_slot, pair_law}
+use Rattle.half_sums.specs.declared.groups.TheConstants.{SLOTS}
+use Rattle.half_sums.specs.declared.lists.TheConstants.{ROOM}
 
 flat_map_agree : {X Y : Type 0} (f g : X → List Y) (xs : List X) → ((x : X) → f x ≡ g x) → flat_map f xs ≡ flat_map g xs
 flat_map_agree f g [] same = refl
@@ -75,16 +77,16 @@ tail_of chair chairs distinct = IsDistinct-tail eqb chair.0 (map (λ c. c.0) cha
 shifted_distinct : (chairs : List Chair) → IsDistinct eqb (map (λ c. c.0) chairs) → IsDistinct eqb (map (λ c. c.0) (map shifted chairs))
 shifted_distinct [] distinct = distinct
 shifted_distinct (chair ∷ chairs) distinct =
-    let back : chair.0 + 16 - 16 ≡ chair.0 = omega arith in
-    let absent : has_chair (chair.0 + 16) (map shifted chairs) ≡ false =
-    as_slot (chair.0 + 16) chairs (omega arith) ∙ ap (λ k. has_chair k chairs) back ∙ first_apart chair chairs distinct in
+    let back : chair.0 + SLOTS - SLOTS ≡ chair.0 = omega arith in
+    let absent : has_chair (chair.0 + SLOTS) (map shifted chairs) ≡ false =
+    as_slot (chair.0 + SLOTS) chairs (omega arith) ∙ ap (λ k. has_chair k chairs) back ∙ first_apart chair chairs distinct in
     distinct_more (shifted chair) (map shifted chairs) absent (shifted_distinct chairs (tail_of chair chairs distinct))
 
 -- the places of a board are distinct
-pub board_distinct : (left right : List Chair) → All (λ c. c.0 < 16) left → IsDistinct eqb (map (λ c. c.0) left) → IsDistinct eqb (map (λ c. c.0) right) → IsDistinct eqb (map (λ c. c.0) (board_of left right))
+pub board_distinct : (left right : List Chair) → All (λ c. c.0 < SLOTS) left → IsDistinct eqb (map (λ c. c.0) left) → IsDistinct eqb (map (λ c. c.0) right) → IsDistinct eqb (map (λ c. c.0) (board_of left right))
 board_distinct [] right slots distinct_left distinct_right = shifted_distinct right distinct_right
 board_distinct (chair ∷ left) right slots distinct_left distinct_right =
-    let P : Chair → Type 0 = λ c. c.0 < 16 in
+    let P : Chair → Type 0 = λ c. c.0 < SLOTS in
     let absent : has_chair chair.0 (left ++ map shifted right) ≡ false =
     list_any-append (λ c. eqb c.0 chair.0) left (map shifted right) ∙ or_from _ _ (first_apart chair left distinct_left) (none_below chair.0 right (All-head P chair left slots)) in
     distinct_more chair (board_of left right) absent (board_distinct left right (All-tail P chair left slots) (tail_of chair left distinct_left) distinct_right)
@@ -135,9 +137,9 @@ half_or_none : (quota least_size place : ℕ) (chairs : List Chair) (b : Bool) �
 half_or_none quota least_size place chairs true there distinct some = half_at_least quota least_size place chairs distinct there
 half_or_none quota least_size place chairs false absent distinct some = absurd (omega (arith, some, omega_with-absent quota least_size place chairs absent))
 
-entries_few : (chairs : List Chair) (es : List Entry) → AreHalf chairs → AreSubsets chairs es → length es ≤ 65536
+entries_few : (chairs : List Chair) (es : List Entry) → AreHalf chairs → AreSubsets chairs es → length es ≤ ROOM
 entries_few chairs es half are =
-    let bound : 2 ^ length chairs ≤ 2 ^ 16 = pow-le-pow_right (omega arith) (few chairs half.slots half.distinct) in
+    let bound : 2 ^ length chairs ≤ 2 ^ SLOTS = pow-le-pow_right (omega arith) (few chairs half.slots half.distinct) in
     omega (arith, length_of_half chairs es are, bound)
 
 pub two_halves_law : TwoHalvesLaw
@@ -145,7 +147,7 @@ two_halves_law quota least_size left right from to half_left half_right are_left
     let board : List Chair = board_of left right in
     let p : PairsAreCoalitions quota least_size left right from to = pair_law quota least_size left right from to half_left half_right are_left are_right in
     let distinct : IsDistinct eqb (map (λ (c : Chair). c.0) board) = board_distinct left right half_left.slots half_left.distinct half_right.distinct in
-    let area : length from * length to ≤ 65536 * 65536 = mul-le-mul (entries_few left from half_left are_left) (entries_few right to half_right are_right) in
+    let area : length from * length to ≤ ROOM * ROOM = mul-le-mul (entries_few left from half_left are_left) (entries_few right to half_right are_right) in
     let as_omega : (place : ℕ) → swings_of (large_pairs quota least_size from to) (large_with quota least_size place from to) ≡ swings_of (omega_of (reaching quota least_size) board) (omega_with (reaching quota least_size) place board) =
     λ place. ap (λ n. swings_of n (large_with quota least_size place from to)) p.winning ∙ ap (swings_of (omega_of (reaching quota least_size) board)) (p.with_chair place) in
     record {

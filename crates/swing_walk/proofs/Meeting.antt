@@ -153,10 +153,6 @@ pub cond_most : (t : Bool) (m n most : ℕ) → m ≤ most → n ≤ most → co
 cond_most true m n most first second = first
 cond_most false m n most first second = second
 
-pub one_of : (t : Bool) → cond (not t) 1 0 + cond t 1 0 ≡ 1
-one_of true = refl
-one_of false = refl
-
 -- a step: which entry is passed, and what the tallies of the two lists have then
 pub record Pass (quota up rest p q : ℕ) (rising falling : List Entry) (low high : Entry) (old new : List MaskTally) (falls : Bool) : Type 0 where
   pub at : At quota up rest rising falling

@@ -18,9 +18,10 @@ use Rattle.swing_walk.specs.Laws.{board_of, PairLaw}
 use Rattle.half_sums.proofs.SetSums.{sum_by-map, sum_agree, sum_agree_on, over, over-cons, subsets_avoid}
 use Rattle.half_sums.proofs.MaskLemmas.{mask_has, sets_sized}
 use Rattle.swing_walk.proofs.Coalitions.{over-append}
+use Rattle.half_sums.specs.declared.groups.TheConstants.{SLOTS}
 
 abbrev pub shifted : ℕ × ℕ → ℕ × ℕ
-shifted chair = (chair.0 + 16, chair.1)
+shifted chair = (chair.0 + SLOTS, chair.1)
 
 pub over-map : {X Y : Type 0} (f : List Y → ℕ) (h : X → Y) (xs : List X) → over f (map h xs) ≡ over (λ s. f (map h s)) xs
 over-map f h [] = refl
@@ -52,41 +53,41 @@ and_turned true false c d p q = cc
 and_turned true true c d p q = cc
 
 -- a right chair stands at a place from 16 on
-pub none_below : (place : ℕ) (b : List (ℕ × ℕ)) → place < 16 → has_chair place (map shifted b) ≡ false
+pub none_below : (place : ℕ) (b : List (ℕ × ℕ)) → place < SLOTS → has_chair place (map shifted b) ≡ false
 none_below place [] h = refl
 none_below place (c ∷ b) h =
-    let apart : eqb (c.0 + 16) place ≡ false = ne_eqb (c.0 + 16) place (λ e. absurd (omega arith)) in
+    let apart : eqb (c.0 + SLOTS) place ≡ false = ne_eqb (c.0 + SLOTS) place (λ e. absurd (omega arith)) in
     ap (λ t. t || has_chair place (map shifted b)) apart ∙ none_below place b h
 
-same_slot : (slot place : ℕ) → 16 ≤ place → eqb (slot + 16) place ≡ eqb slot (place - 16)
-same_slot slot place h = elim (cases_eq slot (place - 16)) as (λ _. eqb (slot + 16) place ≡ eqb slot (place - 16)) [
-  | inl same ↦ eq-eqb (slot + 16) place (omega arith) ∙ sym (eq-eqb slot (place - 16) same)
-  | inr other ↦ ne_eqb (slot + 16) place (λ e. other (omega arith)) ∙ sym (ne_eqb slot (place - 16) other)
+same_slot : (slot place : ℕ) → SLOTS ≤ place → eqb (slot + SLOTS) place ≡ eqb slot (place - SLOTS)
+same_slot slot place h = elim (cases_eq slot (place - SLOTS)) as (λ _. eqb (slot + SLOTS) place ≡ eqb slot (place - SLOTS)) [
+  | inl same ↦ eq-eqb (slot + SLOTS) place (omega arith) ∙ sym (eq-eqb slot (place - SLOTS) same)
+  | inr other ↦ ne_eqb (slot + SLOTS) place (λ e. other (omega arith)) ∙ sym (ne_eqb slot (place - SLOTS) other)
 ]
 
-pub as_slot : (place : ℕ) (b : List (ℕ × ℕ)) → 16 ≤ place → has_chair place (map shifted b) ≡ has_chair (place - 16) b
+pub as_slot : (place : ℕ) (b : List (ℕ × ℕ)) → SLOTS ≤ place → has_chair place (map shifted b) ≡ has_chair (place - SLOTS) b
 as_slot place [] h = refl
 as_slot place (c ∷ b) h =
-    let here : eqb (c.0 + 16) place ≡ eqb c.0 (place - 16) = same_slot c.0 place h in
+    let here : eqb (c.0 + SLOTS) place ≡ eqb c.0 (place - SLOTS) = same_slot c.0 place h in
     cc (here, as_slot place b h)
 
 -- the chair of a place in a pair of sets
-has_both : (place : ℕ) (a b : List (ℕ × ℕ)) → (16 ≤ place → has_chair place a ≡ false) → has_place place (entry_of a) (entry_of b) ≡ has_chair place (a ++ map shifted b)
-has_both place a b low = elim (cases_lt place 16) as (λ _. has_place place (entry_of a) (entry_of b) ≡ has_chair place (a ++ map shifted b)) [
+has_both : (place : ℕ) (a b : List (ℕ × ℕ)) → (SLOTS ≤ place → has_chair place a ≡ false) → has_place place (entry_of a) (entry_of b) ≡ has_chair place (a ++ map shifted b)
+has_both place a b low = elim (cases_lt place SLOTS) as (λ _. has_place place (entry_of a) (entry_of b) ≡ has_chair place (a ++ map shifted b)) [
   | inl below ↦
-      ap (λ t. cond t (has place (entry_of a)) (has (place - 16) (entry_of b))) (lt-ltb place 16 below)
+      ap (λ t. cond t (has place (entry_of a)) (has (place - SLOTS) (entry_of b))) (lt-ltb place SLOTS below)
       ∙ mask_has place a
       ∙ sym (list_any-append (λ c. eqb c.0 place) a (map shifted b) ∙ or_none (has_chair place a) (has_chair place (map shifted b)) (none_below place b below))
   | inr above ↦
-      ap (λ t. cond t (has place (entry_of a)) (has (place - 16) (entry_of b))) (le-ltb place 16 above)
-      ∙ mask_has (place - 16) b
+      ap (λ t. cond t (has place (entry_of a)) (has (place - SLOTS) (entry_of b))) (le-ltb place SLOTS above)
+      ∙ mask_has (place - SLOTS) b
       ∙ sym (as_slot place b above)
       ∙ sym (list_any-append (λ c. eqb c.0 place) a (map shifted b) ∙ ap (λ t. t || has_chair place (map shifted b)) (low above))
 ]
 
-absent_left : (place : ℕ) (left : List (ℕ × ℕ)) → All (λ c. c.0 < 16) left → 16 ≤ place → has_chair place left ≡ false
+absent_left : (place : ℕ) (left : List (ℕ × ℕ)) → All (λ c. c.0 < SLOTS) left → SLOTS ≤ place → has_chair place left ≡ false
 absent_left place left slots h =
-    list_any_none (λ c. eqb c.0 place) left (All-weaker (λ (c : ℕ × ℕ). c.0 < 16) (λ c. eqb c.0 place ≡ false) (λ c u. ne_eqb c.0 place (λ e. absurd (omega arith))) left slots)
+    list_any_none (λ c. eqb c.0 place) left (All-weaker (λ (c : ℕ × ℕ). c.0 < SLOTS) (λ c. eqb c.0 place ≡ false) (λ c u. ne_eqb c.0 place (λ e. absurd (omega arith))) left slots)
 
 -- a pair of sets has as many chairs as their masks have bits
 sizes_both : (a b : List (ℕ × ℕ)) → size_of (entry_of a) ≡ length a → size_of (entry_of b) ≡ length b → length (a ++ map shifted b) ≡ size_of (entry_of a) + size_of (entry_of b)
@@ -120,7 +121,7 @@ pair_law quota least_size left right from to half_left half_right are_left are_r
           ∙ sym (board_over (λ s. cond (reaching quota least_size s) 1 0) left right);
       with_chair = λ place.
           (let g : C → ℕ = λ s. cond (has_chair place s && reaching quota least_size s) 1 0 in
-          let low : C → Type 0 = λ s. sized s × (16 ≤ place → has_chair place s ≡ false) in
+          let low : C → Type 0 = λ s. sized s × (SLOTS ≤ place → has_chair place s ≡ false) in
           let low_left : All low (subsets left) = λ k d h. (sized_left k d h, λ t. subsets_avoid (λ (c : ℕ × ℕ). eqb c.0 place) left (absent_left place left half_left.slots t) k d h) in
           pairs_over (λ l r. (reaches quota l r && is_large least_size l r) && has_place place l r) left right from to are_left are_right
           ∙ pairs_agree (λ a b. cond ((reaches quota (entry_of a) (entry_of b) && is_large least_size (entry_of a) (entry_of b)) && has_place place (entry_of a) (entry_of b)) 1 0) (λ a b. g (a ++ map shifted b)) low sized left right

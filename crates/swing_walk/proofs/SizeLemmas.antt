@@ -8,6 +8,8 @@ use Rattle.half_sums.specs.declared.entry.Entry.{Entry}
 use Rattle.half_sums.specs.Groups.{size_of}
 use Rattle.swing_walk.specs.Sizes.{at_least, one_at}
 use Rattle.half_sums.specs.Entries.{zero_entry}
+use Rattle.half_sums.specs.declared.groups.TheConstants.{SIZES, SLOTS}
+use Rattle.half_sums.specs.declared.lists.TheConstants.{ROOM}
 
 -- so many ones, and then so many noughts
 abbrev pub steps : ℕ → ℕ → List ℕ
@@ -31,19 +33,19 @@ noughts_at (suc n) m zero h = absurd (omega arith)
 noughts_at (suc n) m (suc k) h = noughts_at n m k (omega arith)
 
 -- the steps of a set of so many chairs
-own_step : (chairs size : ℕ) → chairs ≤ 16 → size < 17 → get_or (take (16 - chairs + 17 - (16 - chairs)) (drop (16 - chairs) (steps 17 16))) size 0 ≡ cond (nat_le size chairs) 1 0
+own_step : (chairs size : ℕ) → chairs ≤ SLOTS → size < SIZES → get_or (take (SLOTS - chairs + SIZES - (SLOTS - chairs)) (drop (SLOTS - chairs) (steps SIZES SLOTS))) size 0 ≡ cond (nat_le size chairs) 1 0
 own_step chairs size few within =
-    get_or-take (16 - chairs + 17 - (16 - chairs)) (drop (16 - chairs) (steps 17 16)) size 0 (omega arith)
-    ∙ get_or-drop (16 - chairs) (steps 17 16) size 0
+    get_or-take (SLOTS - chairs + SIZES - (SLOTS - chairs)) (drop (SLOTS - chairs) (steps SIZES SLOTS)) size 0 (omega arith)
+    ∙ get_or-drop (SLOTS - chairs) (steps SIZES SLOTS) size 0
     ∙ elim (cases_lt chairs size) [
-      | inl above ↦ noughts_at 17 16 (16 - chairs + size) (omega arith) ∙ ap (λ b. cond b 1 0) (sym (lt-leb size chairs above))
-      | inr own ↦ ones_at 17 16 (16 - chairs + size) (omega arith) ∙ ap (λ b. cond b 1 0) (sym (le-leb size chairs own))
+      | inl above ↦ noughts_at SIZES SLOTS (SLOTS - chairs + size) (omega arith) ∙ ap (λ b. cond b 1 0) (sym (lt-leb size chairs above))
+      | inr own ↦ ones_at SIZES SLOTS (SLOTS - chairs + size) (omega arith) ∙ ap (λ b. cond b 1 0) (sym (le-leb size chairs own))
     ]
 
-pub own_steps : (chairs size : ℕ) → chairs ≤ 16 → get_or (take (16 - chairs + 17 - (16 - chairs)) (drop (16 - chairs) (steps 17 16))) size 0 ≡ cond (nat_le size chairs) 1 0
-own_steps chairs size few = elim (cases_lt size 17) [
+pub own_steps : (chairs size : ℕ) → chairs ≤ SLOTS → get_or (take (SLOTS - chairs + SIZES - (SLOTS - chairs)) (drop (SLOTS - chairs) (steps SIZES SLOTS))) size 0 ≡ cond (nat_le size chairs) 1 0
+own_steps chairs size few = elim (cases_lt size SIZES) [
   | inl within ↦ own_step chairs size few within
-  | inr past ↦ get_or_past (take (16 - chairs + 17 - (16 - chairs)) (drop (16 - chairs) (steps 17 16))) size 0 (omega (arith, length-take (16 - chairs + 17 - (16 - chairs)) (drop (16 - chairs) (steps 17 16))))
+  | inr past ↦ get_or_past (take (SLOTS - chairs + SIZES - (SLOTS - chairs)) (drop (SLOTS - chairs) (steps SIZES SLOTS))) size 0 (omega (arith, length-take (SLOTS - chairs + SIZES - (SLOTS - chairs)) (drop (SLOTS - chairs) (steps SIZES SLOTS))))
       ∙ ap (λ b. cond b 1 0) (sym (lt-leb size chairs (omega arith)))
 ]
 
@@ -59,5 +61,5 @@ tally_back size at entries some within =
     let one : at - 1 + 1 ≡ at = omega arith in
     rw one at (tally_front size (at - 1) entries (omega arith))
 
-pub few_tallied : (entries : List Entry) (at size : ℕ) → length entries ≤ 65536 → at_least size (drop at entries) ≤ 65536
+pub few_tallied : (entries : List Entry) (at size : ℕ) → length entries ≤ ROOM → at_least size (drop at entries) ≤ ROOM
 few_tallied entries at size few = omega (arith, count_by-le-length (λ (e : Entry). nat_le size (size_of e)) (drop at entries), length-drop at entries)

@@ -14,6 +14,7 @@ use Rattle.swing_walk.specs.Walks.{NoneReach}
 use Rattle.swing_walk.proofs.Counting.{Splits, count_none, count_agree, pairs_room}
 use Rattle.half_sums.proofs.Merging.{sum_default}
 use Rattle.half_sums.proofs.SetSums.{sum_agree}
+use Rattle.half_sums.specs.declared.lists.TheConstants.{ROOM}
 
 -- the left list splits at the next entry, as seen from the right entry that begins to reach with it
 pub left_splits : (quota next at : ℕ) (left right : List Entry) → IsNonDecreasingBy (λ e. e.sum) left → next < length left → 0 < at → NoneReach quota next at left right →
@@ -79,21 +80,8 @@ falls_short quota at left right within apart k m d e inside below =
 pub turned : (quota : ℕ) (a b : Entry) → reaches quota b a ≡ reaches quota a b
 turned quota a b = let swap : b.sum + a.sum ≡ a.sum + b.sum = omega arith in ap (λ n. nat_le quota n) swap
 
-pub right_total : (quota at : ℕ) (left right : List Entry) → at ≤ length right → NoneReach quota (length left) at left right → pairs_where (λ b a. reaches quota b a) (drop at right) left ≡ winning_pairs quota left right
-right_total quota at left right within apart =
-    pairs_above (λ b a. reaches quota b a) left right at within (falls_short quota at left right within apart)
-    ∙ pairs_swap (λ b a. reaches quota b a) right left
-    ∙ pairs_agree (λ a b. reaches quota b a) (reaches quota) left right (turned quota)
-
-pub right_marked : (quota at slot : ℕ) (left right : List Entry) → at ≤ length right → NoneReach quota (length left) at left right →
-    pairs_where (λ b a. reaches quota b a && has slot b) (drop at right) left ≡ pairs_where (λ a b. reaches quota a b && has slot b) left right
-right_marked quota at slot left right within apart =
-    pairs_above (λ b a. reaches quota b a && has slot b) left right at within (λ k m d e inside below. ap (λ t. t && has slot (get_or right m e)) (falls_short quota at left right within apart k m d e inside below))
-    ∙ pairs_swap (λ b a. reaches quota b a && has slot b) right left
-    ∙ pairs_agree (λ a b. reaches quota b a && has slot b) (λ a b. reaches quota a b && has slot b) left right (λ a b. ap (λ t. t && has slot b) (turned quota a b))
-
 -- what the right entries from a place on can come to
-pub back_room : (test : Entry → Entry → Bool) (left right : List Entry) (at : ℕ) → length left ≤ 65536 → length right ≤ 65536 → pairs_where test (drop at right) left ≤ 2 ^ 32
+pub back_room : (test : Entry → Entry → Bool) (left right : List Entry) (at : ℕ) → length left ≤ ROOM → length right ≤ ROOM → pairs_where test (drop at right) left ≤ 2 ^ 32
 back_room test left right at few_left few_right =
     let whole : pairs_where test (take (length right) right) left ≡ pairs_where test right left = ap (λ xs. pairs_where test xs left) (take_all (length right) right (omega arith)) in
     omega (arith, pairs_room test right left (length right) few_right few_left, sum_by-take-drop (λ b. count_by (test b) left) right at, whole)

@@ -7,6 +7,7 @@ use Rattle.council_core.specs.Coalitions.{Rule, subsets, has_chair, omega_of, om
 use Rattle.half_sums.specs.declared.entry.Entry.{Entry}
 use Rattle.half_sums.specs.Entries.{AreSubsets, entries_of, three}
 use Rattle.swing_walk.specs.Pairs.{large_pairs, large_with, swings_of}
+use Rattle.half_sums.specs.declared.groups.TheConstants.{SLOTS}
 
 -- the swings of a chair from the counts of winning coalitions, for any rule (Felsenthal and Machover 1998)
 abbrev pub SwingLaw : Type 0
@@ -47,7 +48,7 @@ ones = (0, 1) ∷ (1, 1) ∷ (2, 1) ∷ (3, 1) ∷ (4, 1) ∷ (5, 1) ∷ (6, 1) 
 
 -- the chairs of two halves, by place: 0 to 15 on the left, 16 to 31 on the right
 abbrev pub board_of : List Chair → List Chair → List Chair
-board_of left right = left ++ map (λ chair. (chair.0 + 16, chair.1)) right
+board_of left right = left ++ map (λ chair. (chair.0 + SLOTS, chair.1)) right
 
 -- each set of the left half's chairs put together with each set of the right half's
 abbrev pub pairs_of_sets : List Chair → List Chair → List (List Chair)
@@ -59,7 +60,7 @@ CoalitionLaw = (left right : List Chair) → subsets (board_of left right) ≡ p
 
 -- the chairs of a half: distinct slots, 0 to 15
 pub record AreHalf (chairs : List Chair) : Type 0 where
-  pub slots : All (λ chair. chair.0 < 16) chairs
+  pub slots : All (λ chair. chair.0 < SLOTS) chairs
   pub distinct : IsDistinct (λ a b. a == b) (map (λ chair. chair.0) chairs)
 
 -- the counts of the pairs are those of the coalitions of the board

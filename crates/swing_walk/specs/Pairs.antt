@@ -5,6 +5,7 @@ use Rattle.std.specs.List.{sum_by, count_by}
 use Rattle.std.specs.Int.{bit_at}
 use Rattle.half_sums.specs.declared.entry.Entry.{Entry}
 use Rattle.half_sums.specs.Groups.{size_of}
+use Rattle.half_sums.specs.declared.groups.TheConstants.{SLOTS}
 
 -- how many pairs pass a test
 abbrev pub pairs_where : (Entry → Entry → Bool) → List Entry → List Entry → ℕ
@@ -20,7 +21,7 @@ has slot e = bit_at e.mask slot == 1
 
 -- a pair has the chair of a place: 0 to 15 on the left, 16 to 31 on the right
 abbrev pub has_place : ℕ → Entry → Entry → Bool
-has_place place l r = if nat_lt place 16 then has place l else has (place - 16) r
+has_place place l r = if nat_lt place SLOTS then has place l else has (place - SLOTS) r
 
 -- how many pairs reach the quota
 abbrev pub winning_pairs : ℕ → List Entry → List Entry → ℕ

@@ -1,5 +1,4 @@
-//! The tallies of the two lists of a walk, of which each step credits one. A place and values are chosen, and not a way
-//! to go on.
+//! The tallies of the two lists of a walk, of which each step credits one. A place is chosen, and not a way to go on.
 ghost use Rattle.std.specs.Prelude.{◌≡◌, ℕ, ◌+◌, ◌*◌, ◌^◌, ◌<◌, cond};
 ghost use Rattle.std.specs.Int.{bit_at};
 ghost use Rattle.swing_walk.specs.Tallies.{marked, total, IsEven};
@@ -29,11 +28,4 @@ pub(crate) fn add_to(sides: &mut [MaskTally; 2], to_right: bool, mask: u16, amou
         ≡ marked slot (side 1 sides.old) + bit_at mask slot * cond to_right amount 0 }
 {
     sides[usize::from(to_right)].add(mask, amount);
-}
-
-// The first mask or the second.
-pub(crate) fn either_mask(first: bool, a: u16, b: u16) -> u16
-    ensures chosen { result ≡ cond first a b }
-{
-    if first { a } else { b }
 }

@@ -4,7 +4,7 @@ ghost use Rattle.std.specs.Prelude.{drop, slice_index_or};
 ghost use Rattle.half_sums.specs.Entries.{IsHalf};
 ghost use Rattle.swing_walk.specs.Sizes.{counted, one_at, IsSizeTally};
 
-use half_sums::{ROOM, SIZES, SLOTS, SumList};
+use half_sums::{ROOM, SIZES, SLOTS, SumList, part, size};
 
 // A 1 for each of the 17 sizes, and a 0 for each size but one: a set of so many chairs has its own 17 of these from 16
 // less than its size on.
@@ -83,21 +83,4 @@ fn steps_of(mask: u16) -> &'static [u32]
 {
     let first = SLOTS - size(mask);
     part(&STEPS, first, first + SIZES)
-}
-
-// The steps from a place on, up to another.
-fn part(steps: &'static [u32], from: usize, to: usize) -> &'static [u32]
-    requires ordered { from ≤ to }
-    requires within { to ≤ length steps.now }
-    ensures part { result.now ≡ take (to - from) (drop from steps.now) }
-{
-    &steps[from..to]
-}
-
-// How many chairs a set has.
-fn size(mask: u16) -> usize
-    ensures size { result ≡ count_ones mask }
-    ensures few { result ≤ SLOTS }
-{
-    mask.count_ones() as usize
 }

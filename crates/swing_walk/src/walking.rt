@@ -11,9 +11,9 @@ ghost use Rattle.swing_walk.specs.Walks.{IsBetween, HasCredited, HasWalked};
 ghost use Rattle.swing_walk.specs.Sides.{side};
 ghost use Rattle.swing_walk.specs.Tallies.{total, IsEven, CreditsEach, CreditsLefts, CreditsRights};
 
-use crate::sides::{add_to, either_mask};
+use crate::sides::add_to;
 use crate::tally::MaskTally;
-use half_sums::{Entry, ROOM, SumList};
+use half_sums::{Entry, ROOM, SumList, either};
 
 // How many entries of the rising list are passed, from the least on, and how many of the falling one are left, from
 // the least to the next one that it passes.
@@ -47,6 +47,16 @@ impl Places {
             rest: self.rest - usize::from(falls),
         }
     }
+
+    // How many entries of the other list reach with the one that was passed last: where that one falls, the rising
+    // ones that are left, else the falling ones that are passed.
+    fn partners(self, falls: bool, rising: &SumList, falling: &SumList) -> usize
+        requires up { self.up ≤ length rising.now }
+        requires rest { self.rest ≤ length falling.now }
+        ensures chosen { result ≡ cond falls (length rising.now - self.up) (length falling.now - self.rest) }
+    {
+        either(falls, rising.len() - self.up, falling.len() - self.rest)
+    }
 }
 
 // Where the two chains of a walk stand, after so many steps of each.
@@ -75,10 +85,14 @@ pub(crate) fn walk(
 ) -> u64
     requires left { IsHalf left.now }
     requires right { IsHalf right.now }
+
+    // The tallies before.
     requires left_even { IsEven lefts.old }
     requires left_room { total lefts.old ≤ 2 ^ 62 }
     requires right_even { IsEven rights.old }
     requires right_room { total rights.old ≤ 2 ^ 62 }
+
+    // What is counted.
     ensures winning { result ≡ winning_pairs quota left.now right.now }
     ensures lefts { CreditsLefts (reaches quota) left.now right.now lefts.old lefts.new }
     ensures rights { CreditsRights (reaches quota) left.now right.now rights.old rights.new }
@@ -127,6 +141,8 @@ fn walk_within(
     requires right { IsHalf right.now }
     requires front { HasCredited quota 0 (length right.now) left.now right.now front.old }
     requires back { HasCredited quota 0 (length left.now) right.now left.now back.old }
+
+    // How far the two chains are.
     ensures within { 2 * result.walked ≤ length left.now + length right.now }
     ensures front { HasWalked quota result.walked result.front.up result.front.rest left.now right.now front.new }
     ensures back { HasWalked quota result.walked result.back.up result.back.rest right.now left.now back.new }
@@ -157,9 +173,13 @@ fn walk_on(
 )
     requires left { IsHalf left.now }
     requires right { IsHalf right.now }
+
+    // Where the two chains stand.
     requires within { 2 * ends.walked ≤ length left.now + length right.now }
     requires front { HasWalked quota ends.walked ends.front.up ends.front.rest left.now right.now front.old }
     requires back { HasWalked quota ends.walked ends.back.up ends.back.rest right.now left.now back.old }
+
+    // What both have credited.
     ensures lefts { CreditsEach (reaches quota) left.now right.now (side 0 front.new) (side 1 back.new) }
     ensures rights { CreditsEach (reaches quota) right.now left.now (side 0 back.new) (side 1 front.new) }
 {
@@ -186,10 +206,14 @@ fn pass_within(
 ) -> Places
     requires rising { IsHalf rising.now }
     requires falling { IsHalf falling.now }
+
+    // Where the chain stands.
     requires some_rising { places.up < length rising.now }
     requires some_falling { 0 < places.rest }
     requires between { IsBetween quota places.up places.rest rising.now falling.now }
     requires credited { HasCredited quota places.up places.rest rising.now falling.now tallies.old }
+
+    // One entry further.
     ensures next { result.up + places.rest ≡ places.up + result.rest + 1 }
     ensures between { IsBetween quota result.up result.rest rising.now falling.now }
     ensures credited { HasCredited quota result.up result.rest rising.now falling.now tallies.new }
@@ -198,8 +222,8 @@ fn pass_within(
     let high = falling.at(places.rest - 1);
     let falls = quota <= low.sum + high.sum;
     let next = places.after(falls);
-    let partners = either(falls, rising.len() - next.up, falling.len() - next.rest);
-    let mask = either_mask(falls, high.mask, low.mask);
+    let partners = next.partners(falls, rising, falling);
+    let mask = either(falls, high.mask, low.mask);
     add_to(tallies, falls, mask, partners as u64);
     next
 }
@@ -215,9 +239,13 @@ fn pass(
 ) -> Places
     requires rising { IsHalf rising.now }
     requires falling { IsHalf falling.now }
+
+    // Where the chain stands.
     requires some { places.up < length rising.now + places.rest }
     requires between { IsBetween quota places.up places.rest rising.now falling.now }
     requires credited { HasCredited quota places.up places.rest rising.now falling.now tallies.old }
+
+    // One entry further.
     ensures next { result.up + places.rest ≡ places.up + result.rest + 1 }
     ensures between { IsBetween quota result.up result.rest rising.now falling.now }
     ensures credited { HasCredited quota result.up result.rest rising.now falling.now tallies.new }
@@ -227,11 +255,12 @@ fn pass(
     let some_rising = places.up < rising.len();
     let falls = falls_next(&low, &high, some_rising, places.rest > 0, quota);
     let next = places.after(falls);
-    let partners = either(falls, rising.len() - next.up, falling.len() - next.rest);
-    let mask = either_mask(falls, high.mask, low.mask);
+    let partners = next.partners(falls, rising, falling);
+    let mask = either(falls, high.mask, low.mask);
     add_to(tallies, falls, mask, partners as u64);
     next
 }
+
 // Whether the falling entry comes before the rising one: there is one, and it reaches the quota with the rising one,
 // or no rising one is left.
 fn falls_next(low: &Entry, high: &Entry, some_rising: bool, some_falling: bool, quota: u64) -> bool
@@ -266,11 +295,4 @@ fn next_down(entries: &SumList, rest: usize) -> Entry
     } else {
         NO_ENTRY
     }
-}
-
-// The first number or the second.
-fn either(first: bool, a: usize, b: usize) -> usize
-    ensures chosen { result ≡ cond first a b }
-{
-    if first { a } else { b }
 }

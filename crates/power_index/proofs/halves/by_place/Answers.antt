@@ -7,6 +7,7 @@ use Rattle.power_index.proofs.Bounds.{few_chairs}
 use Rattle.power_index.proofs.HalfLemmas.{set_agrees, one_later}
 use Rattle.power_index.proofs.RowLemmas.{front_before, front_closed, front_open, chair_at, front_chairs}
 use Rattle.power_index.proofs.halves.by_place.Goals as goal
+use Rattle.council_core.specs.declared.limits.TheConstants.{CHAIRS}
 use Rattle.power_index.proofs.halves.by_place.Goals.{then-words-place-gt0, else-words-place-gt0}
 
 pub on_left-half-requires : goal.on_left-half-requires
@@ -19,7 +20,7 @@ loop-place-init c = record {
   size = refl;
   before = refl;
   each = λ p h. absurd (omega arith);
-  later = λ p low h. get_or-replicate 32 p 0 0 h;
+  later = λ p low h. get_or-replicate CHAIRS p 0 0 h;
 }
 
 pub seat_at-requires-clause-half : goal.seat_at-requires-clause-half

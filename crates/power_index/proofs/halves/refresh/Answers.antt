@@ -3,12 +3,13 @@ use Rattle.std.specs.List.{All, IsDistinct}
 use Rattle.council_core.specs.Sheets.{Chair, weight_of}
 use Rattle.power_index.specs.Halves.{slotted}
 use Rattle.power_index.proofs.HalfLemmas.{slotted_slots, slotted_distinct, slotted_sum}
+use Rattle.half_sums.specs.declared.groups.TheConstants.{SLOTS}
 use Rattle.power_index.proofs.halves.refresh.Goals as goal
 
 pub rebuild-requires-clause-slots : goal.rebuild-requires-clause-slots
 rebuild-requires-clause-slots c =
     let same : c.as_slice.result.now ≡ slotted 0 c.args.new.now = cc in
-    subst (λ (l : List Chair). All (λ (ch : Chair). ch.0 < 16) l) (sym same) (slotted_slots c.args.new.now c.requires.few)
+    subst (λ (l : List Chair). All (λ (ch : Chair). ch.0 < SLOTS) l) (sym same) (slotted_slots c.args.new.now c.requires.few)
 
 pub rebuild-requires-clause-distinct : goal.rebuild-requires-clause-distinct
 rebuild-requires-clause-distinct c =

@@ -9,6 +9,7 @@ use Rattle.power_index.proofs.Bounds.{few_chairs}
 use Rattle.power_index.proofs.RowLemmas.{chair_at, front_closed, map_open}
 use Rattle.power_index.proofs.TallyLemmas.{winning_part, row_agree}
 use Rattle.power_index.proofs.rows.rows.Goals as goal
+use Rattle.council_core.specs.declared.limits.TheConstants.{CHAIRS}
 use Rattle.power_index.proofs.rows.rows.Goals.{then-word-gt0, else-word-gt0}
 
 pub row-requires-clause-chairs : goal.row-requires-clause-chairs
@@ -41,6 +42,6 @@ loop-place-preserved c =
 
 pub returns : goal.returns
 returns c =
-    let end : c.loop-place.place ≡ 32 = omega arith in
+    let end : c.loop-place.place ≡ CHAIRS = omega arith in
     let h = c.loop-place.invariant.rows in
     record { rows = rw end at h }

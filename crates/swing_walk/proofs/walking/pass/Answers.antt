@@ -3,17 +3,18 @@ use Rattle.swing_walk.specs.Pairs.{reaches}
 use Rattle.swing_walk.proofs.Counting.{pairs_room}
 use Rattle.swing_walk.proofs.Steps.{back_room}
 use Rattle.swing_walk.proofs.Meeting.{cond_most, falling_next, one_left, Passed, pass}
+use Rattle.half_sums.specs.declared.lists.TheConstants.{ROOM}
 use Rattle.swing_walk.proofs.walking.pass.Goals as goal
 
 pub add_to-requires-clause-left_room : goal.add_to-requires-clause-left_room
 add_to-requires-clause-left_room c =
     let falls : Bool = c.falls_next-falls.result in
-    omega (arith, c.either-partners.ensures.chosen, cond_most falls (c.len-2.result - c.after-next.result.up) (c.len-3.result - c.after-next.result.rest) 65536 (omega (arith, c.len-2.ensures.count, c.requires.rising.few)) (omega (arith, c.len-3.ensures.count, c.requires.falling.few)), c.requires.credited.rising_total, pairs_room (reaches c.args.quota) c.args.rising.now c.args.falling.now c.args.places.up c.requires.rising.few c.requires.falling.few)
+    omega (arith, c.partners-partners.ensures.chosen, cond_most falls (length c.args.rising.now - c.after-next.result.up) (length c.args.falling.now - c.after-next.result.rest) ROOM (omega (arith, c.requires.rising.few)) (omega (arith, c.requires.falling.few)), c.requires.credited.rising_total, pairs_room (reaches c.args.quota) c.args.rising.now c.args.falling.now c.args.places.up c.requires.rising.few c.requires.falling.few)
 
 pub add_to-requires-clause-right_room : goal.add_to-requires-clause-right_room
 add_to-requires-clause-right_room c =
     let falls : Bool = c.falls_next-falls.result in
-    omega (arith, c.either-partners.ensures.chosen, cond_most falls (c.len-2.result - c.after-next.result.up) (c.len-3.result - c.after-next.result.rest) 65536 (omega (arith, c.len-2.ensures.count, c.requires.rising.few)) (omega (arith, c.len-3.ensures.count, c.requires.falling.few)), c.requires.credited.falling_total, back_room (reaches c.args.quota) c.args.rising.now c.args.falling.now c.args.places.rest c.requires.rising.few c.requires.falling.few)
+    omega (arith, c.partners-partners.ensures.chosen, cond_most falls (length c.args.rising.now - c.after-next.result.up) (length c.args.falling.now - c.after-next.result.rest) ROOM (omega (arith, c.requires.rising.few)) (omega (arith, c.requires.falling.few)), c.requires.credited.falling_total, back_room (reaches c.args.quota) c.args.rising.now c.args.falling.now c.args.places.rest c.requires.rising.few c.requires.falling.few)
 
 pub after-next-requires-clause-some : goal.after-next-requires-clause-some
 after-next-requires-clause-some c =
@@ -23,8 +24,8 @@ after-next-requires-clause-some c =
 pub returns : goal.returns
 returns c =
     let falls : Bool = c.falls_next-falls.result in
-    let partners : c.either-partners.result ≡ cond falls (length c.args.rising.now - c.after-next.result.up) (length c.args.falling.now - c.after-next.result.rest) = rw (c.len-2.ensures.count, c.len-3.ensures.count) at c.either-partners.ensures.chosen in
-    let masks = c.either_mask-mask.ensures.chosen in
+    let partners = c.partners-partners.ensures.chosen in
+    let masks = c.either-mask.ensures.chosen in
     let passed : Passed c.args.quota c.args.places.up c.args.places.rest c.after-next.result.up c.after-next.result.rest c.args.rising.now c.args.falling.now c.add_to.new.sides =
     pass c.args.quota c.args.places.up c.args.places.rest c.after-next.result.up c.after-next.result.rest c.args.rising.now c.args.falling.now c.next_up-low.result c.next_down-high.result c.args.tallies.now c.add_to.new.sides falls record {
       at = record { rising_up = c.requires.rising.ascending; falling_up = c.requires.falling.ascending; between = c.requires.between };

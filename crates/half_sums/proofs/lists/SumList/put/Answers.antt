@@ -11,6 +11,6 @@ index_mut-requires-2 c = omega (arith, within _ _ _ _ _ c.self.invariant c.self.
 
 pub returns : goal.returns
 returns c = record {
-  written = set_from c.self.inside.count c.self.inside.sums.items c.self.inside.masks.items c.args.place c.args.entry.sum c.args.entry.mask (within _ _ _ _ _ c.self.invariant c.self.view_is c.requires.within)
+  written = set_from c.self.inside.count c.self.inside.sums.items.items c.self.inside.masks.items.items c.args.place c.args.entry.sum c.args.entry.mask (within _ _ _ _ _ c.self.invariant c.self.view_is c.requires.within)
       ∙ ap (λ (es : List Entry). set es c.args.place c.args.entry) c.self.view_is;
 }

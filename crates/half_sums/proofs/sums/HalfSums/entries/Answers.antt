@@ -5,7 +5,7 @@ use Rattle.half_sums.proofs.sums.HalfSums.entries.Goals as goal
 
 pub returns-clause-grouped : goal.returns-clause-grouped
 returns-clause-grouped c =
-    let groups = c.self.inside.groups.items in
+    let groups = c.self.inside.groups.items.items in
     ap (take c.len.result) c.deref.ensures.value
     ∙ ap (λ n. take n groups) (c.len.ensures.count ∙ ap length c.ascending.ensures.same)
     ∙ groups_whole c.self.inside.ordered (take (length c.self.inside.ordered) groups) c.self.inside.starts c.self.invariant.1 c.self.invariant.0

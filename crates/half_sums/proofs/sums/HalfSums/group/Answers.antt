@@ -12,20 +12,20 @@ returns-then-size-ge-SIZES-clause-same c =
 
 pub part-requires-clause-ordered : goal.part-requires-clause-ordered
 part-requires-clause-ordered c =
-    (group_ends c.from-size.result c.self.inside.ordered (take (length c.self.inside.ordered) c.self.inside.groups.items) c.self.inside.starts (omega arith) c.self.invariant.1).0
+    (group_ends c.from-size.result c.self.inside.ordered (take (length c.self.inside.ordered) c.self.inside.groups.items.items) c.self.inside.starts (omega arith) c.self.invariant.1).0
 
 pub part-requires-clause-within : goal.part-requires-clause-within
 part-requires-clause-within c =
-    let groups = take (length c.self.inside.ordered) c.self.inside.groups.items in
-    let shown : take c.len.result c.deref.result.now ≡ groups = ap (take c.len.result) c.deref.ensures.value ∙ ap (λ n. take n c.self.inside.groups.items) (c.len.ensures.count ∙ ap length c.ascending.ensures.same) in
+    let groups = take (length c.self.inside.ordered) c.self.inside.groups.items.items in
+    let shown : take c.len.result c.deref.result.now ≡ groups = ap (take c.len.result) c.deref.ensures.value ∙ ap (λ n. take n c.self.inside.groups.items.items) (c.len.ensures.count ∙ ap length c.ascending.ensures.same) in
     rw shown (group_ends c.from-size.result c.self.inside.ordered groups c.self.inside.starts (omega arith) c.self.invariant.1).1
 
 pub returns-clause-same : goal.returns-clause-same
 returns-clause-same c =
     let starts = c.self.inside.starts in
     let size = c.from-size.result in
-    let groups = take (length c.self.inside.ordered) c.self.inside.groups.items in
-    let shown : take c.len.result c.deref.result.now ≡ groups = ap (take c.len.result) c.deref.ensures.value ∙ ap (λ n. take n c.self.inside.groups.items) (c.len.ensures.count ∙ ap length c.ascending.ensures.same) in
+    let groups = take (length c.self.inside.ordered) c.self.inside.groups.items.items in
+    let shown : take c.len.result c.deref.result.now ≡ groups = ap (take c.len.result) c.deref.ensures.value ∙ ap (λ n. take n c.self.inside.groups.items.items) (c.len.ensures.count ∙ ap length c.ascending.ensures.same) in
     c.part.ensures.part
     ∙ ap (λ (es : List Entry). take (get_or starts (size + 1) 0 - get_or starts size 0) (drop (get_or starts size 0) es)) shown
     ∙ group_part_is size c.self.inside.ordered groups starts (omega arith) c.self.invariant.1
