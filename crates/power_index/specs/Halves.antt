@@ -3,7 +3,7 @@
 use Rattle.std.specs.Prelude.{◌≡◌, ℕ, ◌+◌, ◌-◌, ◌/◌, Bool, not, if◌then◌else◌, List, [], ◌∷◌, map}
 use Rattle.std.specs.Prelude.{length, take, drop, nat_eq, nat_lt}
 use Rattle.std.specs.Cmp.Lexicographic.{pointwise}
-use Rattle.council_core.specs.Sheets.{Chair, open_from, open_chairs}
+use Rattle.council_core.specs.Sheets.{Chair, open_chairs}
 use Rattle.half_sums.specs.declared.entry.Entry.{Entry}
 use Rattle.half_sums.specs.Entries.{AreSubsets}
 
@@ -37,9 +37,9 @@ pub record AreHalves (words : List ℕ) (left right : List Entry) : Type 0 where
 abbrev pub seat : ℕ → ℕ → ℕ
 seat on_left before = if nat_lt before on_left then before else 16 + (before - on_left)
 
--- where the open chair of a place of a sheet stands
+-- where the open chair of a sheet with so many before it stands
 abbrev pub seat_of : List ℕ → ℕ → ℕ
-seat_of words place = seat (left_count (length (open_chairs words))) (length (open_from 1 (take place words)))
+seat_of words before = seat (left_count (length (open_chairs words))) before
 
 -- the sixteen words of the chairs from a place on
 abbrev pub half_words : ℕ → List ℕ → List ℕ
