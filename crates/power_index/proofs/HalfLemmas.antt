@@ -1,8 +1,8 @@
 -- The chairs of a half, weight by weight, and what a rebuild asks of them.
-use Rattle.std.proofs.Common.{◌≡◌, ℕ, ◌+◌, ◌-◌, ◌^◌, ◌<◌, ◌≤◌, List, [], ◌∷◌, ◌++◌, map, length, take, get_or, arith, refl, sym, ap, ◌∙◌, eqb, subst, replicate, zero, suc, set, inl, inr, ◌≢◌}
+use Rattle.std.proofs.Common.{◌≡◌, ℕ, ◌+◌, ◌-◌, ◌^◌, ◌<◌, ◌≤◌, List, [], ◌∷◌, ◌++◌, map, length, take, get_or, arith, refl, sym, ap, ◌∙◌, eqb, subst, replicate, zero, suc, inl, inr, ◌≢◌}
 use Rattle.std.specs.List.{sum_by, All, IsDistinct}
-use Rattle.std.proofs.lemmas.List.{get_or-replicate, take_more, length-take, length-map, length-drop, get_or-set_other}
-use Rattle.std.proofs.lemmas.Grind.{get_or-set_at}
+use Rattle.std.proofs.lemmas.List.{get_or-replicate, take_more, length-take, length-map, length-drop, get_or_append_left}
+use Rattle.std.proofs.Math.Seq.{get_or-append_seam}
 use Rattle.std.proofs.lemmas.Bool.{cases_eq}
 use Rattle.std.proofs.lemmas.List.Elements.{All-weaker}
 use Rattle.std.proofs.lemmas.List.Sums.{sum_by-take-drop}

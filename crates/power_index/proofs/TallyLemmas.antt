@@ -1,8 +1,8 @@
 -- The swings that counts by seat give, and the rows that agree with a tally.
-use Rattle.std.proofs.Common.{◌≡◌, ℕ, ◌^◌, ◌<◌, ◌≤◌, List, length, map, get_or, arith, sym, ap, ◌∙◌, subst}
+use Rattle.std.proofs.Common.{◌≡◌, ℕ, ◌^◌, ◌<◌, ◌≤◌, List, length, get_or, arith, sym, ap, ◌∙◌, subst}
 use Rattle.std.proofs.lemmas.List.{ext_get_or, length-map}
 use Rattle.council_core.specs.Sheets.{Chair, open_chairs}
-use Rattle.council_core.specs.Coalitions.{Rule, eta_of, omega_of, reaching}
+use Rattle.council_core.specs.Coalitions.{Rule, eta_of, omega_of}
 use Rattle.half_sums.specs.declared.entry.Entry.{Entry}
 use Rattle.majority_rule.specs.declared.majorities.Majority.{Majority}
 use Rattle.majority_rule.specs.Winning.{rule_of}

@@ -1,6 +1,6 @@
 -- The two halves of a sheet (Horowitz and Sahni 1974): the first half of its open chairs, by number, stand on the left,
 -- with the odd one, and the others on the right, each at slots from 0.
-use Rattle.std.specs.Prelude.{◌≡◌, ℕ, ◌+◌, ◌-◌, ◌/◌, Bool, not, if◌then◌else◌, List, [], ◌∷◌, map}
+use Rattle.std.specs.Prelude.{ℕ, ◌+◌, ◌-◌, ◌/◌, Bool, not, if◌then◌else◌, List, [], ◌∷◌, map}
 use Rattle.std.specs.Prelude.{length, take, drop, nat_eq, nat_lt}
 use Rattle.std.specs.Cmp.Lexicographic.{pointwise}
 use Rattle.council_core.specs.Sheets.{Chair, open_chairs}
@@ -28,7 +28,6 @@ slotted slot (weight ∷ rest) = (slot, weight) ∷ slotted (slot + 1) rest
 
 -- two lists of entries are those of the two halves of a sheet
 pub record AreHalves (words : List ℕ) (left right : List Entry) : Type 0 where
-  pub long : length words ≡ 34
   pub left_half : AreSubsets (slotted 0 (left_weights words)) left
   pub right_half : AreSubsets (slotted 0 (right_weights words)) right
 

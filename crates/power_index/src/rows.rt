@@ -46,15 +46,15 @@ fn unless_zero(num: u64, den: u64) -> Option<Fraction>
     }
 }
 
-// The row of one chair.
-fn row(totals: &Totals, chair: ChairId, weight: u64, swings: u64) -> ChairPower
+// The row of a chair with its weight.
+fn row(totals: &Totals, chair: (ChairId, u64), swings: u64) -> ChairPower
     requires chairs { totals.now.chairs ≤ CHAIRS }
     requires winning { totals.now.winning ≤ 2 ^ totals.now.chairs }
-    ensures power { result ≡ power_of totals.now.chairs totals.now.winning totals.now.swings swings (chair, weight) }
+    ensures power { result ≡ power_of totals.now.chairs totals.now.winning totals.now.swings swings chair }
 {
     ChairPower {
-        chair,
-        weight,
+        chair: chair.0,
+        weight: chair.1,
         swings,
         banzhaf: Fraction {
             num: swings,
@@ -96,8 +96,7 @@ pub(crate) fn rows(sheet: &Sheet, tally: &SwingTally) -> ArrayVec<ChairPower, CH
     };
     let mut rows = ArrayVec::new();
     for i in 0..chairs.len() {
-        let (chair, weight) = chairs[i];
-        rows.push(row(&totals, chair, weight, tally.swings[i]));
+        rows.push(row(&totals, chairs[i], tally.swings[i]));
     }
     rows
 }
