@@ -1,12 +1,12 @@
 -- The open chairs among words: their numbers, their weights, and what one more word adds.
-use Rattle.std.proofs.Common.{◌≡◌, ℕ, ◌+◌, ◌-◌, ◌<◌, ◌≤◌, Bool, true, false, cond, List, [], ◌∷◌, ◌++◌, map, length, take, get_or, arith, refl, sym, ap, ◌∙◌, eqb, inl, inr, subst, ◌≢◌}
+use Rattle.std.proofs.Common.{◌≡◌, ℕ, ◌+◌, ◌-◌, ◌<◌, ◌≤◌, Bool, true, false, cond, List, [], ◌∷◌, ◌++◌, map, length, take, get_or, arith, refl, sym, ap, ◌∙◌, eqb, inl, inr, subst, ◌≢◌, Option, None, Some}
 use Rattle.std.specs.List.{sum_by, All, IsDistinct}
-use Rattle.std.proofs.lemmas.Bool.{eq-eqb, ne_eqb, cases_eq}
-use Rattle.std.proofs.lemmas.List.{append-nil, take_more, length-append, length-take, append_assoc, map-append}
+use Rattle.std.proofs.lemmas.Bool.{eq-eqb, ne_eqb, cases_eq, cases_lt}
+use Rattle.std.proofs.lemmas.List.{append-nil, take_all, take_more, get_or_past, length-append, length-take, append_assoc, map-append}
 use Rattle.std.proofs.lemmas.List.Elements.{All-cons, All-nil, All-append, All-map, All-weaker, recursion_from_All}
 use Rattle.std.proofs.lemmas.List.Sums.{sum_by-cons, sum_by-append}
 use Rattle.std.proofs.lemmas.Map.Keys.{IsDistinct-cons}
-use Rattle.council_core.specs.Sheets.{Chair, open_from, weight_of, weight_in}
+use Rattle.council_core.specs.Sheets.{Chair, open_from, weight_of, weight_in, weight_word}
 
 -- the chair of one word, if it is open
 abbrev pub chair_of : ℕ → ℕ → List Chair
@@ -132,11 +132,34 @@ numbers_distinct c (x ∷ xs) =
     (All-weaker (λ (ch : Chair). (c + 1 ≤ ch.0) × (ch.0 < c + 1 + length xs)) (λ ch. c + 1 ≤ ch.0) (λ ch h. h.0) (open_from (c + 1) xs) (numbers_within (c + 1) xs))
     (numbers_distinct (c + 1) xs))
 
-pub count_open : (c : ℕ) (words : List ℕ) (i : ℕ) → i < length words → 0 < get_or words i 0 → length (open_from c (take (i + 1) words)) ≡ length (open_from c (take i words)) + 1
-count_open c words i h some = ap length (open_more c words i h some) ∙ length-append (open_from c (take i words)) ((c + i, get_or words i 0 - 1) ∷ [])
+-- the chair of a number, by what a sheet answers of its weight
+abbrev listed : ℕ → Option ℕ → List Chair
+listed c None = []
+listed c (Some weight) = (c, weight) ∷ []
 
-pub count_closed : (c : ℕ) (words : List ℕ) (i : ℕ) → i < length words → get_or words i 0 ≡ 0 → length (open_from c (take (i + 1) words)) ≡ length (open_from c (take i words))
-count_closed c words i h shut = ap length (closed_more c words i h shut)
+listed_is : (b : Bool) (c weight : ℕ) → listed c (cond b None (Some weight)) ≡ cond b [] ((c, weight) ∷ [])
+listed_is true c weight = refl
+listed_is false c weight = refl
 
--- what one more word does to the number of open chairs
-pub ruleset count_more = (count_open, count_closed)
+listed_word : (words : List ℕ) (i : ℕ) → listed (i + 1) (weight_word words (i + 1)) ≡ chair_of (i + 1) (get_or words i 0)
+listed_word words i =
+    let here : i + 1 - 1 ≡ i = omega arith in
+    listed_is (eqb (get_or words (i + 1 - 1) 0) 0) (i + 1) (get_or words (i + 1 - 1) 0 - 1) ∙ ap (λ n. chair_of (i + 1) (get_or words n 0)) here
+
+-- past the words there is no chair
+none_past : (words : List ℕ) (i : ℕ) → length words ≤ i → open_from 1 (take (i + 1) words) ≡ open_from 1 (take i words) ++ chair_of (i + 1) (get_or words i 0)
+none_past words i past =
+    ap (open_from 1) (take_all (i + 1) words (omega arith) ∙ sym (take_all i words past))
+    ∙ sym (append-nil (open_from 1 (take i words)))
+    ∙ sym (ap (λ l. open_from 1 (take i words) ++ l) (chair_of-shut (i + 1) (get_or words i 0) (get_or_past words i 0 past)))
+
+-- one more chair, by what its sheet answers of its weight
+pub listed_more : (words : List ℕ) (i : ℕ) (weight : Option ℕ) → weight ≡ weight_word words (i + 1) → open_from 1 (take (i + 1) words) ≡ open_from 1 (take i words) ++ listed (i + 1) weight
+listed_more words i weight same =
+    let number : 1 + i ≡ i + 1 = omega arith in
+    let more : open_from 1 (take (i + 1) words) ≡ open_from 1 (take i words) ++ chair_of (i + 1) (get_or words i 0) =
+    elim (cases_lt i (length words)) as (λ _. open_from 1 (take (i + 1) words) ≡ open_from 1 (take i words) ++ chair_of (i + 1) (get_or words i 0)) [
+      | inl within ↦ open_from-more 1 words i within ∙ ap (λ n. open_from 1 (take i words) ++ chair_of n (get_or words i 0)) number
+      | inr past ↦ none_past words i past
+    ] in
+    more ∙ sym (ap (λ l. open_from 1 (take i words) ++ l) (ap (listed (i + 1)) same ∙ listed_word words i))

@@ -2,11 +2,13 @@
 ghost use Rattle.std.specs.Prelude.{◌≡◌, ◌≤◌, ◌<◌, ◌+◌, ◌↔◌, length, slice_index, ℕ};
 ghost use Rattle.std.specs.Prelude.{IsTrue, IsOk, IfOk, IsOkUnless};
 ghost use Rattle.council_core.specs.declared.refusals.Refusal.TheVariants.{BadSheet};
+ghost use Rattle.arrayvec.specs.ArrayVec.{array_vec_len};
 ghost use Rattle.council_core.specs.Sheets.{cast_of, total_of, front_of, open_chairs, weight_word, IsSheet};
 
 use crate::limits::{CHAIRS, FRONT, MAX_COMMANDS, MAX_TOTAL, SHEET_WORDS, TOTAL};
 use crate::refusals::Refusal;
-use crate::values::ChairId;
+use crate::values::{ChairId, chair_at, place_of};
+use arrayvec::ArrayVec;
 use std::marker::Model;
 
 /// The 34 numbers that readers see: for each chair a word, 0 where it is closed and its weight
@@ -75,15 +77,23 @@ impl Sheet {
     }
 
     /// How many chairs are open, from 0 to 32.
-    #[tactic(auto, using(std::proofs::lemmas::Grind::common_steps, crate::proofs::OpenChairs::count_more))]
     pub fn chairs(&self) -> u8
         ensures same { result ≡ length (open_chairs self.now) }
         ensures high { result ≤ CHAIRS }
     {
-        let mut chairs = 0;
-        for i in 0..CHAIRS {
-            if self.words[i] > 0 {
-                chairs += 1;
+        self.open_chairs().len() as u8
+    }
+
+    /// The open chairs, by number, each with its weight in votes.
+    pub fn open_chairs(&self) -> ArrayVec<(ChairId, u64), CHAIRS>
+        ensures same { result.items ≡ open_chairs self.now }
+        ensures few { array_vec_len result ≤ CHAIRS }
+    {
+        let mut chairs = ArrayVec::new();
+        for place in 0..CHAIRS {
+            let chair = chair_at(place);
+            if let Some(weight) = self.weight(chair) {
+                chairs.push((chair, weight));
             }
         }
         chairs
@@ -94,7 +104,7 @@ impl Sheet {
     pub fn weight(&self, chair: ChairId) -> Option<u64>
         ensures weight { result ≡ weight_word self.now chair }
     {
-        let word = self.words[chair.number() as usize - 1];
+        let word = self.words[place_of(chair)];
         if word == 0 { None } else { Some(word - 1) }
     }
 

@@ -1,5 +1,5 @@
 //! The numbers and codes that commands speak of.
-ghost use Rattle.std.specs.Prelude.{◌≡◌, ◌≤◌, ◌<◌, ◌↔◌, ◌^◌, ℕ, List, IsOk, IfOk};
+ghost use Rattle.std.specs.Prelude.{◌≡◌, ◌≤◌, ◌<◌, ◌+◌, ◌↔◌, ◌^◌, ℕ, List, IsOk, IfOk};
 ghost use Rattle.std.specs.Prelude.{IsOkUnless};
 ghost use Rattle.council_core.specs.declared.refusals.Refusal.TheVariants.{BadChair, BadMember, VotesTooLarge};
 ghost use Rattle.council_core.specs.Codes.{IsCode};
@@ -57,6 +57,24 @@ impl ChairId {
         ensures high { result ≤ CHAIRS }
     {
         self.number
+    }
+}
+
+// The place of a chair's word among those of a sheet.
+pub(crate) fn place_of(chair: ChairId) -> usize
+    ensures place { result + 1 ≡ chair }
+    ensures within { result < CHAIRS }
+{
+    chair.number() as usize - 1
+}
+
+// The chair whose word stands at a place.
+pub(crate) fn chair_at(place: usize) -> ChairId
+    requires within { place < CHAIRS }
+    ensures number { result ≡ place + 1 }
+{
+    ChairId {
+        number: place as u8 + 1,
     }
 }
 

@@ -20,11 +20,11 @@ use Rattle.half_sums.proofs.SetSums.{sum_by-map, sum_agree, over, or_left, or_ri
 use Rattle.half_sums.proofs.MaskLemmas.{first_apart}
 use Rattle.swing_walk.proofs.PairLaws.{over-map, pair_law, shifted}
 use Rattle.power_index.specs.Halves.{weights, slotted, left_count, left_weights, right_weights, seat, seat_of, AreHalves}
-use Rattle.power_index.specs.Counts.{eta_at, EvaluationLaw}
+use Rattle.power_index.specs.Counts.{etas, EvaluationLaw}
 use Rattle.power_index.proofs.HalfLemmas.{slotted_slots, slotted_distinct, slotted_weights, slotted_length, slotted_at, left_few, right_few}
-use Rattle.power_index.proofs.RowLemmas.{front_chairs, open_split, eta_open, front_before}
+use Rattle.power_index.proofs.RowLemmas.{etas_at}
 use Rattle.half_sums.specs.declared.groups.TheConstants.{SLOTS}
-use Rattle.council_core.specs.declared.limits.TheConstants.{CHAIRS, SHEET_WORDS}
+use Rattle.council_core.specs.declared.limits.TheConstants.{CHAIRS}
 
 -- a set of these weights wins
 abbrev enough : ℕ → ℕ → List ℕ → Bool
@@ -183,11 +183,9 @@ abbrev Meet : ℕ → ℕ → List ℕ → List Entry → List Entry → Type 0
 Meet quota least_size words from to = laws.CountsMeet quota least_size (left_of words) (right_of words) from to
 
 -- the swings that the counts give at a seat are those of its chair
-swings_place : (quota least_size : ℕ) (words : List ℕ) (from to : List Entry) (place : ℕ) → length words ≡ SHEET_WORDS → place < CHAIRS → 0 < get_or words place 0 → Meet quota least_size words from to →
-    swings_of (large_pairs quota least_size from to) (large_with quota least_size (seat_of words place) from to) ≡ eta_at (reaching quota least_size) words place
-swings_place quota least_size words from to place long within some law =
-    let i : ℕ = length (front_chairs place words) in
-    let inside : i < length (open_chairs words) = front_before words place long within some in
+swings_at : (quota least_size : ℕ) (words : List ℕ) (from to : List Entry) (i : ℕ) → i < length (open_chairs words) → Meet quota least_size words from to →
+    swings_of (large_pairs quota least_size from to) (large_with quota least_size (seat_of words i) from to) ≡ get_or (etas (reaching quota least_size) (open_chairs words)) i 0
+swings_at quota least_size words from to i inside law =
     let on_board : i < length (board words) = omega (arith, inside, board_length words) in
     let chair : Chair = get_or (board words) i none in
     ap (λ n. swings_of (large_pairs quota least_size from to) (large_with quota least_size n from to)) (sym (seated words i inside))
@@ -195,8 +193,7 @@ swings_place quota least_size words from to place long within some law =
     ∙ eta_weights quota least_size (board words) i (board_distinct words) on_board
     ∙ ap (eta_by quota least_size i) (board_weights words)
     ∙ sym (eta_weights quota least_size (open_chairs words) i (numbers_distinct 1 (take CHAIRS words)) inside)
-    ∙ ap (λ c. eta_of (reaching quota least_size) c (open_chairs words)) (open_split words place none long within some)
-    ∙ sym (eta_open (reaching quota least_size) words place some)
+    ∙ sym (etas_at (reaching quota least_size) (open_chairs words) i none inside)
 
 omega_law : (quota least_size : ℕ) (words : List ℕ) (from to : List Entry) → AreHalves words from to → large_pairs quota least_size from to ≡ omega_of (reaching quota least_size) (open_chairs words)
 omega_law quota least_size words from to halves =
@@ -213,5 +210,5 @@ evaluation_law quota least_size words from to halves =
       few = law.few;
       within = λ place h. law.within place;
       half = λ place h. law.half place;
-      swings = λ place h some. swings_place quota least_size words from to place halves.long h some law;
+      swings = λ i h. swings_at quota least_size words from to i h law;
     }

@@ -1,5 +1,5 @@
 -- How large the counts of a board can be, and that a quota and its majority win alike.
-use Rattle.std.proofs.Common.{◌≡◌, ℕ, ◌+◌, ◌-◌, ◌^◌, ◌≤◌, Bool, true, false, cond, List, ◌∷◌, length, take, get_or, arith, refl, sym, ap, ◌∙◌, eqb, leb}
+use Rattle.std.proofs.Common.{◌≡◌, ℕ, ◌^◌, ◌≤◌, Bool, true, false, cond, List, [], ◌∷◌, map, length, take, arith, refl, sym, ap, ◌∙◌, leb}
 use Rattle.std.specs.Prelude.{◌&&◌, not, IsTrue, ◌↔◌}
 use Rattle.std.proofs.lemmas.Bool.{leb-true, le-leb}
 use Rattle.std.proofs.lemmas.List.{length-take}
@@ -12,7 +12,7 @@ use Rattle.majority_rule.specs.declared.majorities.Majority.{Majority}
 use Rattle.majority_rule.specs.Winning.{wins, rule_of}
 use Rattle.half_sums.proofs.SetSums.{sum_agree}
 use Rattle.swing_walk.proofs.Coalitions.{both_true}
-use Rattle.power_index.specs.Counts.{eta_at}
+use Rattle.power_index.specs.Counts.{etas}
 use Rattle.council_core.specs.declared.limits.TheConstants.{CHAIRS}
 
 pub omega_bound : (wins : Rule) (chairs : List Chair) → omega_of wins chairs ≤ 2 ^ length chairs
@@ -60,7 +60,12 @@ eta_agree p q chair chairs same =
 pub omega_by_majority : (quota least_size : ℕ) (majority : Majority) (words : List ℕ) → IsQuota quota least_size majority words → omega_of (reaching quota least_size) (open_chairs words) ≡ omega_of (rule_of majority words) (open_chairs words)
 omega_by_majority quota least_size majority words is = omega_agree (reaching quota least_size) (rule_of majority words) (open_chairs words) (λ s. same_win quota least_size (weight_of s) (length s) majority words is)
 
-pub eta_by_majority : (quota least_size : ℕ) (majority : Majority) (words : List ℕ) (place : ℕ) → IsQuota quota least_size majority words → eta_at (reaching quota least_size) words place ≡ eta_at (rule_of majority words) words place
-eta_by_majority quota least_size majority words place is =
-    ap (λ n. cond (eqb (get_or words place 0) 0) 0 n)
-    (eta_agree (reaching quota least_size) (rule_of majority words) (place + 1, get_or words place 0 - 1) (open_chairs words) (λ s. same_win quota least_size (weight_of s) (length s) majority words is))
+alike_at_each : (f g : Chair → ℕ) (chairs : List Chair) → ((c : Chair) → f c ≡ g c) → map f chairs ≡ map g chairs
+alike_at_each f g [] same = refl
+alike_at_each f g (c ∷ chairs) same = ap (λ n. n ∷ map f chairs) (same c) ∙ ap (λ l. g c ∷ l) (alike_at_each f g chairs same)
+
+pub etas_by_majority : (quota least_size : ℕ) (majority : Majority) (words : List ℕ) → IsQuota quota least_size majority words → etas (reaching quota least_size) (open_chairs words) ≡ etas (rule_of majority words) (open_chairs words)
+etas_by_majority quota least_size majority words is =
+    let board : List Chair = open_chairs words in
+    alike_at_each (λ c. eta_of (reaching quota least_size) c board) (λ c. eta_of (rule_of majority words) c board) board
+    (λ c. eta_agree (reaching quota least_size) (rule_of majority words) c board (λ s. same_win quota least_size (weight_of s) (length s) majority words is))

@@ -1,8 +1,8 @@
 -- The chairs of a half, weight by weight, and what a rebuild asks of them.
-use Rattle.std.proofs.Common.{◌≡◌, ℕ, ◌+◌, ◌-◌, ◌^◌, ◌<◌, ◌≤◌, List, [], ◌∷◌, ◌++◌, map, length, take, get_or, arith, refl, sym, ap, ◌∙◌, eqb, subst, replicate, zero, suc, set, inl, inr, ◌≢◌}
+use Rattle.std.proofs.Common.{◌≡◌, ℕ, ◌+◌, ◌-◌, ◌^◌, ◌<◌, ◌≤◌, List, [], ◌∷◌, ◌++◌, map, length, take, get_or, arith, refl, sym, ap, ◌∙◌, eqb, subst, replicate, zero, suc, inl, inr, ◌≢◌}
 use Rattle.std.specs.List.{sum_by, All, IsDistinct}
-use Rattle.std.proofs.lemmas.List.{get_or-replicate, take_more, length-take, length-map, length-drop, get_or-set_other}
-use Rattle.std.proofs.lemmas.Grind.{get_or-set_at}
+use Rattle.std.proofs.lemmas.List.{get_or-replicate, take_more, length-take, length-map, length-drop, get_or_append_left}
+use Rattle.std.proofs.Math.Seq.{get_or-append_seam}
 use Rattle.std.proofs.lemmas.Bool.{cases_eq}
 use Rattle.std.proofs.lemmas.List.Elements.{All-weaker}
 use Rattle.std.proofs.lemmas.List.Sums.{sum_by-take-drop}
@@ -77,18 +77,11 @@ pub right_small : (words : List ℕ) → IsSheet words → sum_by (λ n. n) (rig
 right_small words lawful =
     omega (arith, sum_by-take-drop (λ n. n) (weights words) (left_count (length (open_chairs words))), weights_sum words, lawful.cast, lawful.total)
 
--- a list that agrees with f on the first places, with one more written
-pub set_agrees : (xs : List ℕ) (i v : ℕ) (f : ℕ → ℕ) → i < length xs → ((p : ℕ) → p < i → get_or xs p 0 ≡ f p) → v ≡ f i → (p : ℕ) → p < i + 1 → get_or (set xs i v) p 0 ≡ f p
-set_agrees xs i v f h done same p below = elim (cases_eq p i) as (λ _. get_or (set xs i v) p 0 ≡ f p) [
-  | inl e ↦ get_or-set_at xs i p v 0 e h ∙ same ∙ ap f (sym e)
-  | inr n ↦ get_or-set_other xs i p v 0 n ∙ done p (let apart : p ≢ i = n in omega arith)
-]
-
--- one place later
-pub one_later : (xs : List ℕ) (i : ℕ) (f : ℕ → ℕ) → ((p : ℕ) → p < i → get_or xs p 0 ≡ f p) → get_or xs i 0 ≡ f i → (p : ℕ) → p < i + 1 → get_or xs p 0 ≡ f p
-one_later xs i f done same p below = elim (cases_eq p i) as (λ _. get_or xs p 0 ≡ f p) [
-  | inl e ↦ ap (λ k. get_or xs k 0) e ∙ same ∙ ap f (sym e)
-  | inr n ↦ done p (let apart : p ≢ i = n in omega arith)
+-- a list that agrees with f at each place, with one more
+pub agrees_with_more : (xs : List ℕ) (v : ℕ) (f : ℕ → ℕ) → ((p : ℕ) → p < length xs → get_or xs p 0 ≡ f p) → v ≡ f (length xs) → (p : ℕ) → p < length xs + 1 → get_or (xs ++ v ∷ []) p 0 ≡ f p
+agrees_with_more xs v f done same p below = elim (cases_eq p (length xs)) as (λ _. get_or (xs ++ v ∷ []) p 0 ≡ f p) [
+  | inl e ↦ ap (λ k. get_or (xs ++ v ∷ []) k 0) e ∙ get_or-append_seam xs v [] 0 ∙ same ∙ ap f (sym e)
+  | inr n ↦ (let apart : p ≢ length xs = n in get_or_append_left xs (v ∷ []) 0 p (omega arith) ∙ done p (omega arith))
 ]
 
 pub left_few : (words : List ℕ) → length (left_weights words) ≤ SLOTS

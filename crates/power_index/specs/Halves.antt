@@ -1,13 +1,12 @@
 -- The two halves of a sheet (Horowitz and Sahni 1974): the first half of its open chairs, by number, stand on the left,
 -- with the odd one, and the others on the right, each at slots from 0.
-use Rattle.std.specs.Prelude.{◌≡◌, ℕ, ◌+◌, ◌-◌, ◌/◌, Bool, not, if◌then◌else◌, List, [], ◌∷◌, map}
+use Rattle.std.specs.Prelude.{ℕ, ◌+◌, ◌-◌, ◌/◌, Bool, not, if◌then◌else◌, List, [], ◌∷◌, map}
 use Rattle.std.specs.Prelude.{length, take, drop, nat_eq, nat_lt}
 use Rattle.std.specs.Cmp.Lexicographic.{pointwise}
-use Rattle.council_core.specs.Sheets.{Chair, open_from, open_chairs}
+use Rattle.council_core.specs.Sheets.{Chair, open_chairs}
 use Rattle.half_sums.specs.declared.entry.Entry.{Entry}
 use Rattle.half_sums.specs.Entries.{AreSubsets}
 use Rattle.half_sums.specs.declared.groups.TheConstants.{SLOTS}
-use Rattle.council_core.specs.declared.limits.TheConstants.{SHEET_WORDS}
 
 -- the weights of the open chairs, by number
 abbrev pub weights : List ℕ → List ℕ
@@ -30,7 +29,6 @@ slotted slot (weight ∷ rest) = (slot, weight) ∷ slotted (slot + 1) rest
 
 -- two lists of entries are those of the two halves of a sheet
 pub record AreHalves (words : List ℕ) (left right : List Entry) : Type 0 where
-  pub long : length words ≡ SHEET_WORDS
   pub left_half : AreSubsets (slotted 0 (left_weights words)) left
   pub right_half : AreSubsets (slotted 0 (right_weights words)) right
 
@@ -39,9 +37,9 @@ pub record AreHalves (words : List ℕ) (left right : List Entry) : Type 0 where
 abbrev pub seat : ℕ → ℕ → ℕ
 seat on_left before = if nat_lt before on_left then before else SLOTS + (before - on_left)
 
--- where the open chair of a place of a sheet stands
+-- where the open chair of a sheet with so many before it stands
 abbrev pub seat_of : List ℕ → ℕ → ℕ
-seat_of words place = seat (left_count (length (open_chairs words))) (length (open_from 1 (take place words)))
+seat_of words before = seat (left_count (length (open_chairs words))) before
 
 -- the sixteen words of the chairs from a place on
 abbrev pub half_words : ℕ → List ℕ → List ℕ

@@ -8,7 +8,7 @@ ghost use Rattle.power_index.specs.Counts.{AreCounts};
 ghost use Rattle.power_index.specs.Tallies.{IsSwingTally};
 ghost use Rattle.power_index.specs.Indices.{AreIndices, indices_of};
 
-use crate::halves::{by_place, differ, on_left, refresh, weights_of};
+use crate::halves::{differ, in_order, on_left, refresh, weights_of};
 use crate::indices::{Fraction, Indices};
 use crate::rows::{SwingTally, coalition_count, rows};
 use council_core::{Refusal, SHEET_WORDS, Sheet};
@@ -66,7 +66,7 @@ impl Evaluator {
     {
         let old = self.sheet.words();
         let new = sheet.words();
-        let (before, after) = (weights_of(&old), weights_of(&new));
+        let (before, after) = (weights_of(&self.sheet), weights_of(sheet));
         let (old_left, old_right) = before.as_slice().split_at(on_left(before.len()));
         let (new_left, new_right) = after.as_slice().split_at(on_left(after.len()));
         refresh(&mut self.left, old_left, new_left);
@@ -87,7 +87,6 @@ impl Evaluator {
         let least_size = least_size(majority, &self.sheet);
         let tally = self.tally(majority, quota, least_size);
         let chairs = self.sheet.chairs();
-        let words = self.sheet.words();
         let coalitions = coalition_count(chairs);
         Indices {
             majority,
@@ -103,11 +102,11 @@ impl Evaluator {
                 num: tally.winning,
                 den: coalitions,
             },
-            rows: rows(&words, &tally, chairs),
+            rows: rows(&self.sheet, &tally),
         }
     }
 
-    // The winning coalitions of the sheet held, and the swings of each place, by the quota and the least size of a
+    // The winning coalitions of the sheet held, and the swings of its open chairs, by the quota and the least size of a
     // majority.
     fn tally(&self, majority: Majority, quota: u64, least_size: u8) -> SwingTally
         requires quota { (w k : ℕ) → ((quota ≤ w) × (least_size ≤ k)) ↔ IsTrue (wins majority self.now w k) }
@@ -119,7 +118,7 @@ impl Evaluator {
         SwingTally {
             majority,
             winning: counts.winning,
-            swings: by_place(&self.sheet.words(), self.sheet.chairs(), &seated),
+            swings: in_order(self.sheet.chairs(), &seated),
         }
     }
 

@@ -1,24 +1,22 @@
 //! The halves of a sheet: of its open chairs, by number, the first half stand on the left, and the others on the right.
-ghost use Rattle.std.specs.Prelude.{◌≡◌, ◌+◌, ◌<◌, ◌≤◌, ◌^◌, ◌==◌, ℕ, not, length, if◌then◌else◌, sum_by, slice_index};
+ghost use Rattle.std.specs.Prelude.{◌≡◌, ◌+◌, ◌<◌, ◌≤◌, ◌^◌, ℕ, not, length, sum_by, slice_index};
 ghost use Rattle.council_core.specs.Sheets.{open_chairs};
 ghost use Rattle.half_sums.specs.Entries.{AreSubsets};
-ghost use Rattle.power_index.specs.Halves.{weights, slotted, left_count, seat, seat_of, same_half, one_if};
+ghost use Rattle.power_index.specs.Halves.{weights, slotted, left_count, seat, same_half, one_if};
 
 use arrayvec::ArrayVec;
-use council_core::{CHAIRS, SHEET_WORDS};
+use council_core::{CHAIRS, SHEET_WORDS, Sheet};
 use half_sums::{OrderedSums, SLOTS};
 
 // The weights of the open chairs, by number.
-pub(crate) fn weights_of(words: &[u64; SHEET_WORDS]) -> ArrayVec<u64, CHAIRS>
-    ensures weights { result.items ≡ weights words.now }
-    ensures count { length result.items ≡ length (open_chairs words.now) }
+pub(crate) fn weights_of(sheet: &Sheet) -> ArrayVec<u64, CHAIRS>
+    ensures weights { result.items ≡ weights sheet.now }
+    ensures count { length result.items ≡ length (open_chairs sheet.now) }
 {
+    let chairs = sheet.open_chairs();
     let mut weights = ArrayVec::new();
-    for place in 0..CHAIRS {
-        let word = words[place];
-        if word > 0 {
-            weights.push(word - 1);
-        }
+    for i in 0..chairs.len() {
+        weights.push(chairs[i].1);
     }
     weights
 }
@@ -69,26 +67,19 @@ pub(crate) fn refresh(half: &mut OrderedSums, old: &[u64], new: &[u64])
     half.rebuild(chairs_of(new).as_slice());
 }
 
-// What stands at the seats of the open chairs, by place; 0 where a chair is closed.
-pub(crate) fn by_place(
-    words: &[u64; SHEET_WORDS],
-    chairs: u8,
-    seated: &[u64; CHAIRS],
-) -> [u64; CHAIRS]
-    requires chairs { chairs ≡ length (open_chairs words.now) }
-    ensures each { (place : ℕ) → place < CHAIRS → slice_index result place
-        ≡ (if slice_index words.now place == 0 then 0 else slice_index seated.now (seat_of words.now place)) }
+// What stands at the seats of so many open chairs, in their order.
+pub(crate) fn in_order(chairs: u8, seated: &[u64; CHAIRS]) -> ArrayVec<u64, CHAIRS>
+    requires few { chairs ≤ CHAIRS }
+    ensures count { length result.items ≡ chairs }
+    ensures each { (i : ℕ) → i < chairs
+        → slice_index result.items i ≡ slice_index seated.now (seat (left_count chairs) i) }
 {
     let half = on_left(usize::from(chairs));
-    let mut each = [0; CHAIRS];
-    let mut before = 0;
-    for place in 0..CHAIRS {
-        if words[place] > 0 {
-            each[place] = seated[seat_at(half, before)];
-            before += 1;
-        }
+    let mut ordered = ArrayVec::new();
+    for i in 0..usize::from(chairs) {
+        ordered.push(seated[seat_at(half, i)]);
     }
-    each
+    ordered
 }
 
 // The seat of an open chair with so many before it.

@@ -1,21 +1,21 @@
 //! The rows of the open chairs.
-ghost use Rattle.std.specs.Prelude.{◌≡◌, ◌+◌, ◌^◌, ◌<◌, ◌≤◌, length};
+ghost use Rattle.std.specs.Prelude.{◌≡◌, ◌^◌, ◌≤◌, length, sum_by, All};
 ghost use Rattle.council_core.specs.Sheets.{open_chairs};
 ghost use Rattle.majority_rule.specs.Winning.{rule_of};
-ghost use Rattle.power_index.specs.Indices.{ratio_unless_zero, power_of, rows_among, swings_among};
+ghost use Rattle.power_index.specs.Indices.{ratio_unless_zero, power_of, rows_among};
 ghost use Rattle.power_index.specs.Tallies.{IsSwingTally};
 
 use crate::indices::{ChairPower, Fraction};
 use arrayvec::ArrayVec;
-use council_core::{CHAIRS, ChairId, SHEET_WORDS};
+use council_core::{CHAIRS, ChairId, Sheet};
 use majority_rule::Majority;
 
-// The winning coalitions of a sheet under a majority, and the swings of each place.
-#[derive(Clone, Copy)]
+// The winning coalitions of a sheet under a majority, and the swings of its open chairs, by number.
+#[derive(Drop)]
 pub(crate) struct SwingTally {
     pub(crate) majority: Majority,
     pub(crate) winning: u64,
-    pub(crate) swings: [u64; CHAIRS],
+    pub(crate) swings: ArrayVec<u64, CHAIRS>,
 }
 
 // What the rows of a sheet share: the open chairs, the winning coalitions, and the swings of all chairs.
@@ -46,26 +46,15 @@ fn unless_zero(num: u64, den: u64) -> Option<Fraction>
     }
 }
 
-// The chair of a place.
-fn chair_at(place: usize) -> ChairId
-    requires place { place < CHAIRS }
-    ensures number { result ≡ place + 1 }
-{
-    match ChairId::new(place as u8 + 1) {
-        Ok(chair) => chair,
-        Err(_) => unreachable!(),
-    }
-}
-
-// The row of one chair.
-fn row(totals: &Totals, chair: ChairId, weight: u64, swings: u64) -> ChairPower
+// The row of a chair with its weight.
+fn row(totals: &Totals, chair: (ChairId, u64), swings: u64) -> ChairPower
     requires chairs { totals.now.chairs ≤ CHAIRS }
     requires winning { totals.now.winning ≤ 2 ^ totals.now.chairs }
-    ensures power { result ≡ power_of totals.now.chairs totals.now.winning totals.now.swings swings (chair, weight) }
+    ensures power { result ≡ power_of totals.now.chairs totals.now.winning totals.now.swings swings chair }
 {
     ChairPower {
-        chair,
-        weight,
+        chair: chair.0,
+        weight: chair.1,
         swings,
         banzhaf: Fraction {
             num: swings,
@@ -80,43 +69,34 @@ fn row(totals: &Totals, chair: ChairId, weight: u64, swings: u64) -> ChairPower
     }
 }
 
-// The swings of all open chairs.
-fn swing_sum(words: &[u64; SHEET_WORDS], tally: &SwingTally) -> u64
-    requires tally { IsSwingTally words.now tally.now }
-    ensures sum { result ≡ swings_among (rule_of tally.now.majority words.now) (open_chairs words.now)
-        (open_chairs words.now) }
+// The sum of the swings of all open chairs.
+fn swing_sum(swings: &[u64]) -> u64
+    requires few { length swings.now ≤ CHAIRS }
+    requires small { All (λ n. n ≤ 2 ^ CHAIRS) swings.now }
+    ensures sum { result ≡ sum_by (λ n. n) swings.now }
 {
     let mut sum = 0;
-    for place in 0..CHAIRS {
-        if words[place] > 0 {
-            sum += tally.swings[place];
-        }
+    for swings_of_chair in swings {
+        sum += *swings_of_chair;
     }
     sum
 }
 
 // A row for each open chair, by number.
-pub(crate) fn rows(
-    words: &[u64; SHEET_WORDS],
-    tally: &SwingTally,
-    chairs: u8,
-) -> ArrayVec<ChairPower, CHAIRS>
-    requires tally { IsSwingTally words.now tally.now }
-    requires chairs { chairs ≡ length (open_chairs words.now) }
+pub(crate) fn rows(sheet: &Sheet, tally: &SwingTally) -> ArrayVec<ChairPower, CHAIRS>
+    requires tally { IsSwingTally sheet.now tally.now }
     ensures rows { result.items
-        ≡ rows_among (rule_of tally.now.majority words.now) (open_chairs words.now) (open_chairs words.now) }
+        ≡ rows_among (rule_of tally.now.majority sheet.now) (open_chairs sheet.now) (open_chairs sheet.now) }
 {
+    let chairs = sheet.open_chairs();
     let totals = Totals {
-        chairs,
+        chairs: chairs.len() as u8,
         winning: tally.winning,
-        swings: swing_sum(words, tally),
+        swings: swing_sum(tally.swings.as_slice()),
     };
     let mut rows = ArrayVec::new();
-    for place in 0..CHAIRS {
-        let word = words[place];
-        if word > 0 {
-            rows.push(row(&totals, chair_at(place), word - 1, tally.swings[place]));
-        }
+    for i in 0..chairs.len() {
+        rows.push(row(&totals, chairs[i], tally.swings[i]));
     }
     rows
 }

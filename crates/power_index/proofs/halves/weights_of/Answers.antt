@@ -1,22 +1,19 @@
-use Rattle.std.proofs.Common.{◌≡◌, ◌-◌, [], ◌∷◌, ◌++◌, arith, length, map, get_or, ap, ◌∙◌, sym}
-use Rattle.std.proofs.lemmas.List.{length-append}
-use Rattle.power_index.proofs.RowLemmas.{front_closed, map_open}
+use Rattle.std.proofs.Common.{[], ◌∷◌, ◌++◌, ℕ, List, arith, length, map, take, get_or, ap, ◌∙◌, sym}
+use Rattle.std.proofs.lemmas.List.{length-append, map-append, take_more}
+use Rattle.council_core.specs.Sheets.{Chair}
 use Rattle.power_index.proofs.halves.weights_of.Goals as goal
-use Rattle.power_index.proofs.halves.weights_of.Goals.{then-word-gt0, else-word-gt0}
 
-pub loop-place-preserved : goal.loop-place-preserved
-loop-place-preserved c =
-    elim c.if-word-gt0.branch [
-      | then-word-gt0 w ↦ (
-          let items : c.if-word-gt0.weights.items ≡ c.loop-place.weights.items ++ (get_or c.args.words.now c.loop-place.place 0 - 1) ∷ [] = cc in
-          record {
-            weights = items ∙ ap (λ l. l ++ (get_or c.args.words.now c.loop-place.place 0 - 1) ∷ []) c.loop-place.invariant.weights ∙ sym (map_open (λ ch. ch.1) c.args.words.now c.loop-place.place (omega arith) (omega arith));
-            few = omega (arith, ap length items, length-append c.loop-place.weights.items ((get_or c.args.words.now c.loop-place.place 0 - 1) ∷ []));
-          })
-      | else-word-gt0 w ↦ (
-          let items : c.if-word-gt0.weights.items ≡ c.loop-place.weights.items = cc in
-          record {
-            weights = items ∙ c.loop-place.invariant.weights ∙ sym (ap (map (λ ch. ch.1)) (front_closed c.args.words.now c.loop-place.place (omega arith) (omega arith)));
-            few = omega (arith, ap length items);
-          })
-    ]
+pub loop-i-preserved : goal.loop-i-preserved
+loop-i-preserved c =
+    let chairs : List Chair = c.open_chairs-chairs.result.items in
+    let i : ℕ = c.loop-i.i in
+    let d : Chair = c.index-deref-i.result in
+    let w : ℕ = (get_or c.deref.result.now i d).1 in
+    let weight : Chair → ℕ = λ ch. ch.1 in
+    record {
+      weights = c.push.ensures.items
+          ∙ ap (λ l. l ++ w ∷ []) c.loop-i.invariant.weights
+          ∙ ap (λ l. map weight (take i chairs) ++ (get_or l i d).1 ∷ []) c.deref.ensures.0
+          ∙ sym (ap (map weight) (take_more chairs i d (omega arith)) ∙ map-append weight (take i chairs) (get_or chairs i d ∷ []));
+      few = omega (arith, ap length c.push.ensures.items, length-append c.loop-i.weights.items (w ∷ []));
+    }

@@ -1,9 +1,8 @@
-use Rattle.std.proofs.Common.{◌≡◌, ◌≤◌, length, map}
-use Rattle.power_index.proofs.RowLemmas.{front_chairs}
+use Rattle.std.proofs.Common.{◌≡◌, ◌≤◌, length, map, take}
 use Rattle.power_index.proofs.halves.weights_of.Given as goal
 
-abbrev pub invariant-loop-place : goal.invariant-loop-place
-invariant-loop-place l = record {
-  weights : l.weights.items ≡ map (λ c. c.1) (front_chairs l.place l.words);
-  few : length l.weights.items ≤ l.place;
+abbrev pub invariant-loop-i : goal.invariant-loop-i
+invariant-loop-i l = record {
+  weights : l.weights.items ≡ map (λ c. c.1) (take l.i l.chairs.items);
+  few : length l.weights.items ≤ l.i;
 }

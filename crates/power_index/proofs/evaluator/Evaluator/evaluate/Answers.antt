@@ -1,15 +1,19 @@
-use Rattle.std.proofs.Common.{◌≡◌, ℕ, ◌^◌, ◌∙◌, ap, refl, List, length}
+use Rattle.std.proofs.Common.{◌≡◌, ℕ, ◌^◌, ◌∙◌, ap, refl, sym, subst, List, length}
 use Rattle.council_core.specs.Sheets.{open_chairs, cast_of, total_of, front_of}
 use Rattle.council_core.specs.Coalitions.{omega_of}
 use Rattle.majority_rule.specs.declared.majorities.Majority.{Majority}
 use Rattle.majority_rule.specs.Winning.{rule_of, quota_of, least_size_of}
 use Rattle.power_index.specs.Indices.{ratio, rows_among}
+use Rattle.power_index.specs.Tallies.{IsSwingTally}
 use Rattle.power_index.proofs.Bounds.{both_win}
 use Rattle.power_index.proofs.IndicesLemmas.{fields_settle}
 use Rattle.power_index.proofs.evaluator.Evaluator.evaluate.Goals as goal
 
 pub tally-tally-requires : goal.tally-tally-requires
 tally-tally-requires c = record { quota = rw (← c.self.view_is) (λ w k. both_win _ _ (c.quota-quota.ensures.least w) (c.least_size-least_size.ensures.least k)) }
+
+pub rows-requires : goal.rows-requires
+rows-requires c = record { tally = subst (λ (l : List ℕ). IsSwingTally l c.tally-tally.result) (sym c.self.view_is) c.tally-tally.ensures.counts }
 
 pub returns-clause-exact : goal.returns-clause-exact
 returns-clause-exact c =
@@ -29,8 +33,8 @@ returns-clause-exact c =
       all = a;
       to_act = ap (λ (k : ℕ). ratio k c.coalition_count-coalitions.result) o ∙ ap (ratio (omega_of (rule_of c.args.majority held) (open_chairs held))) a;
       row_each = c.rows.ensures.rows
-          ∙ ap (λ (t : Majority). rows_among (rule_of t c.words-words.result) (open_chairs c.words-words.result) (open_chairs c.words-words.result)) c.tally-tally.ensures.majority
-          ∙ ap (λ (l : List ℕ). rows_among (rule_of c.args.majority l) (open_chairs l) (open_chairs l)) (c.words-words.ensures.same ∙ v);
+          ∙ ap (λ (t : Majority). rows_among (rule_of t c.self.inside.sheet) (open_chairs c.self.inside.sheet) (open_chairs c.self.inside.sheet)) c.tally-tally.ensures.majority
+          ∙ ap (λ (l : List ℕ). rows_among (rule_of c.args.majority l) (open_chairs l) (open_chairs l)) v;
     }
 
 pub returns-clause-same : goal.returns-clause-same
