@@ -20,7 +20,8 @@ NoReadInVain from to (Err (stop.Told f)) = WastesAtMost 0 from to
 -- first bytes of the piece were given, and none of a piece with room at the end alone
 abbrev pub Reads : Giving → Giving → ℕ → ℕ → List ℕ → Option ℕ → Type 0
 Reads from to before after piece None =
-    (after ≡ before + 1) × (to.interruptions ≡ from.interruptions + 1) × WasGiven from to [] × WastesAtMost 0 from to
+    (after ≡ before + 1) × (to.interruptions ≡ from.interruptions + 1) × WasGiven from to []
+    × WastesAtMost 0 from to
 Reads from to before after piece (Some n) =
     (after ≡ before) × (n ≤ length piece) × WasGiven from to (take n piece)
     × (n ≡ 0 → 0 < length piece → HasEnded to) × (0 < n → WastesAtMost 0 from to)

@@ -52,7 +52,8 @@ Takes old new r buf = (new.asks ≡ old.asks + 1) × CountsInterruptions old.int
 abbrev pub Gives : Giving → Giving → Result ℕ Error → List ℕ → Type 0
 Gives old new r buf = (new.asks ≡ old.asks + 1) × CountsInterruptions old.interruptions new.interruptions r
     × MatchResult r
-    (λ n. (new.gave ≡ old.gave ++ take n buf) × (new.ended ≡ is_last buf n) × (new.vain ≡ old.vain + vain_of n))
+    (λ n. (new.gave ≡ old.gave ++ take n buf) × (new.ended ≡ is_last buf n)
+    × (new.vain ≡ old.vain + vain_of n))
     (λ _. (new.gave ≡ old.gave) × (new.vain ≡ old.vain + 1))
 
 -- a reader gave just these from one moment to a later one

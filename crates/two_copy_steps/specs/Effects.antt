@@ -127,7 +127,8 @@ Answers t m event = Tells (replies_of t.register (effect m event)) t.replied (tr
 -- so it is at each event of a list
 abbrev pub AllAnswer : SequentialRun → MachineState → List Event → Type 0
 AllAnswer t m [] = Unit {0}
-AllAnswer t m (event ∷ events) = Answers t m event × AllAnswer (sequential_step t m event) (transition m event).0 events
+AllAnswer t m (event ∷ events) =
+    Answers t m event × AllAnswer (sequential_step t m event) (transition m event).0 events
 
 -- the run beside a machine after a list of events
 abbrev pub sequential_steps : SequentialRun → MachineState → List Event → SequentialRun
