@@ -1,5 +1,6 @@
 -- What comes of the work of all threads is what the plan asks.
-use Rattle.std.proofs.Common.{◌≡◌, ℕ, List, [], ◌∷◌, length, map, All, sym, ap, ◌∙◌, subst}
+use Rattle.std.proofs.Common.{◌≡◌, ℕ, List, [], ◌∷◌, length, map, All, IfOk, Result, Ok, Err, refl, sym, ap, ◌∙◌, subst}
+use Rattle.std.specs.List.{AllByRecursion, AllZip}
 use Rattle.std.proofs.lemmas.List.Elements.{All-cons, All-nil}
 use Rattle.council_core.specs.Ledgers.{Ledger}
 use Rattle.council_core.specs.Rolls.{IsLegal, Opening}
@@ -7,69 +8,100 @@ use Rattle.council_core.specs.declared.commands.Command.{Command}
 use Rattle.council_core.specs.Sequential.{AreCuts, Sequential, replies_of, state_after}
 use Rattle.majority_rule.specs.declared.majorities.Majority.{Majority}
 use Rattle.two_copy_steps.specs.Lawful.{last_front}
-use Rattle.board_share.specs.Openings.{beginning_of, new_publisher}
-use Rattle.board_share.specs.Readers.{IsLegalSheet, ReaderSeen, new_reader}
+use Rattle.board_share.specs.Openings.{new_publisher}
+use Rattle.board_share.specs.Readers.{IsLegalSheet, ReaderSeen}
 use Rattle.board_text.specs.Replies.{reply_of}
-use Rattle.board_serve.specs.Outcomes.{IsBrought, IsOutcome, IsServed, asked_by, omegas_by}
+use Rattle.board_serve.specs.Outcomes.{IsBrought, IsOutcome, IsServed, omegas_by}
 use Rattle.board_serve.specs.Parts.{call_of_order}
 use Rattle.board_serve.specs.Plans.{Planned, calls_of, told_by}
 use Rattle.board_text.specs.Text.{fresh}
-use Rattle.board_serve.specs.Work.{IsRead, IsRising, cuts_of, omegas, register_of}
-use Rattle.board_serve.specs.Jobs.{AreRead, AreWritten, replies_to}
+use Rattle.board_serve.specs.Work.{IsRising, cuts_of, omegas, register_of}
+use Rattle.board_serve.specs.Jobs.{AreDone, AreRead, HasAsked, HasWritten, replies_to}
 use Rattle.board_serve.specs.declared.jobs.Done.{Done}
+use Rattle.board_serve.specs.declared.jobs.Jobs.{Jobs}
 use Rattle.board_serve.specs.declared.jobs.ReaderJob.{ReaderJob}
-use Rattle.board_serve.specs.declared.jobs.WriterJob.{WriterJob}
 use Rattle.board_serve.specs.declared.readings.Readings.{Readings}
 use Rattle.board_serve.specs.declared.outcomes.Outcome.{Outcome}
 use Rattle.board_serve.specs.declared.served.Served.{Served}
+use Rattle.board_serve.specs.declared.written.Written.{Written}
+use Rattle.board_text.specs.declared.stops.Stop.{Stop}
 use Rattle.board_serve.proofs.CutFacts.{cuts-in_order}
-
--- two things of which something holds
-both-all : {A : Type 0} (P : A → Type 0) (x y : A) → P x → P y → All P (x ∷ y ∷ [])
-both-all P x y p q = All-cons P x (y ∷ []) p (All-cons P y [] q (All-nil P))
 
 -- a new writer of a register with no command is the register with none published
 pub new-register : (ledger : Ledger) → ledger.journal ≡ [] → register_of (new_publisher ledger 2) ≡ fresh ledger
 new-register ledger none = ap (λ (n : ℕ). let s : Sequential = record { ledger = ledger; published = n } in s) (ap length none)
 
--- the job of a reader that had read nothing, and what it read
-pub record Answers (p : Planned) (place : ℕ) (asked : List Majority) (r : Readings) : Type 0 where
-  pub job : ReaderJob
-  pub is_new : job.analyst.reader ≡ new_reader (beginning_of p.0.ledger 2) place
-  pub asks : job.asked.items ≡ asked
-  pub done : AreRead job r
+-- the reader is of this opening, and has read nothing
+abbrev pub IsNew : Opening → ReaderSeen → Type 0
+IsNew opening reader = (reader.opening ≡ opening) × (reader.readings ≡ [])
 
-legal-of : (p : Planned) (place : ℕ) (asked : List Majority) (r : Readings) → Answers p place asked r → All (IsLegalSheet p.0.ledger.opening) r.sheets.items
-legal-of p place asked r h = subst (λ (a : ReaderSeen). All (IsLegalSheet a.opening) r.sheets.items) h.is_new h.done.legal
+-- what all jobs brought back
+pub all-asked : (jobs : List ReaderJob) (results : List (Result Readings Stop)) (read : List Readings) → AllZip HasAsked jobs results → results ≡ map Ok read → AllZip AreRead jobs read
+all-asked [] [] [] asked same = tt
+all-asked [] [] (r ∷ rs) asked same = cc same
+all-asked [] (x ∷ xs) read asked same = absurd asked
+all-asked (j ∷ js) [] read asked same = absurd asked
+all-asked (j ∷ js) (x ∷ xs) [] asked same = cc same
+all-asked (j ∷ js) (x ∷ xs) (r ∷ rs) asked same =
+    let here : x ≡ Ok r = cc in
+    let rest : xs ≡ map Ok rs = cc in
+    (subst (HasAsked j) here asked.0, all-asked js xs rs asked.1 rest)
 
-rising-of : (p : Planned) (place : ℕ) (asked : List Majority) (r : Readings) → Answers p place asked r → IsRising 0 r.sheets.items
-rising-of p place asked r h = subst (λ (a : ReaderSeen). IsRising (last_front 0 a.readings) r.sheets.items) h.is_new h.done.rising
+-- of jobs that two readers were given, and a writer
+pub all-done : (jobs : Jobs) (one two : ReaderJob) (written : Result Written Stop) (first second : Result Readings Stop) (r : Result Done Stop) → jobs.readers ≡ one ∷ two ∷ []
+    → HasWritten jobs.writer written → HasAsked one first → HasAsked two second → IfOk r (λ d. written ≡ Ok d.written) → IfOk r (λ d. (first ∷ second ∷ []) ≡ map Ok d.read)
+    → IfOk r (AreDone jobs)
+all-done jobs one two written first second (Err e) both wrote a b w read = tt
+all-done jobs one two written first second (Ok d) both wrote a b w read = record {
+  written = subst (HasWritten jobs.writer) w wrote;
+  read = subst (λ (js : List ReaderJob). AllZip AreRead js d.read) (sym both) (all-asked (one ∷ two ∷ []) (first ∷ second ∷ []) d.read (a, (b, tt)) read);
+}
 
-read-of : (p : Planned) (place : ℕ) (asked : List Majority) (r : Readings) → Answers p place asked r → IsRead asked r
-read-of p place asked r h = subst (λ (ms : List Majority). IsRead ms r) h.asks h.done.read
+-- what `IsServed` says of the readings, by reader
+record AreReadings (opening : Opening) (asked : List (List Majority)) (read : List Readings) : Type 0 where
+  pub counts : map length (map (λ r. r.sheets.items) read) ≡ map length asked
+  pub legal : All (λ sheets. All (IsLegalSheet opening) sheets) (map (λ r. r.sheets.items) read)
+  pub rising : All (IsRising 0) (map (λ r. r.sheets.items) read)
+  pub winning : map (λ r. r.winning.items) read ≡ omegas_by asked (map (λ r. r.sheets.items) read)
+
+-- of jobs of new readers
+all-read : (opening : Opening) (jobs : List ReaderJob) (read : List Readings) → AllByRecursion (IsNew opening) (map (λ j. j.analyst.reader) jobs) → AllZip AreRead jobs read
+    → AreReadings opening (map (λ v. v.items) (map (λ j. j.asked) jobs)) read
+all-read opening [] [] new done = record { counts = refl; legal = All-nil (λ sheets. All (IsLegalSheet opening) sheets); rising = All-nil (IsRising 0); winning = refl }
+all-read opening [] (r ∷ rs) new done = absurd done
+all-read opening (j ∷ js) [] new done = absurd done
+all-read opening (j ∷ js) (r ∷ rs) new done =
+    let more = all-read opening js rs new.1 done.1 in
+    record {
+      counts = ap (λ (n : ℕ). n ∷ map length (map (λ r. r.sheets.items) rs)) done.0.read.count ∙ ap (λ (ns : List ℕ). length j.asked.items ∷ ns) more.counts;
+      legal = All-cons (λ sheets. All (IsLegalSheet opening) sheets) r.sheets.items (map (λ x. x.sheets.items) rs) (subst (λ (o : Opening). All (IsLegalSheet o) r.sheets.items) new.0.0 done.0.legal) more.legal;
+      rising = All-cons (IsRising 0) r.sheets.items (map (λ x. x.sheets.items) rs) (subst (λ (l : List (List ℕ)). IsRising (last_front 0 l) r.sheets.items) new.0.1 done.0.rising) more.rising;
+      winning = ap (λ (l : List ℕ). l ∷ map (λ r. r.winning.items) rs) done.0.read.winning ∙ ap (λ (l : List (List ℕ)). omegas j.asked.items r.sheets.items ∷ l) more.winning;
+    }
 
 module _ (p : Planned) (o : Outcome) (done : Done) (b : IsBrought done o) where
   -- of the jobs of a new writer and of new readers
-  pub outcome-of : (job : WriterJob) → register_of job.writer ≡ p.0 → job.orders.items ≡ p.1.writer → AreWritten job done.written
-      → Answers p 0 p.1.first done.first → Answers p 1 p.1.second done.second → IsOutcome p o
-  outcome-of job start same written one two =
-      let orders = job.orders.items in
-      let first = done.first.sheets.items in
-      let second = done.second.sheets.items in
+  pub outcome-of : (jobs : Jobs) → register_of jobs.writer.writer ≡ p.0 → jobs.writer.orders.items ≡ p.1.writer
+      → AllByRecursion (IsNew p.0.ledger.opening) (map (λ j. j.analyst.reader) jobs.readers) → map (λ v. v.items) (map (λ j. j.asked) jobs.readers) ≡ p.1.asked
+      → AreDone jobs done → IsOutcome p o
+  outcome-of jobs start same new asks ran =
+      let orders = jobs.writer.orders.items in
+      let written = ran.written in
       let calls : map call_of_order orders ≡ calls_of p = ap (map call_of_order) same in
-      let told : replies_to job ≡ told_by p = ap (λ (s : Sequential). replies_of s (map call_of_order orders)) start ∙ ap (replies_of p.0) calls in
-      let state : state_after (register_of job.writer) (map call_of_order orders) ≡ state_after p.0 (calls_of p) = ap (λ (s : Sequential). state_after s (map call_of_order orders)) start ∙ ap (state_after p.0) calls in
+      let told : replies_to jobs.writer ≡ told_by p = ap (λ (s : Sequential). replies_of s (map call_of_order orders)) start ∙ ap (replies_of p.0) calls in
+      let state : state_after (register_of jobs.writer.writer) (map call_of_order orders) ≡ state_after p.0 (calls_of p) = ap (λ (s : Sequential). state_after s (map call_of_order orders)) start ∙ ap (state_after p.0) calls in
       let journal : o.served.journal.items ≡ done.written.journal.items = b.journal in
+      let read = subst (λ (asked : List (List Majority)). AreReadings p.0.ledger.opening asked done.read) asks (all-read p.0.ledger.opening jobs.readers done.read new ran.read) in
       record {
         answers = ap (map reply_of) b.answers ∙ written.answers ∙ told;
         served = record {
           journal = journal ∙ written.journal ∙ ap (λ (s : Sequential). s.ledger.journal) state;
           legal_journal = rw journal (subst (λ (l : Opening). IsLegal l done.written.journal.items) (ap (λ (s : Sequential). s.ledger.opening) start) written.legal);
           cuts = b.cuts ∙ written.cuts ∙ ap cuts_of told;
-          counts = rw b.readings (ap (λ (n : ℕ). n ∷ length second ∷ []) (read-of p 0 p.1.first done.first one).count ∙ ap (λ (n : ℕ). length p.1.first ∷ n ∷ []) (read-of p 1 p.1.second done.second two).count);
-          legal = rw b.readings (both-all (λ sheets. All (IsLegalSheet p.0.ledger.opening) sheets) first second (legal-of p 0 p.1.first done.first one) (legal-of p 1 p.1.second done.second two));
-          rising = rw b.readings (both-all (IsRising 0) first second (rising-of p 0 p.1.first done.first one) (rising-of p 1 p.1.second done.second two));
-          winning = b.winning ∙ sym (ap (omegas_by (asked_by p)) b.readings ∙ ap (λ (l : List ℕ). l ∷ omegas p.1.second second ∷ []) (sym (read-of p 0 p.1.first done.first one).winning) ∙ ap (λ (l : List ℕ). done.first.winning.items ∷ l ∷ []) (sym (read-of p 1 p.1.second done.second two).winning));
+          counts = rw b.readings read.counts;
+          legal = rw b.readings read.legal;
+          rising = rw b.readings read.rising;
+          winning = b.winning ∙ read.winning ∙ ap (omegas_by p.1.asked) (sym b.readings);
         };
       }
 

@@ -1,11 +1,13 @@
 -- How a script's records are given out, one more at a time.
-use Rattle.std.proofs.Common.{◌≡◌, ◌+◌, ◌==◌, ℕ, Bool, true, false, List, [], ◌∷◌, ◌++◌, cond, Ok, Err, refl, arith}
+use Rattle.std.proofs.Common.{◌≡◌, ◌≤◌, ◌+◌, ◌-◌, ◌&&◌, ℕ, zero, suc, true, List, [], ◌∷◌, ◌++◌, length, map, get_or, set, nat_le, sum_by, Ok, Err, refl, ap, subst, arith}
 use Rattle.std.proofs.lemmas.List.{length-append}
+use Rattle.std.proofs.lemmas.List.Sums.{sum_by-cons}
 use Rattle.majority_rule.specs.declared.majorities.Majority.{Majority}
 use Rattle.council_core.specs.declared.refusals.Refusal.{Refusal}
-use Rattle.board_serve.specs.Parts.{Shares, asked, parts_of, size_of, with_request}
+use Rattle.board_serve.specs.Parts.{Shares, add_at, asked, parts_of, size_of, with_request}
+use Rattle.board_serve.specs.Plans.{two_readers}
 use Rattle.board_text.specs.Requests.{Row}
-use Rattle.board_text.specs.Text.{fault_at}
+use Rattle.board_text.specs.Text.{fault_at, is_served}
 use Rattle.board_text.specs.declared.bounds.Limits.{Limits}
 use Rattle.board_serve.specs.declared.orders.Order.TheVariants as order
 use Rattle.board_text.specs.declared.requests.Request.{Request}
@@ -25,12 +27,35 @@ module _ (lim : Limits) (s : Shares) (k : ℕ) (rs : List Row) where
     unfolding parts_of
     parts-more q e = rw (next, e) refl
 
-size-read : (b : Bool) (s : Shares) (m : Majority) → size_of (cond b (record s { first = s.first ++ m ∷ [] }) (record s { second = s.second ++ m ∷ [] })) ≡ size_of s + 1
-size-read true s m = omega (arith, length-append s.first (m ∷ []))
-size-read false s m = omega (arith, length-append s.second (m ∷ []))
+size-at : (index : ℕ) (m : Majority) (lists : List (List Majority)) → sum_by length (add_at index m lists) ≤ sum_by length lists + 1
+size-at index m [] = omega arith
+size-at zero m (list ∷ lists) = omega (arith, length-append list (m ∷ []), sum_by-cons length (list ++ m ∷ []) lists, sum_by-cons length list lists)
+size-at (suc index) m (list ∷ lists) =
+    let more = size-at index m lists in
+    omega (arith, more, sum_by-cons length list (add_at index m lists), sum_by-cons length list lists)
 
--- one request more is one more
-pub size-request : (s : Shares) (q : Request) → size_of (with_request s q) ≡ size_of s + 1
+-- one request more is at most one more
+pub size-request : (s : Shares) (q : Request) → size_of (with_request s q) ≤ size_of s + 1
 size-request s (ask.Submit c) = omega (arith, length-append s.writer (order.Submit c ∷ []))
 size-request s ask.Publish = omega (arith, length-append s.writer (order.Publish ∷ []))
-size-request s (ask.Read reader m) = size-read (reader == 1) s m
+size-request s (ask.Read reader m) = let more = size-at (reader - 1) m s.asked in omega (arith, more)
+
+-- one more at the end of a list in place
+pub added-at : {V A : Type 0} (items : V → List A) (vs : List V) (index : ℕ) (v d : V) (a : A) → items v ≡ items (get_or vs index d) ++ a ∷ []
+    → map items (set vs index v) ≡ add_at index a (map items vs)
+added-at items [] index v d a more = refl
+added-at items (x ∷ xs) zero v d a more = ap (λ l. l ∷ map items xs) more
+added-at items (x ∷ xs) (suc index) v d a more = ap (λ l. items x ∷ l) (added-at items xs index v d a more)
+
+-- two things are the first and the second
+pub two-of : {A : Type 0} (xs : List A) (d : A) → length xs ≡ 2 → xs ≡ get_or xs 0 d ∷ get_or xs 1 d ∷ []
+two-of [] d e = cc e
+two-of (x ∷ []) d e = cc e
+two-of (x ∷ y ∷ []) d e = refl
+two-of (x ∷ y ∷ z ∷ zs) d e = cc e
+
+-- a request of a reader that there is, of two
+pub served-of-two : (lim : Limits) (q : Request) → lim.readers ≡ 2 → is_served lim q ≡ true → is_served (two_readers 0) q ≡ true
+served-of-two lim (ask.Read reader m) two served = subst (λ (n : ℕ). (nat_le 1 reader && nat_le reader n) ≡ true) two served
+served-of-two lim (ask.Submit c) two served = refl
+served-of-two lim ask.Publish two served = refl

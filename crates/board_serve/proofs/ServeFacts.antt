@@ -26,26 +26,26 @@ mapped [] = refl
 mapped (a ∷ more) = ap (λ (ls : List Line). reply_line (reply_of a) ∷ ls) (mapped more)
 
 module _ (a b : Option (List ℕ)) (answers : List Answer) (n m : ℕ) where
-  spelled : (z : Option (List ℕ)) (r : Result (Unit {0}) Stop) → Plays a z r (prints (map (λ x. reply_line (reply_of x)) answers ++ reader_line 1 n ∷ reader_line 2 m ∷ [])) → Plays a z r (prints (lines_of_work (map reply_of answers) n m))
+  spelled : (z : Option (List ℕ)) (r : Result (Unit {0}) Stop) → Plays a z r (prints (map (λ x. reply_line (reply_of x)) answers ++ reader_line 1 n ∷ reader_line 2 m ∷ [])) → Plays a z r (prints (lines_of_work (map reply_of answers) (n ∷ m ∷ [])))
   spelled z r p = subst (λ (ls : List Line). Plays a z r (prints (ls ++ reader_line 1 n ∷ reader_line 2 m ∷ []))) (mapped answers) p
 
   -- the answers' lines were stopped
-  pub work-answers : (e d : Stop) → d ≡ e → Plays a b (Err e) (prints (map (λ x. reply_line (reply_of x)) answers)) → Plays a b (Err d) (prints (lines_of_work (map reply_of answers) n m))
+  pub work-answers : (e d : Stop) → d ≡ e → Plays a b (Err e) (prints (map (λ x. reply_line (reply_of x)) answers)) → Plays a b (Err d) (prints (lines_of_work (map reply_of answers) (n ∷ m ∷ [])))
   work-answers e d same p =
-      let P : Stop → Type 0 = λ s. Plays a b (Err s) (prints (lines_of_work (map reply_of answers) n m)) in
+      let P : Stop → Type 0 = λ s. Plays a b (Err s) (prints (lines_of_work (map reply_of answers) (n ∷ m ∷ []))) in
       subst P (sym same) (spelled b (Err e) (plays-more a b e (map (λ x. reply_line (reply_of x)) answers) (prints (reader_line 1 n ∷ reader_line 2 m ∷ [])) p))
 
   -- the line of the first reader was stopped
   pub work-count : (c : Option (List ℕ)) (u : Unit {0}) (e d : Stop) → d ≡ e → Plays a b (Ok u) (prints (map (λ x. reply_line (reply_of x)) answers)) → Plays b c (Err e) (prints (reader_line 1 n ∷ []))
-      → Plays a c (Err d) (prints (lines_of_work (map reply_of answers) n m))
+      → Plays a c (Err d) (prints (lines_of_work (map reply_of answers) (n ∷ m ∷ [])))
   work-count c u e d same p q =
-      let P : Stop → Type 0 = λ s. Plays a c (Err s) (prints (lines_of_work (map reply_of answers) n m)) in
+      let P : Stop → Type 0 = λ s. Plays a c (Err s) (prints (lines_of_work (map reply_of answers) (n ∷ m ∷ []))) in
       subst P (sym same) (spelled c (Err e) (plays-after a b c (map (λ x. reply_line (reply_of x)) answers) (Err e) (prints (reader_line 1 n ∷ reader_line 2 m ∷ [])) p.1
       (plays-more b c e (reader_line 1 n ∷ []) (prints (reader_line 2 m ∷ [])) q)))
 
   -- the line of the second reader was written, or stopped
   pub work-counts : (c z : Option (List ℕ)) (u v : Unit {0}) (r : Result (Unit {0}) Stop) → Plays a b (Ok u) (prints (map (λ x. reply_line (reply_of x)) answers)) → Plays b c (Ok v) (prints (reader_line 1 n ∷ []))
-      → Plays c z r (prints (reader_line 2 m ∷ [])) → Plays a z r (prints (lines_of_work (map reply_of answers) n m))
+      → Plays c z r (prints (reader_line 2 m ∷ [])) → Plays a z r (prints (lines_of_work (map reply_of answers) (n ∷ m ∷ [])))
   work-counts c z u v r p q s =
       spelled z r (plays-after a b z (map (λ x. reply_line (reply_of x)) answers) r (prints (reader_line 1 n ∷ reader_line 2 m ∷ [])) p.1
       (plays-after b c z (reader_line 1 n ∷ []) r (prints (reader_line 2 m ∷ [])) q.1 s))

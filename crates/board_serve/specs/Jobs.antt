@@ -1,5 +1,6 @@
 -- What each thread needs, and what it brings back.
 use Rattle.std.specs.Prelude.{◌≡◌, ◌<◌, ◌^◌, [], vec_len, List, map, All, Result, Ok, Err}
+use Rattle.std.specs.List.{AllZip}
 use Rattle.council_core.specs.Rolls.{IsLegal}
 use Rattle.council_core.specs.Sequential.{Reply, replies_of, state_after}
 use Rattle.two_copy_steps.specs.Lawful.{last_front}
@@ -59,14 +60,12 @@ abbrev pub HasAsked : ReaderJob → Result Readings Stop → Type 0
 HasAsked job (Ok r) = AreRead job r
 HasAsked job (Err e) = IsClosed e
 
--- all three are ready
+-- all are ready
 pub record AreReady (jobs : Jobs) : Type 0 where
   pub writer : CanWrite jobs.writer
-  pub first : CanAsk jobs.first
-  pub second : CanAsk jobs.second
+  pub readers : All CanAsk jobs.readers
 
--- all three are done
+-- all are done
 pub record AreDone (jobs : Jobs) (done : Done) : Type 0 where
   pub written : AreWritten jobs.writer done.written
-  pub first : AreRead jobs.first done.first
-  pub second : AreRead jobs.second done.second
+  pub read : AllZip AreRead jobs.readers done.read

@@ -24,8 +24,8 @@ pub record IsBrought (done : Done) (o : Outcome) : Type 0 where
   pub answers : o.answers.items ≡ done.written.answers.items
   pub journal : o.served.journal.items ≡ done.written.journal.items
   pub cuts : o.served.cuts.items ≡ done.written.cuts.items
-  pub readings : sheets_of o.served ≡ done.first.sheets.items ∷ done.second.sheets.items ∷ []
-  pub winning : winning_of o.served ≡ done.first.winning.items ∷ done.second.winning.items ∷ []
+  pub readings : sheets_of o.served ≡ map (λ r. r.sheets.items) done.read
+  pub winning : winning_of o.served ≡ map (λ r. r.winning.items) done.read
 
 -- by reader, omega of each sheet at its record's majority
 abbrev pub omegas_by : List (List Majority) → List (List (List ℕ)) → List (List ℕ)
@@ -33,21 +33,17 @@ omegas_by [] sheets = []
 omegas_by (ms ∷ mss) [] = []
 omegas_by (ms ∷ mss) (words ∷ sheets) = omegas ms words ∷ omegas_by mss sheets
 
--- the majorities at which each reader asks
-abbrev pub asked_by : Planned → List (List Majority)
-asked_by p = p.1.first ∷ p.1.second ∷ []
-
 -- the journal and the cuts are those that the sequential register gives for the writer's records; each reader has one
--- sheet
--- for each of its records, of some legal list, with fronts that do not fall, and omega of it at the record's majority
+-- sheet for each of its records, of some legal list, with fronts that do not fall, and omega of it at the record's
+-- majority
 pub record IsServed (p : Planned) (s : Served) : Type 0 where
   pub journal : s.journal.items ≡ (state_after p.0 (calls_of p)).ledger.journal
   pub legal_journal : IsLegal p.0.ledger.opening s.journal.items
   pub cuts : s.cuts.items ≡ cuts_of (told_by p)
-  pub counts : map length (sheets_of s) ≡ map length (asked_by p)
+  pub counts : map length (sheets_of s) ≡ map length p.1.asked
   pub legal : All (λ sheets. All (IsLegalSheet p.0.ledger.opening) sheets) (sheets_of s)
   pub rising : All (IsRising 0) (sheets_of s)
-  pub winning : winning_of s ≡ omegas_by (asked_by p) (sheets_of s)
+  pub winning : winning_of s ≡ omegas_by p.1.asked (sheets_of s)
 
 -- the same, and the answers are the replies
 pub record IsOutcome (p : Planned) (o : Outcome) : Type 0 where

@@ -1,5 +1,5 @@
 -- The script's records, by who carries them out.
-use Rattle.std.specs.Prelude.{ℕ, ◌+◌, ◌==◌, ◌++◌, List, [], ◌∷◌, length, Option, Some, None, Result}
+use Rattle.std.specs.Prelude.{ℕ, zero, suc, ◌+◌, ◌-◌, ◌++◌, List, [], ◌∷◌, length, map, sum_by, Option, Some, None, Result}
 use Rattle.std.specs.Prelude.{Ok, Err, if◌then◌else◌}
 use Rattle.council_core.specs.Sequential.{Call, submit, publish}
 use Rattle.council_core.specs.declared.refusals.Refusal.{Refusal}
@@ -15,32 +15,37 @@ use Rattle.board_serve.specs.declared.parts.Parts.{Parts}
 use Rattle.board_text.specs.declared.requests.Request.{Request}
 use Rattle.board_text.specs.declared.requests.Request.TheVariants as ask
 
--- the writer's orders, and the majorities at which each reader asks
+-- the writer's orders, and by reader the majorities at which it asks
 pub record Shares : Type 0 where
   pub writer : List Order
-  pub first : List Majority
-  pub second : List Majority
+  pub asked : List (List Majority)
 
+-- of a writer and two readers
 abbrev pub no_parts : Shares
-no_parts = record { writer = []; first = []; second = [] }
+no_parts = record { writer = []; asked = [] ∷ [] ∷ [] }
 
 abbrev pub shares_of : Parts → Shares
-shares_of p = record { writer = p.writer.items; first = p.first.items; second = p.second.items }
+shares_of p = record { writer = p.writer.items; asked = map (λ v. v.items) p.asked }
 
 -- how many records they are
 abbrev pub size_of : Shares → ℕ
-size_of s = length s.writer + length s.first + length s.second
+size_of s = length s.writer + sum_by length s.asked
+
+-- one more at the end of the list at this index
+abbrev pub add_at : {A : Type 0} → ℕ → A → List (List A) → List (List A)
+add_at index a [] = []
+add_at zero a (list ∷ lists) = (list ++ a ∷ []) ∷ lists
+add_at (suc index) a (list ∷ lists) = list ∷ add_at index a lists
 
 -- one more order
 abbrev pub with_order : Shares → Order → Shares
 with_order s o = record s { writer = s.writer ++ o ∷ [] }
 
--- one more request, given to whoever carries it out
+-- one more request, given to whoever carries it out; readers are numbered from 1
 abbrev pub with_request : Shares → Request → Shares
 with_request s (ask.Submit c) = with_order s (order.Submit c)
 with_request s ask.Publish = with_order s order.Publish
-with_request s (ask.Read reader m) =
-    if reader == 1 then record s { first = s.first ++ m ∷ [] } else record s { second = s.second ++ m ∷ [] }
+with_request s (ask.Read reader m) = record s { asked = add_at (reader - 1) m s.asked }
 
 -- the call of the sequential register that an order is
 abbrev pub call_of_order : Order → Call

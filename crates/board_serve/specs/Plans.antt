@@ -1,5 +1,5 @@
 -- What a run of the threads is asked, and what it writes, as functions of the bytes that it reads.
-use Rattle.std.specs.Prelude.{◌≡◌, ℕ, ◌<◌, ◌^◌, ◌++◌, List, [], ◌∷◌, length, map}
+use Rattle.std.specs.Prelude.{◌≡◌, ℕ, ◌<◌, ◌+◌, ◌^◌, ◌++◌, List, [], ◌∷◌, length, map}
 use Rattle.std.specs.Prelude.{Result, Ok, Err}
 use Rattle.council_core.specs.Ledgers.{start_verdict}
 use Rattle.council_core.specs.Sequential.{Call, Reply, Sequential, replies_of}
@@ -50,9 +50,14 @@ abbrev pub Finds : Result Plan Stop → Result Planned Fault → Type 0
 Finds (Ok p) spec = spec ≡ Ok (plan_shown p)
 Finds (Err e) spec = Fails e spec
 
+-- how many readings each reader took, from the reader of this number on
+abbrev pub count_lines : ℕ → List ℕ → List Line
+count_lines reader [] = []
+count_lines reader (count ∷ counts) = reader_line reader count ∷ count_lines (reader + 1) counts
+
 -- the lines of the writer's replies, and how many readings each reader took
-abbrev pub lines_of_work : List Reply → ℕ → ℕ → List Line
-lines_of_work replies first second = map reply_line replies ++ reader_line 1 first ∷ reader_line 2 second ∷ []
+abbrev pub lines_of_work : List Reply → List ℕ → List Line
+lines_of_work replies counts = map reply_line replies ++ count_lines 1 counts
 
 -- the calls that the writer's records are
 abbrev pub calls_of : Planned → List Call
@@ -64,7 +69,7 @@ told_by p = replies_of p.0 (calls_of p)
 
 -- what is written before what the audit found
 abbrev pub work_lines : Planned → List Line
-work_lines p = lines_of_work (told_by p) (length p.1.first) (length p.1.second)
+work_lines p = lines_of_work (told_by p) (map length p.1.asked)
 
 -- what `serve` writes, and how it ends, where memory is found, the devices work, each gate opens and the audit finds
 -- nothing

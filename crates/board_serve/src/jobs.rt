@@ -1,9 +1,17 @@
 //! What each thread is asked, and what it brings back.
+ghost use Rattle.std.specs.Prelude.{◌≡◌, ◌<◌, ◌^◌, vec_len, IfOk, IsOkUnless};
+ghost use Rattle.two_copy_steps.specs.declared.views.Stage.TheVariants.{AtRest};
+ghost use Rattle.board_serve.specs.Jobs.{CanAsk, CanWrite};
+ghost use Rattle.board_text.specs.declared.stops.Stop.TheVariants as stop;
+
 use crate::orders::Order;
+use crate::parts::READERS;
 use crate::readings::Readings;
 use crate::written::Written;
-use board_share::{Analyst, Writer};
+use board_share::{Analyst, Reader, Writer};
+use board_text::Stop;
 use majority_rule::Majority;
+use std::alloc::Global;
 
 /// The job of the writer's thread: its records, and the room for what comes of them.
 #[derive(Drop)]
@@ -22,18 +30,66 @@ pub(crate) struct ReaderJob {
     pub(crate) room: Readings,
 }
 
-/// The jobs of all three threads.
+/// The jobs of all threads.
 #[derive(Drop)]
 pub(crate) struct Jobs {
     pub(crate) writer: WriterJob,
-    pub(crate) first: ReaderJob,
-    pub(crate) second: ReaderJob,
+    pub(crate) readers: [ReaderJob; READERS],
 }
 
-/// What all three threads bring back.
+/// What all threads bring back.
 #[derive(Drop)]
 pub(crate) struct Done {
     pub(crate) written: Written,
-    pub(crate) first: Readings,
-    pub(crate) second: Readings,
+    pub(crate) read: [Readings; READERS],
+}
+
+impl WriterJob {
+    // The job of a writer, with room for what comes of it.
+    pub(crate) fn new(alloc: Global, writer: Writer, orders: Vec<Order>) -> Result<WriterJob, Stop>
+        requires few { vec_len orders < 2 ^ 32 }
+        ensures ready { IfOk result CanWrite }
+        ensures writer { IfOk result (λ j. j.writer ≡ writer) }
+        ensures orders { IfOk result (λ j. j.orders ≡ orders) }
+        ensures memory { IsOkUnless result stop.OutOfMemory }
+    {
+        let Ok(room) = Written::with_room(alloc, orders.len()) else {
+            return Err(Stop::OutOfMemory);
+        };
+        Ok(WriterJob {
+            writer,
+            orders,
+            room,
+        })
+    }
+}
+
+impl ReaderJob {
+    // The job of a reader, with room to count indices, and for what comes of it.
+    pub(crate) fn new(
+        alloc: Global,
+        reader: Reader,
+        asked: Vec<Majority>,
+    ) -> Result<ReaderJob, Stop>
+        requires rest { reader.stage ≡ AtRest }
+        requires few { vec_len asked < 2 ^ 32 }
+        ensures ready { IfOk result CanAsk }
+        ensures reader { IfOk result (λ j. j.analyst.reader ≡ reader) }
+        ensures asked { IfOk result (λ j. j.asked ≡ asked) }
+        ensures memory { IsOkUnless result stop.OutOfMemory }
+    {
+        let number = reader.number();
+        let Ok(room) = Readings::with_room(alloc, asked.len()) else {
+            return Err(Stop::OutOfMemory);
+        };
+        let Ok(analyst) = Analyst::new(alloc, reader) else {
+            return Err(Stop::OutOfMemory);
+        };
+        Ok(ReaderJob {
+            analyst,
+            number,
+            asked,
+            room,
+        })
+    }
 }

@@ -30,8 +30,7 @@ fn put_together(alloc: Global, done: Done) -> Result<Outcome, AllocError>
 {
     let Done {
         written,
-        first,
-        second,
+        read: [first, second],
     } = done;
     let readings = Vec::from_array(alloc, [first.sheets, second.sheets])?;
     let winning = Vec::from_array(alloc, [first.winning, second.winning])?;
@@ -46,7 +45,7 @@ fn put_together(alloc: Global, done: Done) -> Result<Outcome, AllocError>
     })
 }
 
-// Carries out the script's records by a writer and two readers, each in a thread of its own.
+// Carries out the script's records by a writer and its readers, each in a thread of its own.
 pub(crate) fn carry_out<G: Gate, R: Threads + Wait + Sync>(
     rt: &R,
     alloc: Global,

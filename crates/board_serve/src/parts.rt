@@ -1,7 +1,9 @@
 //! The script's records, by who carries them out.
-ghost use Rattle.std.specs.Prelude.{◌≡◌, ◌<◌, ◌+◌, ◌^◌, length, IfOk, IfErr, OnOk};
+ghost use Rattle.std.specs.Prelude.{◌≡◌, ◌<◌, ◌+◌, ◌^◌, ◌∷◌, [], true, length, map, IfOk, IfErr, OnOk};
 ghost use Rattle.csv.specs.Records.{fields_of};
 ghost use Rattle.board_text.specs.Output.{Fails};
+ghost use Rattle.board_text.specs.Text.{is_served};
+ghost use Rattle.board_serve.specs.Plans.{two_readers};
 ghost use Rattle.board_serve.specs.Parts.{asked, no_parts, parts_of, shares_of, size_of, with_request};
 
 use crate::orders::Order;
@@ -11,12 +13,14 @@ use csv::ByteRecord;
 use majority_rule::Majority;
 use std::alloc::{AllocError, Global};
 
-/// The records of a script: the writer's, reader 1's and reader 2's, each in order.
+/// How many readers a run has.
+pub(crate) const READERS: usize = 2;
+
+/// The records of a script, by who carries them out: the writer's, and each reader's, each in order.
 #[derive(Drop)]
 pub(crate) struct Parts {
     pub(crate) writer: Vec<Order>,
-    pub(crate) first: Vec<Majority>,
-    pub(crate) second: Vec<Majority>,
+    pub(crate) asked: [Vec<Majority>; READERS],
 }
 
 impl Parts {
@@ -25,33 +29,48 @@ impl Parts {
     {
         Parts {
             writer: Vec::new(alloc),
-            first: Vec::new(alloc),
-            second: Vec::new(alloc),
+            asked: [Vec::new(alloc), Vec::new(alloc)],
         }
     }
 
     // Gives a request to whoever carries it out.
     fn add(&mut self, request: Request) -> Result<(), AllocError>
+        requires served { is_served (two_readers 0) request ≡ true }
         ensures added { OnOk result (shares_of self.new ≡ with_request (shares_of self.old) request) }
     {
         match request {
             Request::Submit(command) => self.writer.push(Order::Submit(command))?,
             Request::Publish => self.writer.push(Order::Publish)?,
-            Request::Read(reader, majority) => {
-                if reader == 1 {
-                    self.first.push(majority)?;
-                } else {
-                    self.second.push(majority)?;
-                }
-            }
+            Request::Read(reader, majority) => self.asked[reader as usize - 1].push(majority)?,
         }
         Ok(())
+    }
+
+    // The records of each.
+    pub(crate) fn apart(self) -> (Vec<Order>, Vec<Majority>, Vec<Majority>)
+        ensures writer { result.0 ≡ self.writer }
+        ensures asked { self.asked ≡ result.1 ∷ result.2 ∷ [] }
+    {
+        let Parts {
+            writer,
+            asked: [first, second],
+        } = self;
+        (writer, first, second)
+    }
+
+    // How many readings each reader is asked for.
+    pub(crate) fn counts(&self) -> [u64; READERS]
+        ensures same { result ≡ map length (shares_of self.now).asked }
+    {
+        let [first, second] = &self.asked;
+        [first.len() as u64, second.len() as u64]
     }
 }
 
 // What a record asks for, where it is well formed and of a reader that there is.
 pub(crate) fn asked_in(limits: Limits, row: &ByteRecord) -> Result<Request, Refusal>
     ensures same { result ≡ asked limits (fields_of row.now) }
+    ensures served { IfOk result (λ q. is_served limits q ≡ true) }
 {
     let Some(request) = request_in(row) else {
         return Err(Refusal::BadRecord);
@@ -70,6 +89,7 @@ pub(crate) fn read_parts(
     limits: Limits,
     first: u32,
 ) -> Result<Parts, Stop>
+    requires two { limits.readers ≡ READERS }
     requires places { first + length script.old < 2 ^ 32 }
     ensures split { IfOk result (λ p. parts_of limits no_parts first script.old ≡ Ok (shares_of p)) }
     ensures fault { IfErr result (λ e. Fails e (parts_of limits no_parts first script.old)) }

@@ -7,7 +7,7 @@ ghost use Rattle.board_text.specs.Output.{Fails};
 ghost use Rattle.board_serve.specs.Plans.{Finds, IsSound, plan_from, plan_of, plan_shown, two_readers};
 ghost use Rattle.board_text.specs.Text.{begun_with, fault_at, in_range, opened_of};
 
-use crate::parts::{Parts, read_parts};
+use crate::parts::{Parts, READERS, read_parts};
 use board_text::{Beginning, INPUT_LIMIT, Limits, Script, Stop, begin, read_within};
 use csv::ByteRecord;
 use std::alloc::Global;
@@ -23,6 +23,7 @@ pub(crate) struct Plan {
 
 // Looks at all records of a text.
 fn plan_text(alloc: Global, text: &[u8], limits: Limits) -> Result<Plan, Stop>
+    requires two { limits.readers ≡ READERS }
     requires short { length text.now ≤ INPUT_LIMIT }
     ensures planned { IfOk result
         (λ p. plan_from limits (begun_with limits (opened_of (records default_config (strip_bom text.now))))
@@ -51,7 +52,7 @@ pub(crate) fn read_plan<R: Read + Drop>(
     ensures sound { IfOk result IsSound }
 {
     let limits = Limits {
-        readers: 2,
+        readers: READERS as u8,
         journal: journal_limit,
     };
     let text = read_within(alloc, input, limits)?;

@@ -64,10 +64,9 @@ fn serve_to<G: Gate, T: Threads + Wait + Sync, R: Read + Drop, W: Write>(
     ensures on { GoesOn out.old out.new }
 {
     let plan = read_plan(alloc, input, journal_limit)?;
-    let first = plan.parts.first.len() as u64;
-    let second = plan.parts.second.len() as u64;
+    let counts = plan.parts.counts();
     let (outcome, legal) = perform(rt, alloc, gate, plan)?;
-    tell(out, outcome.answers.as_slice(), first, second, legal)?;
+    tell(out, outcome.answers.as_slice(), counts, legal)?;
     Ok(outcome.served)
 }
 

@@ -1,5 +1,5 @@
 //! Writing what came of the work of all threads.
-ghost use Rattle.std.specs.Prelude.{◌∷◌, [], map, IsOkUnless};
+ghost use Rattle.std.specs.Prelude.{map, IsOkUnless, ◌∷◌, []};
 ghost use Rattle.board_text.specs.Replies.{reply_of};
 ghost use Rattle.board_text.specs.Lines.{reply_line};
 ghost use Rattle.board_text.specs.Output.{Plays};
@@ -10,6 +10,7 @@ ghost use Rattle.board_serve.specs.Serving.{Tells};
 ghost use Rattle.board_text.specs.Text.{prints};
 ghost use Rattle.board_text.specs.declared.stops.Stop.TheVariants as stop;
 
+use crate::parts::READERS;
 use board_text::{Answer, Output, Stop, line_of_answer, line_of_audit, line_of_count};
 use council_core::Refusal;
 use std::io::Write;
@@ -39,14 +40,14 @@ fn write_count<W: Write>(out: &mut Output<'_, W>, reader: u64, count: u64) -> Re
 fn write_work<W: Write>(
     out: &mut Output<'_, W>,
     answers: &[Answer],
-    first: u64,
-    second: u64,
+    counts: [u64; READERS],
 ) -> Result<(), Stop>
     ensures wrote { Plays out.old.held out.new.held result
-        (prints (lines_of_work (map reply_of answers.now) first second)) }
+        (prints (lines_of_work (map reply_of answers.now) counts)) }
     ensures on { GoesOn out.old out.new }
     ensures only { IsOkUnless result stop.WriteFault }
 {
+    let [first, second] = counts;
     write_answers(out, answers)?;
     write_count(out, 1, first)?;
     write_count(out, 2, second)
@@ -56,15 +57,14 @@ fn write_work<W: Write>(
 pub(crate) fn tell<W: Write>(
     out: &mut Output<'_, W>,
     answers: &[Answer],
-    first: u64,
-    second: u64,
+    counts: [u64; READERS],
     legal: bool,
 ) -> Result<(), Stop>
     ensures wrote { Tells out.old.held out.new.held legal result
-        (lines_of_work (map reply_of answers.now) first second) }
+        (lines_of_work (map reply_of answers.now) counts) }
     ensures on { GoesOn out.old out.new }
 {
-    write_work(out, answers, first, second)?;
+    write_work(out, answers, counts)?;
     if !legal {
         return Err(Stop::told(Refusal::Mismatch, 0));
     }

@@ -1,11 +1,12 @@
-//! One writer thread and two reader threads.
-ghost use Rattle.std.specs.Prelude.{◌≡◌, Ok, Err, IfOk, IfErr, IsOkUnless};
+//! One writer thread and its reader threads.
+ghost use Rattle.std.specs.Prelude.{◌≡◌, ◌∷◌, [], Ok, Err, map, All, IfOk, IfErr, IsOkUnless};
 ghost use Rattle.board_serve.specs.Jobs.{AreDone, AreReady, CanAsk, CanWrite, HasAsked, HasWritten};
 ghost use Rattle.board_serve.specs.Work.{IsClosed, IsHeldUp};
 ghost use Rattle.board_text.specs.declared.stops.Stop.TheVariants as stop;
 
 use crate::gates::Gate;
 use crate::jobs::{Done, Jobs, ReaderJob, WriterJob};
+use crate::parts::READERS;
 use crate::readings::{Readings, ask_all};
 use crate::written::{Written, write_all};
 use board_text::Stop;
@@ -76,26 +77,31 @@ fn start_reader<'s, E, G: Gate>(
 // What all brought back, where none was held up; else why the first in this order was.
 fn all_done(
     written: Result<Written, Stop>,
-    first: Result<Readings, Stop>,
-    second: Result<Readings, Stop>,
+    read: [Result<Readings, Stop>; READERS],
 ) -> Result<Done, Stop>
     requires writer { IfErr written IsHeldUp }
-    requires reader_1 { IfErr first IsClosed }
-    requires reader_2 { IfErr second IsClosed }
+    requires readers { All (λ r. IfErr r IsClosed) read }
     ensures written { IfOk result (λ d. written ≡ Ok d.written) }
-    ensures first { IfOk result (λ d. first ≡ Ok d.first) }
-    ensures second { IfOk result (λ d. second ≡ Ok d.second) }
+    ensures read { IfOk result (λ d. read ≡ map Ok d.read) }
     ensures causes { IfErr result IsHeldUp }
     ensures memory_first { written ≡ Err stop.OutOfMemory → result ≡ Err stop.OutOfMemory }
 {
+    let [first, second] = read;
     Ok(Done {
         written: written?,
-        first: first?,
-        second: second?,
+        read: [first?, second?],
     })
 }
 
-// Starts all three threads, and waits for them. Where one can't be started, the scope waits for those that were.
+// The jobs of the two readers.
+fn apart(readers: [ReaderJob; READERS]) -> (ReaderJob, ReaderJob)
+    ensures both { readers ≡ result.0 ∷ result.1 ∷ [] }
+{
+    let [first, second] = readers;
+    (first, second)
+}
+
+// Starts all threads, and waits for them. Where one can't be started, the scope waits for those that were.
 fn run_in<'s, E, G: Gate, R: Threads + Wait + Sync>(
     scope: &Scope<'s, E>,
     rt: &'s R,
@@ -107,12 +113,13 @@ fn run_in<'s, E, G: Gate, R: Threads + Wait + Sync>(
     ensures causes { IfErr result IsHeldUp }
 {
     let writer = start_writer(scope, rt, gate, jobs.writer);
-    let first = start_reader(scope, gate, jobs.first);
-    let second = start_reader(scope, gate, jobs.second);
-    all_done(writer?.join(rt), first?.join(rt), second?.join(rt))
+    let (first, second) = apart(jobs.readers);
+    let first = start_reader(scope, gate, first);
+    let second = start_reader(scope, gate, second);
+    all_done(writer?.join(rt), [first?.join(rt), second?.join(rt)])
 }
 
-// Runs the three threads at once, and answers once all that were started have ended: out of memory where one can't be
+// Runs all threads at once, and answers once all that were started have ended: out of memory where one can't be
 // started.
 pub(crate) fn run_all<G: Gate, R: Threads + Wait + Sync>(
     rt: &R,

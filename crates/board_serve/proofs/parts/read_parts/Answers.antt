@@ -1,7 +1,7 @@
 use Rattle.std.proofs.Common.{◌≡◌, ◌+◌, ◌∷◌, [], length, sym, ap, ◌∙◌, arith}
 use Rattle.csv.specs.Records.{fields_of}
 use Rattle.board_serve.specs.Parts.{parts_of, shares_of, size_of}
-use Rattle.board_serve.proofs.PartFacts.{parts-end, parts-more, parts-refused, size-request}
+use Rattle.board_serve.proofs.PartFacts.{parts-end, parts-more, parts-refused, served-of-two, size-request}
 use Rattle.board_serve.proofs.parts.read_parts.Goals as goal
 
 pub returns-then-not-branch-clause-split : goal.returns-then-not-branch-clause-split
@@ -26,3 +26,6 @@ records-preserved c =
       few = omega (arith, ap size_of added, one, c.records.invariant.few);
       places = omega (arith, fewer, c.records.invariant.places);
     }
+
+pub add-requires : goal.add-requires
+add-requires c = record { served = served-of-two c.args.limits c.in-Ok.request c.requires.two c.in-Ok.ensures.served }

@@ -1,4 +1,4 @@
-use Rattle.std.proofs.Common.{rules, ◌≡◌, ℕ, List, length, map, ◌∙◌, ap}
+use Rattle.std.proofs.Common.{◌≡◌, List, map, ◌∙◌, ap}
 use Rattle.std.proofs.lemmas.Result.{err_from_is_err_and}
 use Rattle.council_core.specs.Sequential.{Reply}
 use Rattle.board_text.specs.Replies.{reply_of}
@@ -27,15 +27,12 @@ returns-in_err-tell-clause-wrote g c = λ bytes is.
     let plan = c.in_ok-plan.plan in
     let found = c.in_ok-plan.ensures.found bytes is in
     let done = c.in_ok-outcome.ensures.done in
-    let first : c.len-first.result ≡ length plan.parts.first.items = search rules in
-    let second : c.len-second.result ≡ length plan.parts.second.items = search rules in
     let told : map reply_of c.as_slice.result.now ≡ told_by (plan_shown plan) = ap (map reply_of) c.as_slice.ensures.value ∙ done.answers in
-    let spelled : lines_of_work (map reply_of c.as_slice.result.now) c.len-first.result c.len-second.result ≡ work_lines (plan_shown plan) =
-    ap (λ (rs : List Reply). lines_of_work rs c.len-first.result c.len-second.result) told ∙ ap (λ (n : ℕ). lines_of_work (told_by (plan_shown plan)) n c.len-second.result) first
-    ∙ ap (λ (n : ℕ). lines_of_work (told_by (plan_shown plan)) (length plan.parts.first.items) n) second in
+    let spelled : lines_of_work (map reply_of c.as_slice.result.now) c.counts-counts.result ≡ work_lines (plan_shown plan) =
+    ap (λ (rs : List Reply). lines_of_work rs c.counts-counts.result) told ∙ ap (lines_of_work (told_by (plan_shown plan))) c.counts-counts.ensures.same in
     let spec = plan_of c.args.journal_limit bytes in
     let served = c.in_ok-outcome.outcome.served in
-    let asked : WorkAsked spec (lines_of_work (map reply_of c.as_slice.result.now) c.len-first.result c.len-second.result) =
+    let asked : WorkAsked spec (lines_of_work (map reply_of c.as_slice.result.now) c.counts-counts.result) =
     record { plan = plan_shown plan; found = found; spelled = spelled } in
     let audited : WorkAudited (plan_shown plan) served c.in_ok-outcome.legal =
     record { served = done.served; records = c.in_ok-outcome.ensures.records; differs = c.in_ok-outcome.ensures.differs } in
@@ -47,15 +44,12 @@ returns-clause-wrote g c = λ bytes is.
     let plan = c.in_ok-plan.plan in
     let found = c.in_ok-plan.ensures.found bytes is in
     let done = c.in_ok-outcome.ensures.done in
-    let first : c.len-first.result ≡ length plan.parts.first.items = search rules in
-    let second : c.len-second.result ≡ length plan.parts.second.items = search rules in
     let told : map reply_of c.as_slice.result.now ≡ told_by (plan_shown plan) = ap (map reply_of) c.as_slice.ensures.value ∙ done.answers in
-    let spelled : lines_of_work (map reply_of c.as_slice.result.now) c.len-first.result c.len-second.result ≡ work_lines (plan_shown plan) =
-    ap (λ (rs : List Reply). lines_of_work rs c.len-first.result c.len-second.result) told ∙ ap (λ (n : ℕ). lines_of_work (told_by (plan_shown plan)) n c.len-second.result) first
-    ∙ ap (λ (n : ℕ). lines_of_work (told_by (plan_shown plan)) (length plan.parts.first.items) n) second in
+    let spelled : lines_of_work (map reply_of c.as_slice.result.now) c.counts-counts.result ≡ work_lines (plan_shown plan) =
+    ap (λ (rs : List Reply). lines_of_work rs c.counts-counts.result) told ∙ ap (lines_of_work (told_by (plan_shown plan))) c.counts-counts.ensures.same in
     let spec = plan_of c.args.journal_limit bytes in
     let served = c.in_ok-outcome.outcome.served in
-    let asked : WorkAsked spec (lines_of_work (map reply_of c.as_slice.result.now) c.len-first.result c.len-second.result) =
+    let asked : WorkAsked spec (lines_of_work (map reply_of c.as_slice.result.now) c.counts-counts.result) =
     record { plan = plan_shown plan; found = found; spelled = spelled } in
     let audited : WorkAudited (plan_shown plan) served c.in_ok-outcome.legal =
     record { served = done.served; records = c.in_ok-outcome.ensures.records; differs = c.in_ok-outcome.ensures.differs } in
