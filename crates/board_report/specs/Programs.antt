@@ -39,25 +39,25 @@ abbrev pub failure_text : ℕ → List ℕ
 failure_text code = codes "board: " ++ fault_name code ++ 10 ∷ []
 
 -- what the program wrote before it ended, to standard output and to standard error
-pub record Streams : Type 0 where
+pub record Written : Type 0 where
   pub out_old : Option (List ℕ)
   pub out_new : Option (List ℕ)
   pub err_old : Option (List ℕ)
   pub err_new : Option (List ℕ)
 
-abbrev pub streams : Option (List ℕ) → Option (List ℕ) → Option (List ℕ) → Option (List ℕ) → Streams
-streams out_old out_new err_old err_new =
+abbrev pub written : Option (List ℕ) → Option (List ℕ) → Option (List ℕ) → Option (List ℕ) → Written
+written out_old out_new err_old err_new =
     record { out_old = out_old; out_new = out_new; err_old = err_old; err_new = err_new }
 
 -- nothing came of the words, since memory was refused
-pub record LacksMemory (status : ℕ) (s : Streams) : Type 0 where
+pub record LacksMemory (status : ℕ) (s : Written) : Type 0 where
   pub status_is : status ≡ 1
   pub out_kept : Keeps s.out_old s.out_new
   pub said : AppendsFront s.err_old s.err_new (failure_text (code_of OutOfMemory))
 
 -- the help or the version is shown on standard output; or the words are refused on standard error; or nothing came of
 -- them
-abbrev pub AnswersWords : List (List ℕ) → ℕ → Streams → Type 0
+abbrev pub AnswersWords : List (List ℕ) → ℕ → Written → Type 0
 AnswersWords words status s =
     ((status ≡ 0) × Keeps s.err_old s.err_new × AskText words)
     ⊎ ((status ≡ 2) × Keeps s.out_old s.out_new × HaveFault words)
@@ -69,7 +69,7 @@ no_text = codes "error: the arguments are not text" ++ 10 ∷ []
 
 -- the call over these bytes answered Ok, and the status is 0; or a fault, whose name is told, and the status is 1; or
 -- nothing came of the words
-abbrev pub CallExits : Call → List ℕ → ℕ → Streams → Type 0
+abbrev pub CallExits : Call → List ℕ → ℕ → Written → Type 0
 CallExits call bytes status s =
     ((status ≡ 0) × CallEnds call bytes s.out_old s.out_new (Ok tt) × Keeps s.err_old s.err_new)
     ⊎ ((status ≡ 1)

@@ -9,7 +9,7 @@ ghost use Rattle.board_words.specs.declared.calls.Call.{Call};
 ghost use Rattle.board_words.specs.declared.calls.Call.TheVariants.{Serve};
 ghost use Rattle.board_words.specs.declared.calls.NoCall.TheVariants as none;
 ghost use Rattle.board_report.specs.Programs.{AnswersWords, CallEnds, CallExits, LacksMemory, failure_text, limits_of, no_text};
-ghost use Rattle.board_report.specs.Programs.{streams};
+ghost use Rattle.board_report.specs.Programs.{written};
 ghost use Rattle.board_text.specs.Output.{AppendsFront};
 ghost use Rattle.board_text.specs.Text.{in_range};
 ghost use Rattle.board_serve.specs.Plans.{two_readers};
@@ -18,6 +18,7 @@ use board_runs::{replay, trace};
 use board_serve::{FreeGate, serve};
 use board_text::{Fault, Limits, Line, say};
 use board_words::{Call, NoCall};
+use crate::streams::Streams;
 use council_core::Refusal;
 use std::alloc::Global;
 use std::io::{Read, Write};
@@ -48,11 +49,11 @@ fn fail_for_memory<E: Write>(err: &mut E) -> u8
 fn explain<W: Write, E: Write>(why: &NoCall, out: &mut W, err: &mut E) -> u8
     ensures status { result ≤ 2 }
     ensures memory { why.now ≡ none.OutOfMemory
-        → LacksMemory result (streams (W.contents out.old) (W.contents out.new) (E.contents err.old)
+        → LacksMemory result (written (W.contents out.old) (W.contents out.new) (E.contents err.old)
         (E.contents err.new)) }
     ensures answered { (words : List (List ℕ)) → Explains words why.now
         → AnswersWords words result
-        (streams (W.contents out.old) (W.contents out.new) (E.contents err.old) (E.contents err.new)) }
+        (written (W.contents out.old) (W.contents out.new) (E.contents err.old) (E.contents err.new)) }
 {
     match why {
         NoCall::Shown(text) => {
@@ -106,38 +107,38 @@ fn run<T: Threads + Wait + Sync, R: Read + Drop, W: Write>(
 
 /// Runs the program on its words, the first of which is its name, and answers the exit status: 0
 /// where the call that the words ask for answers Ok, and for `--help` and `--version`; 1 where it
-/// answers a fault, and then the standard error `err` gets the line `board: NAME`, or a front of it
+/// answers a fault, and then the standard error, `err`, gets the line `board: NAME`, or a front of it
 /// where it fails; 2 for words that are refused, also where the command is missing, and then `err`
 /// gets the reason.
 ///
 /// Where the words ask for a call, what is written and the status are those of `replay`, `trace` or
 /// `serve` with the limits that the words say. Where clap finds a fault in them, or is asked for help
 /// or the version, one of the two streams gets its text and the other stays.
-pub fn program<T: Threads + Wait + Sync, R: Read + Drop, W: Write, E: Write>(
+pub fn program<T: Threads + Wait + Sync, R: Read + Drop, W: Write + Drop, E: Write + Drop>(
     rt: &T,
     alloc: Global,
     words: &[String],
-    input: &mut Given<R>,
-    out: &mut W,
-    err: &mut E,
+    streams: &mut Streams<R, W, E>,
 ) -> u8
     ensures status { result ≤ 2 }
     ensures calls { (call : Call) → Asks (map string_bytes words.now) call
-        → OfInput input.old input.new (λ bytes. CallExits call bytes result
-        (streams (W.contents out.old) (W.contents out.new) (E.contents err.old) (E.contents err.new))) }
+        → OfInput streams.old.input streams.new.input (λ bytes. CallExits call bytes result
+        (written (W.contents streams.old.out) (W.contents streams.new.out) (E.contents streams.old.err)
+        (E.contents streams.new.err))) }
     ensures limits_first { (call : Call) → Asks (map string_bytes words.now) call
-        → in_range (limits_of call) ≡ false → input.new ≡ input.old }
+        → in_range (limits_of call) ≡ false → streams.new.input ≡ streams.old.input }
     ensures refuses { AreNotTaken (map string_bytes words.now)
         → AnswersWords (map string_bytes words.now) result
-        (streams (W.contents out.old) (W.contents out.new) (E.contents err.old) (E.contents err.new)) }
+        (written (W.contents streams.old.out) (W.contents streams.new.out) (E.contents streams.old.err)
+        (E.contents streams.new.err)) }
 {
     let call = match Call::from_words(alloc, words) {
         Ok(call) => call,
-        Err(why) => return explain(&why, out, err),
+        Err(why) => return explain(&why, &mut streams.out, &mut streams.err),
     };
-    match run(rt, alloc, call, input, out) {
+    match run(rt, alloc, call, &mut streams.input, &mut streams.out) {
         Ok(()) => 0,
-        Err(fault) => fail(err, fault),
+        Err(fault) => fail(&mut streams.err, fault),
     }
 }
 

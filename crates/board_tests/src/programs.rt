@@ -1,6 +1,6 @@
 //! The program on its words, and its calls on whole inputs.
 use board_report::{
-    Fault, Given, Limits, program, replay, trace, words_out_of_memory, words_refused,
+    Fault, Given, Limits, Streams, program, replay, trace, words_out_of_memory, words_refused,
 };
 use std::alloc::Global;
 use std::process::Abort;
@@ -136,16 +136,18 @@ fn runs<R: Abort + Threads + Wait + Sync>(
     for text in texts {
         words.push(String::from_str(alloc, text)?)?;
     }
-    let mut input = Given::new(text.as_bytes());
-    let mut out: Vec<u8> = Vec::new(alloc);
-    let mut err: Vec<u8> = Vec::new(alloc);
-    let status = program(rt, alloc, words.as_slice(), &mut input, &mut out, &mut err);
+    let mut streams = Streams {
+        input: Given::new(text.as_bytes()),
+        out: Vec::<u8>::new(alloc),
+        err: Vec::<u8>::new(alloc),
+    };
+    let status = program(rt, alloc, words.as_slice(), &mut streams);
     assert!(rt; status == wanted.0);
-    assert!(rt; out.is_empty() != wanted.1);
+    assert!(rt; streams.out.is_empty() != wanted.1);
     if status == 2 {
-        assert!(rt; !err.is_empty());
+        assert!(rt; !streams.err.is_empty());
     } else {
-        assert!(rt; err.as_slice() == wanted.2.as_bytes());
+        assert!(rt; streams.err.as_slice() == wanted.2.as_bytes());
     }
     Ok(())
 }

@@ -3,7 +3,7 @@ use crate::growth_calls::{NONE, begun, open, opens};
 use crate::refused_growths::{Call, OUT_OF_MEMORY};
 use crate::seen::{add_machine, add_note, add_number, add_register};
 use board_report::{
-    FreeGate, Gate, GateClosed, Given, Limits, Place, program, replay, serve, trace,
+    FreeGate, Gate, GateClosed, Given, Limits, Place, Streams, program, replay, serve, trace,
 };
 use council_core::Register;
 use std::alloc::Global;
@@ -312,12 +312,11 @@ impl Call for ServingClosed {
     }
 }
 
-/// Words, and what the program writes.
+/// Words, and the streams of the program.
 #[derive(Drop)]
-pub(crate) struct Streams {
+pub(crate) struct WordsAndStreams {
     words: Vec<String>,
-    out: Vec<u8>,
-    err: Vec<u8>,
+    streams: Streams<&'static [u8], Vec<u8>, Vec<u8>>,
 }
 
 /// `program`, on the words of a replay.
@@ -335,32 +334,37 @@ fn words(alloc: Global) -> Option<Vec<String>> {
 }
 
 impl Call for Programming {
-    type State = Streams;
+    type State = WordsAndStreams;
 
-    fn prepare(&self, alloc: Global) -> Option<Streams> {
-        Some(Streams {
-            words: words(alloc)?,
+    fn prepare(&self, alloc: Global) -> Option<WordsAndStreams> {
+        let words = words(alloc)?;
+        let streams = Streams {
+            input: Given::new(THREE_CHAIRS.as_bytes()),
             out: output(alloc)?,
             err: output(alloc)?,
-        })
+        };
+        Some(WordsAndStreams { words, streams })
     }
 
-    fn call<R: Threads + Wait + Sync>(&self, rt: &R, alloc: Global, state: &mut Streams) -> u8 {
-        let mut input = Given::new(THREE_CHAIRS.as_bytes());
-        let words = state.words.as_slice();
-        let status = program(rt, alloc, words, &mut input, &mut state.out, &mut state.err);
-        if status == 1 && state.err.as_slice() == SAID {
+    fn call<R: Threads + Wait + Sync>(
+        &self,
+        rt: &R,
+        alloc: Global,
+        state: &mut WordsAndStreams,
+    ) -> u8 {
+        let status = program(rt, alloc, state.words.as_slice(), &mut state.streams);
+        if status == 1 && state.streams.err.as_slice() == SAID {
             return OUT_OF_MEMORY;
         }
-        if status == 0 && state.err.is_empty() {
+        if status == 0 && state.streams.err.is_empty() {
             0
         } else {
             NONE
         }
     }
 
-    fn shown(&self, alloc: Global, state: &Streams) -> Option<Vec<u64>> {
-        numbers(alloc, state.out.as_slice())
+    fn shown(&self, alloc: Global, state: &WordsAndStreams) -> Option<Vec<u64>> {
+        numbers(alloc, state.streams.out.as_slice())
     }
 
     fn may_stand(&self, _alloc: Global, _before: &[u64], after: &[u64], ample: &[u64]) -> bool {
