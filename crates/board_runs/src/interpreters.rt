@@ -143,7 +143,8 @@ pub(crate) fn interpret<I: Interpreter, R: Read + Drop, W: Write>(
     limits: Limits,
 ) -> Result<(), Fault>
     ensures wrote { OfInput input.old input.new
-        (λ bytes. Replays (W.contents out.old) (W.contents out.new) result (interpreted_run I.opened I.step limits bytes)) }
+        (λ bytes. Replays (W.contents out.old) (W.contents out.new) result
+        (interpreted_run I.opened I.step limits bytes)) }
     ensures limits_first { in_range limits ≡ false → IsBadLimit result × (input.new ≡ input.old) }
 {
     let mut output = Output::new(out);
