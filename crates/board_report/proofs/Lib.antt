@@ -1,1 +1,2 @@
 mod CallFacts
+mod WorkedCases

@@ -6,12 +6,12 @@ use Rattle.council_core.specs.Sequential.{Call, Reply, Sequential, replies_of}
 use Rattle.board_text.specs.Lines.{Line, reply_line}
 use Rattle.board_text.specs.Output.{Fails}
 use Rattle.board_serve.specs.Parts.{Shares, call_of_order, no_parts, parts_of, shares_of, size_of}
-use Rattle.board_text.specs.Text.{Begun, Run, begun_of, fresh, prints, stops}
+use Rattle.board_text.specs.Text.{Begun, begun_of, fresh}
 use Rattle.board_text.specs.declared.bounds.Limits.{Limits}
 use Rattle.board_text.specs.declared.faults.Fault.{Fault}
 use Rattle.board_serve.specs.declared.plans.Plan.{Plan}
 use Rattle.board_text.specs.declared.stops.Stop.{Stop}
-use Rattle.board_text.specs.Lines.{audit_line, reader_line}
+use Rattle.board_text.specs.Lines.{reader_line}
 
 -- the register at its start, and the script's records by who carries them out
 abbrev pub Planned : Type 0
@@ -70,9 +70,3 @@ told_by p = replies_of p.0 (calls_of p)
 -- what is written before what the audit found
 abbrev pub work_lines : Planned → List Line
 work_lines p = lines_of_work (told_by p) (map length p.1.asked)
-
--- what `serve` writes, and how it ends, where memory is found, the devices work, each gate opens and the audit finds
--- nothing
-abbrev pub serve_run : Result Planned Fault → Run
-serve_run (Err f) = stops f
-serve_run (Ok p) = prints (work_lines p ++ audit_line ∷ [])
