@@ -38,6 +38,7 @@ fn fail<E: Write>(err: &mut E, fault: Fault) -> u8
     1
 }
 
+// Says that memory was refused, and answers the status.
 fn fail_for_memory<E: Write>(err: &mut E) -> u8
     ensures status { result ≡ 1 }
     ensures said { AppendsFront (E.contents err.old) (E.contents err.new) (failure_text (code_of OutOfMemory)) }

@@ -33,6 +33,7 @@ pub(crate) trait Interpreter: Sized + Drop {
     // What a record does, and the lines that it prints.
     ghost step: { Limits → Self → Row → Turn Self };
 
+    // What it is at a register's start.
     fn open(alloc: Global, register: Register, limits: Limits) -> Result<Self, Stop>
         requires none { register.journal ≡ [] }
         requires in_range { in_range limits ≡ true }

@@ -24,6 +24,7 @@ pub(crate) struct Parts {
 }
 
 impl Parts {
+    // No records yet.
     fn new(alloc: Global) -> Parts
         ensures none { shares_of result ≡ no_parts }
     {

@@ -13,6 +13,7 @@ pub struct Limits {
 }
 
 impl Limits {
+    // Whether both lie in their ranges.
     pub(crate) fn is_in_range(self) -> bool
         ensures known { result ≡ in_range self }
     {

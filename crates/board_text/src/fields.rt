@@ -16,6 +16,7 @@ pub(crate) enum Fields<'a> {
     Other,
 }
 
+// The fields of a record, by their number.
 pub(crate) fn fields_in(row: &ByteRecord) -> Fields<'_>
     ensures { AreFields result (fields_of row.now) }
 {
@@ -37,6 +38,7 @@ pub(crate) fn fields_in(row: &ByteRecord) -> Fields<'_>
     Fields::Four(first, second, third, fourth)
 }
 
+// Whether a field is this word.
 pub(crate) fn is_word(field: &[u8], word: &str) -> bool
     ensures { result ≡ bytes_eq field.now word.now }
 {

@@ -100,6 +100,7 @@ impl Line {
         self.text.push_str("\n");
     }
 
+    /// Its bytes so far.
     pub fn as_bytes(&self) -> &[u8]
         ensures { result.now ≡ self.now }
     {

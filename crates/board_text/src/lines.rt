@@ -13,6 +13,7 @@ use council_core::{Refusal, Sheet};
 use power_index::{ChairPower, Indices};
 use two_copy_steps::Note;
 
+// So many commands were accepted.
 fn accepted_line(accepted: u32) -> Line
     ensures text { result ≡ accepted_line accepted }
     ensures fits { length result + 1 ≤ LINE }
@@ -22,6 +23,7 @@ fn accepted_line(accepted: u32) -> Line
     line
 }
 
+// Why a command was refused.
 fn refused_line(why: Refusal) -> Line
     ensures text { result ≡ refused_line why }
     ensures fits { length result + 1 ≤ LINE }
@@ -32,6 +34,7 @@ fn refused_line(why: Refusal) -> Line
     line
 }
 
+// How many commands a publication shows.
 fn published_line(front: u32) -> Line
     ensures text { result ≡ published_line front }
     ensures fits { length result + 1 ≤ LINE }
@@ -71,6 +74,7 @@ pub fn line_of_note(note: Note) -> Option<Line>
     }
 }
 
+// A reader that is in the way of a publication.
 fn busy_line(reader: u8) -> Line
     ensures text { result ≡ busy_line reader }
     ensures fits { length result + 1 ≤ LINE }

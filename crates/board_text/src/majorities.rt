@@ -12,7 +12,7 @@ macro_rules! majorities {
     };
 }
 
-// The majority of a field, if it is a word above.
+// The majority whose word above a field is.
 macro_rules! read {
     ($field:expr => $($name:ident $word:literal),*) => {{
         $(
@@ -24,7 +24,7 @@ macro_rules! read {
     }};
 }
 
-// The word of a majority, as it is written above.
+// The word above of a majority.
 macro_rules! written {
     ($majority:expr => $($name:ident $word:literal),*) => {
         match $majority {
@@ -33,12 +33,14 @@ macro_rules! written {
     };
 }
 
+// The majority of a field, if it is such a word.
 pub(crate) fn majority_in(field: &[u8]) -> Option<Majority>
     ensures { result ≡ majority_of field.now }
 {
     majorities!(read field)
 }
 
+// The word of a majority.
 pub(crate) fn word_of_majority(majority: Majority) -> &'static str
     ensures word { result.now ≡ word_of_majority majority }
     ensures short { length result.now ≤ 6 }

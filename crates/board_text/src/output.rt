@@ -37,6 +37,7 @@ impl<'a, W: Write> Model for Output<'a, W> {
 }
 
 impl<'a, W: Write> Output<'a, W> {
+    /// A writer of which nothing was asked yet.
     pub fn new(out: &'a mut W) -> Output<'a, W>
         ensures lender { result.lender ≡ out.entry.ghost_name }
         ensures held { result.held ≡ W.contents out.entry.now }

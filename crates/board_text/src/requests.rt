@@ -24,6 +24,7 @@ pub enum Request {
     Read(u64, Majority),
 }
 
+// A chair, by its number.
 fn chair_in(field: &[u8]) -> Option<ChairId>
     ensures { result ≡ chair_of field.now }
 {
@@ -32,6 +33,7 @@ fn chair_in(field: &[u8]) -> Option<ChairId>
     ChairId::new(number).ok()
 }
 
+// A member's votes.
 fn votes_in(field: &[u8]) -> Option<Votes>
     ensures { result ≡ votes_of field.now }
 {
@@ -39,12 +41,14 @@ fn votes_in(field: &[u8]) -> Option<Votes>
     Votes::new(number).ok()
 }
 
+// A member's code.
 fn code_in(field: &[u8]) -> Option<MemberCode>
     ensures { result ≡ code_of_member field.now }
 {
     MemberCode::new(field).ok()
 }
 
+// Where a member is moved: to a chair, or to none.
 fn seat_in(field: &[u8]) -> Option<Option<ChairId>>
     ensures { result ≡ seat_of field.now }
 {
@@ -55,6 +59,7 @@ fn seat_in(field: &[u8]) -> Option<Option<ChairId>>
     Some(Some(chair))
 }
 
+// The command of a word and a field.
 pub(crate) fn command_of_one(word: &[u8], argument: &[u8]) -> Option<Command>
     ensures { result ≡ command_of_one word.now argument.now }
 {
@@ -76,6 +81,7 @@ pub(crate) fn command_of_one(word: &[u8], argument: &[u8]) -> Option<Command>
     None
 }
 
+// The command of a word and two fields.
 pub(crate) fn command_of_two(word: &[u8], first: &[u8], second: &[u8]) -> Option<Command>
     ensures { result ≡ command_of_two word.now first.now second.now }
 {
@@ -94,6 +100,7 @@ pub(crate) fn command_of_two(word: &[u8], first: &[u8], second: &[u8]) -> Option
     None
 }
 
+// A reading by a reader at a majority.
 fn reading_in(reader: &[u8], majority: &[u8]) -> Option<Request>
     ensures { result ≡ both Read (number_of reader.now) (majority_of majority.now) }
 {

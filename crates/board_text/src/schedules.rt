@@ -34,6 +34,7 @@ fn count_in(field: &[u8]) -> Option<u32>
     Some(number as u32)
 }
 
+// So many steps of a reader.
 fn steps_in(reader: &[u8], count: &[u8]) -> Option<Act>
     ensures { result ≡ both Reader (number_of reader.now) (count_of count.now) }
 {
