@@ -14,8 +14,8 @@ use power_index::{Evaluator, Indices};
 use std::alloc::Global;
 use std::marker::Model;
 
-/// A register, the sheet last published, what its indices are counted with, and those that were
-/// counted last, if they are of this sheet. Contracts see a desk as the sequential register.
+// A register, the sheet last published, what its indices are counted with, and those that were
+// counted last, if they are of this sheet. Contracts see a desk as the sequential register.
 #[derive(Drop)]
 pub(crate) struct Desk {
     register: Register,

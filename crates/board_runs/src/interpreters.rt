@@ -25,7 +25,7 @@ use std::alloc::Global;
 use std::io::{Read, Write};
 use told_streams::Given;
 
-/// What the records of a script are carried out on.
+// What the records of a script are carried out on.
 pub(crate) trait Interpreter: Sized + Drop {
     // What the register at its start is made into.
     ghost opened: { Limits → Ledger → Self };

@@ -13,7 +13,7 @@ use board_text::Stop;
 use majority_rule::Majority;
 use std::alloc::Global;
 
-/// The job of the writer's thread: its records, and the room for what comes of them.
+// The job of the writer's thread: its records, and the room for what comes of them.
 #[derive(Drop)]
 pub(crate) struct WriterJob {
     pub(crate) writer: Writer,
@@ -21,7 +21,7 @@ pub(crate) struct WriterJob {
     pub(crate) room: Written,
 }
 
-/// The job of the thread of the reader of a number: the majorities at which it asks, and the room for what it reads.
+// The job of the thread of the reader of a number: the majorities at which it asks, and the room for what it reads.
 #[derive(Drop)]
 pub(crate) struct ReaderJob {
     pub(crate) analyst: Analyst,
@@ -30,14 +30,14 @@ pub(crate) struct ReaderJob {
     pub(crate) room: Readings,
 }
 
-/// The jobs of all threads.
+// The jobs of all threads.
 #[derive(Drop)]
 pub(crate) struct Jobs {
     pub(crate) writer: WriterJob,
     pub(crate) readers: [ReaderJob; READERS],
 }
 
-/// What all threads bring back.
+// What all threads bring back.
 #[derive(Drop)]
 pub(crate) struct Done {
     pub(crate) written: Written,

@@ -17,7 +17,7 @@ use std::alloc::{AllocError, Global};
 use std::sync::Wait;
 use std::thread::Threads;
 
-/// The answers to the writer's records, and what the run answers.
+// The answers to the writer's records, and what the run answers.
 #[derive(Drop)]
 pub(crate) struct Outcome {
     pub(crate) answers: Vec<Answer>,

@@ -13,10 +13,10 @@ use csv::ByteRecord;
 use majority_rule::Majority;
 use std::alloc::{AllocError, Global};
 
-/// How many readers a run has.
+// How many readers a run has.
 pub(crate) const READERS: usize = 2;
 
-/// The records of a script, by who carries them out: the writer's, and each reader's, each in order.
+// The records of a script, by who carries them out: the writer's, and each reader's, each in order.
 #[derive(Drop)]
 pub(crate) struct Parts {
     pub(crate) writer: Vec<Order>,

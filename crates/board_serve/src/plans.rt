@@ -14,7 +14,7 @@ use std::alloc::Global;
 use std::io::Read;
 use told_streams::Given;
 
-/// A register at its start, and the script's records by who carries them out.
+// A register at its start, and the script's records by who carries them out.
 #[derive(Drop)]
 pub(crate) struct Plan {
     pub(crate) begun: Beginning,

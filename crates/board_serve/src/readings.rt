@@ -10,7 +10,7 @@ use board_text::Stop;
 use council_core::Sheet;
 use std::alloc::{AllocError, Global};
 
-/// The sheets that a reader read, and the number of winning coalitions that it answered for each.
+// The sheets that a reader read, and the number of winning coalitions that it answered for each.
 #[derive(Drop)]
 pub(crate) struct Readings {
     pub(crate) sheets: Vec<Sheet>,

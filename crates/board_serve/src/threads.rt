@@ -15,7 +15,7 @@ use std::sync::Wait;
 use std::thread;
 use std::thread::{Promise, PromisedHandle, Scope, Threads};
 
-/// The writer's thread brings back what its job asks.
+// The writer's thread brings back what its job asks.
 #[derive(Drop)]
 struct WillWrite(Snapshot<WriterJob>);
 
@@ -23,7 +23,7 @@ impl Promise<Result<Written, Stop>> for WillWrite {
     ghost kept_by = { λ p r. HasWritten p.0.value r };
 }
 
-/// A reader's thread brings back what its job asks.
+// A reader's thread brings back what its job asks.
 #[derive(Drop)]
 struct WillAsk(Snapshot<ReaderJob>);
 

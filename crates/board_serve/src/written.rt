@@ -18,8 +18,8 @@ use council_core::{Command, Refusal};
 use std::alloc::{AllocError, Global};
 use std::sync::Wait;
 
-/// The answers to the writer's records, the numbers that its publications answered, and, once all are carried out, the
-/// journal.
+// The answers to the writer's records, the numbers that its publications answered, and, once all are carried out, the
+// journal.
 #[derive(Drop)]
 pub(crate) struct Written {
     pub(crate) journal: Vec<Command>,

@@ -6,7 +6,7 @@ ghost use Rattle.board_text.specs.Fields.{AreFields};
 
 use csv::ByteRecord;
 
-/// The fields of a record that has one to four.
+// The fields of a record that has one to four.
 #[derive(Clone, Copy)]
 pub(crate) enum Fields<'a> {
     One(&'a [u8]),

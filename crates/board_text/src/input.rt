@@ -18,7 +18,7 @@ const PIECE: usize = 4096;
 /// The most bytes that an input may have.
 pub const INPUT_LIMIT: usize = 4_194_304;
 
-/// The most interrupted reads, and the most interrupted writes, that are retried in one run.
+// The most interrupted reads, and the most interrupted writes, that are retried in one run.
 pub(crate) const INTERRUPTIONS: u32 = 1000;
 
 // The most reads: each but the last gives a byte or is an interruption, and none is asked for after one that failed.

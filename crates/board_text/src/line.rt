@@ -10,10 +10,10 @@ use std::marker::Model;
 /// The bytes that a line may have, its end included.
 pub const LINE: usize = 256;
 
-/// The bytes that a comma and a number take at most.
+// The bytes that a comma and a number take at most.
 const NUMBER: usize = 21;
 
-/// The bytes that a comma and a fraction take at most.
+// The bytes that a comma and a fraction take at most.
 const FRACTION: usize = 2 * NUMBER;
 
 /// A line, seen as its bytes.

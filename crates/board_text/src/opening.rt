@@ -10,7 +10,7 @@ use council_core::{MAX_MEMBERS, MemberCode, Refusal, Votes};
 use csv::ByteRecord;
 use std::alloc::Global;
 
-/// The members, and the number of the script's first record.
+// The members, and the number of the script's first record.
 #[derive(Drop)]
 pub(crate) struct OpeningRead {
     pub(crate) members: Vec<(MemberCode, Votes)>,

@@ -5,8 +5,8 @@ ghost use Rattle.told_streams.specs.Tapes.{is_last, vain_of};
 
 use std::marker::Model;
 
-/// The bytes that went past since the tape was made, whether the last call moved none though there
-/// was room, how many calls there were, and how many of these moved none.
+// The bytes that went past since the tape was made, whether the last call moved none though there
+// was room, how many calls there were, and how many of these moved none.
 #[derive(Drop)]
 pub(crate) struct Tape {
     ghost bytes: { List ℕ },

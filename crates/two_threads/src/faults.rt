@@ -3,7 +3,7 @@ use board_share::AuditFault;
 use council_core::Refusal;
 use std::alloc::{AllocError, AllocFailed};
 
-/// Why a session ends early.
+// Why a session ends early.
 #[derive(Debug, Clone, Copy, PartialEq, Eq)]
 pub(crate) enum Fault {
     /// A call was refused.

@@ -48,6 +48,7 @@ fn tell(rt: &(impl Print + Alloc), session: &Session) -> io::Result<()> {
     println!(rt; "audit: ok")
 }
 
+// Prints the indices, a line for each chair.
 fn tell_indices(rt: &(impl Print + Alloc), indices: &Indices) -> io::Result<()> {
     println!(rt;
         "after {} commands {} of {} coalitions win",
@@ -64,6 +65,7 @@ fn tell_indices(rt: &(impl Print + Alloc), indices: &Indices) -> io::Result<()> 
     Ok(())
 }
 
+// Holds a session, and answers what came of it or why it ended early.
 fn held<R: Threads + Wait + Sync>(rt: &R, alloc: Global) -> Result<Session, Fault> {
     let members = members()?;
     let commands = commands(&members)?;

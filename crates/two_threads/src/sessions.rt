@@ -10,7 +10,7 @@ use std::alloc::Global;
 use std::sync::Wait;
 use std::thread::{Threads, join};
 
-/// What came of a session: the journal, its cuts, what each reader read, and the last answer.
+// What came of a session: the journal, its cuts, what each reader read, and the last answer.
 #[derive(Drop)]
 pub(crate) struct Session {
     pub(crate) journal: Vec<Command>,
@@ -19,7 +19,7 @@ pub(crate) struct Session {
     pub(crate) answer: Answer,
 }
 
-/// A board's seats.
+// A board's seats.
 #[derive(Drop)]
 struct Seats {
     writer: Writer,
@@ -28,7 +28,7 @@ struct Seats {
     analyst: Analyst,
 }
 
-/// What the readers and the analyst bring back.
+// What the readers and the analyst bring back.
 #[derive(Drop)]
 struct Brought {
     first: Vec<Sheet>,
@@ -172,11 +172,11 @@ fn run_all<R: Threads + Wait + Sync>(
     Ok((written?, brought?))
 }
 
-/// Holds a session over these members: the writer hands over and publishes each command, two readers and an analyst
-/// read beside it, and an audit looks at what they bring back. What comes are legal records, so each reading is the
-/// sheet of a cut of a legal list and no reader's front falls; the last answer has the indices of a legal register.
-///
-/// `Refused` has the refusal of the members or of a command, or `OutOfMemory`; `Audit` what the audit finds.
+// Holds a session over these members: the writer hands over and publishes each command, two readers and an analyst
+// read beside it, and an audit looks at what they bring back. What comes are legal records, so each reading is the
+// sheet of a cut of a legal list and no reader's front falls; the last answer has the indices of a legal register.
+//
+// `Refused` has the refusal of the members or of a command, or `OutOfMemory`; `Audit` what the audit finds.
 pub(crate) fn hold<R: Threads + Wait + Sync>(
     rt: &R,
     alloc: Global,
