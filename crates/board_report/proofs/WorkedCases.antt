@@ -1,5 +1,5 @@
 -- What the definitions of how the program ends take and refuse.
-use Rattle.std.proofs.Common.{◌≡◌, ℕ, List, [], ◌∷◌, Option, Some, inl, inr}
+use Rattle.std.proofs.Common.{ℕ, List, [], ◌∷◌, Some, inl, inr}
 use Rattle.board_words.specs.declared.calls.Call.{Call}
 use Rattle.board_report.specs.Programs.{AnswersWords, CallExits, LacksMemory, Written, written}
 

@@ -13,7 +13,7 @@ use Rattle.board_text.specs.declared.faults.Fault.{Fault}
 use Rattle.board_runs.specs.Ended.{Replays}
 use Rattle.board_runs.specs.Replays.{run_of}
 use Rattle.board_runs.specs.Traces.{trace_of}
-use Rattle.board_serve.specs.Plans.{plan_of, two_readers}
+use Rattle.board_serve.specs.Plans.{plan_of}
 use Rattle.board_serve.specs.Serving.{Serves}
 use Rattle.board_serve.specs.declared.served.Served.{Served}
 
@@ -27,12 +27,6 @@ CallEnds (Trace readers journal) bytes old new ended = Replays old new ended (tr
 CallEnds (Serve journal) bytes old new (Ok done) =
     (served : Served) × Serves old new (Ok served) (plan_of journal bytes)
 CallEnds (Serve journal) bytes old new (Err f) = Serves old new (Err f) (plan_of journal bytes)
-
--- the limits of a call; `serve` has two readers
-abbrev pub limits_of : Call → Limits
-limits_of (Replay readers journal) = limits readers journal
-limits_of (Trace readers journal) = limits readers journal
-limits_of (Serve journal) = two_readers journal
 
 -- what goes to standard error where a run ends in a fault of this number
 abbrev pub failure_text : ℕ → List ℕ

@@ -1,5 +1,5 @@
 //! The program: what it does on its words, and its exit status.
-ghost use Rattle.std.specs.Prelude.{◌≡◌, ◌≤◌, ℕ, List, false, map};
+ghost use Rattle.std.specs.Prelude.{◌≡◌, ◌≤◌, ℕ, List, map};
 ghost use Rattle.told_streams.specs.Tapes.{OfInput};
 ghost use Rattle.std.specs.String.{string_bytes};
 ghost use Rattle.council_core.specs.Refusals.{code_of};
@@ -9,10 +9,8 @@ ghost use Rattle.board_words.specs.declared.calls.Call.{Call};
 ghost use Rattle.board_words.specs.declared.calls.Call.TheVariants.{Serve};
 ghost use Rattle.board_words.specs.declared.calls.NoCall.TheVariants as none;
 ghost use Rattle.board_report.specs.Programs.{AnswersWords, CallEnds, CallExits, LacksMemory, failure_text};
-ghost use Rattle.board_report.specs.Programs.{limits_of, no_text, written};
+ghost use Rattle.board_report.specs.Programs.{no_text, written};
 ghost use Rattle.board_text.specs.Output.{AppendsFront};
-ghost use Rattle.board_text.specs.Text.{in_range};
-ghost use Rattle.board_serve.specs.Plans.{two_readers};
 
 use crate::streams::Streams;
 use board_runs::{replay, trace};
@@ -79,7 +77,6 @@ fn run_serve<T: Threads + Wait + Sync, R: Read + Drop, W: Write>(
 ) -> Result<(), Fault>
     ensures ends { OfInput input.old input.new
         (λ bytes. CallEnds (Serve journal) bytes (W.contents out.old) (W.contents out.new) result) }
-    ensures limits_first { in_range (two_readers journal) ≡ false → input.new ≡ input.old }
 {
     match serve(rt, alloc, &FreeGate, input, out, journal) {
         Ok(_served) => Ok(()),
@@ -97,7 +94,6 @@ fn run<T: Threads + Wait + Sync, R: Read + Drop, W: Write>(
 ) -> Result<(), Fault>
     ensures ends { OfInput input.old input.new
         (λ bytes. CallEnds call bytes (W.contents out.old) (W.contents out.new) result) }
-    ensures limits_first { in_range (limits_of call) ≡ false → input.new ≡ input.old }
 {
     match call {
         Call::Replay { readers, journal } => replay(alloc, input, out, Limits { readers, journal }),
@@ -126,8 +122,6 @@ pub fn program<T: Threads + Wait + Sync, R: Read + Drop, W: Write + Drop, E: Wri
         → OfInput streams.old.input streams.new.input (λ bytes. CallExits call bytes result
         (written (W.contents streams.old.out) (W.contents streams.new.out) (E.contents streams.old.err)
         (E.contents streams.new.err))) }
-    ensures limits_first { (call : Call) → Asks (map string_bytes words.now) call
-        → in_range (limits_of call) ≡ false → streams.new.input ≡ streams.old.input }
     ensures refuses { AreNotTaken (map string_bytes words.now)
         → AnswersWords (map string_bytes words.now) result
         (written (W.contents streams.old.out) (W.contents streams.new.out) (E.contents streams.old.err)
