@@ -2,6 +2,7 @@
 use Rattle.std.specs.Prelude.{◌≡◌, ℕ, ◌+◌, ◌-◌, ◌^◌, ◌≤◌, ◌==◌, ◌↔◌}
 use Rattle.std.specs.Prelude.{IsTrue, IsSome, if◌then◌else◌}
 use Rattle.std.specs.Prelude.{Option, None, Some, List, [], ◌∷◌, ◌++◌, length, map, replicate}
+use Rattle.council_core.specs.declared.limits.TheConstants.{CHAIRS, SHEET_WORDS}
 use Rattle.council_core.specs.Sheets.{Chair, open_chairs, cast_of, total_of, IsSheet}
 use Rattle.council_core.specs.Coalitions.{Rule, omega_of, eta_of}
 use Rattle.majority_rule.specs.declared.majorities.Majority.{Majority}
@@ -19,14 +20,14 @@ majority_of n =
     if n == 0 then Some Half else if n == 1 then Some Seventy else if n == 2 then Some EightyFive
     else if n == 3 then Some Quorum else None
 
--- words are a whole sheet: 34, in their ranges
+-- words are a whole sheet, each in its range
 pub record IsWhole (words : List ℕ) : Type 0 where
-  pub long : length words ≡ 34
+  pub long : length words ≡ SHEET_WORDS
   pub sheet : IsSheet words
 
 -- the words of a sheet whose first chairs are open, with these weights, and on which no command was accepted
 abbrev pub words_of : List ℕ → ℕ → List ℕ
-words_of weights total = map (λ w. w + 1) weights ++ (replicate (32 - length weights) 0 ++ total ∷ 0 ∷ [])
+words_of weights total = map (λ w. w + 1) weights ++ (replicate (CHAIRS - length weights) 0 ++ total ∷ 0 ∷ [])
 
 -- a chair among those of a board: its number, its weight, its swings
 abbrev pub counted : Rule → List Chair → Chair → BoardChair
@@ -48,7 +49,7 @@ pub record AreCountsOf (majority : Majority) (words : List ℕ) (counts : BoardC
   pub all : counts.coalitions ≡ 2 ^ length (open_chairs words)
   pub row_each : counts.rows
       ≡ map (counted (rule_of majority words) (open_chairs words)) (open_chairs words)
-      ++ replicate (32 - length (open_chairs words)) no_chair
+      ++ replicate (CHAIRS - length (open_chairs words)) no_chair
 
 -- the counts of a sheet by the majority of a number
 pub record ShowsCounts (number : ℕ) (words : List ℕ) (counts : BoardCounts) : Type 0 where

@@ -7,6 +7,7 @@ use std::process::Abort;
 use std::sync::Wait;
 use std::test::Fail;
 use std::thread::Threads;
+use two_copy_steps::READERS;
 
 const LIMITS: Limits = Limits {
     readers: 1,
@@ -52,7 +53,7 @@ fn replays_three_chairs(rt: HostRuntime) -> Result<(), Fail> {
 
 #[test]
 fn refuses_limits_out_of_range(rt: HostRuntime) -> Result<(), Fail> {
-    for (readers, journal) in [(0u8, 1u32), (5, 1), (1, 0), (1, 1_000_001)] {
+    for (readers, journal) in [(0u8, 1u32), (READERS as u8 + 1, 1), (1, 0), (1, 1_000_001)] {
         let mut input = Given::new(INPUT.as_bytes());
         let mut out: Vec<u8> = Vec::new(rt.alloc());
         let end = replay(
@@ -174,7 +175,7 @@ fn program_answers_a_status(rt: HostRuntime) -> Result<(), Fail> {
     runs(
         &rt,
         rt.alloc(),
-        &["board", "replay", "--readers", "5"],
+        &["board", "replay", "--readers", "255"],
         bad,
         (2, false, ""),
     )?;

@@ -6,6 +6,7 @@ use std::io::{ErrorKind, Read, Write};
 use std::sync::Wait;
 use std::test::Fail;
 use std::thread::Threads;
+use two_copy_steps::READERS;
 
 const LIMITS: Limits = Limits {
     readers: 1,
@@ -223,7 +224,7 @@ fn readers_that_interrupt_or_fail(rt: HostRuntime) -> Result<(), Fail> {
 fn bad_limits_come_before_a_failed_read(rt: HostRuntime) -> Result<(), Fail> {
     for place in 0..3usize {
         let command = &COMMANDS[place];
-        for (readers, journal) in [(0u8, 0u32), (5, 1_000_001)] {
+        for (readers, journal) in [(0u8, 0u32), (READERS as u8 + 1, 1_000_001)] {
             let limits = Limits { readers, journal };
             let choppy = Choppy {
                 bytes: b"",

@@ -2,7 +2,7 @@
 use council_core::{ChairId, Command, MemberCode, Refusal, Register, Votes};
 use std::alloc::{AllocError, Global};
 use std::test::Fail;
-use two_copy_steps::{Event, Machine, Note, run};
+use two_copy_steps::{Event, Machine, Note, READERS, run};
 
 /// What a note says; nothing where an actor only moved. A sheet by its front, cast and total.
 #[derive(Clone, Copy, Debug, PartialEq)]
@@ -155,7 +155,7 @@ fn five_events_one_by_one(rt: HostRuntime) -> Result<(), Fail> {
 
 #[test]
 fn constructors_refuse(rt: HostRuntime) -> Result<(), Fail> {
-    for readers in [0, 5] {
+    for readers in [0, READERS as u8 + 1] {
         match Machine::start(one_member(rt.alloc())?, readers) {
             Ok(machine) => assert_eq!(rt; machine.published(), 1),
             Err((register, why)) => {

@@ -6,6 +6,7 @@ use power_index::Indices;
 use std::alloc::{AllocError, Global};
 use std::sync::Wait;
 use std::test::Fail;
+use two_copy_steps::READERS;
 
 // AAA with 10 votes.
 pub(crate) fn one_member(alloc: Global) -> Result<Register, Refusal> {
@@ -212,8 +213,8 @@ fn refusal_of(alloc: Global, readers: u8) -> Result<(Refusal, u32), Refusal> {
 }
 
 #[test]
-fn no_reader_and_five_refused(rt: HostRuntime) -> Result<(), Fail> {
-    for readers in [0, 5, 255] {
+fn no_reader_and_one_too_many_refused(rt: HostRuntime) -> Result<(), Fail> {
+    for readers in [0, READERS as u8 + 1, 255] {
         assert_eq!(rt; refusal_of(rt.alloc(), readers)?, (Refusal::BadLimit, 0));
     }
     Ok(())

@@ -2,6 +2,7 @@ use Rattle.std.proofs.Common.{◌≤◌, ◌^◌, ℕ, List, arith, subst, ap}
 use Rattle.std.proofs.lemmas.List.Elements.{All-more}
 use Rattle.std.proofs.lemmas.List.Sums.{sum_by_more}
 use Rattle.council_core.proofs.StartLemmas.{zeros}
+use Rattle.council_core.specs.declared.limits.TheConstants.{CHAIRS, SHEET_WORDS}
 use Rattle.council_core.proofs.totals.ChairTotals.start.Goals as goal
 
 pub loop-member-preserved : goal.loop-member-preserved
@@ -12,7 +13,7 @@ loop-member-preserved c = record {
 }
 
 pub returns-clause-words : goal.returns-clause-words
-returns-clause-words c = zeros 34
+returns-clause-words c = zeros SHEET_WORDS
 
 pub returns-clause-counts : goal.returns-clause-counts
-returns-clause-counts c = zeros 32
+returns-clause-counts c = zeros CHAIRS
