@@ -3,6 +3,8 @@ use Rattle.std.specs.Prelude.{◌≡◌, ℕ, [], List, ◌∷◌, true, Some, p
 use Rattle.clap.specs.Simple.{on_top}
 use Rattle.clap.specs.Words.{App, Row, Rule, Text, new_app, new_rule, subcommand_of, takes}
 use Rattle.clap.specs.Words.{with_rule, with_subcommand}
+use Rattle.council_core.specs.declared.limits.TheConstants.{MAX_COMMANDS}
+use Rattle.two_copy_steps.specs.declared.table.TheConstants.{READERS}
 use Rattle.clap.specs.declared.builder.ArgAction.TheVariants.{Set}
 use Rattle.clap.specs.declared.builder.value_parser.ValueParser.TheVariants as parser
 
@@ -18,10 +20,10 @@ number_rule name most default =
     }
 
 abbrev pub readers_rule : Rule
-readers_rule = number_rule (codes "readers") 4 (codes "1")
+readers_rule = number_rule (codes "readers") READERS (codes "1")
 
 abbrev pub journal_rule : Rule
-journal_rule = number_rule (codes "journal") 1000000 (codes "1000000")
+journal_rule = number_rule (codes "journal") MAX_COMMANDS (codes "1000000")
 
 -- a command that takes both
 abbrev pub limited_app : Text → App
