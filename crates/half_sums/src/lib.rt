@@ -12,7 +12,7 @@ mod sums;
 
 pub use choices::{either, part, size};
 pub use entry::Entry;
-pub use groups::{SIZES, SLOTS};
+pub use groups::{SIZES, SLOTS, STARTS, starts_of};
 pub use laws::mask_law;
 pub use lists::{ROOM, SumList};
 pub use ordered::OrderedSums;

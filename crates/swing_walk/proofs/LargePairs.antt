@@ -1,32 +1,35 @@
--- Pairs that have votes and chairs enough, counted by size.
-use Rattle.std.proofs.Common.{◌≡◌, ℕ, ◌+◌, ◌-◌, ◌*◌, ◌≤◌, Bool, true, false, cond, List, length, drop, get_or, arith, refl, sym, ap, ◌∙◌, inl, inr}
-use Rattle.std.specs.Prelude.{◌&&◌, nat_le}
+-- Pairs that have votes and chairs enough.
+use Rattle.std.proofs.Common.{◌≡◌, ℕ, ◌+◌, ◌-◌, ◌*◌, ◌<◌, ◌≤◌, Bool, true, false, cond, List, length, take, drop, get_or, arith, refl, sym, ap, ◌∙◌}
+use Rattle.std.specs.Prelude.{◌&&◌, nat_le, count_ones}
 use Rattle.std.specs.Int.{bit_at}
 use Rattle.std.specs.List.{count_by}
-use Rattle.std.proofs.lemmas.Bool.{le-leb, lt-leb, cases_lt}
+use Rattle.std.proofs.lemmas.Bool.{le-leb}
 use Rattle.std.proofs.lemmas.Nat.Bits.{bit_at-lt}
+use Rattle.std.proofs.lemmas.List.{length-drop}
+use Rattle.std.proofs.lemmas.List.Sums.{count_by-le-length}
 use Rattle.half_sums.specs.declared.entry.Entry.{Entry}
 use Rattle.half_sums.specs.Groups.{size_of}
+use Rattle.half_sums.specs.declared.lists.TheConstants.{ROOM}
 use Rattle.swing_walk.specs.Pairs.{pairs_where, reaches, has, is_large, is_enough, large_pairs}
-use Rattle.swing_walk.specs.Sizes.{at_least}
-use Rattle.swing_walk.specs.Tallies.{CreditsLefts, CreditsRights}
-use Rattle.swing_walk.specs.declared.tally.MaskTally.{MaskTally}
-use Rattle.swing_walk.specs.Walks.{NoneReach}
-use Rattle.swing_walk.proofs.Counting.{Splits, count_none, count_agree, count_split, bit_times}
-use Rattle.swing_walk.proofs.Steps.{pairs_agree, pairs_above, pairs_swap, falls_short, turned}
+use Rattle.swing_walk.specs.Sizes.{partners_of}
+use Rattle.swing_walk.proofs.Counting.{Splits, count_none, count_agree, count_all, count_split, bit_times}
+use Rattle.swing_walk.proofs.Steps.{pairs_swap, pairs_agree, turned}
 
--- a set has so many chairs that another one lacks
-enough_chairs : (least x y : ℕ) → nat_le least (x + y) ≡ nat_le (least - x) y
-enough_chairs least x y = elim (cases_lt (x + y) least) [
-  | inl few ↦ lt-leb least (x + y) few ∙ sym (lt-leb (least - x) y (omega arith))
-  | inr many ↦ le-leb least (x + y) many ∙ sym (le-leb (least - x) y (omega arith))
-]
+-- among the entries that reach the quota with l, those with which it has chairs enough
+pub count_enough : (quota least at : ℕ) (l : Entry) (entries : List Entry) → Splits quota l.sum at entries → count_by (is_enough quota least l) entries ≡ partners_of least l.mask (drop at entries)
+count_enough quota least at l entries s = count_split quota at l entries (is_large least l) s
 
--- among the entries that reach the quota with l, those that have the chairs that it lacks
-pub count_enough : (quota least at : ℕ) (l : Entry) (entries : List Entry) → Splits quota l.sum at entries → count_by (is_enough quota least l) entries ≡ at_least (least - size_of l) (drop at entries)
-count_enough quota least at l entries s =
-    count_split quota at l entries (is_large least l) s
-    ∙ count_agree (is_large least l) (λ e. nat_le (least - size_of l) (size_of e)) (drop at entries) (λ k d h. enough_chairs least (size_of l) (size_of (get_or (drop at entries) k d)))
+-- where no size is asked for
+pub partners-any : (least mask : ℕ) (entries : List Entry) → least ≡ 0 → partners_of least mask entries ≡ length entries
+partners-any least mask entries none =
+    count_agree (λ e. nat_le least (count_ones mask + size_of e)) (λ e. true) entries (λ k d h. le-leb least _ (omega (arith, none))) ∙ count_all entries
+
+few_partners : (least mask : ℕ) (entries : List Entry) → partners_of least mask entries ≤ length entries
+few_partners least mask entries = count_by-le-length (λ (e : Entry). nat_le least (count_ones mask + size_of e)) entries
+
+pub partners_room : (least mask : ℕ) (falls : Bool) (up rest : ℕ) (rising falling : List Entry) → length rising ≤ ROOM → length falling ≤ ROOM → cond falls (partners_of least mask (drop up rising)) (partners_of least mask (drop rest falling)) ≤ ROOM
+partners_room least mask true up rest rising falling few_rising few_falling = omega (arith, few_partners least mask (drop up rising), length-drop up rising)
+partners_room least mask false up rest rising falling few_rising few_falling = omega (arith, few_partners least mask (drop rest falling), length-drop rest falling)
 
 and_true : (a b : Bool) → b ≡ true → (a && b) ≡ a
 and_true true b h = h
@@ -50,36 +53,11 @@ turned_enough quota least a b =
     let swap : size_of b + size_of a ≡ size_of a + size_of b = omega arith in
     ap (λ t. t && is_large least b a) (turned quota a b) ∙ ap (λ n. reaches quota a b && nat_le least n) swap
 
-pub right_enough : (quota least at : ℕ) (left right : List Entry) → at ≤ length right → NoneReach quota (length left) at left right → pairs_where (λ b a. is_enough quota least b a) (drop at right) left ≡ large_pairs quota least left right
-right_enough quota least at left right within apart =
-    pairs_above (λ b a. is_enough quota least b a) left right at within (λ k m d e inside below. ap (λ t. t && is_large least (get_or right m e) (get_or left k d)) (falls_short quota at left right within apart k m d e inside below))
-    ∙ pairs_swap (λ b a. is_enough quota least b a) right left
-    ∙ pairs_agree (λ a b. is_enough quota least b a) (is_enough quota least) left right (turned_enough quota least)
+-- the pairs seen from the right entries
+pub turned_pairs : (quota least : ℕ) (left right : List Entry) → pairs_where (is_enough quota least) right left ≡ large_pairs quota least left right
+turned_pairs quota least left right = pairs_swap (is_enough quota least) right left ∙ pairs_agree (λ a b. is_enough quota least b a) (is_enough quota least) left right (turned_enough quota least)
 
-pub right_enough_marked : (quota least at slot : ℕ) (left right : List Entry) → at ≤ length right → NoneReach quota (length left) at left right →
-    pairs_where (λ b a. is_enough quota least b a && has slot b) (drop at right) left ≡ pairs_where (λ a b. is_enough quota least a b && has slot b) left right
-right_enough_marked quota least at slot left right within apart =
-    pairs_above (λ b a. is_enough quota least b a && has slot b) left right at within (λ k m d e inside below. ap (λ t. (t && is_large least (get_or right m e) (get_or left k d)) && has slot (get_or right m e)) (falls_short quota at left right within apart k m d e inside below))
-    ∙ pairs_swap (λ b a. is_enough quota least b a && has slot b) right left
-    ∙ pairs_agree (λ a b. is_enough quota least b a && has slot b) (λ a b. is_enough quota least a b && has slot b) left right (λ a b. ap (λ t. t && has slot b) (turned_enough quota least a b))
-
--- where no size is asked
-any_size : (quota least : ℕ) (l r : Entry) → least ≡ 0 → reaches quota l r ≡ is_enough quota least l r
-any_size quota least l r none = sym (and_true (reaches quota l r) (is_large least l r) (le-leb least (size_of l + size_of r) (omega (arith, none))))
-
-pub any_pairs : (quota least : ℕ) (left right : List Entry) → least ≡ 0 → pairs_where (reaches quota) left right ≡ large_pairs quota least left right
-any_pairs quota least left right none = pairs_agree (reaches quota) (is_enough quota least) left right (λ l r. any_size quota least l r none)
-
-pub any_lefts : (quota least : ℕ) (left right : List Entry) (before after : MaskTally) → least ≡ 0 → CreditsLefts (reaches quota) left right before after → CreditsLefts (is_enough quota least) left right before after
-any_lefts quota least left right before after none credits = record {
-  even = credits.even;
-  total = omega (arith, credits.total, any_pairs quota least left right none);
-  marked = λ slot. omega (arith, credits.marked slot, pairs_agree (λ l r. reaches quota l r && has slot l) (λ l r. is_enough quota least l r && has slot l) left right (λ l r. ap (λ t. t && has slot l) (any_size quota least l r none)));
-}
-
-pub any_rights : (quota least : ℕ) (left right : List Entry) (before after : MaskTally) → least ≡ 0 → CreditsRights (reaches quota) left right before after → CreditsRights (is_enough quota least) left right before after
-any_rights quota least left right before after none credits = record {
-  even = credits.even;
-  total = omega (arith, credits.total, any_pairs quota least left right none);
-  marked = λ slot. omega (arith, credits.marked slot, pairs_agree (λ l r. reaches quota l r && has slot r) (λ l r. is_enough quota least l r && has slot r) left right (λ l r. ap (λ t. t && has slot r) (any_size quota least l r none)));
-}
+pub turned_marks : (quota least slot : ℕ) (left right : List Entry) → pairs_where (λ a b. is_enough quota least a b && has slot a) right left ≡ pairs_where (λ l r. is_enough quota least l r && has slot r) left right
+turned_marks quota least slot left right =
+    let test : Entry → Entry → Bool = λ a b. is_enough quota least a b && has slot a in
+    pairs_swap test right left ∙ pairs_agree (λ a b. test b a) (λ a b. is_enough quota least a b && has slot b) left right (λ a b. ap (λ t. t && has slot b) (turned_enough quota least a b))

@@ -1,12 +1,21 @@
--- The tally by size: its steps, and what an entry more comes to.
-use Rattle.std.proofs.Common.{◌≡◌, ℕ, ◌+◌, ◌-◌, ◌<◌, ◌≤◌, cond, List, [], ◌∷◌, length, take, drop, get_or, arith, refl, sym, ap, ◌∙◌, zero, suc, inl, inr}
-use Rattle.std.specs.Prelude.{nat_le}
-use Rattle.std.proofs.lemmas.Bool.{le-leb, lt-leb, cases_lt}
-use Rattle.std.proofs.lemmas.List.{drop_more, get_or-take, get_or-drop, get_or_past, length-drop, length-take}
-use Rattle.std.proofs.lemmas.List.Sums.{sum_by-cons, count_by-le-length}
+-- Counts by size: the steps of a set, what is read of tallies modulo 2^16, and what a set more comes to.
+use Rattle.std.proofs.Common.{◌≡◌, ℕ, ◌+◌, ◌-◌, ◌%◌, ◌^◌, ◌<◌, ◌≤◌, Bool, true, false, cond, List, [], ◌∷◌, length, take, drop, get_or, arith, refl, sym, ap, ◌∙◌, zero, suc, inl, inr}
+use Rattle.std.specs.Prelude.{nat_le, nat_lt, min, count_ones}
+use Rattle.std.specs.List.{All}
+use Rattle.std.proofs.lemmas.Bool.{le-leb, lt-leb, le-ltb, lt-ltb, cases_lt}
+use Rattle.std.proofs.lemmas.List.{get_or-take, get_or-drop, get_or_past, length-drop, length-take}
+use Rattle.std.proofs.lemmas.List.Elements.{All-weaker, All-drop}
+use Rattle.std.proofs.lemmas.List.Sums.{sum_by-cons, sum_by_more, sum_by-drop_more, sum_by-take-drop, count_by-le-length}
 use Rattle.half_sums.specs.declared.entry.Entry.{Entry}
-use Rattle.half_sums.specs.Groups.{size_of}
-use Rattle.swing_walk.specs.Sizes.{at_least, one_at}
+use Rattle.half_sums.specs.Groups.{size_of, fewer_than}
+use Rattle.half_sums.specs.Merges.{entry_at}
+use Rattle.half_sums.proofs.GroupFacts.{sizes_few}
+use Rattle.swing_walk.specs.Sizes.{partners_of, at_least, one_at, counted, CountsBySize}
+use Rattle.swing_walk.specs.Sides.{size_side}
+use Rattle.swing_walk.specs.Walks.{IsNext}
+use Rattle.swing_walk.specs.declared.partners.BySize.{BySize}
+use Rattle.swing_walk.specs.declared.sizes.TheConstants.{LANES}
+use Rattle.swing_walk.proofs.Counting.{count_none, count_agree}
 use Rattle.half_sums.specs.Entries.{zero_entry}
 use Rattle.half_sums.specs.declared.groups.TheConstants.{SIZES, SLOTS}
 use Rattle.half_sums.specs.declared.lists.TheConstants.{ROOM}
@@ -33,33 +42,117 @@ noughts_at (suc n) m zero h = absurd (omega arith)
 noughts_at (suc n) m (suc k) h = noughts_at n m k (omega arith)
 
 -- the steps of a set of so many chairs
-own_step : (chairs size : ℕ) → chairs ≤ SLOTS → size < SIZES → get_or (take (SLOTS - chairs + SIZES - (SLOTS - chairs)) (drop (SLOTS - chairs) (steps SIZES SLOTS))) size 0 ≡ cond (nat_le size chairs) 1 0
+own_step : (chairs size : ℕ) → chairs ≤ SLOTS → size < LANES → get_or (take (SLOTS - chairs + LANES - (SLOTS - chairs)) (drop (SLOTS - chairs) (steps SIZES 23))) size 0 ≡ cond (nat_le size chairs) 1 0
 own_step chairs size few within =
-    get_or-take (SLOTS - chairs + SIZES - (SLOTS - chairs)) (drop (SLOTS - chairs) (steps SIZES SLOTS)) size 0 (omega arith)
-    ∙ get_or-drop (SLOTS - chairs) (steps SIZES SLOTS) size 0
+    get_or-take (SLOTS - chairs + LANES - (SLOTS - chairs)) (drop (SLOTS - chairs) (steps SIZES 23)) size 0 (omega arith)
+    ∙ get_or-drop (SLOTS - chairs) (steps SIZES 23) size 0
     ∙ elim (cases_lt chairs size) [
-      | inl above ↦ noughts_at SIZES SLOTS (SLOTS - chairs + size) (omega arith) ∙ ap (λ b. cond b 1 0) (sym (lt-leb size chairs above))
-      | inr own ↦ ones_at SIZES SLOTS (SLOTS - chairs + size) (omega arith) ∙ ap (λ b. cond b 1 0) (sym (le-leb size chairs own))
+      | inl above ↦ noughts_at SIZES 23 (SLOTS - chairs + size) (omega arith) ∙ ap (λ b. cond b 1 0) (sym (lt-leb size chairs above))
+      | inr own ↦ ones_at SIZES 23 (SLOTS - chairs + size) (omega arith) ∙ ap (λ b. cond b 1 0) (sym (le-leb size chairs own))
     ]
 
-pub own_steps : (chairs size : ℕ) → chairs ≤ SLOTS → get_or (take (SLOTS - chairs + SIZES - (SLOTS - chairs)) (drop (SLOTS - chairs) (steps SIZES SLOTS))) size 0 ≡ cond (nat_le size chairs) 1 0
-own_steps chairs size few = elim (cases_lt size SIZES) [
+pub own_steps : (chairs size : ℕ) → chairs ≤ SLOTS → get_or (take (SLOTS - chairs + LANES - (SLOTS - chairs)) (drop (SLOTS - chairs) (steps SIZES 23))) size 0 ≡ cond (nat_le size chairs) 1 0
+own_steps chairs size few = elim (cases_lt size LANES) [
   | inl within ↦ own_step chairs size few within
-  | inr past ↦ get_or_past (take (SLOTS - chairs + SIZES - (SLOTS - chairs)) (drop (SLOTS - chairs) (steps SIZES SLOTS))) size 0 (omega (arith, length-take (SLOTS - chairs + SIZES - (SLOTS - chairs)) (drop (SLOTS - chairs) (steps SIZES SLOTS))))
+  | inr past ↦ get_or_past (take (SLOTS - chairs + LANES - (SLOTS - chairs)) (drop (SLOTS - chairs) (steps SIZES 23))) size 0 (omega (arith, length-take (SLOTS - chairs + LANES - (SLOTS - chairs)) (drop (SLOTS - chairs) (steps SIZES 23))))
       ∙ ap (λ b. cond b 1 0) (sym (lt-leb size chairs (omega arith)))
 ]
 
--- an entry more at the front
-pub tally_front : (size at : ℕ) (entries : List Entry) → at < length entries → at_least size (drop at entries) ≡ one_at size (get_or entries at zero_entry).mask + at_least size (drop (at + 1) entries)
-tally_front size at entries inside =
-    let first : Entry = get_or entries at zero_entry in
-    let rest : List Entry = drop (at + 1) entries in
-    ap (at_least size) (drop_more entries at zero_entry inside) ∙ sum_by-cons (λ (e : Entry). cond (nat_le size (size_of e)) 1 0) first rest
+-- an entry more, behind the others and before them
+taken_more : (size at : ℕ) (entries : List Entry) → at < length entries → at_least size (take (at + 1) entries) ≡ at_least size (take at entries) + one_at size (entry_at entries at).mask
+taken_more size at entries inside = sum_by_more (λ (e : Entry). cond (nat_le size (size_of e)) 1 0) entries at zero_entry inside
 
-pub tally_back : (size at : ℕ) (entries : List Entry) → 0 < at → at ≤ length entries → at_least size (drop (at - 1) entries) ≡ one_at size (get_or entries (at - 1) zero_entry).mask + at_least size (drop at entries)
-tally_back size at entries some within =
+dropped_more : (size at : ℕ) (entries : List Entry) → 0 < at → at ≤ length entries → at_least size (drop (at - 1) entries) ≡ one_at size (entry_at entries (at - 1)).mask + at_least size (drop at entries)
+dropped_more size at entries some within =
     let one : at - 1 + 1 ≡ at = omega arith in
-    rw one at (tally_front size (at - 1) entries (omega arith))
+    rw one at (sum_by-drop_more (λ (e : Entry). cond (nat_le size (size_of e)) 1 0) entries (at - 1) zero_entry (omega arith))
 
-pub few_tallied : (entries : List Entry) (at size : ℕ) → length entries ≤ ROOM → at_least size (drop at entries) ≤ ROOM
-few_tallied entries at size few = omega (arith, count_by-le-length (λ (e : Entry). nat_le size (size_of e)) (drop at entries), length-drop at entries)
+-- a set has so many chairs that another one lacks
+enough_chairs : (least x y : ℕ) → nat_le least (x + y) ≡ nat_le (least - x) y
+enough_chairs least x y = elim (cases_lt (x + y) least) [
+  | inl few ↦ lt-leb least (x + y) few ∙ sym (lt-leb (least - x) y (omega arith))
+  | inr many ↦ le-leb least (x + y) many ∙ sym (le-leb (least - x) y (omega arith))
+]
+
+-- no set has more chairs than there are slots
+none_larger : (size : ℕ) (entries : List Entry) → All (λ e. e.mask < 2 ^ SLOTS) entries → SLOTS < size → at_least size entries ≡ 0
+none_larger size entries slots large = count_none (λ e. nat_le size (size_of e)) entries
+    (All-weaker (λ (e : Entry). size_of e ≤ SLOTS) (λ e. nat_le size (size_of e) ≡ false) (λ e few. lt-leb size (size_of e) (omega arith)) entries (sizes_few entries slots))
+
+-- the partners of a set by the chairs that it lacks
+partners-lacking : (least mask lane : ℕ) (entries : List Entry) → All (λ e. e.mask < 2 ^ SLOTS) entries → lane ≡ min (least - count_ones mask) SIZES → partners_of least mask entries ≡ at_least lane entries
+partners-lacking least mask lane entries slots is =
+    let lacks : ℕ = least - count_ones mask in
+    let same : partners_of least mask entries ≡ at_least lacks entries = count_agree (λ e. nat_le least (count_ones mask + size_of e)) (λ e. nat_le lacks (size_of e)) entries (λ k d h. enough_chairs least (count_ones mask) (size_of (get_or entries k d))) in
+    same ∙ elim (cases_lt lacks SIZES) as (λ _. at_least lacks entries ≡ at_least lane entries) [
+      | inl few ↦ ap (λ n. at_least n entries) (let e : lacks ≡ lane = omega (arith, is) in e)
+      | inr many ↦ none_larger lacks entries slots (omega arith) ∙ sym (none_larger lane entries slots (omega (arith, is)))
+    ]
+
+-- each set has fewer chairs or at least so many
+one_kind : (size s : ℕ) → cond (nat_lt s size) 1 0 + cond (nat_le size s) 1 0 ≡ 1
+one_kind size s =
+    let v : Bool → ℕ = λ b. cond b 1 0 in
+    elim (cases_lt s size) as (λ _. cond (nat_lt s size) 1 0 + cond (nat_le size s) 1 0 ≡ 1) [
+      | inl few ↦ omega (arith, ap v (lt-ltb s size few), ap v (lt-leb size s few))
+      | inr many ↦ omega (arith, ap v (le-ltb s size many), ap v (le-leb size s many))
+    ]
+
+both_kinds : (size : ℕ) (entries : List Entry) → fewer_than size entries + at_least size entries ≡ length entries
+both_kinds size [] = refl
+both_kinds size (e ∷ entries) =
+    omega (arith, one_kind size (size_of e), both_kinds size entries, sum_by-cons (λ (x : Entry). cond (nat_lt (size_of x) size) 1 0) e entries, sum_by-cons (λ (x : Entry). cond (nat_le size (size_of x)) 1 0) e entries)
+
+-- what is read at a size, as long as fewer sets were passed than a number of 16 bits holds
+pub record Reads (by : BySize) (size up rest : ℕ) (rising falling : List Entry) : Type 0 where
+  pub room : get_or by.fewer size 0 + counted size (size_side 0 by.passed) ≤ length rising
+  pub left : get_or by.fewer size 0 + counted size (size_side 0 by.passed) + at_least size (drop up rising) ≡ length rising
+  pub gone : counted size (size_side 1 by.passed) ≡ at_least size (drop rest falling)
+
+pub reads : (by : BySize) (size up rest : ℕ) (rising falling : List Entry) → CountsBySize by up rest rising falling → size ≤ SIZES → up + length falling < rest + ROOM → rest ≤ length falling → Reads by size up rest rising falling
+reads by size up rest rising falling counts few early within =
+    let test : Entry → Bool = λ e. nat_le size (size_of e) in
+    let left : get_or by.fewer size 0 + counted size (size_side 0 by.passed) + at_least size (drop up rising) ≡ length rising =
+    omega (arith, counts.fewer size few, counts.risen size (omega arith), both_kinds size rising, sum_by-take-drop (λ (e : Entry). cond (nat_le size (size_of e)) 1 0) rising up, count_by-le-length test (take up rising), length-take up rising) in
+    record {
+      room = omega (arith, left);
+      left = left;
+      gone = omega (arith, counts.fallen size (omega arith), count_by-le-length test (drop rest falling), length-drop rest falling);
+    }
+
+-- which are the partners of a set
+pub partners-read : (by : BySize) (least mask lane up rest : ℕ) (rising falling : List Entry) (falls : Bool) (left gone : ℕ) → Reads by lane up rest rising falling → lane ≡ min (least - count_ones mask) SIZES →
+    All (λ e. e.mask < 2 ^ SLOTS) rising → All (λ e. e.mask < 2 ^ SLOTS) falling → left ≡ length rising - get_or by.fewer lane 0 - counted lane (size_side 0 by.passed) → gone ≡ counted lane (size_side 1 by.passed) →
+    cond falls left gone ≡ cond falls (partners_of least mask (drop up rising)) (partners_of least mask (drop rest falling))
+partners-read by least mask lane up rest rising falling falls left gone r is rising_slots falling_slots is_left is_gone =
+    let P : Entry → Type 0 = λ e. e.mask < 2 ^ SLOTS in
+    let of_left : left ≡ partners_of least mask (drop up rising) = omega (arith, is_left, r.left, partners-lacking least mask lane (drop up rising) (All-drop P up rising rising_slots) is) in
+    let of_gone : gone ≡ partners_of least mask (drop rest falling) = omega (arith, is_gone, r.gone, partners-lacking least mask lane (drop rest falling) (All-drop P rest falling falling_slots) is) in
+    rw (of_left, of_gone) refl
+
+-- a set is passed
+pub record Counted (old new : BySize) (mask : ℕ) (falls : Bool) : Type 0 where
+  pub fewer : new.fewer ≡ old.fewer
+  pub rising : (size : ℕ) → size < LANES → counted size (size_side 0 new.passed)
+      ≡ cond falls (counted size (size_side 0 old.passed)) ((counted size (size_side 0 old.passed) + one_at size mask) % 2 ^ 16)
+  pub falling : (size : ℕ) → size < LANES → counted size (size_side 1 new.passed)
+      ≡ cond falls ((counted size (size_side 1 old.passed) + one_at size mask) % 2 ^ 16) (counted size (size_side 1 old.passed))
+
+pub passed : (quota up rest p q : ℕ) (rising falling : List Entry) (old new : BySize) (mask : ℕ) (falls : Bool) → CountsBySize old up rest rising falling → IsNext quota falls mask up rest rising falling → rest ≤ length falling →
+    Counted old new mask falls → p ≡ up + cond falls 0 1 → q ≡ rest - cond falls 1 0 → CountsBySize new p q rising falling
+passed quota up rest p q rising falling old new mask true counts next within c is_up is_rest =
+    let same_up : p ≡ up = omega (arith, is_up) in
+    let same_rest : q ≡ rest - 1 = omega (arith, is_rest) in
+    rw (same_up, same_rest) (record {
+      fewer = λ size few. ap (λ xs. get_or xs size 0) c.fewer ∙ counts.fewer size few;
+      risen = λ size few. c.rising size few ∙ counts.risen size few;
+      fallen = λ size few. omega (arith, c.falling size few, counts.fallen size few, dropped_more size rest falling next.0 within, ap (one_at size) next.1);
+    })
+passed quota up rest p q rising falling old new mask false counts next within c is_up is_rest =
+    let same_up : p ≡ up + 1 = omega (arith, is_up) in
+    let same_rest : q ≡ rest = omega (arith, is_rest) in
+    rw (same_up, same_rest) (record {
+      fewer = λ size few. ap (λ xs. get_or xs size 0) c.fewer ∙ counts.fewer size few;
+      risen = λ size few. omega (arith, c.rising size few, counts.risen size few, taken_more size up rising next.0, ap (one_at size) next.1);
+      fallen = λ size few. c.falling size few ∙ counts.fallen size few;
+    })

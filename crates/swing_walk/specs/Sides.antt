@@ -1,11 +1,18 @@
--- The tallies of the two sides of a walk, the left one first.
+-- What is kept for the two sides of a walk, the left one first.
 use Rattle.std.specs.Prelude.{ℕ, List, [], slice_index_or}
 use Rattle.swing_walk.specs.declared.tally.MaskTally.{MaskTally}
+use Rattle.swing_walk.specs.declared.sizes.SizeTally.{SizeTally}
 
 -- what is read where there is no tally
 abbrev pub no_tally : MaskTally
 no_tally = record { low = []; high = [] }
 
+abbrev pub no_sizes : SizeTally
+no_sizes = record { at_least = [] }
+
 -- the tally of a side, 0 for the left and 1 for the right one
 abbrev pub side : ℕ → List MaskTally → MaskTally
 side at sides = slice_index_or sides at no_tally
+
+abbrev pub size_side : ℕ → List SizeTally → SizeTally
+size_side at sides = slice_index_or sides at no_sizes

@@ -1,22 +1,38 @@
--- Sets counted by size.
-use Rattle.std.specs.Prelude.{ℕ, ◌≡◌, List, slice_index_or, count_ones, nat_le, if◌then◌else◌}
+-- Sets counted by size, and the partners of a set that is passed.
+use Rattle.std.specs.Prelude.{ℕ, ◌≡◌, ◌+◌, ◌<◌, ◌≤◌, ◌%◌, ◌^◌, List, slice_index_or, take, drop, count_ones}
+use Rattle.std.specs.Prelude.{nat_le, if◌then◌else◌}
 use Rattle.std.specs.List.{count_by}
 use Rattle.half_sums.specs.declared.entry.Entry.{Entry}
-use Rattle.half_sums.specs.Groups.{size_of}
+use Rattle.half_sums.specs.Groups.{size_of, fewer_than}
+use Rattle.half_sums.specs.declared.groups.TheConstants.{SIZES}
 use Rattle.swing_walk.specs.declared.sizes.SizeTally.{SizeTally}
+use Rattle.swing_walk.specs.declared.sizes.TheConstants.{LANES}
+use Rattle.swing_walk.specs.Sides.{size_side}
+use Rattle.swing_walk.specs.declared.partners.BySize.{BySize}
+
+-- how many entries have chairs enough together with the set of a mask
+abbrev pub partners_of : ℕ → ℕ → List Entry → ℕ
+partners_of least_size mask entries = count_by (λ e. nat_le least_size (count_ones mask + size_of e)) entries
 
 -- how many entries have at least so many chairs
 abbrev pub at_least : ℕ → List Entry → ℕ
 at_least size entries = count_by (λ e. nat_le size (size_of e)) entries
 
--- what a tally says of a size: none above 16 chairs
-abbrev pub counted : ℕ → SizeTally → ℕ
-counted size t = slice_index_or t.at_least size 0
-
--- a tally counts just these entries
-abbrev pub IsSizeTally : List Entry → SizeTally → Type 0
-IsSizeTally entries t = (size : ℕ) → counted size t ≡ at_least size entries
-
 -- what one set comes to at a size: 1 where it has at least so many chairs
 abbrev pub one_at : ℕ → ℕ → ℕ
 one_at size mask = if nat_le size (count_ones mask) then 1 else 0
+
+-- what a tally says of a size
+abbrev pub counted : ℕ → SizeTally → ℕ
+counted size t = slice_index_or t.at_least size 0
+
+-- a tally counts just these entries, modulo 2^16
+abbrev pub IsSizeTally : List Entry → SizeTally → Type 0
+IsSizeTally entries t = (size : ℕ) → size < LANES → counted size t ≡ at_least size entries % 2 ^ 16
+
+-- what counts by size has counted the first `up` rising sets, all falling ones but the first `rest`, and by their sizes
+-- all rising ones
+pub record CountsBySize (by : BySize) (up rest : ℕ) (rising falling : List Entry) : Type 0 where
+  pub fewer : (size : ℕ) → size ≤ SIZES → slice_index_or by.fewer size 0 ≡ fewer_than size rising
+  pub risen : IsSizeTally (take up rising) (size_side 0 by.passed)
+  pub fallen : IsSizeTally (drop rest falling) (size_side 1 by.passed)

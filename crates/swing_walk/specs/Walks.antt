@@ -1,8 +1,10 @@
 -- Where a walk stands between a rising and a falling list, and what it has credited.
-use Rattle.std.specs.Prelude.{ℕ, ◌≡◌, ◌+◌, ◌<◌, ◌≤◌, List, length, take, drop, slice_index_or, ◌&&◌}
+use Rattle.std.specs.Prelude.{ℕ, ◌≡◌, ◌+◌, ◌-◌, ◌<◌, ◌≤◌, List, length, take, drop, slice_index_or, ◌&&◌}
+use Rattle.std.specs.Prelude.{Bool, true, false}
 use Rattle.half_sums.specs.declared.entry.Entry.{Entry}
 use Rattle.half_sums.specs.Entries.{zero_entry}
-use Rattle.swing_walk.specs.Pairs.{pairs_where, reaches, has}
+use Rattle.half_sums.specs.Merges.{entry_at}
+use Rattle.swing_walk.specs.Pairs.{pairs_where, is_enough, has}
 use Rattle.swing_walk.specs.Tallies.{marked, total, IsEven}
 use Rattle.swing_walk.specs.Sides.{side}
 use Rattle.swing_walk.specs.declared.tally.MaskTally.{MaskTally}
@@ -26,20 +28,29 @@ pub record IsBetween (quota up rest : ℕ) (rising falling : List Entry) : Type 
   pub apart : NoneReach quota up rest rising falling
   pub reached : AllReach quota up rest rising falling
 
--- the first tally has what the passed rising entries come to, each as often as there are falling ones that reach the
--- quota with it, and the second one likewise what the passed falling entries come to
-pub record HasCredited (quota up rest : ℕ) (rising falling : List Entry) (tallies : List MaskTally) : Type 0 where
+-- the set that is passed next has this mask: it is the greatest falling one that is left, where that one reaches the
+-- quota with the least rising one that is left, or else that rising one
+abbrev pub IsNext : ℕ → Bool → ℕ → ℕ → ℕ → List Entry → List Entry → Type 0
+IsNext quota true mask up rest rising falling = (0 < rest) × (mask ≡ (entry_at falling (rest - 1)).mask)
+    × (up < length rising → quota ≤ (entry_at rising up).sum + (entry_at falling (rest - 1)).sum)
+IsNext quota false mask up rest rising falling = (up < length rising) × (mask ≡ (entry_at rising up).mask)
+    × (0 < rest → (entry_at rising up).sum + (entry_at falling (rest - 1)).sum < quota)
+
+-- the first tally has what the passed rising entries come to, each as often as there are falling ones that are enough
+-- with it, and the second one likewise what the passed falling entries come to
+pub record HasCredited (quota least up rest : ℕ) (rising falling : List Entry) (tallies : List MaskTally) : Type 0 where
   pub rising_even : IsEven (side 0 tallies)
-  pub rising_total : total (side 0 tallies) ≡ pairs_where (reaches quota) (take up rising) falling
+  pub rising_total : total (side 0 tallies) ≡ pairs_where (is_enough quota least) (take up rising) falling
   pub rising_marked : (slot : ℕ) → marked slot (side 0 tallies)
-      ≡ pairs_where (λ a b. reaches quota a b && has slot a) (take up rising) falling
+      ≡ pairs_where (λ a b. is_enough quota least a b && has slot a) (take up rising) falling
   pub falling_even : IsEven (side 1 tallies)
-  pub falling_total : total (side 1 tallies) ≡ pairs_where (reaches quota) (drop rest falling) rising
+  pub falling_total : total (side 1 tallies) ≡ pairs_where (is_enough quota least) (drop rest falling) rising
   pub falling_marked : (slot : ℕ) → marked slot (side 1 tallies)
-      ≡ pairs_where (λ a b. reaches quota a b && has slot a) (drop rest falling) rising
+      ≡ pairs_where (λ a b. is_enough quota least a b && has slot a) (drop rest falling) rising
 
 -- a walk has taken so many steps, each past one entry, and has credited them
-pub record HasWalked (quota taken up rest : ℕ) (rising falling : List Entry) (tallies : List MaskTally) : Type 0 where
+pub record HasWalked (quota least taken up rest : ℕ) (rising falling : List Entry) (tallies : List MaskTally)
+    : Type 0 where
   pub between : IsBetween quota up rest rising falling
-  pub credited : HasCredited quota up rest rising falling tallies
+  pub credited : HasCredited quota least up rest rising falling tallies
   pub steps : up + length falling ≡ taken + rest

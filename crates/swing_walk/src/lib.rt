@@ -2,9 +2,10 @@
 //! size, and how many of these have each chair.
 #![tactic(auto)]
 
-mod by_size;
 mod laws;
 mod pairs;
+mod partners;
+mod places;
 mod sides;
 mod sizes;
 mod tally;

@@ -4,7 +4,8 @@ ghost use Rattle.half_sums.specs.Entries.{IsHalf};
 ghost use Rattle.swing_walk.specs.Pairs.{is_enough, large_pairs, large_with, swings_of};
 ghost use Rattle.swing_walk.specs.Tallies.{total, IsEven, CreditsLefts, CreditsRights};
 
-use crate::by_size::walk_by_size;
+use crate::partners::{BySize, OfAnySize};
+use crate::places::Asked;
 use crate::tally::MaskTally;
 use crate::walking::walk;
 use council_core::CHAIRS;
@@ -23,8 +24,8 @@ pub struct Counts {
 
 /// Counts the pairs whose sums reach the quota, in votes, and which have at least so many chairs together.
 ///
-/// It takes one walk, up the left list and down the right one (Horowitz and Sahni 1974). Where a size is asked, the
-/// walk keeps count of the sets on either side by size. It takes no memory.
+/// It takes one walk, up the left list and down the right one (Horowitz and Sahni 1974), and as far from its other
+/// end. Where a size is asked for, the walk keeps count of the sets that it passed by size. It takes no memory.
 pub fn count(left: &HalfSums, right: &HalfSums, quota: u64, least_size: u8) -> Counts
     ensures winning { result.winning ≡ large_pairs quota least_size left.now right.now }
     ensures with_chair { (place : ℕ) → place < CHAIRS
@@ -81,10 +82,12 @@ fn credit_pairs(
     ensures lefts { CreditsLefts (is_enough quota least_size) left.now right.now lefts.old lefts.new }
     ensures rights { CreditsRights (is_enough quota least_size) left.now right.now rights.old rights.new }
 {
+    let asked = Asked { quota, least_size };
     if least_size == 0 {
-        return walk(left, right, quota, lefts, rights);
+        return walk(left, right, asked, OfAnySize {}, OfAnySize {}, lefts, rights);
     }
-    walk_by_size(left, right, quota, least_size, lefts, rights)
+    let (front, back) = (BySize::start(left), BySize::start(right));
+    walk(left, right, asked, front, back, lefts, rights)
 }
 
 // The left totals and then the right ones.

@@ -1,10 +1,19 @@
-//! The tallies of the two lists of a walk, of which each step credits one. A place is chosen, and not a way to go on.
-ghost use Rattle.std.specs.Prelude.{◌≡◌, ℕ, ◌+◌, ◌*◌, ◌^◌, ◌<◌, cond};
+//! What a chain keeps for its rising and for its falling list, of which each step adds to one. A place is chosen, and
+//! not a way to go on.
+ghost use Rattle.std.specs.Prelude.{◌≡◌, ℕ, ◌+◌, ◌*◌, ◌^◌, ◌<◌, ◌%◌, cond};
 ghost use Rattle.std.specs.Int.{bit_at};
 ghost use Rattle.swing_walk.specs.Tallies.{marked, total, IsEven};
-ghost use Rattle.swing_walk.specs.Sides.{side};
+ghost use Rattle.swing_walk.specs.Sides.{side, size_side};
+ghost use Rattle.swing_walk.specs.Sizes.{counted, one_at};
+ghost use Rattle.swing_walk.specs.declared.sizes.TheConstants.{LANES};
 
+use crate::sizes::SizeTally;
 use crate::tally::MaskTally;
+
+// The places of what is kept for the rising list and for the falling one.
+pub(crate) const RISING: usize = 0;
+
+pub(crate) const FALLING: usize = 1;
 
 // Takes in an amount on the right side, or else on the left one.
 pub(crate) fn add_to(sides: &mut [MaskTally; 2], to_right: bool, mask: u16, amount: u64)
@@ -28,4 +37,18 @@ pub(crate) fn add_to(sides: &mut [MaskTally; 2], to_right: bool, mask: u16, amou
         ≡ marked slot (side 1 sides.old) + bit_at mask slot * cond to_right amount 0 }
 {
     sides[usize::from(to_right)].add(mask, amount);
+}
+
+// Counts a set by its size on the right side, or else on the left one.
+pub(crate) fn count_on(sides: &mut [SizeTally; 2], on_right: bool, mask: u16)
+    ensures left { (size : ℕ) → size < LANES
+        → counted size (size_side 0 sides.new)
+        ≡ cond on_right (counted size (size_side 0 sides.old))
+        ((counted size (size_side 0 sides.old) + one_at size mask) % 2 ^ 16) }
+    ensures right { (size : ℕ) → size < LANES
+        → counted size (size_side 1 sides.new)
+        ≡ cond on_right ((counted size (size_side 1 sides.old) + one_at size mask) % 2 ^ 16)
+        (counted size (size_side 1 sides.old)) }
+{
+    sides[usize::from(on_right)].add(mask);
 }

@@ -3,60 +3,27 @@
 //! All sets of a rising and a falling list have one order. The next falling set comes next where it reaches the quota
 //! with the next rising one, and so with each rising one that is left. Else the rising set comes next, which reaches
 //! with just the falling ones that were passed. From its other end the order is that of the same lists exchanged.
-ghost use Rattle.std.specs.Prelude.{◌≡◌, ◌+◌, ◌-◌, ◌^◌, ◌<◌, ◌≤◌, ◌*◌, ◌&&◌, ◌||◌, length, cond, not, nat_le};
+//!
+//! The walk is compiled once for each `Partners`: a test in each step whether a size is asked for takes longer.
+ghost use Rattle.std.specs.Prelude.{◌≡◌, ◌+◌, ◌-◌, ◌^◌, ◌<◌, ◌≤◌, ◌*◌, ◌&&◌, ◌||◌, length, not, nat_le};
 ghost use Rattle.std.specs.Prelude.{slice_index_or};
 ghost use Rattle.half_sums.specs.Entries.{IsHalf, zero_entry};
-ghost use Rattle.swing_walk.specs.Pairs.{winning_pairs, reaches};
-ghost use Rattle.swing_walk.specs.Walks.{IsBetween, HasCredited, HasWalked};
+ghost use Rattle.swing_walk.specs.Pairs.{is_enough, large_pairs};
+ghost use Rattle.swing_walk.specs.Walks.{IsBetween, IsNext, HasCredited, HasWalked};
 ghost use Rattle.swing_walk.specs.Sides.{side};
 ghost use Rattle.swing_walk.specs.Tallies.{total, IsEven, CreditsEach, CreditsLefts, CreditsRights};
 
-use crate::sides::add_to;
+use crate::partners::Partners;
+use crate::places::{Asked, Places};
+use crate::sides::{FALLING, RISING, add_to};
 use crate::tally::MaskTally;
 use half_sums::{Entry, ROOM, SumList, either};
 
-// How many entries of the rising list are passed, from the least on, and how many of the falling one are left, from
-// the least to the next one that it passes.
+// What a chain has counted: the tallies of its rising and its falling list, and what counts partners.
 #[derive(Clone, Copy)]
-pub(crate) struct Places {
-    pub(crate) up: usize,
-    pub(crate) rest: usize,
-}
-
-impl Places {
-    // No entry is passed.
-    fn start(falling: &SumList) -> Places
-        ensures none_up { result.up ≡ 0 }
-        ensures all_left { result.rest ≡ length falling.now }
-    {
-        Places {
-            up: 0,
-            rest: falling.len(),
-        }
-    }
-
-    // Once the falling entry is passed, or else the rising one.
-    fn after(self, falls: bool) -> Places
-        requires some { cond falls 1 0 ≤ self.rest }
-        requires few { self.up ≤ ROOM }
-        ensures up { result.up ≡ self.up + cond (not falls) 1 0 }
-        ensures rest { self.rest ≡ result.rest + cond falls 1 0 }
-    {
-        Places {
-            up: self.up + usize::from(!falls),
-            rest: self.rest - usize::from(falls),
-        }
-    }
-
-    // How many entries of the other list reach with the one that was passed last: where that one falls, the rising
-    // ones that are left, else the falling ones that are passed.
-    fn partners(self, falls: bool, rising: &SumList, falling: &SumList) -> usize
-        requires up { self.up ≤ length rising.now }
-        requires rest { self.rest ≤ length falling.now }
-        ensures chosen { result ≡ cond falls (length rising.now - self.up) (length falling.now - self.rest) }
-    {
-        either(falls, rising.len() - self.up, falling.len() - self.rest)
-    }
+struct Chain<P: Partners> {
+    tallies: [MaskTally; 2],
+    partners: P,
 }
 
 // Where the two chains of a walk stand, after so many steps of each.
@@ -67,24 +34,26 @@ struct Ends {
     back: Places,
 }
 
-// The places of the tallies of a chain's rising and falling list.
-const RISING: usize = 0;
-
-const FALLING: usize = 1;
-
 // What stands where there is no entry.
 const NO_ENTRY: Entry = Entry { sum: 0, mask: 0 };
 
-// Adds the pairs that reach the quota to the tallies, and answers how many there are.
-pub(crate) fn walk(
+// Adds the pairs that reach the quota and the least size to the tallies, and answers how many there are. `front` and
+// `back` count the partners of the two chains.
+pub(crate) fn walk<P: Partners>(
     left: &SumList,
     right: &SumList,
-    quota: u64,
+    asked: Asked,
+    front: P,
+    back: P,
     lefts: &mut MaskTally,
     rights: &mut MaskTally,
 ) -> u64
     requires left { IsHalf left.now }
     requires right { IsHalf right.now }
+
+    // No entry is passed.
+    requires front { P.counts front asked.least_size 0 (length right.now) left.now right.now }
+    requires back { P.counts back asked.least_size 0 (length left.now) right.now left.now }
 
     // The tallies before.
     requires left_even { IsEven lefts.old }
@@ -93,66 +62,95 @@ pub(crate) fn walk(
     requires right_room { total rights.old ≤ 2 ^ 62 }
 
     // What is counted.
-    ensures winning { result ≡ winning_pairs quota left.now right.now }
-    ensures lefts { CreditsLefts (reaches quota) left.now right.now lefts.old lefts.new }
-    ensures rights { CreditsRights (reaches quota) left.now right.now rights.old rights.new }
+    ensures winning { result ≡ large_pairs asked.quota asked.least_size left.now right.now }
+    ensures lefts { CreditsLefts (is_enough asked.quota asked.least_size) left.now right.now lefts.old lefts.new }
+    ensures rights { CreditsRights (is_enough asked.quota asked.least_size) left.now right.now rights.old rights.new }
 {
-    let mut front = [MaskTally::new(); 2];
-    let mut back = [MaskTally::new(); 2];
-    walk_from_both_ends(left, right, quota, &mut front, &mut back);
-    lefts.join(&front[RISING]);
-    lefts.join(&back[FALLING]);
-    rights.join(&back[RISING]);
-    rights.join(&front[FALLING]);
-    front[RISING].total() + back[FALLING].total()
+    let tallies = [MaskTally::new(); 2];
+    let mut front = Chain {
+        tallies,
+        partners: front,
+    };
+    let mut back = Chain {
+        tallies,
+        partners: back,
+    };
+    walk_from_both_ends(left, right, asked, &mut front, &mut back);
+    lefts.join(&front.tallies[RISING]);
+    lefts.join(&back.tallies[FALLING]);
+    rights.join(&back.tallies[RISING]);
+    rights.join(&front.tallies[FALLING]);
+    front.tallies[RISING].total() + back.tallies[FALLING].total()
 }
 
 // Walks up the left list and down the right one, and from the other end up the right list and down the left one, until
 // all entries are passed. The two chains don't wait for one another: each has tallies of its own, and no branch on the
 // sums.
-fn walk_from_both_ends(
+fn walk_from_both_ends<P: Partners>(
     left: &SumList,
     right: &SumList,
-    quota: u64,
-    front: &mut [MaskTally; 2],
-    back: &mut [MaskTally; 2],
+    asked: Asked,
+    front: &mut Chain<P>,
+    back: &mut Chain<P>,
 )
     requires left { IsHalf left.now }
     requires right { IsHalf right.now }
-    requires front { HasCredited quota 0 (length right.now) left.now right.now front.old }
-    requires back { HasCredited quota 0 (length left.now) right.now left.now back.old }
-    ensures lefts { CreditsEach (reaches quota) left.now right.now (side 0 front.new) (side 1 back.new) }
-    ensures rights { CreditsEach (reaches quota) right.now left.now (side 0 back.new) (side 1 front.new) }
+
+    // No entry is passed.
+    requires front { HasCredited asked.quota asked.least_size 0 (length right.now) left.now right.now
+        front.old.tallies }
+    requires back { HasCredited asked.quota asked.least_size 0 (length left.now) right.now left.now
+        back.old.tallies }
+    requires front_counted { P.counts front.old.partners asked.least_size 0 (length right.now) left.now right.now }
+    requires back_counted { P.counts back.old.partners asked.least_size 0 (length left.now) right.now left.now }
+
+    // What both have credited.
+    ensures lefts { CreditsEach (is_enough asked.quota asked.least_size) left.now right.now
+        (side 0 front.new.tallies) (side 1 back.new.tallies) }
+    ensures rights { CreditsEach (is_enough asked.quota asked.least_size) right.now left.now
+        (side 0 back.new.tallies) (side 1 front.new.tallies) }
 {
-    let ends = walk_within(left, right, quota, front, back);
-    walk_on(ends, left, right, quota, front, back);
+    let ends = walk_within(left, right, asked, front, back);
+    walk_on(ends, left, right, asked, front, back);
 }
 
 // Walks as many steps as the shorter list has entries, so that neither list ends.
 #[inline(never)]
-fn walk_within(
+fn walk_within<P: Partners>(
     left: &SumList,
     right: &SumList,
-    quota: u64,
-    front: &mut [MaskTally; 2],
-    back: &mut [MaskTally; 2],
+    asked: Asked,
+    front: &mut Chain<P>,
+    back: &mut Chain<P>,
 ) -> Ends
     requires left { IsHalf left.now }
     requires right { IsHalf right.now }
-    requires front { HasCredited quota 0 (length right.now) left.now right.now front.old }
-    requires back { HasCredited quota 0 (length left.now) right.now left.now back.old }
+
+    // No entry is passed.
+    requires front { HasCredited asked.quota asked.least_size 0 (length right.now) left.now right.now
+        front.old.tallies }
+    requires back { HasCredited asked.quota asked.least_size 0 (length left.now) right.now left.now
+        back.old.tallies }
+    requires front_counted { P.counts front.old.partners asked.least_size 0 (length right.now) left.now right.now }
+    requires back_counted { P.counts back.old.partners asked.least_size 0 (length left.now) right.now left.now }
 
     // How far the two chains are.
     ensures within { 2 * result.walked ≤ length left.now + length right.now }
-    ensures front { HasWalked quota result.walked result.front.up result.front.rest left.now right.now front.new }
-    ensures back { HasWalked quota result.walked result.back.up result.back.rest right.now left.now back.new }
+    ensures front { HasWalked asked.quota asked.least_size result.walked result.front.up result.front.rest
+        left.now right.now front.new.tallies }
+    ensures back { HasWalked asked.quota asked.least_size result.walked result.back.up result.back.rest
+        right.now left.now back.new.tallies }
+    ensures front_counted { P.counts front.new.partners asked.least_size result.front.up result.front.rest
+        left.now right.now }
+    ensures back_counted { P.counts back.new.partners asked.least_size result.back.up result.back.rest
+        right.now left.now }
 {
     let steps = left.len().min(right.len());
     let mut from_front = Places::start(right);
     let mut from_back = Places::start(left);
     for walked in 0..steps {
-        from_front = pass_within(from_front, left, right, quota, front);
-        from_back = pass_within(from_back, right, left, quota, back);
+        from_front = pass_within(from_front, left, right, asked, front);
+        from_back = pass_within(from_back, right, left, asked, back);
     }
     Ends {
         walked: steps,
@@ -163,46 +161,54 @@ fn walk_within(
 
 // Walks the steps that are left.
 #[inline(never)]
-fn walk_on(
+fn walk_on<P: Partners>(
     ends: Ends,
     left: &SumList,
     right: &SumList,
-    quota: u64,
-    front: &mut [MaskTally; 2],
-    back: &mut [MaskTally; 2],
+    asked: Asked,
+    front: &mut Chain<P>,
+    back: &mut Chain<P>,
 )
     requires left { IsHalf left.now }
     requires right { IsHalf right.now }
 
     // Where the two chains stand.
     requires within { 2 * ends.walked ≤ length left.now + length right.now }
-    requires front { HasWalked quota ends.walked ends.front.up ends.front.rest left.now right.now front.old }
-    requires back { HasWalked quota ends.walked ends.back.up ends.back.rest right.now left.now back.old }
+    requires front { HasWalked asked.quota asked.least_size ends.walked ends.front.up ends.front.rest
+        left.now right.now front.old.tallies }
+    requires back { HasWalked asked.quota asked.least_size ends.walked ends.back.up ends.back.rest
+        right.now left.now back.old.tallies }
+    requires front_counted { P.counts front.old.partners asked.least_size ends.front.up ends.front.rest
+        left.now right.now }
+    requires back_counted { P.counts back.old.partners asked.least_size ends.back.up ends.back.rest
+        right.now left.now }
 
     // What both have credited.
-    ensures lefts { CreditsEach (reaches quota) left.now right.now (side 0 front.new) (side 1 back.new) }
-    ensures rights { CreditsEach (reaches quota) right.now left.now (side 0 back.new) (side 1 front.new) }
+    ensures lefts { CreditsEach (is_enough asked.quota asked.least_size) left.now right.now
+        (side 0 front.new.tallies) (side 1 back.new.tallies) }
+    ensures rights { CreditsEach (is_enough asked.quota asked.least_size) right.now left.now
+        (side 0 back.new.tallies) (side 1 front.new.tallies) }
 {
     let steps = left.len() + right.len();
     let mut from_front = ends.front;
     let mut from_back = ends.back;
     for walked in ends.walked..steps / 2 {
-        from_front = pass(from_front, left, right, quota, front);
-        from_back = pass(from_back, right, left, quota, back);
+        from_front = pass(from_front, left, right, asked, front);
+        from_back = pass(from_back, right, left, asked, back);
     }
     if steps % 2 == 1 {
-        pass(from_front, left, right, quota, front);
+        pass(from_front, left, right, asked, front);
     }
 }
 
 // Passes the next entry of two lists of which neither has ended.
 #[inline(always)]
-fn pass_within(
+fn pass_within<P: Partners>(
     places: Places,
     rising: &SumList,
     falling: &SumList,
-    quota: u64,
-    tallies: &mut [MaskTally; 2],
+    asked: Asked,
+    chain: &mut Chain<P>,
 ) -> Places
     requires rising { IsHalf rising.now }
     requires falling { IsHalf falling.now }
@@ -210,55 +216,93 @@ fn pass_within(
     // Where the chain stands.
     requires some_rising { places.up < length rising.now }
     requires some_falling { 0 < places.rest }
-    requires between { IsBetween quota places.up places.rest rising.now falling.now }
-    requires credited { HasCredited quota places.up places.rest rising.now falling.now tallies.old }
+    requires few { places.up + length falling.now < places.rest + ROOM }
+    requires between { IsBetween asked.quota places.up places.rest rising.now falling.now }
+    requires credited { HasCredited asked.quota asked.least_size places.up places.rest rising.now falling.now
+        chain.old.tallies }
+    requires counted { P.counts chain.old.partners asked.least_size places.up places.rest rising.now falling.now }
 
     // One entry further.
     ensures next { result.up + places.rest ≡ places.up + result.rest + 1 }
-    ensures between { IsBetween quota result.up result.rest rising.now falling.now }
-    ensures credited { HasCredited quota result.up result.rest rising.now falling.now tallies.new }
+    ensures between { IsBetween asked.quota result.up result.rest rising.now falling.now }
+    ensures credited { HasCredited asked.quota asked.least_size result.up result.rest rising.now falling.now
+        chain.new.tallies }
+    ensures counted { P.counts chain.new.partners asked.least_size result.up result.rest rising.now falling.now }
 {
     let low = rising.at(places.up);
     let high = falling.at(places.rest - 1);
-    let falls = quota <= low.sum + high.sum;
-    let next = places.after(falls);
-    let partners = next.partners(falls, rising, falling);
+    let falls = asked.quota <= low.sum + high.sum;
     let mask = either(falls, high.mask, low.mask);
-    add_to(tallies, falls, mask, partners as u64);
-    next
+    pass_next(falls, mask, places, rising, falling, asked, chain)
 }
 
 // Passes the next entry of two lists of which one may have ended.
 #[inline(always)]
-fn pass(
+fn pass<P: Partners>(
     places: Places,
     rising: &SumList,
     falling: &SumList,
-    quota: u64,
-    tallies: &mut [MaskTally; 2],
+    asked: Asked,
+    chain: &mut Chain<P>,
 ) -> Places
     requires rising { IsHalf rising.now }
     requires falling { IsHalf falling.now }
 
     // Where the chain stands.
     requires some { places.up < length rising.now + places.rest }
-    requires between { IsBetween quota places.up places.rest rising.now falling.now }
-    requires credited { HasCredited quota places.up places.rest rising.now falling.now tallies.old }
+    requires few { places.up + length falling.now < places.rest + ROOM }
+    requires between { IsBetween asked.quota places.up places.rest rising.now falling.now }
+    requires credited { HasCredited asked.quota asked.least_size places.up places.rest rising.now falling.now
+        chain.old.tallies }
+    requires counted { P.counts chain.old.partners asked.least_size places.up places.rest rising.now falling.now }
 
     // One entry further.
     ensures next { result.up + places.rest ≡ places.up + result.rest + 1 }
-    ensures between { IsBetween quota result.up result.rest rising.now falling.now }
-    ensures credited { HasCredited quota result.up result.rest rising.now falling.now tallies.new }
+    ensures between { IsBetween asked.quota result.up result.rest rising.now falling.now }
+    ensures credited { HasCredited asked.quota asked.least_size result.up result.rest rising.now falling.now
+        chain.new.tallies }
+    ensures counted { P.counts chain.new.partners asked.least_size result.up result.rest rising.now falling.now }
 {
     let low = next_up(rising, places.up);
     let high = next_down(falling, places.rest);
     let some_rising = places.up < rising.len();
-    let falls = falls_next(&low, &high, some_rising, places.rest > 0, quota);
-    let next = places.after(falls);
-    let partners = next.partners(falls, rising, falling);
+    let falls = falls_next(&low, &high, some_rising, places.rest > 0, asked.quota);
     let mask = either(falls, high.mask, low.mask);
-    add_to(tallies, falls, mask, partners as u64);
-    next
+    pass_next(falls, mask, places, rising, falling, asked, chain)
+}
+
+// Passes the next entry, of which is known whether it falls, and its mask.
+#[inline(always)]
+fn pass_next<P: Partners>(
+    falls: bool,
+    mask: u16,
+    places: Places,
+    rising: &SumList,
+    falling: &SumList,
+    asked: Asked,
+    chain: &mut Chain<P>,
+) -> Places
+    requires rising { IsHalf rising.now }
+    requires falling { IsHalf falling.now }
+    requires next { IsNext asked.quota falls mask places.up places.rest rising.now falling.now }
+
+    // Where the chain stands.
+    requires few { places.up + length falling.now < places.rest + ROOM }
+    requires between { IsBetween asked.quota places.up places.rest rising.now falling.now }
+    requires credited { HasCredited asked.quota asked.least_size places.up places.rest rising.now falling.now
+        chain.old.tallies }
+    requires counted { P.counts chain.old.partners asked.least_size places.up places.rest rising.now falling.now }
+
+    // One entry further.
+    ensures next { result.up + places.rest ≡ places.up + result.rest + 1 }
+    ensures between { IsBetween asked.quota result.up result.rest rising.now falling.now }
+    ensures credited { HasCredited asked.quota asked.least_size result.up result.rest rising.now falling.now
+        chain.new.tallies }
+    ensures counted { P.counts chain.new.partners asked.least_size result.up result.rest rising.now falling.now }
+{
+    let partners = chain.partners.pass(asked, places, falls, mask, rising, falling);
+    add_to(&mut chain.tallies, falls, mask, partners);
+    places.after(falls)
 }
 
 // Whether the falling entry comes before the rising one: there is one, and it reaches the quota with the rising one,

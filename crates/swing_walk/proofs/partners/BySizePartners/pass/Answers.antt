@@ -1,0 +1,22 @@
+use Rattle.std.proofs.Common.{◌≡◌, ◌+◌, ◌-◌, ◌≤◌, ◌∙◌, arith, refl}
+use Rattle.half_sums.specs.declared.groups.TheConstants.{SIZES}
+use Rattle.swing_walk.proofs.SizeLemmas.{reads, partners-read, passed}
+use Rattle.swing_walk.proofs.partners.BySizePartners.pass.Goals as goal
+
+pub overflow_sub-left-2 : goal.overflow_sub-left-2
+overflow_sub-left-2 c =
+    let few : c.lacking-lane.result ≤ SIZES = omega (arith, c.lacking-lane.ensures.lacking) in
+    let read = reads c.args.self.now c.lacking-lane.result c.args._places.up c.args._places.rest c.args.rising.now c.args._falling.now c.requires.counted few c.requires.few c.requires.rest in
+    omega (arith, read.room, c.from.ensures, c.len.ensures.count)
+
+pub returns-clause-partners : goal.returns-clause-partners
+returns-clause-partners c =
+    let few : c.lacking-lane.result ≤ SIZES = omega (arith, c.lacking-lane.ensures.lacking) in
+    let read = reads c.args.self.now c.lacking-lane.result c.args._places.up c.args._places.rest c.args.rising.now c.args._falling.now c.requires.counted few c.requires.few c.requires.rest in
+    c.either.ensures.chosen
+    ∙ partners-read c.args.self.now c.args.asked.least_size c.args.mask c.lacking-lane.result c.args._places.up c.args._places.rest c.args.rising.now c.args._falling.now c.args.falls _ _ read c.lacking-lane.ensures.lacking c.requires.rising.slots c.requires.falling.slots (omega (arith, c.from.ensures, c.len.ensures.count)) c.from-gone.ensures
+
+pub returns-clause-counted : goal.returns-clause-counted
+returns-clause-counted c =
+    passed c.args.asked.quota c.args._places.up c.args._places.rest _ _ c.args.rising.now c.args._falling.now c.args.self.now (record { passed = c.count_on.new.sides; fewer = c.args.self.now.fewer }) c.args.mask c.args.falls c.requires.counted c.requires.next c.requires.rest
+    (record { fewer = refl; rising = c.count_on.ensures.left; falling = c.count_on.ensures.right }) refl refl

@@ -1,0 +1,111 @@
+//! What counts the partners of the sets that a chain of a walk passes.
+//!
+//! Where no size is asked for, a set's partners are all sets of the other list that reach the quota with it. Else they
+//! are those of them with which it has chairs enough, by tables of what was passed.
+ghost use Rattle.std.specs.Prelude.{◌≡◌, ℕ, ◌+◌, ◌-◌, ◌<◌, ◌≤◌, List, length, take, drop, cond, not};
+ghost use Rattle.half_sums.specs.declared.entry.Entry.{Entry};
+ghost use Rattle.half_sums.specs.Entries.{IsHalf};
+ghost use Rattle.swing_walk.specs.Sizes.{partners_of, CountsBySize};
+ghost use Rattle.swing_walk.specs.Walks.{IsNext};
+
+use crate::places::{Asked, Places};
+use crate::sides::{FALLING, RISING, count_on};
+use crate::sizes::{SizeTally, lacking};
+use half_sums::{ROOM, STARTS, SumList, either, starts_of};
+
+// What counts the partners of the set that is passed next.
+pub(crate) trait Partners: Copy {
+    // It has counted what was passed: the first so many rising sets, and the falling ones but the first so many.
+    ghost counts: { Self → ℕ → ℕ → ℕ → List Entry → List Entry → Type 0 };
+
+    // Passes the next set, and answers with how many sets of the other list it makes pairs: where it falls, of the
+    // rising ones that are left, else of the falling ones that were passed.
+    fn pass(
+        &mut self,
+        asked: Asked,
+        places: Places,
+        falls: bool,
+        mask: u16,
+        rising: &SumList,
+        falling: &SumList,
+    ) -> u64
+        requires rising { IsHalf rising.now }
+        requires falling { IsHalf falling.now }
+
+        // Where the chain stands.
+        requires up { places.up ≤ length rising.now }
+        requires rest { places.rest ≤ length falling.now }
+        requires few { places.up + length falling.now < places.rest + ROOM }
+        requires next { IsNext asked.quota falls mask places.up places.rest rising.now falling.now }
+        requires counted { counts self.old asked.least_size places.up places.rest rising.now falling.now }
+
+        // One set further.
+        ensures partners { result ≡ cond falls (partners_of asked.least_size mask (drop places.up rising.now))
+            (partners_of asked.least_size mask (drop places.rest falling.now)) }
+        ensures counted { counts self.new asked.least_size (places.up + cond falls 0 1) (places.rest - cond falls 1 0)
+            rising.now falling.now };
+}
+
+// What counts partners where no size is asked for.
+#[derive(Clone, Copy)]
+pub(crate) struct OfAnySize {}
+
+impl Partners for OfAnySize {
+    ghost counts = { λ _ least _ _ _ _. least ≡ 0 };
+
+    #[inline(always)]
+    fn pass(
+        &mut self,
+        _asked: Asked,
+        places: Places,
+        falls: bool,
+        _mask: u16,
+        rising: &SumList,
+        falling: &SumList,
+    ) -> u64 {
+        places.partners(falls, rising, falling) as u64
+    }
+}
+
+// What counts partners by size.
+#[derive(Clone, Copy)]
+pub(crate) struct BySize {
+    // The rising sets that were passed, and the falling ones.
+    pub(crate) passed: [SizeTally; 2],
+    // At each size how many of all rising sets have fewer chairs.
+    pub(crate) fewer: [usize; STARTS],
+}
+
+impl BySize {
+    // None is passed.
+    pub(crate) fn start(rising: &SumList) -> BySize
+        requires half { IsHalf rising.now }
+        ensures counted { (falling : List Entry) → CountsBySize result 0 (length falling) rising.now falling }
+    {
+        BySize {
+            passed: [SizeTally::new(); 2],
+            fewer: starts_of(rising),
+        }
+    }
+}
+
+impl Partners for BySize {
+    ghost counts = { λ s _. CountsBySize s };
+
+    #[inline(always)]
+    fn pass(
+        &mut self,
+        asked: Asked,
+        _places: Places,
+        falls: bool,
+        mask: u16,
+        rising: &SumList,
+        _falling: &SumList,
+    ) -> u64 {
+        let lane = lacking(asked.least_size, mask);
+        let left = rising.len() - self.fewer[lane] - usize::from(self.passed[RISING].at_least[lane]);
+        let gone = usize::from(self.passed[FALLING].at_least[lane]);
+        count_on(&mut self.passed, falls, mask);
+        either(falls, left, gone) as u64
+    }
+}
