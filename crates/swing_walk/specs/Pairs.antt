@@ -23,10 +23,6 @@ has slot e = bit_at e.mask slot == 1
 abbrev pub has_place : ℕ → Entry → Entry → Bool
 has_place place l r = if nat_lt place SLOTS then has place l else has (place - SLOTS) r
 
--- how many pairs reach the quota
-abbrev pub winning_pairs : ℕ → List Entry → List Entry → ℕ
-winning_pairs quota left right = pairs_where (reaches quota) left right
-
 -- a pair has chairs enough
 abbrev pub is_large : ℕ → Entry → Entry → Bool
 is_large least_size l r = nat_le least_size (size_of l + size_of r)

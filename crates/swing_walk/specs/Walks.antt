@@ -7,6 +7,8 @@ use Rattle.half_sums.specs.Merges.{entry_at}
 use Rattle.swing_walk.specs.Pairs.{pairs_where, is_enough, has}
 use Rattle.swing_walk.specs.Tallies.{marked, total, IsEven}
 use Rattle.swing_walk.specs.Sides.{side}
+use Rattle.swing_walk.specs.declared.places.Asked.{Asked}
+use Rattle.swing_walk.specs.declared.places.Places.{Places}
 use Rattle.swing_walk.specs.declared.tally.MaskTally.{MaskTally}
 
 -- no pair of the first `i` left entries and the first `j` right ones reaches the quota
@@ -48,9 +50,17 @@ pub record HasCredited (quota least up rest : ℕ) (rising falling : List Entry)
   pub falling_marked : (slot : ℕ) → marked slot (side 1 tallies)
       ≡ pairs_where (λ a b. is_enough quota least a b && has slot a) (drop rest falling) rising
 
--- a walk has taken so many steps, each past one entry, and has credited them
-pub record HasWalked (quota least taken up rest : ℕ) (rising falling : List Entry) (tallies : List MaskTally)
-    : Type 0 where
-  pub between : IsBetween quota up rest rising falling
-  pub credited : HasCredited quota least up rest rising falling tallies
-  pub steps : up + length falling ≡ taken + rest
+-- a chain stands at these places: it has credited the entries that it passed, and has counted them
+pub record StandsAt (counts : ℕ → ℕ → ℕ → List Entry → List Entry → Type 0) (asked : Asked) (places : Places)
+    (rising falling : List Entry) (tallies : List MaskTally) : Type 0 where
+  pub between : IsBetween asked.quota places.up places.rest rising falling
+  pub credited : HasCredited asked.quota asked.least_size places.up places.rest rising falling tallies
+  pub counted : counts asked.least_size places.up places.rest rising falling
+
+-- where no entry is passed
+abbrev pub at_start : List Entry → Places
+at_start falling = record { up = 0; rest = length falling }
+
+-- so many entries are passed at these places
+abbrev pub HasPassed : ℕ → Places → List Entry → Type 0
+HasPassed passed places falling = places.up + length falling ≡ passed + places.rest

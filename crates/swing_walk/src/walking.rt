@@ -9,7 +9,7 @@ ghost use Rattle.std.specs.Prelude.{◌≡◌, ◌+◌, ◌-◌, ◌^◌, ◌<�
 ghost use Rattle.std.specs.Prelude.{slice_index_or};
 ghost use Rattle.half_sums.specs.Entries.{IsHalf, zero_entry};
 ghost use Rattle.swing_walk.specs.Pairs.{is_enough, large_pairs};
-ghost use Rattle.swing_walk.specs.Walks.{IsBetween, IsNext, HasCredited, HasWalked};
+ghost use Rattle.swing_walk.specs.Walks.{IsNext, StandsAt, HasPassed, at_start};
 ghost use Rattle.swing_walk.specs.Sides.{side};
 ghost use Rattle.swing_walk.specs.Tallies.{total, IsEven, CreditsEach, CreditsLefts, CreditsRights};
 
@@ -97,12 +97,10 @@ fn walk_from_both_ends<P: Partners>(
     requires right { IsHalf right.now }
 
     // No entry is passed.
-    requires front { HasCredited asked.quota asked.least_size 0 (length right.now) left.now right.now
+    requires front { StandsAt (P.counts front.old.partners) asked (at_start right.now) left.now right.now
         front.old.tallies }
-    requires back { HasCredited asked.quota asked.least_size 0 (length left.now) right.now left.now
+    requires back { StandsAt (P.counts back.old.partners) asked (at_start left.now) right.now left.now
         back.old.tallies }
-    requires front_counted { P.counts front.old.partners asked.least_size 0 (length right.now) left.now right.now }
-    requires back_counted { P.counts back.old.partners asked.least_size 0 (length left.now) right.now left.now }
 
     // What both have credited.
     ensures lefts { CreditsEach (is_enough asked.quota asked.least_size) left.now right.now
@@ -127,23 +125,17 @@ fn walk_within<P: Partners>(
     requires right { IsHalf right.now }
 
     // No entry is passed.
-    requires front { HasCredited asked.quota asked.least_size 0 (length right.now) left.now right.now
+    requires front { StandsAt (P.counts front.old.partners) asked (at_start right.now) left.now right.now
         front.old.tallies }
-    requires back { HasCredited asked.quota asked.least_size 0 (length left.now) right.now left.now
+    requires back { StandsAt (P.counts back.old.partners) asked (at_start left.now) right.now left.now
         back.old.tallies }
-    requires front_counted { P.counts front.old.partners asked.least_size 0 (length right.now) left.now right.now }
-    requires back_counted { P.counts back.old.partners asked.least_size 0 (length left.now) right.now left.now }
 
     // How far the two chains are.
     ensures within { 2 * result.walked ≤ length left.now + length right.now }
-    ensures front { HasWalked asked.quota asked.least_size result.walked result.front.up result.front.rest
-        left.now right.now front.new.tallies }
-    ensures back { HasWalked asked.quota asked.least_size result.walked result.back.up result.back.rest
-        right.now left.now back.new.tallies }
-    ensures front_counted { P.counts front.new.partners asked.least_size result.front.up result.front.rest
-        left.now right.now }
-    ensures back_counted { P.counts back.new.partners asked.least_size result.back.up result.back.rest
-        right.now left.now }
+    ensures front_passed { HasPassed result.walked result.front right.now }
+    ensures back_passed { HasPassed result.walked result.back left.now }
+    ensures front { StandsAt (P.counts front.new.partners) asked result.front left.now right.now front.new.tallies }
+    ensures back { StandsAt (P.counts back.new.partners) asked result.back right.now left.now back.new.tallies }
 {
     let steps = left.len().min(right.len());
     let mut from_front = Places::start(right);
@@ -174,14 +166,10 @@ fn walk_on<P: Partners>(
 
     // Where the two chains stand.
     requires within { 2 * ends.walked ≤ length left.now + length right.now }
-    requires front { HasWalked asked.quota asked.least_size ends.walked ends.front.up ends.front.rest
-        left.now right.now front.old.tallies }
-    requires back { HasWalked asked.quota asked.least_size ends.walked ends.back.up ends.back.rest
-        right.now left.now back.old.tallies }
-    requires front_counted { P.counts front.old.partners asked.least_size ends.front.up ends.front.rest
-        left.now right.now }
-    requires back_counted { P.counts back.old.partners asked.least_size ends.back.up ends.back.rest
-        right.now left.now }
+    requires front_passed { HasPassed ends.walked ends.front right.now }
+    requires back_passed { HasPassed ends.walked ends.back left.now }
+    requires front { StandsAt (P.counts front.old.partners) asked ends.front left.now right.now front.old.tallies }
+    requires back { StandsAt (P.counts back.old.partners) asked ends.back right.now left.now back.old.tallies }
 
     // What both have credited.
     ensures lefts { CreditsEach (is_enough asked.quota asked.least_size) left.now right.now
@@ -217,17 +205,11 @@ fn pass_within<P: Partners>(
     requires some_rising { places.up < length rising.now }
     requires some_falling { 0 < places.rest }
     requires few { places.up + length falling.now < places.rest + ROOM }
-    requires between { IsBetween asked.quota places.up places.rest rising.now falling.now }
-    requires credited { HasCredited asked.quota asked.least_size places.up places.rest rising.now falling.now
-        chain.old.tallies }
-    requires counted { P.counts chain.old.partners asked.least_size places.up places.rest rising.now falling.now }
+    requires stands { StandsAt (P.counts chain.old.partners) asked places rising.now falling.now chain.old.tallies }
 
     // One entry further.
     ensures next { result.up + places.rest ≡ places.up + result.rest + 1 }
-    ensures between { IsBetween asked.quota result.up result.rest rising.now falling.now }
-    ensures credited { HasCredited asked.quota asked.least_size result.up result.rest rising.now falling.now
-        chain.new.tallies }
-    ensures counted { P.counts chain.new.partners asked.least_size result.up result.rest rising.now falling.now }
+    ensures stands { StandsAt (P.counts chain.new.partners) asked result rising.now falling.now chain.new.tallies }
 {
     let low = rising.at(places.up);
     let high = falling.at(places.rest - 1);
@@ -251,17 +233,11 @@ fn pass<P: Partners>(
     // Where the chain stands.
     requires some { places.up < length rising.now + places.rest }
     requires few { places.up + length falling.now < places.rest + ROOM }
-    requires between { IsBetween asked.quota places.up places.rest rising.now falling.now }
-    requires credited { HasCredited asked.quota asked.least_size places.up places.rest rising.now falling.now
-        chain.old.tallies }
-    requires counted { P.counts chain.old.partners asked.least_size places.up places.rest rising.now falling.now }
+    requires stands { StandsAt (P.counts chain.old.partners) asked places rising.now falling.now chain.old.tallies }
 
     // One entry further.
     ensures next { result.up + places.rest ≡ places.up + result.rest + 1 }
-    ensures between { IsBetween asked.quota result.up result.rest rising.now falling.now }
-    ensures credited { HasCredited asked.quota asked.least_size result.up result.rest rising.now falling.now
-        chain.new.tallies }
-    ensures counted { P.counts chain.new.partners asked.least_size result.up result.rest rising.now falling.now }
+    ensures stands { StandsAt (P.counts chain.new.partners) asked result rising.now falling.now chain.new.tallies }
 {
     let low = next_up(rising, places.up);
     let high = next_down(falling, places.rest);
@@ -288,17 +264,11 @@ fn pass_next<P: Partners>(
 
     // Where the chain stands.
     requires few { places.up + length falling.now < places.rest + ROOM }
-    requires between { IsBetween asked.quota places.up places.rest rising.now falling.now }
-    requires credited { HasCredited asked.quota asked.least_size places.up places.rest rising.now falling.now
-        chain.old.tallies }
-    requires counted { P.counts chain.old.partners asked.least_size places.up places.rest rising.now falling.now }
+    requires stands { StandsAt (P.counts chain.old.partners) asked places rising.now falling.now chain.old.tallies }
 
     // One entry further.
     ensures next { result.up + places.rest ≡ places.up + result.rest + 1 }
-    ensures between { IsBetween asked.quota result.up result.rest rising.now falling.now }
-    ensures credited { HasCredited asked.quota asked.least_size result.up result.rest rising.now falling.now
-        chain.new.tallies }
-    ensures counted { P.counts chain.new.partners asked.least_size result.up result.rest rising.now falling.now }
+    ensures stands { StandsAt (P.counts chain.new.partners) asked result rising.now falling.now chain.new.tallies }
 {
     let partners = chain.partners.pass(asked, places, falls, mask, rising, falling);
     add_to(&mut chain.tallies, falls, mask, partners);

@@ -4,7 +4,7 @@ use Rattle.swing_walk.proofs.walking.pass.Goals as goal
 pub pass_next-requires-clause-next : goal.pass_next-requires-clause-next
 pass_next-requires-clause-next g c =
     rw c.either-mask.ensures.chosen (looked c.args.asked.quota c.args.places.up c.args.places.rest c.args.rising.now c.args.falling.now c.next_up-low.result c.next_down-high.result c.falls_next-falls.result (record {
-      within = c.requires.between.up_in;
+      within = c.requires.stands.between.up_in;
       some = c.requires.some;
       low_is = c.next_up-low.ensures.entry;
       high_is = c.next_down-high.ensures.entry;

@@ -6,7 +6,7 @@ pub pass_next-requires-clause-next : goal.pass_next-requires-clause-next
 pass_next-requires-clause-next g c =
     let falls : Bool = nat_le c.args.asked.quota (c.at-low.result.sum + c.at-high.result.sum) in
     rw c.either-mask.ensures.chosen (looked c.args.asked.quota c.args.places.up c.args.places.rest c.args.rising.now c.args.falling.now c.at-low.result c.at-high.result falls (record {
-      within = c.requires.between.up_in;
+      within = c.requires.stands.between.up_in;
       some = omega (arith, c.requires.some_rising);
       low_is = λ _. c.at-low.ensures.same;
       high_is = λ _. c.at-high.ensures.same;

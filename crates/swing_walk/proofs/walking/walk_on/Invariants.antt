@@ -1,12 +1,12 @@
 use Rattle.std.proofs.Common.{◌≡◌, ◌+◌, length}
-use Rattle.swing_walk.specs.Walks.{HasWalked}
+use Rattle.swing_walk.specs.Walks.{StandsAt, HasPassed}
 use Rattle.swing_walk.proofs.walking.walk_on.Given as goal
 
 abbrev pub invariant-loop-walked : goal.invariant-loop-walked
 invariant-loop-walked g l = record {
-  front : HasWalked l.asked.quota l.asked.least_size l.walked l.from_front.up l.from_front.rest l.left l.right l.front.tallies;
-  back : HasWalked l.asked.quota l.asked.least_size l.walked l.from_back.up l.from_back.rest l.right l.left l.back.tallies;
-  front_counted : g.P.Partners.counts l.front.partners l.asked.least_size l.from_front.up l.from_front.rest l.left l.right;
-  back_counted : g.P.Partners.counts l.back.partners l.asked.least_size l.from_back.up l.from_back.rest l.right l.left;
+  front_passed : HasPassed l.walked l.from_front l.right;
+  back_passed : HasPassed l.walked l.from_back l.left;
+  front : StandsAt (g.P.Partners.counts l.front.partners) l.asked l.from_front l.left l.right l.front.tallies;
+  back : StandsAt (g.P.Partners.counts l.back.partners) l.asked l.from_back l.right l.left l.back.tallies;
   steps : l.steps ≡ length l.left + length l.right;
 }
