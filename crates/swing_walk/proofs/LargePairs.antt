@@ -1,5 +1,5 @@
 -- Pairs that have votes and chairs enough.
-use Rattle.std.proofs.Common.{◌≡◌, ℕ, ◌+◌, ◌-◌, ◌*◌, ◌<◌, ◌≤◌, Bool, true, false, cond, List, length, take, drop, get_or, arith, refl, sym, ap, ◌∙◌}
+use Rattle.std.proofs.Common.{◌≡◌, ℕ, ◌+◌, ◌-◌, ◌*◌, ◌≤◌, Bool, true, false, cond, List, length, drop, get_or, arith, refl, ap, ◌∙◌}
 use Rattle.std.specs.Prelude.{◌&&◌, nat_le, count_ones}
 use Rattle.std.specs.Int.{bit_at}
 use Rattle.std.specs.List.{count_by}
@@ -20,9 +20,15 @@ pub count_enough : (quota least at : ℕ) (l : Entry) (entries : List Entry) →
 count_enough quota least at l entries s = count_split quota at l entries (is_large least l) s
 
 -- where no size is asked for
-pub partners-any : (least mask : ℕ) (entries : List Entry) → least ≡ 0 → partners_of least mask entries ≡ length entries
+partners-any : (least mask : ℕ) (entries : List Entry) → least ≡ 0 → partners_of least mask entries ≡ length entries
 partners-any least mask entries none =
     count_agree (λ e. nat_le least (count_ones mask + size_of e)) (λ e. true) entries (λ k d h. le-leb least _ (omega (arith, none))) ∙ count_all entries
+
+-- by the places of a chain, once the set is passed
+pub any_partners : (least mask : ℕ) (falls : Bool) (up rest : ℕ) (rising falling : List Entry) → least ≡ 0 →
+    cond falls (length rising - (up + cond falls 0 1)) (length falling - (rest - cond falls 1 0)) ≡ cond falls (partners_of least mask (drop up rising)) (partners_of least mask (drop rest falling))
+any_partners least mask true up rest rising falling none = omega (arith, partners-any least mask (drop up rising) none, length-drop up rising)
+any_partners least mask false up rest rising falling none = omega (arith, partners-any least mask (drop rest falling) none, length-drop rest falling)
 
 few_partners : (least mask : ℕ) (entries : List Entry) → partners_of least mask entries ≤ length entries
 few_partners least mask entries = count_by-le-length (λ (e : Entry). nat_le least (count_ones mask + size_of e)) entries

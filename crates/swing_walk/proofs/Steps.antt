@@ -1,18 +1,12 @@
 -- Counts over pairs, seen from the entries of either list.
-use Rattle.std.proofs.Common.{◌≡◌, ℕ, ◌+◌, ◌-◌, ◌^◌, ◌<◌, ◌≤◌, Bool, false, cond, List, [], ◌∷◌, length, take, drop, get_or, arith, refl, ap, ◌∙◌}
-use Rattle.std.specs.Prelude.{◌&&◌, nat_le}
-use Rattle.std.specs.List.{All, count_by}
-use Rattle.std.specs.List.Sorted.{IsNonDecreasingBy}
-use Rattle.std.proofs.lemmas.List.{take_all, drop_more, length-take, length-drop, get_or-take, get_or-drop}
-use Rattle.std.proofs.lemmas.List.Sums.{sum_by-cons, sum_by-take-drop, sum_by-drop_more, sum_by-le}
-use Rattle.std.proofs.lemmas.List.Elements.{All-cons}
-use Rattle.std.proofs.lemmas.Bool.{lt-leb}
+use Rattle.std.proofs.Common.{◌≡◌, ℕ, ◌+◌, ◌^◌, ◌≤◌, Bool, cond, List, [], ◌∷◌, length, take, drop, get_or, arith, refl, ap}
+use Rattle.std.specs.Prelude.{nat_le}
+use Rattle.std.specs.List.{count_by}
+use Rattle.std.proofs.lemmas.List.{take_all}
+use Rattle.std.proofs.lemmas.List.Sums.{sum_by-cons, sum_by-take-drop}
 use Rattle.half_sums.specs.declared.entry.Entry.{Entry}
-use Rattle.swing_walk.specs.Pairs.{pairs_where, reaches, has, winning_pairs}
-use Rattle.half_sums.specs.Entries.{zero_entry}
-use Rattle.swing_walk.specs.Walks.{NoneReach}
-use Rattle.swing_walk.proofs.Counting.{Splits, count_none, count_agree, pairs_room}
-use Rattle.half_sums.proofs.Merging.{sum_default}
+use Rattle.swing_walk.specs.Pairs.{pairs_where, reaches}
+use Rattle.swing_walk.proofs.Counting.{count_agree, pairs_room}
 use Rattle.half_sums.proofs.SetSums.{sum_agree}
 use Rattle.half_sums.specs.declared.lists.TheConstants.{ROOM}
 

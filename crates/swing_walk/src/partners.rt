@@ -63,7 +63,7 @@ impl Partners for OfAnySize {
         rising: &SumList,
         falling: &SumList,
     ) -> u64 {
-        places.partners(falls, rising, falling) as u64
+        places.after(falls).partners(falls, rising, falling) as u64
     }
 }
 

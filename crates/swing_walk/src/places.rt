@@ -43,8 +43,8 @@ impl Places {
         }
     }
 
-    // How many entries of the other list reach with the one that is passed next: where that one falls, the rising ones
-    // that are left, else the falling ones that are passed.
+    // How many entries of the other list reach with the one that was passed last: where that one falls, the rising
+    // ones that are left, else the falling ones that are passed.
     pub(crate) fn partners(self, falls: bool, rising: &SumList, falling: &SumList) -> usize
         requires up { self.up ≤ length rising.now }
         requires rest { self.rest ≤ length falling.now }

@@ -40,6 +40,7 @@ pub(crate) fn add_to(sides: &mut [MaskTally; 2], to_right: bool, mask: u16, amou
 }
 
 // Counts a set by its size on the right side, or else on the left one.
+#[inline(always)]
 pub(crate) fn count_on(sides: &mut [SizeTally; 2], on_right: bool, mask: u16)
     ensures left { (size : ℕ) → size < LANES
         → counted size (size_side 0 sides.new)

@@ -32,6 +32,7 @@ impl SizeTally {
     }
 
     // Takes in the set of a mask.
+    #[inline(always)]
     pub(crate) fn add(&mut self, mask: u16)
         ensures more { (size : ℕ) → size < LANES
             → counted size self.new ≡ (counted size self.old + one_at size mask) % 2 ^ 16 }

@@ -1,11 +1,9 @@
-use Rattle.std.proofs.Common.{◌≡◌, ◌-◌, ◌+◌, ◌≤◌, cond, arith, drop, length, ℕ}
+use Rattle.std.proofs.Common.{arith}
 use Rattle.swing_walk.specs.Pairs.{is_enough}
-use Rattle.swing_walk.specs.Sizes.{partners_of}
 use Rattle.swing_walk.proofs.Counting.{pairs_room}
 use Rattle.swing_walk.proofs.Steps.{back_room}
 use Rattle.swing_walk.proofs.LargePairs.{partners_room}
 use Rattle.swing_walk.proofs.Meeting.{one_left, one_step, Passed, pass}
-use Rattle.half_sums.specs.declared.lists.TheConstants.{ROOM}
 use Rattle.swing_walk.proofs.walking.pass_next.Goals as goal
 
 pub add_to-requires-clause-left_room : goal.add_to-requires-clause-left_room

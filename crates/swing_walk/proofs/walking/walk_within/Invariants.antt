@@ -1,4 +1,3 @@
-use Rattle.std.proofs.Common.{◌≡◌, ℕ}
 use Rattle.swing_walk.specs.Walks.{StandsAt, HasPassed}
 use Rattle.swing_walk.proofs.walking.walk_within.Given as goal
 

@@ -1,4 +1,4 @@
-use Rattle.std.proofs.Common.{◌≡◌, ◌+◌, ◌-◌, ◌≤◌, ◌∙◌, arith, refl}
+use Rattle.std.proofs.Common.{◌≤◌, ◌∙◌, arith, refl}
 use Rattle.half_sums.specs.declared.groups.TheConstants.{SIZES}
 use Rattle.swing_walk.proofs.SizeLemmas.{reads, partners-read, passed}
 use Rattle.swing_walk.proofs.partners.BySizePartners.pass.Goals as goal
