@@ -8,7 +8,7 @@ ghost use Rattle.csv.specs.Records.{fields_of};
 ghost use Rattle.council_core.specs.Ledgers.{Ledger};
 ghost use Rattle.board_text.specs.Output.{IsBadLimit, Plays};
 ghost use Rattle.board_runs.specs.Ended.{Replays};
-ghost use Rattle.board_text.specs.Pens.{GoesOn};
+ghost use Rattle.board_text.specs.Sinks.{GoesOn};
 ghost use Rattle.board_text.specs.Requests.{Row};
 ghost use Rattle.board_runs.specs.Scripts.{Turn, begun_run, interpreted, interpreted_run};
 ghost use Rattle.board_text.specs.Text.{begun_with, fault_at, in_range, opened_of};

@@ -4,7 +4,7 @@ ghost use Rattle.council_core.specs.Sequential.{respond, shown};
 ghost use Rattle.board_text.specs.Lines.{chair_line, reading_lines, reply_lines};
 ghost use Rattle.board_text.specs.Output.{IsBadLimit, Plays};
 ghost use Rattle.board_runs.specs.Ended.{Replays};
-ghost use Rattle.board_text.specs.Pens.{GoesOn};
+ghost use Rattle.board_text.specs.Sinks.{GoesOn};
 ghost use Rattle.board_text.specs.Requests.{call_of};
 ghost use Rattle.board_text.specs.Text.{in_range, prints};
 ghost use Rattle.told_streams.specs.Tapes.{OfInput};

@@ -4,7 +4,7 @@ ghost use Rattle.two_copy_steps.specs.Transitions.{after, transition};
 ghost use Rattle.board_text.specs.Lines.{note_lines};
 ghost use Rattle.board_text.specs.Output.{IsBadLimit, Plays};
 ghost use Rattle.board_runs.specs.Ended.{Replays};
-ghost use Rattle.board_text.specs.Pens.{GoesOn};
+ghost use Rattle.board_text.specs.Sinks.{GoesOn};
 ghost use Rattle.board_text.specs.Text.{in_range, prints};
 ghost use Rattle.told_streams.specs.Tapes.{OfInput};
 ghost use Rattle.board_runs.specs.Traces.{events_of, told, trace_of, trace_start, trace_step};

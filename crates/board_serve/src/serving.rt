@@ -5,7 +5,7 @@ ghost use Rattle.board_text.specs.Output.{IsBadLimit};
 ghost use Rattle.board_text.specs.Text.{fault_at, in_range};
 ghost use Rattle.told_streams.specs.Tapes.{OfInput};
 ghost use Rattle.board_serve.specs.Outcomes.{HasRecords, IsOutcome, IsServed};
-ghost use Rattle.board_text.specs.Pens.{GoesOn};
+ghost use Rattle.board_text.specs.Sinks.{GoesOn};
 ghost use Rattle.board_serve.specs.Plans.{IsSound, plan_of, plan_shown, two_readers};
 ghost use Rattle.board_serve.specs.Serving.{Serves, ServesTo};
 ghost use Rattle.board_serve.specs.Work.{IsHeldUp};

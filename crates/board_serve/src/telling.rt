@@ -3,7 +3,7 @@ ghost use Rattle.std.specs.Prelude.{map, IsOkUnless, ◌∷◌, []};
 ghost use Rattle.board_text.specs.Replies.{reply_of};
 ghost use Rattle.board_text.specs.Lines.{reply_line};
 ghost use Rattle.board_text.specs.Output.{Plays};
-ghost use Rattle.board_text.specs.Pens.{GoesOn};
+ghost use Rattle.board_text.specs.Sinks.{GoesOn};
 ghost use Rattle.board_serve.specs.Plans.{lines_of_work};
 ghost use Rattle.board_text.specs.Lines.{reader_line};
 ghost use Rattle.board_serve.specs.Serving.{Tells};

@@ -6,7 +6,7 @@ use Rattle.council_core.specs.declared.commands.Command.TheVariants.{Open, Move}
 use Rattle.council_core.specs.declared.refusals.Refusal.TheVariants.{ChairOpen}
 use Rattle.board_text.specs.Requests.{member_of, request_of}
 use Rattle.board_text.specs.Lines.{accepted_line, refused_line, published_line, chair_line}
-use Rattle.board_text.specs.Pens.{AsksAtMost, GoesOn, NoWriteInVain, Pen}
+use Rattle.board_text.specs.Sinks.{AsksAtMost, GoesOn, NoWriteInVain, Sink}
 use Rattle.board_text.specs.declared.requests.Request.TheVariants as ask
 
 pub member : member_of (codes "BBB" ∷ codes "49" ∷ []) ≡ Some (66 ∷ 66 ∷ 66 ∷ [], 49)
@@ -47,7 +47,7 @@ unfolding digits
 second_chair = refl
 
 -- a sink after so many interruptions that were retried, so many writes, and so many of these that took no byte
-abbrev sink : ℕ → ℕ → ℕ → Pen
+abbrev sink : ℕ → ℕ → ℕ → Sink
 sink interrupted asks vain = record { lender = 0; held = None; interrupted = interrupted; asks = asks; vain = vain }
 
 goes_on : GoesOn (sink 1 2 1) (sink 2 5 2)

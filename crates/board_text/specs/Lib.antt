@@ -7,6 +7,6 @@ pub mod Text
 pub mod Schedules
 pub mod Script
 pub mod Replies
-pub mod Pens
+pub mod Sinks
 pub mod Output
 pub mod Inputs

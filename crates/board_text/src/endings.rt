@@ -1,6 +1,6 @@
 //! The end of a run that a fault stopped.
 ghost use Rattle.board_text.specs.Output.{Ends};
-ghost use Rattle.board_text.specs.Pens.{GoesOn};
+ghost use Rattle.board_text.specs.Sinks.{GoesOn};
 
 use crate::faults::Fault;
 use crate::lines::line_of_fault;

@@ -1,7 +1,7 @@
 //! Writing a text whole.
 ghost use Rattle.std.specs.Prelude.{◌≡◌, ◌≤◌, ◌+◌, length, IfOk};
 ghost use Rattle.board_text.specs.Output.{AppendsFront, Writes, WritesSome};
-ghost use Rattle.board_text.specs.Pens.{AsksAtMost, GoesOn, NoWriteInVain};
+ghost use Rattle.board_text.specs.Sinks.{AsksAtMost, GoesOn, NoWriteInVain};
 ghost use Rattle.board_text.specs.Text.{line_text};
 
 use crate::input::INTERRUPTIONS;
@@ -21,9 +21,9 @@ pub struct Output<'a, W: Write> {
 
 impl<'a, W: Write> Model for Output<'a, W> {
     ghost use Rattle.std.specs.Prelude.{◌≤◌};
-    ghost use Rattle.board_text.specs.Pens.{Pen};
+    ghost use Rattle.board_text.specs.Sinks.{Sink};
 
-    ghost Value = { Pen };
+    ghost Value = { Sink };
 
     ghost view = { λ o. record {
       lender = o.out.lender;

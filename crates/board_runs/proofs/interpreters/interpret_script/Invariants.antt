@@ -1,5 +1,5 @@
 use Rattle.std.proofs.Common.{◌<◌, ◌+◌, ◌^◌, length}
-use Rattle.board_text.specs.Pens.{GoesOn}
+use Rattle.board_text.specs.Sinks.{GoesOn}
 use Rattle.board_runs.specs.Scripts.{script_run}
 use Rattle.board_text.proofs.PlayFacts.{PlayedTo}
 use Rattle.board_runs.proofs.interpreters.interpret_script.Given as goal

@@ -1,7 +1,7 @@
 use Rattle.std.proofs.Common.{map, take}
 use Rattle.std.specs.Io.KnownBytes.{Appends}
 use Rattle.board_text.specs.Lines.{chair_line}
-use Rattle.board_text.specs.Pens.{GoesOn}
+use Rattle.board_text.specs.Sinks.{GoesOn}
 use Rattle.board_text.specs.Text.{text_of}
 use Rattle.board_runs.proofs.replaying.write_chairs.Given as goal
 

@@ -2,7 +2,7 @@ use Rattle.std.proofs.Common.{◌≡◌, ◌-◌, ◌++◌, List, replicate}
 use Rattle.std.specs.Io.KnownBytes.{Appends}
 use Rattle.two_copy_steps.specs.Transitions.{after}
 use Rattle.board_text.specs.Lines.{Line}
-use Rattle.board_text.specs.Pens.{GoesOn}
+use Rattle.board_text.specs.Sinks.{GoesOn}
 use Rattle.board_text.specs.Text.{text_of}
 use Rattle.board_runs.specs.Traces.{told}
 use Rattle.board_runs.proofs.tracing.take_all.Given as goal

@@ -2,7 +2,7 @@ use Rattle.std.proofs.Common.{map, take}
 use Rattle.std.specs.Io.KnownBytes.{Appends}
 use Rattle.board_text.specs.Replies.{reply_of}
 use Rattle.board_text.specs.Lines.{reply_line}
-use Rattle.board_text.specs.Pens.{GoesOn}
+use Rattle.board_text.specs.Sinks.{GoesOn}
 use Rattle.board_text.specs.Text.{text_of}
 use Rattle.board_serve.proofs.telling.write_answers.Given as goal
 

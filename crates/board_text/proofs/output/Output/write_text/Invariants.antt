@@ -1,6 +1,6 @@
 use Rattle.std.proofs.Common.{◌≡◌, ◌≤◌, ◌+◌, length, take}
 use Rattle.std.specs.Io.KnownBytes.{Appends}
-use Rattle.board_text.specs.Pens.{GoesOn}
+use Rattle.board_text.specs.Sinks.{GoesOn}
 use Rattle.board_text.proofs.output.Output.write_text.Given as goal
 
 -- a front of the text was written, and each turn so far asked for one write, which took a byte or was an interruption

@@ -1,9 +1,9 @@
--- What contracts see of the output.
+-- What contracts see of an `Output`: where the lines of a run go.
 use Rattle.std.specs.Prelude.{◌≡◌, ℕ, ◌+◌, ◌≤◌, List, Option, Result, Ok, Err}
 
 -- whose writer it lends, the bytes that the writer holds, where they are known, how many interruptions were asked
 -- again so far, how many writes the writer was asked for, and how many of these took no byte
-pub record Pen : Type 0 where
+pub record Sink : Type 0 where
   pub lender : ℕ
   pub held : Option (List ℕ)
   pub interrupted : ℕ
@@ -11,14 +11,14 @@ pub record Pen : Type 0 where
   pub vain : ℕ
 
 -- from one moment of a run to a later one: the writer is the same, and no interruption is forgotten
-abbrev pub GoesOn : Pen → Pen → Type 0
+abbrev pub GoesOn : Sink → Sink → Type 0
 GoesOn before after = (after.lender ≡ before.lender) × (before.interrupted ≤ after.interrupted)
 
 -- so many writes were asked for at most, and one more for each interruption that was retried
-abbrev pub AsksAtMost : Pen → Pen → ℕ → Type 0
+abbrev pub AsksAtMost : Sink → Sink → ℕ → Type 0
 AsksAtMost before after count = after.asks + before.interrupted ≤ before.asks + count + after.interrupted
 
 -- each write took a byte, but for the interruptions that were retried, and for the one that failed
-abbrev pub NoWriteInVain : {A E : Type 0} → Pen → Pen → Result A E → Type 0
+abbrev pub NoWriteInVain : {A E : Type 0} → Sink → Sink → Result A E → Type 0
 NoWriteInVain before after (Ok _) = after.vain + before.interrupted ≤ before.vain + after.interrupted
 NoWriteInVain before after (Err _) = after.vain + before.interrupted ≤ before.vain + 1 + after.interrupted
