@@ -45,11 +45,11 @@ pub(crate) trait Interpreter: Sized + Drop {
         &mut self,
         limits: Limits,
         row: &ByteRecord,
-        place: u32,
+        number: u32,
         out: &mut Output<'_, W>,
     ) -> Result<(), Stop>
         ensures wrote { Plays out.old.held out.new.held result
-            (step_run place (step limits self.old (fields_of row.now))) }
+            (step_run number (step limits self.old (fields_of row.now))) }
         ensures state { OnOk result (IfOk (step limits self.old (fields_of row.now)) (λ p. self.new ≡ p.1)) }
         ensures on { GoesOn out.old out.new };
 }
@@ -63,17 +63,17 @@ fn interpret_script<I: Interpreter, W: Write>(
     first: u32,
     out: &mut Output<'_, W>,
 ) -> Result<(), Stop>
-    requires places { first + length script.old < 2 ^ 32 }
+    requires numbers { first + length script.old < 2 ^ 32 }
     ensures wrote { Plays out.old.held out.new.held result (script_run (I.step limits) interpreter first script.old) }
     ensures on { GoesOn out.old out.new }
 {
-    let mut place = first;
+    let mut number = first;
     'records: loop {
         if !script.next(row)? {
             return Ok(());
         }
-        interpreter.carry_out(limits, row, place, out)?;
-        place += 1;
+        interpreter.carry_out(limits, row, number, out)?;
+        number += 1;
     }
 }
 

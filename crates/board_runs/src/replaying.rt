@@ -92,14 +92,14 @@ impl Interpreter for Desk {
         &mut self,
         limits: Limits,
         row: &ByteRecord,
-        place: u32,
+        number: u32,
         out: &mut Output<'_, W>,
     ) -> Result<(), Stop> {
         let Some(request) = request_in(row) else {
-            return Err(Stop::told(Refusal::BadRecord, place));
+            return Err(Stop::told(Refusal::BadRecord, number));
         };
         if !is_served(limits, &request) {
-            return Err(Stop::told(Refusal::BadReader, place));
+            return Err(Stop::told(Refusal::BadReader, number));
         }
         replay_request(self, request, out)
     }
@@ -112,7 +112,7 @@ impl Interpreter for Desk {
 /// A fault's number is its refusal's, in this order: `BadLimit`, before anything is read; `ReadFault` and `TooLong`
 /// (more than 4,194,304 bytes); `BadHeader`; of the members' records `TooManyMembers`, `BadRecord` and
 /// `NoScript`; `DuplicateMember`; of the script's records `BadRecord` and `BadReader`, each with
-/// the record's number. `OutOfMemory` may come at any place, `WriteFault` at any write. The lines
+/// the record's number. `OutOfMemory` may come at any time, `WriteFault` at any write. The lines
 /// written before a fault stay, and its own line is the last, but after a `WriteFault`.
 pub fn replay<R: Read + Drop, W: Write>(
     alloc: Global,

@@ -95,14 +95,14 @@ impl Interpreter for Machine {
         &mut self,
         limits: Limits,
         row: &ByteRecord,
-        place: u32,
+        number: u32,
         out: &mut Output<'_, W>,
     ) -> Result<(), Stop> {
         let Some(act) = act_in(row) else {
-            return Err(Stop::told(Refusal::BadRecord, place));
+            return Err(Stop::told(Refusal::BadRecord, number));
         };
         if !is_scheduled(limits, &act) {
-            return Err(Stop::told(Refusal::BadReader, place));
+            return Err(Stop::told(Refusal::BadReader, number));
         }
         act_on(self, limits, act, out)
     }

@@ -40,7 +40,7 @@ size-request s (ask.Submit c) = omega (arith, length-append s.writer (order.Subm
 size-request s ask.Publish = omega (arith, length-append s.writer (order.Publish ∷ []))
 size-request s (ask.Read reader m) = let more = size-at (reader - 1) m s.asked in omega (arith, more)
 
--- one more at the end of a list in place
+-- one more at the end of the list at an index, once it is written back
 pub added-at : {V A : Type 0} (items : V → List A) (vs : List V) (index : ℕ) (v d : V) (a : A) → items v ≡ items (get_or vs index d) ++ a ∷ []
     → map items (set vs index v) ≡ add_at index a (map items vs)
 added-at items [] index v d a more = refl

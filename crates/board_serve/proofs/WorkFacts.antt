@@ -25,7 +25,7 @@ use Rattle.board_serve.specs.declared.orders.Order.{Order}
 use Rattle.board_serve.specs.declared.readings.Readings.{Readings}
 use Rattle.board_text.specs.declared.replies.Answer.{Answer}
 use Rattle.board_serve.specs.declared.written.Written.{Written}
-use Rattle.board_text.proofs.PlaceFacts.{StandsAt, first-more}
+use Rattle.board_text.proofs.IndexFacts.{StandsAt, first-more}
 
 -- the replies to one call more
 replies-more : (s : Sequential) (calls : List Call) (call : Call) → replies_of s (calls ++ call ∷ []) ≡ replies_of s calls ++ (respond (state_after s calls) call).1 ∷ []
@@ -36,7 +36,7 @@ state-more : (s : Sequential) (calls : List Call) (call : Call) → state_after 
 state-more s [] call = refl
 state-more s (c ∷ cs) call = state-more (respond s c).0 cs call
 
--- the order at this place was carried out, and its answer kept
+-- the order at this index was carried out, and its answer kept
 pub record CarriedOut (orders : List Order) (i : ℕ) (order : Order) (after next : Publisher) (w v : Written) : Type 0 where
   pub answer : Answer
   pub stands : StandsAt orders i order
@@ -124,7 +124,7 @@ omegas-more [] (w ∷ ws) m words e = cc
 omegas-more (k ∷ ms) [] m words e = cc
 omegas-more (k ∷ ms) (w ∷ ws) m words e = ap (λ (l : List ℕ). omega_at k w ∷ l) (omegas-more ms ws m words (omega (arith, e)))
 
--- the record at this place was answered, and the sheet and the number kept
+-- the record at this index was answered, and the sheet and the number kept
 pub record Answered (asked : List Majority) (i : ℕ) (majority : Majority) (r v : Readings) : Type 0 where
   pub words : List ℕ
   pub number : ℕ

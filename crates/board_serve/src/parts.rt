@@ -91,24 +91,24 @@ pub(crate) fn read_parts(
     first: u32,
 ) -> Result<Parts, Stop>
     requires two { limits.readers ≡ READERS }
-    requires places { first + length script.old < 2 ^ 32 }
+    requires numbers { first + length script.old < 2 ^ 32 }
     ensures split { IfOk result (λ p. parts_of limits no_parts first script.old ≡ Ok (shares_of p)) }
     ensures fault { IfErr result (λ e. Fails e (parts_of limits no_parts first script.old)) }
     ensures few { IfOk result (λ p. size_of (shares_of p) < 2 ^ 32) }
 {
     let mut parts = Parts::new(alloc);
-    let mut place = first;
+    let mut number = first;
     'records: loop {
         if !script.next(row)? {
             return Ok(parts);
         }
         let request = match asked_in(limits, row) {
             Ok(request) => request,
-            Err(why) => return Err(Stop::told(why, place)),
+            Err(why) => return Err(Stop::told(why, number)),
         };
         let Ok(()) = parts.add(request) else {
             return Err(Stop::OutOfMemory);
         };
-        place += 1;
+        number += 1;
     }
 }

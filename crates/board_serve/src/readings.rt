@@ -42,14 +42,14 @@ pub(crate) fn ask_all<G: Gate>(gate: &G, job: ReaderJob) -> Result<Readings, Sto
         asked,
         room: mut readings,
     } = job;
-    let mut place: u32 = 0;
+    let mut count: u32 = 0;
     for majority in asked.as_slice() {
-        place += 1;
-        pass(gate, Place::BeforeReading(number, place))?;
+        count += 1;
+        pass(gate, Place::BeforeReading(number, count))?;
         let indices = analyst.ask(*majority);
         readings.sheets.push_reserved(analyst.sheet());
         readings.winning.push_reserved(indices.winning);
-        pass(gate, Place::AfterReading(number, place))?;
+        pass(gate, Place::AfterReading(number, count))?;
     }
     Ok(readings)
 }

@@ -102,7 +102,7 @@ fn serve_all<G: Gate, T: Threads + Wait + Sync, R: Read + Drop, W: Write>(
 ///
 /// A fault's number is its refusal's, in this order: those of `replay` with limits of two readers,
 /// all before a thread is started; once all threads have ended `OutOfMemory`, `GateClosed`, and what
-/// the audit finds. `OutOfMemory` may come at any place, `WriteFault` at any write.
+/// the audit finds. `OutOfMemory` may come at any time, `WriteFault` at any write.
 pub fn serve<G: Gate, T: Threads + Wait + Sync, R: Read + Drop, W: Write>(
     rt: &T,
     alloc: Global,

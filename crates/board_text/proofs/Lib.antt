@@ -1,4 +1,4 @@
-pub mod PlaceFacts
+pub mod IndexFacts
 pub mod FieldFacts
 pub mod ScriptFacts
 pub mod WriteFacts

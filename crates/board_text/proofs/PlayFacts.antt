@@ -10,7 +10,7 @@ use Rattle.board_text.specs.Output.{AppendsFront, IsFrontOf, Plays, StopsIn, Wri
 use Rattle.board_text.specs.declared.faults.Fault.{Fault}
 use Rattle.board_text.specs.declared.stops.Stop.{Stop}
 use Rattle.board_text.specs.declared.stops.Stop.TheVariants as stop
-use Rattle.board_text.proofs.PlaceFacts.{StandsAt, first-more, found-at, split-at}
+use Rattle.board_text.proofs.IndexFacts.{StandsAt, first-more, found-at, split-at}
 use Rattle.board_text.specs.Output.{Ends, fault_of}
 
 pub front-none : {A : Type 0} (xs : List A) → IsFrontOf [] xs
@@ -114,14 +114,14 @@ plays-whole a b c r whole left so_far q = rw so_far.goes_on (plays-after a b c s
 pub plays-nothing : (a : Option (List ℕ)) (u : Unit {0}) → Plays a a (Ok u) (prints [])
 plays-nothing a u = (refl, Appends-nil a)
 
--- what stands at a place of a list, and its line
+-- what stands at an index in a list, and its line
 pub record RowAt {X : Type 0} (f : X → Line) (xs : List X) (i : ℕ) : Type 0 where
   pub thing : X
   pub line : Line
   pub stands : StandsAt xs i thing
   pub spelled : line ≡ f thing
 
--- the row of what a list has at a place
+-- the row of what a list has at an index
 abbrev pub row-found : {X : Type 0} (f : X → Line) (xs : List X) (i : ℕ) (d : X) (l : Line) → i < length xs → l ≡ f (get_or xs i d) → RowAt f xs i
 row-found f xs i d l within spelled = record { thing = get_or xs i d; line = l; stands = found-at xs i d within; spelled = spelled }
 

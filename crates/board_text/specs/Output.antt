@@ -57,7 +57,7 @@ Fails (stop.Told f) spec = spec ≡ Err f
 
 -- how the opening was read: it leaves the script's records, or stopped as its definition says
 abbrev pub Opens : Result OpeningRead Stop → List Row → Result Opened Fault → Type 0
-Opens (Ok o) left spec = spec ≡ Ok (o.members.items, o.place, left)
+Opens (Ok o) left spec = spec ≡ Ok (o.members.items, o.number, left)
 Opens (Err e) left spec = Fails e spec
 
 -- how a register was started over these members: as its definition says, or not at all
@@ -76,7 +76,7 @@ fault_of stop.ReadFault = Some (fault_at why.ReadFault 0)
 fault_of stop.WriteFault = None
 fault_of (stop.Told f) = Some f
 
--- out of memory, or a failed read: a fault that may come at any place and tells of no record
+-- out of memory, or a failed read: a fault that may come at any time and tells of no record
 abbrev pub IsBroken : Fault → Type 0
 IsBroken f = (f ≡ fault_at why.OutOfMemory 0) ⊎ (f ≡ fault_at why.ReadFault 0)
 

@@ -26,7 +26,7 @@ pub record Run : Type 0 where
 
 -- the fault of a refusal at a record's number, or at 0
 abbrev pub fault_at : Refusal → ℕ → Fault
-fault_at why place = record { code = code_of why; place = place }
+fault_at why number = record { code = code_of why; place = number }
 
 abbrev pub stops : Fault → Run
 stops f = record { lines = []; end = Some f }

@@ -76,7 +76,7 @@ pub fn begin(
     ensures members { IfOk result (λ b. b.register.opening ≡ b.members.items) }
     ensures starts { IfOk result (λ b. start_verdict b.members.items MAX_COMMANDS ≡ Ok tt) }
     ensures none { IfOk result (λ b. b.register.journal ≡ []) }
-    ensures places { IfOk result (λ b. b.place + length script.new < 2 ^ 32) }
+    ensures numbers { IfOk result (λ b. b.place + length script.new < 2 ^ 32) }
 {
     if !script.next(row)? {
         return Err(Stop::told(Refusal::BadHeader, 0));
@@ -89,6 +89,6 @@ pub fn begin(
     Ok(Beginning {
         register,
         members: opening.members,
-        place: opening.place,
+        place: opening.number,
     })
 }

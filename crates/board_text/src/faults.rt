@@ -15,12 +15,12 @@ pub struct Fault {
 
 impl Fault {
     /// The fault of a refusal at the number of a record, or at 0.
-    pub fn new(why: Refusal, place: u32) -> Fault
-        ensures same { result ≡ fault_at why place }
+    pub fn new(why: Refusal, number: u32) -> Fault
+        ensures same { result ≡ fault_at why number }
     {
         Fault {
             code: why.code(),
-            place,
+            place: number,
         }
     }
 

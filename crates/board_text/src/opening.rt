@@ -14,7 +14,7 @@ use std::alloc::Global;
 #[derive(Drop)]
 pub(crate) struct OpeningRead {
     pub(crate) members: Vec<(MemberCode, Votes)>,
-    pub(crate) place: u32,
+    pub(crate) number: u32,
 }
 
 // Reads the members' records, from the second record on, and the mark.
@@ -25,10 +25,10 @@ pub(crate) fn read_opening(
 ) -> Result<OpeningRead, Stop>
     requires { length script.old < 2 ^ 31 }
     ensures opens { Opens result script.new (opening_of [] 2 script.old) }
-    ensures places { IfOk result (λ o. o.place + length script.new ≤ 2 + length script.old) }
+    ensures numbers { IfOk result (λ o. o.number + length script.new ≤ 2 + length script.old) }
 {
     let mut members = Vec::new(alloc);
-    let mut place: u32 = 2;
+    let mut number: u32 = 2;
     'records: loop {
         if !script.next(row)? {
             return Err(Stop::told(Refusal::NoScript, 0));
@@ -36,18 +36,18 @@ pub(crate) fn read_opening(
         if is_mark_row(row) {
             return Ok(OpeningRead {
                 members,
-                place: place + 1,
+                number: number + 1,
             });
         }
         if members.len() == MAX_MEMBERS {
             return Err(Stop::told(Refusal::TooManyMembers, 0));
         }
         let Some(member) = member_in(row) else {
-            return Err(Stop::told(Refusal::BadRecord, place));
+            return Err(Stop::told(Refusal::BadRecord, number));
         };
         let Ok(()) = members.push(member) else {
             return Err(Stop::OutOfMemory);
         };
-        place += 1;
+        number += 1;
     }
 }

@@ -17,10 +17,10 @@ pub enum Stop {
 
 impl Stop {
     /// A fault of the input.
-    pub fn told(why: Refusal, place: u32) -> Stop
-        ensures same { result ≡ Stop.Told (fault_at why place) }
+    pub fn told(why: Refusal, number: u32) -> Stop
+        ensures same { result ≡ Stop.Told (fault_at why number) }
     {
-        Stop::Told(Fault::new(why, place))
+        Stop::Told(Fault::new(why, number))
     }
 
     /// The fault whose line is to be written.

@@ -7,38 +7,38 @@ use Rattle.board_runs.proofs.RecordFacts.{script-ends, script-goes, step-goes, s
 use Rattle.board_runs.proofs.interpreters.interpret_script.Goals as goal
 
 pub records-init : goal.records-init
-records-init g c = record { so_far = played-none _ _; on = (refl, omega arith); places = c.requires.places }
+records-init g c = record { so_far = played-none _ _; on = (refl, omega arith); numbers = c.requires.numbers }
 
 pub returns-then-not-branch-clause-wrote : goal.returns-then-not-branch-clause-wrote
 returns-then-not-branch-clause-wrote g c =
     let so_far = c.records.invariant.so_far in
     let none : c.records.script ≡ [] = rw c.if-not-branch.true at c.in_ok-next.ensures.taken in
-    let end = script-ends (g.I.Interpreter.step c.args.limits) c.records.interpreter c.records.place c.records.script none in
+    let end = script-ends (g.I.Interpreter.step c.args.limits) c.records.interpreter c.records.number c.records.script none in
     plays-whole c.args.out.now.held c.records.out.held c.records.out.held (Ok tt) _ _ (left-as _ _ _ _ _ so_far end) (plays-nothing c.records.out.held tt)
 
 pub returns-in_err-carry_out-clause-wrote : goal.returns-in_err-carry_out-clause-wrote
 returns-in_err-carry_out-clause-wrote g c =
     let so_far = c.records.invariant.so_far in
     let next : c.records.script ≡ fields_of c.next.new.row ∷ c.next.new.self = rw c.if-not-branch.false at c.in_ok-next.ensures.taken in
-    let goes = script-goes (g.I.Interpreter.step c.args.limits) c.records.interpreter c.records.place c.records.script _ _ next in
+    let goes = script-goes (g.I.Interpreter.step c.args.limits) c.records.interpreter c.records.number c.records.script _ _ next in
     let p = err_from_is_err_and c.from_residual-in_err-carry_out.result c.from_residual-in_err-carry_out.ensures.1 in
     rw p.1 (plays-passed _ _ c.in_err-carry_out.field-0.0 p.0 _ p.2
     (plays-whole c.args.out.now.held c.records.out.held c.carry_out.new.out.held (Err c.in_err-carry_out.field-0.0) _ _ (left-as _ _ _ _ _ so_far goes)
-    (step-stops c.records.out.held c.carry_out.new.out.held c.in_err-carry_out.field-0.0 c.records.place (g.I.Interpreter.step c.args.limits c.records.interpreter (fields_of c.next.new.row))
-    (λ x. script_run (g.I.Interpreter.step c.args.limits) x (c.records.place + 1) c.next.new.self) c.in_err-carry_out.ensures.wrote)))
+    (step-stops c.records.out.held c.carry_out.new.out.held c.in_err-carry_out.field-0.0 c.records.number (g.I.Interpreter.step c.args.limits c.records.interpreter (fields_of c.next.new.row))
+    (λ x. script_run (g.I.Interpreter.step c.args.limits) x (c.records.number + 1) c.next.new.self) c.in_err-carry_out.ensures.wrote)))
 
 pub records-preserved : goal.records-preserved
 records-preserved g c =
     let so_far = c.records.invariant.so_far in
     let next : c.records.script ≡ fields_of c.next.new.row ∷ c.next.new.self = rw c.if-not-branch.false at c.in_ok-next.ensures.taken in
-    let goes = script-goes (g.I.Interpreter.step c.args.limits) c.records.interpreter c.records.place c.records.script _ _ next in
-    let more = step-goes c.records.out.held c.carry_out.new.out.held tt c.records.place (g.I.Interpreter.step c.args.limits c.records.interpreter (fields_of c.next.new.row))
-    (λ x. script_run (g.I.Interpreter.step c.args.limits) x (c.records.place + 1) c.next.new.self) c.carry_out.new.self
+    let goes = script-goes (g.I.Interpreter.step c.args.limits) c.records.interpreter c.records.number c.records.script _ _ next in
+    let more = step-goes c.records.out.held c.carry_out.new.out.held tt c.records.number (g.I.Interpreter.step c.args.limits c.records.interpreter (fields_of c.next.new.row))
+    (λ x. script_run (g.I.Interpreter.step c.args.limits) x (c.records.number + 1) c.next.new.self) c.carry_out.new.self
     c.in_ok-carry_out.ensures.wrote c.in_ok-carry_out.ensures.state in
     record {
       so_far = played-on c.args.out.now.held c.records.out.held c.carry_out.new.out.held _ _ _ (left-as _ _ _ _ _ so_far goes) more;
       on = (c.in_ok-carry_out.ensures.on.0 ∙ c.records.invariant.on.0, omega (arith, c.records.invariant.on.1, c.in_ok-carry_out.ensures.on.1));
-      places = let fewer = ap length next in omega arith;
+      numbers = let fewer = ap length next in omega arith;
     }
 
 pub returns-in_err-next-clause-wrote : goal.returns-in_err-next-clause-wrote

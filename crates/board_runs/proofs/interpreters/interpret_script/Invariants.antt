@@ -8,9 +8,9 @@ use Rattle.board_runs.proofs.interpreters.interpret_script.Given as goal
 abbrev pub invariant-records : goal.invariant-records
 invariant-records g l = record {
   so_far : PlayedTo l.fn.out.held l.out.held
-      (script_run (g.I.Interpreter.step l.fn.limits) l.fn.interpreter l.fn.first l.fn.script) (script_run (g.I.Interpreter.step l.limits) l.interpreter l.place l.script);
+      (script_run (g.I.Interpreter.step l.fn.limits) l.fn.interpreter l.fn.first l.fn.script) (script_run (g.I.Interpreter.step l.limits) l.interpreter l.number l.script);
   on : GoesOn l.fn.out l.out;
-  places : l.place + length l.script < 2 ^ 32;
+  numbers : l.number + length l.script < 2 ^ 32;
 }
 
 abbrev pub decreases-records : goal.decreases-records

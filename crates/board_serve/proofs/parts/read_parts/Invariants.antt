@@ -5,9 +5,9 @@ use Rattle.board_serve.proofs.parts.read_parts.Given as goal
 -- the records that are left, given out after those so far, are given out as all are
 abbrev pub invariant-records : goal.invariant-records
 invariant-records l = record {
-  same : parts_of l.limits no_parts l.first l.fn.script ≡ parts_of l.limits (shares_of l.parts) l.place l.script;
-  few : size_of (shares_of l.parts) ≤ l.place;
-  places : l.place + length l.script < 2 ^ 32;
+  same : parts_of l.limits no_parts l.first l.fn.script ≡ parts_of l.limits (shares_of l.parts) l.number l.script;
+  few : size_of (shares_of l.parts) ≤ l.number;
+  numbers : l.number + length l.script < 2 ^ 32;
 }
 
 abbrev pub decreases-records : goal.decreases-records

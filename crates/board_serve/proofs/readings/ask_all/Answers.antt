@@ -1,7 +1,7 @@
 use Rattle.std.proofs.Common.{rules, ap, ◌∙◌, ◌++◌, ◌∷◌, [], arith}
 use Rattle.power_index.specs.declared.indices.Indices.{Indices}
 use Rattle.board_serve.specs.declared.readings.Readings.{Readings}
-use Rattle.board_text.proofs.PlaceFacts.{found-at}
+use Rattle.board_text.proofs.IndexFacts.{found-at}
 use Rattle.board_serve.proofs.WorkFacts.{SheetRead, answered-more, read-more}
 use Rattle.board_serve.proofs.readings.ask_all.Goals as goal
 

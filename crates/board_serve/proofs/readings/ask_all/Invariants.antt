@@ -10,5 +10,5 @@ invariant-loop-majority g l = record {
   sheets_fit : vec_len l.readings.sheets ≡ l.majority-index;
   winning_fit : vec_len l.readings.winning ≡ l.majority-index;
   room : HasRoomToRead l.readings (length l.majority-items);
-  counted : l.place ≡ l.majority-index;
+  counted : l.count ≡ l.majority-index;
 }

@@ -1,8 +1,8 @@
--- A thing at its place of a list.
+-- A thing at its index in a list.
 use Rattle.std.proofs.Common.{◌≡◌, ◌+◌, ◌<◌, ℕ, zero, suc, List, [], ◌∷◌, ◌++◌, length, map, take, drop, get_or, arith, refl, sym, ap, ◌∙◌}
 use Rattle.std.proofs.lemmas.List.{map-append, take_more}
 
--- this thing stands at this place of a list
+-- this thing stands at this index in a list
 pub record StandsAt {X : Type 0} (xs : List X) (i : ℕ) (x : X) : Type 0 where
   pub within : i < length xs
   pub here : x ≡ get_or xs i x
@@ -13,11 +13,11 @@ same-get [] i d e within = absurd (omega arith)
 same-get (x ∷ xs) zero d e within = refl
 same-get (x ∷ xs) (suc i) d e within = same-get xs i d e (omega arith)
 
--- what a list has at a place stands there
+-- what a list has at an index stands there
 pub found-at : {X : Type 0} (xs : List X) (i : ℕ) (d : X) → i < length xs → StandsAt xs i (get_or xs i d)
 found-at xs i d within = record { within = within; here = same-get xs i d (get_or xs i d) within }
 
--- the things before a place, and the one at it
+-- the things before an index, and the one at it
 pub first-more : {X Y : Type 0} (f : X → Y) (xs : List X) (i : ℕ) (x : X) → StandsAt xs i x → map f (take (i + 1) xs) ≡ map f (take i xs) ++ f x ∷ []
 first-more f xs i x at = ap (map f) (take_more xs i x at.within ∙ ap (λ y. take i xs ++ (y ∷ [])) (sym at.here)) ∙ map-append f (take i xs) (x ∷ [])
 
@@ -26,6 +26,6 @@ split [] i x within at = absurd (omega arith)
 split (y ∷ ys) zero x within at = ap (λ z. z ∷ ys) (sym at)
 split (y ∷ ys) (suc i) x within at = ap (λ l. y ∷ l) (split ys i x (omega arith) at)
 
--- the things before a place, the one at it, and those behind it
+-- the things before an index, the one at it, and those behind it
 pub split-at : {X : Type 0} (xs : List X) (i : ℕ) (x : X) → StandsAt xs i x → xs ≡ take i xs ++ (x ∷ drop (suc i) xs)
 split-at xs i x at = split xs i x at.within at.here
