@@ -1,25 +1,14 @@
 -- What an audit can find of records whose journal is legal and whose cuts are in order.
-use Rattle.std.proofs.Common.{◌≡◌, inl, inr, ℕ, ◌+◌, Bool, true, false, cond, List, [], ◌∷◌, Option, Some, None, Result, Ok, Err, refl, sym, subst}
-use Rattle.std.specs.Prelude.{⊤}
+use Rattle.std.proofs.Common.{◌≡◌, inl, inr, ℕ, ◌+◌, List, [], ◌∷◌, Option, Some, None, Ok, Err, refl, sym, subst}
 use Rattle.council_core.specs.Ledgers.{start_verdict}
 use Rattle.council_core.specs.Rolls.{Opening, IsLegal}
-use Rattle.council_core.specs.Sequential.{AreCuts, AreLegalRecords}
+use Rattle.council_core.specs.Sequential.{AreCuts}
 use Rattle.council_core.specs.declared.commands.Command.{Command}
-use Rattle.council_core.specs.declared.refusals.Refusal.{Refusal}
-use Rattle.council_core.specs.declared.refusals.Refusal.TheVariants.{BadLimit}
 use Rattle.board_audits.specs.AuditLaws.{AuditLaw}
 use Rattle.board_audits.specs.Audits.{Answers, Finding, audit_of, cut_sheet, cuts_finding, fault_at, first_of, journal_finding, readings_finding, start_finding, unread_place}
 use Rattle.board_audits.specs.declared.audits.AuditFault.{AuditFault}
 use Rattle.board_audits.specs.declared.audits.AuditFault.TheVariants as found
 use Rattle.board_serve.specs.Findings.{CanBeFound}
-
-with-limit : (b : Bool) (v : Result ⊤ Refusal) → cond b (Err BadLimit) v ≡ Ok tt → v ≡ Ok tt
-with-limit true v e = cc e
-with-limit false v e = e
-
--- members with which a register starts under some limit are such under the greatest
-pub any-limit : (members : Opening) (limit : ℕ) → start_verdict members limit ≡ Ok tt → start_verdict members 1000000 ≡ Ok tt
-any-limit members limit e = with-limit _ (start_verdict members 1000000) e
 
 -- no finding, or one of a reading
 abbrev pub IsOfReadings : Finding → Type 0
@@ -65,13 +54,3 @@ module _ (law : AuditLaw) (opening : Opening) (journal : List Command) (cuts : L
     found-reading fault a =
         let P : Finding → Type 0 = IsOfReadings in
         answered (audit_of opening journal cuts readings) fault (subst P (sym last) (of-readings (cut_sheet opening journal (0 ∷ cuts)) 1 readings)) a
-
-  only-memory : (fault : AuditFault) → Answers (Ok tt) (Err fault) → fault ≡ found.OutOfMemory
-  only-memory fault (inl e) = cc e
-  only-memory fault (inr e) = cc e
-
-  -- of legal records only out of memory is answered
-  pub found-nothing : (fault : AuditFault) → Answers (audit_of opening journal cuts readings) (Err fault) → AreLegalRecords opening journal (0 ∷ cuts) readings → fault ≡ found.OutOfMemory
-  found-nothing fault a h =
-      let P : Finding → Type 0 = λ f. Answers f (Err fault) in
-      only-memory fault (subst P ((law opening journal cuts readings).1 (starts, h)) a)

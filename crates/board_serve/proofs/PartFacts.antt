@@ -1,5 +1,5 @@
 -- How a script's records are given out, one more at a time.
-use Rattle.std.proofs.Common.{◌≡◌, ◌≤◌, ◌+◌, ◌-◌, ◌&&◌, ℕ, zero, suc, true, List, [], ◌∷◌, ◌++◌, length, map, get_or, set, nat_le, sum_by, Ok, Err, refl, ap, subst, arith}
+use Rattle.std.proofs.Common.{◌≡◌, ◌≤◌, ◌+◌, ◌-◌, ◌&&◌, ℕ, zero, suc, true, List, [], ◌∷◌, ◌++◌, length, get_or, nat_le, sum_by, Ok, Err, refl, subst, arith}
 use Rattle.std.proofs.lemmas.List.{length-append}
 use Rattle.std.proofs.lemmas.List.Sums.{sum_by-cons}
 use Rattle.majority_rule.specs.declared.majorities.Majority.{Majority}
@@ -39,13 +39,6 @@ pub size-request : (s : Shares) (q : Request) → size_of (with_request s q) ≤
 size-request s (ask.Submit c) = omega (arith, length-append s.writer (order.Submit c ∷ []))
 size-request s ask.Publish = omega (arith, length-append s.writer (order.Publish ∷ []))
 size-request s (ask.Read reader m) = let more = size-at (reader - 1) m s.asked in omega (arith, more)
-
--- one more at the end of the list at an index, once it is written back
-pub added-at : {V A : Type 0} (items : V → List A) (vs : List V) (index : ℕ) (v d : V) (a : A) → items v ≡ items (get_or vs index d) ++ a ∷ []
-    → map items (set vs index v) ≡ add_at index a (map items vs)
-added-at items [] index v d a more = refl
-added-at items (x ∷ xs) zero v d a more = ap (λ l. l ∷ map items xs) more
-added-at items (x ∷ xs) (suc index) v d a more = ap (λ l. items x ∷ l) (added-at items xs index v d a more)
 
 -- two things are the first and the second
 pub two-of : {A : Type 0} (xs : List A) (d : A) → length xs ≡ 2 → xs ≡ get_or xs 0 d ∷ get_or xs 1 d ∷ []

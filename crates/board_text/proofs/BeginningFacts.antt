@@ -1,15 +1,12 @@
 -- What an input begins with, and why nothing comes of it.
-use Rattle.std.proofs.Common.{◌≡◌, ◌<◌, ◌≤◌, ◌⊎◌, inl, inr, ℕ, true, false, List, [], ◌∷◌, length, IfErr, Result, Ok, Err, refl, sym, ap, ◌∙◌}
+use Rattle.std.proofs.Common.{◌≡◌, ◌<◌, ◌≤◌, ◌⊎◌, inl, inr, ℕ, true, false, List, length, IfErr, Result, Ok, Err, refl, ap}
 use Rattle.std.proofs.lemmas.Bool.{le-leb, lt-leb}
 use Rattle.csv.specs.Reading.{default_config, records, strip_bom}
 use Rattle.told_streams.specs.Tapes.{Giving, OfInput}
-use Rattle.council_core.specs.Ledgers.{Ledger, start_verdict}
 use Rattle.council_core.specs.declared.refusals.Refusal.TheVariants as why
-use Rattle.board_text.specs.Requests.{Row, is_header}
-use Rattle.board_text.specs.Text.{Opened, begun_of, begun_with, fault_at, in_range, opened_of, opening_of, started_with}
-use Rattle.board_text.specs.Output.{Fails, Starts}
+use Rattle.board_text.specs.Text.{begun_of, begun_with, fault_at, in_range, opened_of}
+use Rattle.board_text.specs.Output.{Fails}
 use Rattle.board_text.specs.declared.bounds.Limits.{Limits}
-use Rattle.board_text.specs.declared.faults.Fault.{Fault}
 use Rattle.board_text.specs.declared.stops.Stop.{Stop}
 use Rattle.board_text.specs.declared.stops.Stop.TheVariants as stop
 
@@ -43,22 +40,3 @@ pub fails-input : {A : Type 0} (from to : Giving) (r : Result A Stop) (lim : Lim
     → IfErr r (λ e. OfInput from to (λ bytes. Fails e (begun_of lim bytes)))
 fails-input from to (Ok a) lim fits causes long = tt
 fails-input from to (Err e) lim fits causes long = λ bytes is. read-fails bytes e lim fits causes (λ same. long (ap Err same) bytes is)
-
--- the opening of records, the first of which is the header
-pub opened-header : (rs ss : List Row) (r : Row) → rs ≡ r ∷ ss → is_header r ≡ true → opened_of rs ≡ opening_of [] 2 ss
-opened-header rs ss r e h = rw (e, h) refl
-
-pub fails-opening : (e : Stop) (lim : Limits) (spec : Result Opened Fault) → Fails e spec → Fails e (begun_with lim spec)
-fails-opening stop.OutOfMemory lim spec p = tt
-fails-opening stop.ReadFault lim spec p = tt
-fails-opening stop.WriteFault lim spec p = absurd p
-fails-opening (stop.Told f) lim spec p = rw p refl
-
-pub fails-starting : (e : Stop) (lim : Limits) (p : Opened) → Starts lim p.0 (Err e) → Fails e (started_with lim (start_verdict p.0 lim.journal) p)
-fails-starting stop.OutOfMemory lim p s = tt
-fails-starting stop.ReadFault lim p s = absurd s
-fails-starting stop.WriteFault lim p s = absurd s
-fails-starting (stop.Told f) lim p s = rw (s.1, s.2) refl
-
-pub starts-begun : (ledger : Ledger) (lim : Limits) (p : Opened) → Starts lim p.0 (Ok ledger) → started_with lim (start_verdict p.0 lim.journal) p ≡ Ok (ledger, p.1, p.2)
-starts-begun ledger lim p s = ap (λ v. started_with lim v p) s.0 ∙ ap (λ (t : Ledger). Ok (t, p.1, p.2)) (sym s.1)

@@ -16,9 +16,6 @@ use Rattle.board_text.specs.Output.{Ends, fault_of}
 pub front-none : {A : Type 0} (xs : List A) → IsFrontOf [] xs
 front-none xs = (xs, refl)
 
-pub front-whole : {A : Type 0} (xs : List A) → IsFrontOf xs xs
-front-whole xs = ([], sym (append-nil xs))
-
 -- a front, after what comes before
 pub front-after : {A : Type 0} (done f xs : List A) → IsFrontOf f xs → IsFrontOf (done ++ f) (done ++ xs)
 front-after done f xs h = (h.0, ap (λ l. done ++ l) h.1 ∙ sym (append_assoc done f h.0))

@@ -1,9 +1,9 @@
 -- Writes that go on where the last one ended.
-use Rattle.std.proofs.Common.{◌≡◌, ℕ, ◌+◌, ◌-◌, List, [], Option, Result, Ok, Err, length, take, drop, ◌++◌, subst, sym, ap, ◌∙◌, refl, arith, append_assoc}
+use Rattle.std.proofs.Common.{◌≡◌, ℕ, ◌+◌, ◌-◌, List, [], Option, Result, Ok, Err, length, take, drop, ◌++◌, subst, sym, ap, ◌∙◌, arith, append_assoc}
 use Rattle.std.proofs.Math.Seq.{take-add}
 use Rattle.std.proofs.lemmas.List.{append-nil, length-drop, take_all, take-append-drop}
-use Rattle.std.proofs.KnownBytes.{Appends-trans, Appends-kept, Appends-nil}
-use Rattle.std.specs.Io.KnownBytes.{Appends, Keeps}
+use Rattle.std.proofs.KnownBytes.{Appends-trans}
+use Rattle.std.specs.Io.KnownBytes.{Appends}
 use Rattle.board_text.specs.Output.{AppendsFront, Writes}
 use Rattle.board_text.specs.declared.stops.Stop.{Stop}
 
@@ -17,31 +17,12 @@ appends-on a b c i n text p q =
     let P : List ℕ → Type 0 = λ bs. Appends a c bs in
     subst P (sym (take-add i n text)) (Appends-trans a b c _ _ p (rw rest-of at q))
 
--- the bytes so far, and none after them
-pub front-written : (a b c : Option (List ℕ)) (i : ℕ) (text : List ℕ) → Appends a b (take i text) → Keeps b c → AppendsFront a c text
-front-written a b c i text p q = (take i text, (drop i text, sym (take-append-drop i text)), Appends-kept a b c _ p q)
-
-pub front-and-more : (a b c : Option (List ℕ)) (i n : ℕ) (text : List ℕ) → Appends a b (take i text) → Appends b c (take n (take (length text - i) (drop i text))) → AppendsFront a c text
-front-and-more a b c i n text p q =
-    (take (i + n) text, (drop (i + n) text, sym (take-append-drop (i + n) text)), appends-on a b c i n text p q)
-
 -- bytes so far, and then a front of the rest
 pub front-and-front : (a b c : Option (List ℕ)) (i : ℕ) (text : List ℕ) → Appends a b (take i text) → AppendsFront b c (take (length text - i) (drop i text)) → AppendsFront a c text
 front-and-front a b c i text p q =
     let rest : drop i text ≡ q.0 ++ q.1.0 = sym (rest-of i text) ∙ q.1.1 in
     let whole : text ≡ (take i text ++ q.0) ++ q.1.0 = sym (take-append-drop i text) ∙ ap (λ l. take i text ++ l) rest ∙ sym (append_assoc (take i text) q.0 q.1.0) in
     (take i text ++ q.0, (q.1.0, whole), Appends-trans a b c _ _ p q.2)
-
--- an interruption appends nothing
-pub nothing-taken : (a b : Option (List ℕ)) (text : List ℕ) → Keeps a b → Appends a b (take 0 text)
-nothing-taken a b text k = Appends-kept a a b [] (Appends-nil a) k
-
--- nothing was appended, which is a front of anything
-pub front-kept : (a b : Option (List ℕ)) (text : List ℕ) → Keeps a b → AppendsFront a b text
-front-kept a b text k = ([], (text, refl), Appends-kept a a b [] (Appends-nil a) k)
-
-pub front-taken : (a b : Option (List ℕ)) (n : ℕ) (text : List ℕ) → Appends a b (take n text) → AppendsFront a b text
-front-taken a b n text p = (take n text, (drop n text, sym (take-append-drop n text)), p)
 
 -- what was written of a text is a front of it
 pub front-written_by : (a b : Option (List ℕ)) (r : Result (Unit {0}) Stop) (text : List ℕ) → Writes a b r text → AppendsFront a b text

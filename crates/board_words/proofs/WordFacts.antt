@@ -1,10 +1,10 @@
 -- What the command line says, as clap found it.
-use Rattle.std.proofs.Common.{◌≡◌, ℕ, ◌∙◌, Bool, true, false, ◌&&◌, not, List, [], Option, None, Some, Result, Ok, Err, option_map, codes, refl, sym, ap, subst}
+use Rattle.std.proofs.Common.{◌≡◌, ℕ, ◌∙◌, Bool, true, false, ◌&&◌, not, List, [], Option, None, Some, Result, Ok, Err, codes, refl, sym, ap, subst}
 use Rattle.std.specs.Option.{unwrap_or}
 use Rattle.std.specs.Str.Parse.{ParsesUnsigned}
 use Rattle.clap.proofs.WalkLemmas.{one_text-rows}
 use Rattle.clap.proofs.OnLiterals.{clap_on_literals}
-use Rattle.clap.specs.Words.{App, HasKind, Kinds, ReadsOne, Row, Text, fault_of, is_simple, is_simple_and_free, one_of, one_text, rows_of, subcommand_of, takes}
+use Rattle.clap.specs.Words.{App, HasKind, Kinds, ReadsOne, Row, Text, fault_of, is_simple_and_free, one_of, one_text, rows_of, takes}
 use Rattle.clap.specs.declared.error.Error.{Error}
 use Rattle.clap.specs.declared.parser.matches.Found.{Found}
 use Rattle.board_words.specs.Calls.{Asks, IsSaid, Says}
@@ -33,10 +33,6 @@ module _ {E : Type 0} (bits : ℕ) (gives : List ℕ → Result ℕ E → Type 0
       by-row None e s = absurd s
       by-row (Some t) e s = by-text t default n r (reads t e) s
 
-is-simple : is_simple board_app ≡ true
-unfolding clap_on_literals
-is-simple = refl
-
 is-free : is_simple_and_free board_app ≡ true
 unfolding clap_on_literals
 is-free = refl
@@ -49,29 +45,12 @@ module _ (a : App) (words : List Text) (same : a ≡ board_app) where
   pub no-kinds : (is_simple_and_free a ≡ true → fault_of a words ≡ []) → fault_of board_app words ≡ []
   no-kinds none = sym (ap (λ x. fault_of x words) same) ∙ none (ap is_simple_and_free same ∙ is-free)
 
--- what a parse of the program's command met is what clap found
-module _ (a : App) (words : List Text) (name : Text) (rows : List Row) (same : a ≡ board_app) (taken : IsTaken words name rows) where
-  pub found-as : {X : Type 0} (sub : Option (Text × List Row)) → (is_simple a ≡ true → X × (sub ≡ subcommand_of a words)) → sub ≡ Some (name, rows)
-  found-as sub found = (found (ap is_simple same ∙ is-simple)).1 ∙ ap (λ x. subcommand_of x words) same ∙ taken.found
-
-  pub takes-words : takes a words ≡ true
-  takes-words = ap (λ x. takes x words) same ∙ taken.taken
-
--- its name, and what was found for it
-pub met-name : {A : Type 0} (f : A → Text) (g : A → List Row) (x : Option A) (n name : Text) (rows : List Row) → Some n ≡ option_map f x → option_map {U = Text × List Row} (λ a. (f a, g a)) x ≡ Some (name, rows) → n ≡ name
-met-name f g None n name rows is found = cc is
-met-name f g (Some a) n name rows is found =
-    let one : n ≡ f a = cc in
-    let other : Some (f a) ≡ Some name = ap (λ (o : Option (Text × List Row)). option_map (λ p. p.0) o) found in
-    cc
-
-pub met-rows : (x : Option (Text × List Row)) (r : List Row) (name : Text) (rows : List Row) → Some r ≡ option_map (λ p. p.1) x → x ≡ Some (name, rows) → r ≡ rows
-met-rows None r name rows is found = cc is
-met-rows (Some p) r name rows is found = let one : r ≡ p.1 = cc in let other : p.1 ≡ rows = cc in one ∙ other
-
 -- words that ask for a call are taken
 module _ (a : App) (words : List Text) (same : a ≡ board_app) where
+  takes-words : (name : Text) (rows : List Row) → IsTaken words name rows → takes a words ≡ true
+  takes-words name rows taken = ap (λ x. takes x words) same ∙ taken.taken
+
   pub takes-asked : (call : Call) → Asks words call → takes a words ≡ true
-  takes-asked (Replay readers journal) (rows, taken, said) = takes-words a words (codes "replay") rows same taken
-  takes-asked (Trace readers journal) (rows, taken, said) = takes-words a words (codes "trace") rows same taken
-  takes-asked (Serve journal) (rows, taken, said) = takes-words a words (codes "serve") rows same taken
+  takes-asked (Replay readers journal) (rows, taken, said) = takes-words (codes "replay") rows taken
+  takes-asked (Trace readers journal) (rows, taken, said) = takes-words (codes "trace") rows taken
+  takes-asked (Serve journal) (rows, taken, said) = takes-words (codes "serve") rows taken

@@ -2,7 +2,7 @@
 use Rattle.std.proofs.Common.{◌≡◌, inl, inr, ℕ, List, [], ◌++◌, length, drop, Option, Some, None, refl, sym, ap, ◌∙◌, append_assoc, append-nil, subst}
 use Rattle.std.proofs.Math.Seq.{drop-append_seam}
 use Rattle.std.specs.Io.KnownBytes.{Consumes, IsAtEnd}
-use Rattle.std.proofs.KnownBytes.{Consumes-nil, Consumes-trans}
+use Rattle.std.proofs.KnownBytes.{Consumes-trans}
 use Rattle.told_streams.specs.Laws.{AreAll, GivenIsInput}
 use Rattle.told_streams.specs.Tapes.{Giving, HasEnded, IsInput, WasGiven, given_since}
 
@@ -31,10 +31,6 @@ pub input-whole : (from to : Giving) (given bytes : List ℕ) → WasGiven from 
 input-whole from to given bytes w end (inl told) = told-whole from.left to.left given bytes w.left end.1 told
 input-whole from to given bytes w end (inr more) =
     sym (append-nil given) ∙ ap (λ l. given ++ l) (sym (more.2 end.0)) ∙ ap (λ l. l ++ more.0) (sym (since from to given w)) ∙ sym more.1
-
--- nothing was given yet
-pub given-none : (from : Giving) → WasGiven from from []
-given-none from = record { gave = sym (append-nil from.gave); left = Consumes-nil from.left }
 
 -- some was given, and then more
 pub given-more : (from mid to : Giving) (a b : List ℕ) → WasGiven from mid a → WasGiven mid to b → WasGiven from to (a ++ b)
