@@ -30,12 +30,14 @@ fn pair(mut readers: Vec<Reader>) -> (Reader, Reader)
 pub(crate) fn seat_all(alloc: Global, register: Register, parts: Parts) -> Result<Jobs, Stop>
     requires few { size_of (shares_of parts) < 2 ^ 32 }
     ensures ready { IfOk result AreReady }
+    ensures memory { IsOkUnless result stop.OutOfMemory }
+
+    // The writer and each reader are those of the board's start, with their records.
     ensures writer { IfOk result (λ j. j.writer.writer ≡ new_publisher register READERS) }
     ensures orders { IfOk result (λ j. j.writer.orders ≡ parts.writer) }
     ensures readers { IfOk result
         (λ j. map (λ r. r.analyst.reader) j.readers ≡ new_readers (beginning_of register READERS) READERS) }
     ensures asked { IfOk result (λ j. map (λ r. r.asked) j.readers ≡ parts.asked) }
-    ensures memory { IsOkUnless result stop.OutOfMemory }
 {
     let Ok((writer, readers)) = start(alloc, register, READERS as u8) else {
         return Err(Stop::OutOfMemory);

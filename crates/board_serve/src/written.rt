@@ -46,9 +46,13 @@ impl Written {
     fn add(&mut self, answer: Answer)
         requires answers_fit { vec_len self.old.answers < vec_capacity self.old.answers }
         requires cuts_fit { vec_len self.old.cuts < vec_capacity self.old.cuts }
+
+        // The answer, and what it says of a publication.
         ensures journal { self.new.journal ≡ self.old.journal }
         ensures answers { self.new.answers.items ≡ self.old.answers.items ++ answer ∷ [] }
         ensures cuts { self.new.cuts.items ≡ self.old.cuts.items ++ cuts_of_reply (reply_of answer) }
+
+        // The room.
         ensures answers_count { vec_len self.new.answers ≡ vec_len self.old.answers + 1 }
         ensures cuts_count { vec_len self.new.cuts ≤ vec_len self.old.cuts + 1 }
         ensures answers_room { vec_capacity self.new.answers ≡ vec_capacity self.old.answers }

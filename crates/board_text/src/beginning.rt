@@ -70,9 +70,13 @@ pub fn begin(
     limits: Limits,
 ) -> Result<Beginning, Stop>
     requires { length script.old < 2 ^ 31 }
+
+    // What the records say, or the first fault in them.
     ensures begun { IfOk result
         (λ b. begun_with limits (opened_of script.old) ≡ Ok (b.register, b.place, script.new)) }
     ensures fault { IfErr result (λ e. Fails e (begun_with limits (opened_of script.old))) }
+
+    // The register is at its start, and the records that are left can be numbered.
     ensures members { IfOk result (λ b. b.register.opening ≡ b.members.items) }
     ensures starts { IfOk result (λ b. start_verdict b.members.items MAX_COMMANDS ≡ Ok tt) }
     ensures none { IfOk result (λ b. b.register.journal ≡ []) }
