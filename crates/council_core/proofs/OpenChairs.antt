@@ -2,7 +2,7 @@
 use Rattle.std.proofs.Common.{◌≡◌, ℕ, ◌+◌, ◌-◌, ◌<◌, ◌≤◌, Bool, true, false, cond, List, [], ◌∷◌, ◌++◌, map, length, take, get_or, arith, refl, sym, ap, ◌∙◌, eqb, inl, inr, subst, ◌≢◌, Option, None, Some}
 use Rattle.std.specs.List.{sum_by, All, IsDistinct}
 use Rattle.std.proofs.lemmas.Bool.{eq-eqb, ne_eqb, cases_eq, cases_lt}
-use Rattle.std.proofs.lemmas.List.{append-nil, take_all, take_more, get_or_past, length-append, length-take, append_assoc, map-append}
+use Rattle.std.proofs.lemmas.List.{append-nil, take_all, take_more, get_or_past, length-append, length-take, append_assoc}
 use Rattle.std.proofs.lemmas.List.Elements.{All-cons, All-nil, All-append, All-map, All-weaker, recursion_from_All}
 use Rattle.std.proofs.lemmas.List.Sums.{sum_by-cons, sum_by-append}
 use Rattle.std.proofs.lemmas.Map.Keys.{IsDistinct-cons}
@@ -52,34 +52,6 @@ open_from-more c words i h =
     ∙ open_from-append c (take i words) (get_or words i 0 ∷ [])
     ∙ ap (λ n. open_from c (take i words) ++ open_from n (get_or words i 0 ∷ [])) at
     ∙ ap (λ l. open_from c (take i words) ++ l) (alone (c + i) (get_or words i 0))
-
-pub open_more : (c : ℕ) (words : List ℕ) (i : ℕ) → i < length words → 0 < get_or words i 0 → open_from c (take (i + 1) words) ≡ open_from c (take i words) ++ (c + i, get_or words i 0 - 1) ∷ []
-open_more c words i h some = open_from-more c words i h ∙ ap (λ l. open_from c (take i words) ++ l) (chair_of-open (c + i) (get_or words i 0) (λ e. absurd (omega arith)))
-
-pub closed_more : (c : ℕ) (words : List ℕ) (i : ℕ) → i < length words → get_or words i 0 ≡ 0 → open_from c (take (i + 1) words) ≡ open_from c (take i words)
-closed_more c words i h shut = open_from-more c words i h ∙ ap (λ l. open_from c (take i words) ++ l) (chair_of-shut (c + i) (get_or words i 0) shut) ∙ append-nil (open_from c (take i words))
-
--- chairs numbered from later on
-abbrev pub up : ℕ → Chair → Chair
-up k chair = (chair.0 + k, chair.1)
-
-turned : (b : Bool) (c k w : ℕ) → cond b [] ((c + k, w) ∷ []) ≡ map (up k) (cond b [] ((c, w) ∷ []))
-turned true c k w = refl
-turned false c k w = refl
-
-chair_of-up : (c k word : ℕ) → chair_of (c + k) word ≡ map (up k) (chair_of c word)
-chair_of-up c k word = turned (eqb word 0) c k (word - 1)
-
-pub open_from-up : (c k : ℕ) (words : List ℕ) → open_from (c + k) words ≡ map (up k) (open_from c words)
-open_from-up c k [] = refl
-open_from-up c k (x ∷ xs) =
-    let turn : c + k + 1 ≡ c + 1 + k = omega arith in
-    open_from-cons (c + k) x xs
-    ∙ ap (λ n. chair_of (c + k) x ++ open_from n xs) turn
-    ∙ ap (λ l. l ++ open_from (c + 1 + k) xs) (chair_of-up c k x)
-    ∙ ap (λ l. map (up k) (chair_of c x) ++ l) (open_from-up (c + 1) k xs)
-    ∙ sym (map-append (up k) (chair_of c x) (open_from (c + 1) xs))
-    ∙ sym (ap (map (up k)) (open_from-cons c x xs))
 
 weight_one : (c word : ℕ) → weight_of (chair_of c word) ≡ word - 1
 weight_one c word = by_word (λ l. weight_of l ≡ word - 1) c word (λ e. omega arith) (λ n. omega (arith, sum_by-cons (λ (ch : Chair). ch.1) (c, word - 1) []))
