@@ -83,25 +83,25 @@ by_submit : (m : MachineState) (command : Command) (v : Result ⊤ Refusal) (cut
 by_submit m command (Ok u) cuts h = h
 by_submit m command (Err refusal) cuts h = h
 
-by_reader : (m : MachineState) (p : Auxiliary) (r : ℕ) (o : Option Stage) → HasCuts m.writer p.cuts → HasCuts (reader_transition m r o).0.writer (auxiliary_reader_step m p r o).cuts
-by_reader m p r None h = h
-by_reader m p r (Some stage) h = h
+by_reader : (m : MachineState) (aux : Auxiliary) (r : ℕ) (o : Option Stage) → HasCuts m.writer aux.cuts → HasCuts (reader_transition m r o).0.writer (auxiliary_reader_step m aux r o).cuts
+by_reader m aux r None h = h
+by_reader m aux r (Some stage) h = h
 
 -- whatever the event
-cuts_transition : (m : MachineState) (p : Auxiliary) → HasCuts m.writer p.cuts → (event : Event) → HasCuts (transition m event).0.writer (auxiliary_step m p event).cuts
-cuts_transition m p h (Submit command) =
-    elim (is_idle m.writer.phase) as (λ b. HasCuts (cond b (submitted m command (verdict_of m.ledger command)) (m, Skipped)).0.writer p.cuts)
-    [ true ↦ by_submit m command (verdict_of m.ledger command) p.cuts h | false ↦ h ]
-cuts_transition m p h Publish =
-    elim (is_idle m.writer.phase) as (λ b. HasCuts (cond b (published_by m (is_pending m)) (m, Skipped)).0.writer p.cuts) [ true ↦ cuts_begun m p.cuts h | false ↦ h ]
-cuts_transition m p h Writer =
-    cuts_stepped m.ledger.opening m.writer m.writer.phase (get_or m.words (phase_action (sheet m.ledger.opening) m.writer m.writer.phase).word 0) p.cuts refl h
-cuts_transition m p h (Reader zero) = h
-cuts_transition m p h (Reader (suc r)) = by_reader m p r (slice_get m.readers r) h
+cuts_transition : (m : MachineState) (aux : Auxiliary) → HasCuts m.writer aux.cuts → (event : Event) → HasCuts (transition m event).0.writer (auxiliary_step m aux event).cuts
+cuts_transition m aux h (Submit command) =
+    elim (is_idle m.writer.phase) as (λ b. HasCuts (cond b (submitted m command (verdict_of m.ledger command)) (m, Skipped)).0.writer aux.cuts)
+    [ true ↦ by_submit m command (verdict_of m.ledger command) aux.cuts h | false ↦ h ]
+cuts_transition m aux h Publish =
+    elim (is_idle m.writer.phase) as (λ b. HasCuts (cond b (published_by m (is_pending m)) (m, Skipped)).0.writer aux.cuts) [ true ↦ cuts_begun m aux.cuts h | false ↦ h ]
+cuts_transition m aux h Writer =
+    cuts_stepped m.ledger.opening m.writer m.writer.phase (get_or m.words (phase_action (sheet m.ledger.opening) m.writer m.writer.phase).word 0) aux.cuts refl h
+cuts_transition m aux h (Reader zero) = h
+cuts_transition m aux h (Reader (suc r)) = by_reader m aux r (slice_get m.readers r) h
 
-cuts_along : (events : List Event) (m : MachineState) (p : Auxiliary) → HasCuts m.writer p.cuts → HasCuts (after m events).writer (auxiliary_steps m p events).cuts
-cuts_along [] m p h = h
-cuts_along (event ∷ events) m p h = cuts_along events (transition m event).0 (auxiliary_step m p event) (cuts_transition m p h event)
+cuts_along : (events : List Event) (m : MachineState) (aux : Auxiliary) → HasCuts m.writer aux.cuts → HasCuts (after m events).writer (auxiliary_steps m aux events).cuts
+cuts_along [] m aux h = h
+cuts_along (event ∷ events) m aux h = cuts_along events (transition m event).0 (auxiliary_step m aux event) (cuts_transition m aux h event)
 
 -- from the start
 pub run_cuts : (ledger : Ledger) (readers : ℕ) (events : List Event) → HasCuts (after (started ledger readers) events).writer (auxiliary_steps (started ledger readers) (auxiliary_start ledger readers) events).cuts

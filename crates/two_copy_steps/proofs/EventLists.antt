@@ -15,34 +15,34 @@ use Rattle.two_copy_steps.proofs.Replies.{Agrees, event_agrees}
 use Rattle.two_copy_steps.proofs.Journals.{IsAccepted, IsWithin, journal_accepted, journal_within}
 use Rattle.two_copy_steps.proofs.Starts.{start_lawful, start_agrees}
 
-pub always_lawful : (events : List Event) (m : MachineState) (p : Auxiliary) → IsLawful IsAccepted m p → IsAccepted m.ledger.opening m.ledger.journal → IsLawful IsAccepted (after m events) (auxiliary_steps m p events)
-always_lawful [] m p l h = l
-always_lawful (event ∷ events) m p l h = always_lawful events (transition m event).0 (auxiliary_step m p event) (transition_keeps IsAccepted m p l h event) (journal_accepted m h event)
+pub always_lawful : (events : List Event) (m : MachineState) (aux : Auxiliary) → IsLawful IsAccepted m aux → IsAccepted m.ledger.opening m.ledger.journal → IsLawful IsAccepted (after m events) (auxiliary_steps m aux events)
+always_lawful [] m aux l h = l
+always_lawful (event ∷ events) m aux l h = always_lawful events (transition m event).0 (auxiliary_step m aux event) (transition_keeps IsAccepted m aux l h event) (journal_accepted m h event)
 
 -- a lawful machine whose journal is accepted, and a run of the sequential register that agrees with it
-pub record Together (t : SequentialRun) (m : MachineState) (p : Auxiliary) : Type 0 where
-  pub lawful : IsLawful IsAccepted m p
+pub record Together (t : SequentialRun) (m : MachineState) (aux : Auxiliary) : Type 0 where
+  pub lawful : IsLawful IsAccepted m aux
   pub accepted : IsAccepted m.ledger.opening m.ledger.journal
   pub agrees : Agrees t m
 
 -- so they are after an event, and after all events
-pub together_on : (t : SequentialRun) (m : MachineState) (p : Auxiliary) → Together t m p → (event : Event) → Together (sequential_step t m event) (transition m event).0 (auxiliary_step m p event)
-together_on t m p h event =
+pub together_on : (t : SequentialRun) (m : MachineState) (aux : Auxiliary) → Together t m aux → (event : Event) → Together (sequential_step t m event) (transition m event).0 (auxiliary_step m aux event)
+together_on t m aux h event =
     record {
-      lawful = transition_keeps IsAccepted m p h.lawful h.accepted event;
+      lawful = transition_keeps IsAccepted m aux h.lawful h.accepted event;
       accepted = journal_accepted m h.accepted event;
-      agrees = (event_agrees IsAccepted m p h.lawful t h.agrees event).0;
+      agrees = (event_agrees IsAccepted m aux h.lawful t h.agrees event).0;
     }
 
-pub together_after : (events : List Event) (t : SequentialRun) (m : MachineState) (p : Auxiliary) → Together t m p → (t' : SequentialRun) × Together t' (after m events) (auxiliary_steps m p events)
-together_after [] t m p h = (t, h)
-together_after (event ∷ events) t m p h = together_after events (sequential_step t m event) (transition m event).0 (auxiliary_step m p event) (together_on t m p h event)
+pub together_after : (events : List Event) (t : SequentialRun) (m : MachineState) (aux : Auxiliary) → Together t m aux → (t' : SequentialRun) × Together t' (after m events) (auxiliary_steps m aux events)
+together_after [] t m aux h = (t, h)
+together_after (event ∷ events) t m aux h = together_after events (sequential_step t m event) (transition m event).0 (auxiliary_step m aux event) (together_on t m aux h event)
 
 -- each note is the sequential register's reply
-all_answer : (events : List Event) (t : SequentialRun) (m : MachineState) (p : Auxiliary) → Together t m p → AllAnswer t m events
-all_answer [] t m p h = tt
-all_answer (event ∷ events) t m p h =
-    ((event_agrees IsAccepted m p h.lawful t h.agrees event).1, all_answer events (sequential_step t m event) (transition m event).0 (auxiliary_step m p event) (together_on t m p h event))
+all_answer : (events : List Event) (t : SequentialRun) (m : MachineState) (aux : Auxiliary) → Together t m aux → AllAnswer t m events
+all_answer [] t m aux h = tt
+all_answer (event ∷ events) t m aux h =
+    ((event_agrees IsAccepted m aux h.lawful t h.agrees event).1, all_answer events (sequential_step t m event) (transition m event).0 (auxiliary_step m aux event) (together_on t m aux h event))
 
 pub always_within : (events : List Event) (m : MachineState) → IsWithin m.ledger → IsWithin (after m events).ledger
 always_within [] m h = h
@@ -58,17 +58,17 @@ notes_append [] more m = refl
 notes_append (event ∷ events) more m = ap (λ (l : List Note). (transition m event).1 ∷ l) (notes_append events more (transition m event).0)
 
 -- the records are legal, where the journal has at most a million commands
-pub legal_records : (m : MachineState) (p : Auxiliary) → IsLawful IsAccepted m p → length m.ledger.journal ≤ 1000000 → HasLegalRecords m p
-legal_records m p l few =
+pub legal_records : (m : MachineState) (aux : Auxiliary) → IsLawful IsAccepted m aux → length m.ledger.journal ≤ 1000000 → HasLegalRecords m aux
+legal_records m aux l few =
     let w = m.writer in
     let o = l.state.writer in
     let begins = ap (length {A = Command}) o.begins.1 in
     let extends = ap (length {A = Command}) l.extends.1 in
-    let last : Contains p.cuts (length w.published) = subst (λ (cuts : List ℕ). Contains cuts (length w.published)) (sym o.last_cut.1) (Contains-push o.last_cut.0 (length w.published)) in
+    let last : Contains aux.cuts (length w.published) = subst (λ (cuts : List ℕ). Contains cuts (length w.published)) (sym o.last_cut.1) (Contains-push o.last_cut.0 (length w.published)) in
     record {
       legal = (subst (IsAccepted m.ledger.opening) (take-length w.published) (o.cuts (length w.published) last).1, omega (arith, length-append w.published o.begins.0, length-append w.taken l.extends.0));
-      in_order = (o.ascending, λ k d h. (o.cuts _ (Contains-get_or p.cuts k d h)).0);
-      readings = records_are IsAccepted m p l;
+      in_order = (o.ascending, λ k d h. (o.cuts _ (Contains-get_or aux.cuts k d h)).0);
+      readings = records_are IsAccepted m aux l;
     }
 
 module _ (ledger : Ledger) (readers : ℕ) (accepted : IsAccepted ledger.opening ledger.journal) where

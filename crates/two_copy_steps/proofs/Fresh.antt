@@ -29,15 +29,15 @@ looked_published w r true = refl
 looked_published w r false = refl
 
 -- what is published never gets shorter
-published_grows : (m : MachineState) (p : Auxiliary) → IsLawful IsAccepted m p → (event : Event) → length m.writer.published ≤ length (transition m event).0.writer.published
-published_grows m p l (Submit command) =
+published_grows : (m : MachineState) (aux : Auxiliary) → IsLawful IsAccepted m aux → (event : Event) → length m.writer.published ≤ length (transition m event).0.writer.published
+published_grows m aux l (Submit command) =
     elim (is_idle m.writer.phase) as (λ b. length m.writer.published ≤ length (cond b (submitted m command (verdict_of m.ledger command)) (m, Skipped)).0.writer.published) [ true ↦ omega arith | false ↦ omega arith ]
-published_grows m p l Publish =
+published_grows m aux l Publish =
     elim (is_idle m.writer.phase) as (λ b. length m.writer.published ≤ length (cond b (published_by m (is_pending m)) (m, Skipped)).0.writer.published) [
       | true ↦ elim (is_pending m) as (λ c. length m.writer.published ≤ length (published_by m c).0.writer.published) [ true ↦ omega arith | false ↦ omega arith ]
       | false ↦ omega arith
     ]
-published_grows m p l Writer = by_phase m.writer.phase
+published_grows m aux l Writer = by_phase m.writer.phase
   where
     by_phase : (phase : Phase) → length m.writer.published ≤ length ((phase_action (sheet m.ledger.opening) m.writer phase).after (get_or m.words (phase_action (sheet m.ledger.opening) m.writer phase).word 0)).published
     by_phase Idle = omega arith
@@ -47,8 +47,8 @@ published_grows m p l Writer = by_phase m.writer.phase
         omega arith
     by_phase (Filling k) = omega arith
     by_phase Swapping = let b = l.state.writer.begins in let longer = ap (length {A = Command}) b.1 in omega (arith, length-append m.writer.published b.0)
-published_grows m p l (Reader zero) = omega arith
-published_grows m p l (Reader (suc r)) =
+published_grows m aux l (Reader zero) = omega arith
+published_grows m aux l (Reader (suc r)) =
     elim (slice_get m.readers r) as (λ o. length m.writer.published ≤ length (reader_transition m r o).0.writer.published) [ None ↦ omega arith | Some stage ↦ omega arith ]
 
 -- a reader that is reading was replied no older sheet
@@ -61,14 +61,14 @@ FreshAt low given (Leaving side words) = (numbers : List ℕ) × (given ≡ Some
 abbrev Fresh : ℕ → ℕ → SequentialRun → MachineState → Type 0
 Fresh low r t m = (low ≤ length m.writer.published) × ((stage : Stage) → slice_get m.readers r ≡ Some stage → FreshAt low (t.replied (suc r)) stage)
 
-shown_front : (m : MachineState) (p : Auxiliary) → IsLawful IsAccepted m p → front_of (sheet m.ledger.opening (take (length m.writer.published) m.ledger.journal)) ≡ length m.writer.published
-shown_front m p l =
+shown_front : (m : MachineState) (aux : Auxiliary) → IsLawful IsAccepted m aux → front_of (sheet m.ledger.opening (take (length m.writer.published) m.ledger.journal)) ≡ length m.writer.published
+shown_front m aux l =
     let begins = ap (length {A = Command}) l.state.writer.begins.1 in
     let extends = ap (length {A = Command}) l.extends.1 in
     let kept = length-take (length m.writer.published) m.ledger.journal in
     omega (arith, length-append m.writer.published l.state.writer.begins.0, length-append m.writer.taken l.extends.0)
 
-module _ (low r : ℕ) (t : SequentialRun) (m : MachineState) (p : Auxiliary) (h : Together t m p) (f : Fresh low r t m) where
+module _ (low r : ℕ) (t : SequentialRun) (m : MachineState) (aux : Auxiliary) (h : Together t m aux) (f : Fresh low r t m) where
   -- the reader's own step
   own : (stage : Stage) → slice_get m.readers r ≡ Some stage → FreshAt low (replied_at t (suc r) stage (suc r)) ((stage_action r stage).after (get_or m.words (stage_action r stage).word 0))
   own AtRest at = tt
@@ -76,7 +76,7 @@ module _ (low r : ℕ) (t : SequentialRun) (m : MachineState) (p : Auxiliary) (h
       let given : Option Reply = Some (respond t.register sequential.read).1 in
       let here : cond (eqb (suc r) (suc r)) given (t.replied (suc r)) ≡ given = ap (λ (b : Bool). cond b given (t.replied (suc r))) (eq-eqb (suc r) (suc r) refl) in
       let is : given ≡ Some (reading (sheet m.ledger.opening (take (length m.writer.published) m.ledger.journal))) = ap (λ (s : Sequential). let g : Option Reply = Some (respond s sequential.read).1 in g) h.agrees.register in
-      let front = shown_front m p h.lawful in
+      let front = shown_front m aux h.lawful in
       let short = f.0 in
       (sheet m.ledger.opening (take (length m.writer.published) m.ledger.journal), here ∙ is, omega arith)
   own (Reading side words) at =
@@ -115,7 +115,7 @@ module _ (low r : ℕ) (t : SequentialRun) (m : MachineState) (p : Auxiliary) (h
   fresh_stage (Reader (suc q)) = fresh_reader q (slice_get m.readers q) refl
 
   stays_fresh : (event : Event) → Fresh low r (sequential_step t m event) (transition m event).0
-  stays_fresh event = (le_trans f.0 (published_grows m p h.lawful event), fresh_stage event)
+  stays_fresh event = (le_trans f.0 (published_grows m aux h.lawful event), fresh_stage event)
 
   -- what it then reads
   reads_fresh : (words : List ℕ) → (transition m (Reader (suc r))).1 ≡ Read (suc r) words → low ≤ front_of words
@@ -139,11 +139,11 @@ module _ (low r : ℕ) (t : SequentialRun) (m : MachineState) (p : Auxiliary) (h
           subst (λ (x : List ℕ). low ≤ front_of x) is g.2
 
 -- whatever follows
-fresh_read : (low r : ℕ) (more : List Event) (t : SequentialRun) (m : MachineState) (p : Auxiliary) → Together t m p → Fresh low r t m → (words : List ℕ) → (transition (after m more) (Reader (suc r))).1 ≡ Read (suc r) words
+fresh_read : (low r : ℕ) (more : List Event) (t : SequentialRun) (m : MachineState) (aux : Auxiliary) → Together t m aux → Fresh low r t m → (words : List ℕ) → (transition (after m more) (Reader (suc r))).1 ≡ Read (suc r) words
     → low ≤ front_of words
-fresh_read low r [] t m p h f words told = reads_fresh low r t m p h f words told
-fresh_read low r (event ∷ more) t m p h f words told =
-    fresh_read low r more (sequential_step t m event) (transition m event).0 (auxiliary_step m p event) (together_on t m p h event) (stays_fresh low r t m p h f event) words told
+fresh_read low r [] t m aux h f words told = reads_fresh low r t m aux h f words told
+fresh_read low r (event ∷ more) t m aux h f words told =
+    fresh_read low r more (sequential_step t m event) (transition m event).0 (auxiliary_step m aux event) (together_on t m aux h event) (stays_fresh low r t m aux h f event) words told
 
 module _ (ledger : Ledger) (readers : ℕ) (accepted : IsAccepted ledger.opening ledger.journal) where
   -- a reader at rest after some events reads, whatever follows, nothing older than what is published by then

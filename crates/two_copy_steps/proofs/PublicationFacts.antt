@@ -57,7 +57,7 @@ pinned_one Arrived found e ne = e
 pinned_one (Reading side words) found e ne = e
 pinned_one (Leaving side words) found e ne = e
 
-module _ (m : MachineState) (p : Auxiliary) (l : IsLawful IsPublishable m p) where
+module _ (m : MachineState) (aux : Auxiliary) (l : IsLawful IsPublishable m aux) where
   abbrev w : Writing
   w = m.writer
 
@@ -71,7 +71,7 @@ module _ (m : MachineState) (p : Auxiliary) (l : IsLawful IsPublishable m p) whe
       let some : all_true w.seen_out ≡ false = subst (Fills m.ledger.opening (IsPublishable m.ledger.opening) m.words w) e l.state.writer.fills in
       let below = first_inside w.seen_out some in
       let flags = l.state.writer.flags in
-      let v = there (state_of m p).readers (first_false w.seen_out) (omega arith) in
+      let v = there (state_of m aux).readers (first_false w.seen_out) (omega arith) in
       pinned_one v.0.stage (get_or m.words (pin (first_false w.seen_out)) 0) (l.state.each_reader (first_false w.seen_out) v.0 v.1).pinned ne
 
   looked : (number : ℕ) (b : Bool) → w.phase ≡ Seeing → eqb (get_or m.words (pin (first_false w.seen_out)) 0) 0 ≡ b

@@ -76,8 +76,8 @@ module _ (Legal : Opening → List Command → Type 0) where
       (at_set m.readers r q stage other at)
 
   -- what the sequential register shows is what is published
-  is_shown : (m : MachineState) (p : Auxiliary) → IsLawful Legal m p → take (length m.writer.published) m.ledger.journal ≡ m.writer.published
-  is_shown m p l =
+  is_shown : (m : MachineState) (aux : Auxiliary) → IsLawful Legal m aux → take (length m.writer.published) m.ledger.journal ≡ m.writer.published
+  is_shown m aux l =
       let w = m.writer in
       let b = l.state.writer.begins in
       let e = l.extends in
@@ -99,9 +99,9 @@ module _ (Legal : Opening → List Command → Type 0) where
   others_none : (number : ℕ) (given : Option Reply) (replied : ℕ → Option Reply) (k : ℕ) → k ≢ number → cond (eqb k number) given (replied k) ≡ replied k
   others_none number given replied k ne = ap (λ (b : Bool). cond b given (replied k)) (ne_eqb k number ne)
 
-  read_goes : (m : MachineState) (p : Auxiliary) → IsLawful Legal m p → (b : Bool) (replied : ℕ → Option Reply) → Agrees (sequential_run m replied b) m
+  read_goes : (m : MachineState) (aux : Auxiliary) → IsLawful Legal m aux → (b : Bool) (replied : ℕ → Option Reply) → Agrees (sequential_run m replied b) m
       → (r : ℕ) (stage : Stage) → slice_get m.readers r ≡ Some stage → ReadGoes m b replied r stage
-  read_goes m p l b replied a r AtRest at = (
+  read_goes m aux l b replied a r AtRest at = (
     record {
       register = refl;
       held = all_held m r Arrived (set m.words (pin r) 1) replied (λ k. cond (eqb k (suc r)) None (replied k)) a.held (pin_set r 1 m.words) (others_none (suc r) None replied) tt;
@@ -109,7 +109,7 @@ module _ (Legal : Opening → List Command → Type 0) where
     },
     tt,
   )
-  read_goes m p l b replied a r Arrived at =
+  read_goes m aux l b replied a r Arrived at =
       let words : List ℕ = m.words in
       let s : ℕ = get_or words 0 0 in
       let o = l.state.writer in
@@ -117,7 +117,7 @@ module _ (Legal : Opening → List Command → Type 0) where
       let given : Option Reply = Some (reading new) in
       let replied' : ℕ → Option Reply = λ k. cond (eqb k (suc r)) given (replied k) in
       let here : replied' (suc r) ≡ given = ap (λ (z : Bool). cond z given (replied (suc r))) (eq-eqb (suc r) (suc r) refl) in
-      let shows : Shows words s new = λ i g. ap (λ (z : ℕ). get_or words (place z i) 0) o.side_is ∙ (o.shown i g ∙ ap (λ (z : List Command). get_or (sheet m.ledger.opening z) i 0) (sym (is_shown m p l))) in
+      let shows : Shows words s new = λ i g. ap (λ (z : ℕ). get_or words (place z i) 0) o.side_is ∙ (o.shown i g ∙ ap (λ (z : List Command). get_or (sheet m.ledger.opening z) i 0) (sym (is_shown m aux l))) in
       let held : AllHeld words replied' (set m.readers r (Reading s [])) = all_held m r (Reading s []) words replied replied' a.held (same r words) (others_none (suc r) given replied)
       (new, here, sheet_long m.ledger.opening (take (length m.writer.published) m.ledger.journal), shows) in (
         record {
@@ -127,11 +127,11 @@ module _ (Legal : Opening → List Command → Type 0) where
         },
         tt,
       )
-  read_goes m p l b replied a r (Reading s ws) at =
+  read_goes m aux l b replied a r (Reading s ws) at =
       let words : List ℕ = m.words in
       let i : ℕ = place s (length ws) in
       let x : ℕ = get_or words i 0 in
-      let h = (l.state.each_reader r (view_at (Reading s ws) (record_at p.records r)) (viewed_at m.readers p.records r (Reading s ws) at)).stands in
+      let h = (l.state.each_reader r (view_at (Reading s ws) (record_at aux.records r)) (viewed_at m.readers aux.records r (Reading s ws) at)).stands in
       let short : length ws < COPY_WORDS = h.1 in
       let more : length (ws ++ x ∷ []) ≡ length ws + 1 = length-append ws (x ∷ []) in
       let g = a.held r (Reading s ws) at in
@@ -144,7 +144,7 @@ module _ (Legal : Opening → List Command → Type 0) where
         },
         tt,
       )
-  read_goes m p l b replied a r (Leaving s ws) at = (
+  read_goes m aux l b replied a r (Leaving s ws) at = (
     record {
       register = refl;
       held = all_held m r AtRest (set m.words (pin r) 0) replied replied a.held (pin_set r 0 m.words) (λ k ne. refl) tt;
@@ -155,21 +155,21 @@ module _ (Legal : Opening → List Command → Type 0) where
 
   -- the copies that readers read are left as they are
   abbrev Unharmed : MachineState → Auxiliary → List ℕ → Type 0
-  Unharmed m p vs =
-      (r s : ℕ) (readings : List (List ℕ)) → HoldsCopy m.ledger.opening (Legal m.ledger.opening) m.words (state_of m p).writer readings r s
+  Unharmed m aux vs =
+      (r s : ℕ) (readings : List (List ℕ)) → HoldsCopy m.ledger.opening (Legal m.ledger.opening) m.words (state_of m aux).writer readings r s
       → (i : ℕ) → i < COPY_WORDS → get_or vs (place s i) 0 ≡ get_or m.words (place s i) 0
 
-  held_on : (m : MachineState) (p : Auxiliary) (vs : List ℕ) → Unharmed m p vs → (given : Option Reply) (readings : List (List ℕ)) (r : ℕ) (stage : Stage)
-      → Stands m.ledger.opening (Legal m.ledger.opening) m.words (state_of m p).writer readings r stage → Held m.words given stage → Held vs given stage
-  held_on m p vs u given readings r AtRest h k = tt
-  held_on m p vs u given readings r Arrived h k = tt
-  held_on m p vs u given readings r (Reading s ws) h k = (k.0, k.1, k.2, λ i l. u r s readings h.0 i l ∙ k.3 i l)
-  held_on m p vs u given readings r (Leaving s ws) h k = k
+  held_on : (m : MachineState) (aux : Auxiliary) (vs : List ℕ) → Unharmed m aux vs → (given : Option Reply) (readings : List (List ℕ)) (r : ℕ) (stage : Stage)
+      → Stands m.ledger.opening (Legal m.ledger.opening) m.words (state_of m aux).writer readings r stage → Held m.words given stage → Held vs given stage
+  held_on m aux vs u given readings r AtRest h k = tt
+  held_on m aux vs u given readings r Arrived h k = tt
+  held_on m aux vs u given readings r (Reading s ws) h k = (k.0, k.1, k.2, λ i l. u r s readings h.0 i l ∙ k.3 i l)
+  held_on m aux vs u given readings r (Leaving s ws) h k = k
 
-  all_held_on : (m : MachineState) (p : Auxiliary) → IsLawful Legal m p → (vs : List ℕ) → Unharmed m p vs → (replied : ℕ → Option Reply) → AllHeld m.words replied m.readers → AllHeld vs replied m.readers
-  all_held_on m p l vs u replied all r stage at =
-      let ok = l.state.each_reader r (view_at stage (record_at p.records r)) (viewed_at m.readers p.records r stage at) in
-      held_on m p vs u (replied (suc r)) (record_at p.records r) r stage ok.stands (all r stage at)
+  all_held_on : (m : MachineState) (aux : Auxiliary) → IsLawful Legal m aux → (vs : List ℕ) → Unharmed m aux vs → (replied : ℕ → Option Reply) → AllHeld m.words replied m.readers → AllHeld vs replied m.readers
+  all_held_on m aux l vs u replied all r stage at =
+      let ok = l.state.each_reader r (view_at stage (record_at aux.records r)) (viewed_at m.readers aux.records r stage at) in
+      held_on m aux vs u (replied (suc r)) (record_at aux.records r) r stage ok.stands (all r stage at)
 
   abbrev wrote : MachineState → Phase → MachineState
   wrote m phase =
@@ -197,9 +197,9 @@ module _ (Legal : Opening → List Command → Type 0) where
   true_not_false : true ≡ false → ⊥
   true_not_false e = cc
 
-  write_goes : (m : MachineState) (p : Auxiliary) → IsLawful Legal m p → (b : Bool) (replied : ℕ → Option Reply) → Agrees (sequential_run m replied b) m
+  write_goes : (m : MachineState) (aux : Auxiliary) → IsLawful Legal m aux → (b : Bool) (replied : ℕ → Option Reply) → Agrees (sequential_run m replied b) m
       → (phase : Phase) → m.writer.phase ≡ phase → WriteGoes m b replied phase
-  write_goes m p l b replied a Idle is = (
+  write_goes m aux l b replied a Idle is = (
     (
       record {
         register = refl;
@@ -210,7 +210,7 @@ module _ (Legal : Opening → List Command → Type 0) where
     ),
     tt,
   )
-  write_goes m p l b replied a Seeing is =
+  write_goes m aux l b replied a Seeing is =
       let w = m.writer in
       let r : ℕ = first_false w.seen_out in
       let k : ℕ = get_or m.words (pin r) 0 in (
@@ -224,7 +224,7 @@ module _ (Legal : Opening → List Command → Type 0) where
         ),
         tt,
       )
-  write_goes m p l b replied a (Filling k) is =
+  write_goes m aux l b replied a (Filling k) is =
       let w = m.writer in
       let place' : ℕ = place (other w.side) k in
       let x : ℕ = get_or (sheet m.ledger.opening w.taken) k 0 in
@@ -233,7 +233,7 @@ module _ (Legal : Opening → List Command → Type 0) where
         (
           record {
             register = refl;
-            held = all_held_on m p l (set m.words place' x)
+            held = all_held_on m aux l (set m.words place' x)
                 (λ r s readings holds i lt.
                 let here : s ≡ w.side = dite (ℕ_discrete s w.side) (λ z. z) (λ ne. absurd (all_at w.seen_out r f.1.0 (holds.late ne))) in
                 get_or-set_other m.words place' (place s i) x 0 (subst (λ (z : ℕ). place z i ≢ place') (sym here) (place_apart w.side i k o.two lt f.0)))
@@ -244,14 +244,14 @@ module _ (Legal : Opening → List Command → Type 0) where
         ),
         tt,
       )
-  write_goes m p l b replied a Swapping is =
+  write_goes m aux l b replied a Swapping is =
       let w = m.writer in
       let whole = l.whole (ap is_idle is) in
       let long : length m.ledger.journal ≡ length w.taken = ap (length {A = Command}) (sym whole) in (
         (
           record {
             register = ap (λ (z : ℕ). let s : Sequential = record { ledger = m.ledger; published = z } in s) long;
-            held = all_held_on m p l (set m.words 0 (other w.side))
+            held = all_held_on m aux l (set m.words 0 (other w.side))
                 (λ r s readings holds i lt. get_or-set_other m.words 0 (place s i) (other w.side) 0 (λ z. let g = place_above s i in omega arith))
                 replied a.held;
             begun = λ e. absurd (true_not_false e);
@@ -266,19 +266,19 @@ module _ (Legal : Opening → List Command → Type 0) where
       let after = cond idle (published_by m pending) (m, Skipped) in
       Goes m b (cond idle (cond pending [] (publish ∷ [])) []) after.1 after.0 replied replied
 
-  not_pending : (m : MachineState) (p : Auxiliary) → IsLawful Legal m p → is_pending m ≡ false → length m.ledger.journal ≡ length m.writer.published
-  not_pending m p l none =
+  not_pending : (m : MachineState) (aux : Auxiliary) → IsLawful Legal m aux → is_pending m ≡ false → length m.ledger.journal ≡ length m.writer.published
+  not_pending m aux l none =
       let b = ap (length {A = Command}) l.state.writer.begins.1 in
       let e = ap (length {A = Command}) l.extends.1 in
       let ge = ltb-false (length m.writer.published) (length m.ledger.journal) none in
       omega (arith, length-append m.writer.published l.state.writer.begins.0, length-append m.writer.taken l.extends.0)
 
-  publish_goes : (m : MachineState) (p : Auxiliary) → IsLawful Legal m p → (b : Bool) (replied : ℕ → Option Reply) → Agrees (sequential_run m replied b) m
+  publish_goes : (m : MachineState) (aux : Auxiliary) → IsLawful Legal m aux → (b : Bool) (replied : ℕ → Option Reply) → Agrees (sequential_run m replied b) m
       → (idle pending : Bool) → is_idle m.writer.phase ≡ idle → is_pending m ≡ pending → PublishGoes m b replied idle pending
-  publish_goes m p l b replied a false pending is now = (a, refl)
-  publish_goes m p l b replied a true true is now = (record { register = refl; held = a.held; begun = λ _. refl }, refl)
-  publish_goes m p l b replied a true false is now =
-      let long = not_pending m p l now in (
+  publish_goes m aux l b replied a false pending is now = (a, refl)
+  publish_goes m aux l b replied a true true is now = (record { register = refl; held = a.held; begun = λ _. refl }, refl)
+  publish_goes m aux l b replied a true false is now =
+      let long = not_pending m aux l now in (
         record {
           register = ap (λ (z : ℕ). let s : Sequential = record { ledger = m.ledger; published = z } in s) long;
           held = a.held;
@@ -307,23 +307,23 @@ module _ (Legal : Opening → List Command → Type 0) where
   submit_goes m b replied a command false = (a, refl)
   submit_goes m b replied a command true = verdict_goes m b replied a command (verdict_of m.ledger command)
 
-  reader_goes : (m : MachineState) (p : Auxiliary) → IsLawful Legal m p → (b : Bool) (replied : ℕ → Option Reply) → Agrees (sequential_run m replied b) m → (r : ℕ) (o : Option Stage) → slice_get m.readers r ≡ o
+  reader_goes : (m : MachineState) (aux : Auxiliary) → IsLawful Legal m aux → (b : Bool) (replied : ℕ → Option Reply) → Agrees (sequential_run m replied b) m → (r : ℕ) (o : Option Stage) → slice_get m.readers r ≡ o
       → Goes m b (reader_effect o) (reader_transition m r o).1 (reader_transition m r o).0 replied (λ k. replied_to (sequential_run m replied b) (suc r) o k)
-  reader_goes m p l b replied a r None at = (a, refl)
-  reader_goes m p l b replied a r (Some stage) at = read_goes m p l b replied a r stage at
+  reader_goes m aux l b replied a r None at = (a, refl)
+  reader_goes m aux l b replied a r (Some stage) at = read_goes m aux l b replied a r stage at
 
   abbrev EventGoes : SequentialRun → MachineState → Event → Type 0
   EventGoes t m event = Agrees (sequential_step t m event) (transition m event).0 × Answers t m event
 
-  event_goes : (m : MachineState) (p : Auxiliary) → IsLawful Legal m p → (b : Bool) (replied : ℕ → Option Reply) → Agrees (sequential_run m replied b) m → (event : Event) → EventGoes (sequential_run m replied b) m event
-  event_goes m p l b replied a (Submit command) = let g = submit_goes m b replied a command (is_idle m.writer.phase) in (g.0, (g.1, tt))
-  event_goes m p l b replied a Publish = let g = publish_goes m p l b replied a (is_idle m.writer.phase) (is_pending m) refl refl in (g.0, (g.1, tt))
-  event_goes m p l b replied a Writer = let g = write_goes m p l b replied a m.writer.phase refl in (g.0.0, (g.0.1, g.1))
-  event_goes m p l b replied a (Reader zero) = (a, (refl, tt))
-  event_goes m p l b replied a (Reader (suc r)) = let g = reader_goes m p l b replied a r (slice_get m.readers r) refl in (g.0, (g.1, tt))
+  event_goes : (m : MachineState) (aux : Auxiliary) → IsLawful Legal m aux → (b : Bool) (replied : ℕ → Option Reply) → Agrees (sequential_run m replied b) m → (event : Event) → EventGoes (sequential_run m replied b) m event
+  event_goes m aux l b replied a (Submit command) = let g = submit_goes m b replied a command (is_idle m.writer.phase) in (g.0, (g.1, tt))
+  event_goes m aux l b replied a Publish = let g = publish_goes m aux l b replied a (is_idle m.writer.phase) (is_pending m) refl refl in (g.0, (g.1, tt))
+  event_goes m aux l b replied a Writer = let g = write_goes m aux l b replied a m.writer.phase refl in (g.0.0, (g.0.1, g.1))
+  event_goes m aux l b replied a (Reader zero) = (a, (refl, tt))
+  event_goes m aux l b replied a (Reader (suc r)) = let g = reader_goes m aux l b replied a r (slice_get m.readers r) refl in (g.0, (g.1, tt))
 
   -- an event keeps the machine in agreement with the sequential register, and tells what that register replies
-  pub event_agrees : (m : MachineState) (p : Auxiliary) → IsLawful Legal m p → (t : SequentialRun) → Agrees t m → (event : Event) → EventGoes t m event
-  event_agrees m p l t a event =
+  pub event_agrees : (m : MachineState) (aux : Auxiliary) → IsLawful Legal m aux → (t : SequentialRun) → Agrees t m → (event : Event) → EventGoes t m event
+  event_agrees m aux l t a event =
       subst (λ (s : Sequential). EventGoes (let z : SequentialRun = record { register = s; replied = t.replied; begun = t.begun } in z) m event) (sym a.register)
-      (event_goes m p l t.begun t.replied record { register = refl; held = a.held; begun = a.begun } event)
+      (event_goes m aux l t.begun t.replied record { register = refl; held = a.held; begun = a.begun } event)

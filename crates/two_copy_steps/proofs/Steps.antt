@@ -82,12 +82,12 @@ module _ (L : Ledger) (W : List ℕ) (s n : ℕ) (t : List ℕ) (ph : Phase) (so
   reader_tells number r stage e at = ap (λ (o : Option Stage). (reader_transition old r o).1) (sym at) ∙ ap (λ (k : ℕ). (transition old (Reader k)).1) (sym e)
 
   module _ (k : IsMachine L W s n t ph so R) where
-    abbrev p : Auxiliary
-    p = k.lawful.0
+    abbrev aux : Auxiliary
+    aux = k.lawful.0
 
     -- a reader's step stands in its place
     pub wide_enough : pin (length R) ≤ length W
-    wide_enough = let wide = k.lawful.1.state.wide in omega (arith, viewed_length R p.records)
+    wide_enough = let wide = k.lawful.1.state.wide in omega (arith, viewed_length R aux.records)
 
     pub first_there : ph ≡ Seeing → (first_false so < length so) × (first_false so < READERS) × (pin (first_false so) < length W)
     first_there e =
@@ -96,12 +96,12 @@ module _ (L : Ledger) (W : List ℕ) (s n : ℕ) (t : List ℕ) (ph : Phase) (so
         let flags = k.lawful.1.state.writer.flags in
         let few = k.few in
         let wide = wide_enough in
-        let long = viewed_length R p.records in
+        let long = viewed_length R aux.records in
         (below, omega arith, omega arith)
 
     pub readable : (r : ℕ) (stage : Stage) → slice_get R r ≡ Some stage → IsReadable stage
     readable r stage at =
-        by_stage stage at (k.lawful.1.state.each_reader r (view_at stage (record_at p.records r)) (viewed_at R p.records r stage at)).stands
+        by_stage stage at (k.lawful.1.state.each_reader r (view_at stage (record_at aux.records r)) (viewed_at R aux.records r stage at)).stands
       where
         by_stage : (stage : Stage) → slice_get R r ≡ Some stage → Stands L.opening (IsPublishable L.opening) W (state_of old k.lawful.0).writer (record_at k.lawful.0.records r) r stage → IsReadable stage
         by_stage AtRest at h = tt
@@ -141,7 +141,7 @@ module _ (L : Ledger) (W : List ℕ) (s n : ℕ) (t : List ℕ) (ph : Phase) (so
       pub taken_within : front_of taken ≤ length L.journal
       pub sheet_is : taken ≡ sheet L.opening (take (front_of taken) L.journal)
       pub as_many : length readers ≡ length R
-      pub lawful : IsLawful IsPublishable (transition old event).0 (auxiliary_step old p event)
+      pub lawful : IsLawful IsPublishable (transition old event).0 (auxiliary_step old aux event)
 
     stays : (event : Event) (W' : List ℕ) (s' n' : ℕ) (t' : List ℕ) (ph' : Phase) (so' : List Bool) (R' : List Stage) → KeptAfter event W' s' n' t' ph' so' R' → IsMachine L W' s' n' t' ph' so' R'
     stays event W' s' n' t' ph' so' R' h =
@@ -150,7 +150,7 @@ module _ (L : Ledger) (W : List ℕ) (s n : ℕ) (t : List ℕ) (ph : Phase) (so
           taken_within = h.taken_within;
           sheet_is = h.sheet_is;
           few = subst (λ (x : ℕ). x ≤ READERS) (sym h.as_many) k.few;
-          lawful = (auxiliary_step old p event, subst (λ (m : MachineState). IsLawful IsPublishable m (auxiliary_step old p event)) (sym h.machine) h.lawful);
+          lawful = (auxiliary_step old aux event, subst (λ (m : MachineState). IsLawful IsPublishable m (auxiliary_step old aux event)) (sym h.machine) h.lawful);
         }
 
     -- the writer's steps
@@ -162,7 +162,7 @@ module _ (L : Ledger) (W : List ℕ) (s n : ℕ) (t : List ℕ) (ph : Phase) (so
           taken_within = k.taken_within;
           sheet_is = k.sheet_is;
           as_many = refl;
-          lawful = written_keeps IsPublishable old p k.lawful.1;
+          lawful = written_keeps IsPublishable old aux k.lawful.1;
         }
 
     reader_stays : (number : ℕ) (W' : List ℕ) (R' : List Stage) → seen_as L W' s n t ph so R' ≡ (transition old (Reader number)).0 → length R' ≡ length R → IsMachine L W' s n t ph so R'
@@ -173,7 +173,7 @@ module _ (L : Ledger) (W : List ℕ) (s n : ℕ) (t : List ℕ) (ph : Phase) (so
           taken_within = k.taken_within;
           sheet_is = k.sheet_is;
           as_many = long;
-          lawful = step_keeps IsPublishable old p k.lawful.1 number;
+          lawful = step_keeps IsPublishable old aux k.lawful.1 number;
         }
 
     pub publish_stays : (t' : List ℕ) (ph' : Phase) → t' ≡ sheet_of L → IsPublishable L.opening L.journal → seen_as L W s n t' ph' so R ≡ (transition old Publish).0 → IsMachine L W s n t' ph' so R
@@ -185,7 +185,7 @@ module _ (L : Ledger) (W : List ℕ) (s n : ℕ) (t : List ℕ) (ph : Phase) (so
           taken_within = omega arith;
           sheet_is = e ∙ ap (sheet L.opening) (sym (take-length L.journal) ∙ ap (λ (x : ℕ). take x L.journal) (sym front));
           as_many = refl;
-          lawful = publish_keeps IsPublishable old p k.lawful.1 legal;
+          lawful = publish_keeps IsPublishable old aux k.lawful.1 legal;
         }
 
     -- a command is accepted
@@ -216,7 +216,7 @@ module _ (L : Ledger) (W : List ℕ) (s n : ℕ) (t : List ℕ) (ph : Phase) (so
           taken_within = omega arith;
           sheet_is = k.sheet_is ∙ ap (sheet L.opening) (sym (take-append-le (front_of t) L.journal (command ∷ []) k.taken_within));
           few = k.few;
-          lawful = (p, subst (λ (m : MachineState). IsLawful IsPublishable m p) (sym (submitted_in (appended L command) command refl)) (accepted_keeps IsPublishable old p k.lawful.1 command idle));
+          lawful = (aux, subst (λ (m : MachineState). IsLawful IsPublishable m aux) (sym (submitted_in (appended L command) command refl)) (accepted_keeps IsPublishable old aux k.lawful.1 command idle));
         }
 
     -- whatever the verdict

@@ -63,21 +63,21 @@ others r number (Leaving side words) ne = ap (λ (b : Bool). cond b (words ∷ [
 
 -- where readers and records stand as they did, and nothing is told of a reader
 abbrev Tells : MachineState → Auxiliary → (ℕ → List (List ℕ)) → Type 0
-Tells m p told = (r : ℕ) (stage : Stage) → slice_get m.readers r ≡ Some stage → record_at p.records r ≡ told r ++ about_to_leave stage
+Tells m aux told = (r : ℕ) (stage : Stage) → slice_get m.readers r ≡ Some stage → record_at aux.records r ≡ told r ++ about_to_leave stage
 
 abbrev After : MachineState → Auxiliary → (ℕ → List (List ℕ)) → Note → Type 0
-After m p told note = Tells m p (λ r. told r ++ told_of (suc r) note)
+After m aux told note = Tells m aux (λ r. told r ++ told_of (suc r) note)
 
-silent : (m : MachineState) (p : Auxiliary) (told : ℕ → List (List ℕ)) → Tells m p told → Tells m p (λ r. told r ++ [])
-silent m p told h r stage at = h r stage at ∙ ap (λ (l : List (List ℕ)). l ++ about_to_leave stage) (sym (append-nil (told r)))
+silent : (m : MachineState) (aux : Auxiliary) (told : ℕ → List (List ℕ)) → Tells m aux told → Tells m aux (λ r. told r ++ [])
+silent m aux told h r stage at = h r stage at ∙ ap (λ (l : List (List ℕ)). l ++ about_to_leave stage) (sym (append-nil (told r)))
 
-after_submit : (m : MachineState) (p : Auxiliary) (told : ℕ → List (List ℕ)) → Tells m p told → (command : Command) (v : Result ⊤ Refusal) → let t = submitted m command v in After t.0 p told t.1
-after_submit m p told h command (Ok u) = silent m p told h
-after_submit m p told h command (Err refusal) = silent m p told h
+after_submit : (m : MachineState) (aux : Auxiliary) (told : ℕ → List (List ℕ)) → Tells m aux told → (command : Command) (v : Result ⊤ Refusal) → let t = submitted m command v in After t.0 aux told t.1
+after_submit m aux told h command (Ok u) = silent m aux told h
+after_submit m aux told h command (Err refusal) = silent m aux told h
 
-after_publish : (m : MachineState) (p : Auxiliary) (told : ℕ → List (List ℕ)) → Tells m p told → (b : Bool) → let t = published_by m b in After t.0 p told t.1
-after_publish m p told h true = silent m p told h
-after_publish m p told h false = silent m p told h
+after_publish : (m : MachineState) (aux : Auxiliary) (told : ℕ → List (List ℕ)) → Tells m aux told → (b : Bool) → let t = published_by m b in After t.0 aux told t.1
+after_publish m aux told h true = silent m aux told h
+after_publish m aux told h false = silent m aux told h
 
 quiet_look : (m : MachineState) (number k : ℕ) (b : Bool) → told_of number (cond b Moved (Busy k)) ≡ []
 quiet_look m number k true = refl
@@ -89,60 +89,60 @@ quiet_writer m number Seeing = quiet_look m number _ _
 quiet_writer m number (Filling k) = refl
 quiet_writer m number Swapping = refl
 
-after_read : (m : MachineState) (p : Auxiliary) (told : ℕ → List (List ℕ)) → Tells m p told → length p.records ≡ length m.readers → (r : ℕ) (o : Option Stage) → slice_get m.readers r ≡ o
-    → let t = reader_transition m r o in After t.0 (auxiliary_reader_step m p r o) told t.1
-after_read m p told h long r None at = silent m p told h
-after_read m p told h long r (Some stage) at = λ q later there.
+after_read : (m : MachineState) (aux : Auxiliary) (told : ℕ → List (List ℕ)) → Tells m aux told → length aux.records ≡ length m.readers → (r : ℕ) (o : Option Stage) → slice_get m.readers r ≡ o
+    → let t = reader_transition m r o in After t.0 (auxiliary_reader_step m aux r o) told t.1
+after_read m aux told h long r None at = silent m aux told h
+after_read m aux told h long r (Some stage) at = λ q later there.
     let d = stage_action r stage in
     let found : ℕ = get_or m.words d.word 0 in
-    let readings : List (List ℕ) = recorded stage (d.after found) (record_at p.records r) in
-    let here : r < length p.records = let i = inside m.readers r stage at in omega arith in
+    let readings : List (List ℕ) = recorded stage (d.after found) (record_at aux.records r) in
+    let here : r < length aux.records = let i = inside m.readers r stage at in omega arith in
     ⊎_elim
     (λ (e : (q ≡ r) × (d.after found ≡ later)).
-    ap (λ (k : ℕ). record_at (set p.records r readings) k) e.0
-    ∙ (record_here p.records r readings here
-    ∙ (own r found stage (record_at p.records r) (told r) (h r stage at)
+    ap (λ (k : ℕ). record_at (set aux.records r readings) k) e.0
+    ∙ (record_here aux.records r readings here
+    ∙ (own r found stage (record_at aux.records r) (told r) (h r stage at)
     ∙ λ i. (told (sym e.0 i) ++ told_of (suc (sym e.0 i)) (stage_note (suc r) stage)) ++ about_to_leave (e.1 i))))
     (λ (e : (q ≢ r) × (slice_get m.readers q ≡ Some later)).
-    record_else p.records r q readings e.0
+    record_else aux.records r q readings e.0
     ∙ (h q later e.1
     ∙ ap (λ (l : List (List ℕ)). l ++ about_to_leave later) (sym (append-nil (told q)) ∙ ap (λ (l : List (List ℕ)). told q ++ l) (sym (others r (suc q) stage (λ s. e.0 (omega arith)))))))
     (at_set m.readers r q (d.after found) later there)
 
-after_event : (m : MachineState) (p : Auxiliary) (told : ℕ → List (List ℕ)) → Tells m p told → length p.records ≡ length m.readers → (event : Event) → After (transition m event).0 (auxiliary_step m p event) told (transition m event).1
-after_event m p told h long (Submit command) =
-    elim (is_idle m.writer.phase) as (λ b. let t = cond b (submitted m command (verdict_of m.ledger command)) (m, Skipped) in After t.0 p told t.1) [ true ↦ after_submit m p told h command (verdict_of m.ledger command) | false ↦ silent m p told h ]
-after_event m p told h long Publish =
-    elim (is_idle m.writer.phase) as (λ b. let t = cond b (published_by m (is_pending m)) (m, Skipped) in After t.0 p told t.1) [ true ↦ after_publish m p told h (is_pending m) | false ↦ silent m p told h ]
-after_event m p told h long Writer = λ r stage at.
-    silent m p told h r stage at ∙ ap (λ (l : List (List ℕ)). (told r ++ l) ++ about_to_leave stage) (sym (quiet_writer m (suc r) m.writer.phase))
-after_event m p told h long (Reader zero) = silent m p told h
-after_event m p told h long (Reader (suc r)) = after_read m p told h long r (slice_get m.readers r) refl
+after_event : (m : MachineState) (aux : Auxiliary) (told : ℕ → List (List ℕ)) → Tells m aux told → length aux.records ≡ length m.readers → (event : Event) → After (transition m event).0 (auxiliary_step m aux event) told (transition m event).1
+after_event m aux told h long (Submit command) =
+    elim (is_idle m.writer.phase) as (λ b. let t = cond b (submitted m command (verdict_of m.ledger command)) (m, Skipped) in After t.0 aux told t.1) [ true ↦ after_submit m aux told h command (verdict_of m.ledger command) | false ↦ silent m aux told h ]
+after_event m aux told h long Publish =
+    elim (is_idle m.writer.phase) as (λ b. let t = cond b (published_by m (is_pending m)) (m, Skipped) in After t.0 aux told t.1) [ true ↦ after_publish m aux told h (is_pending m) | false ↦ silent m aux told h ]
+after_event m aux told h long Writer = λ r stage at.
+    silent m aux told h r stage at ∙ ap (λ (l : List (List ℕ)). (told r ++ l) ++ about_to_leave stage) (sym (quiet_writer m (suc r) m.writer.phase))
+after_event m aux told h long (Reader zero) = silent m aux told h
+after_event m aux told h long (Reader (suc r)) = after_read m aux told h long r (slice_get m.readers r) refl
 
 -- there are as many records as readers
-as_many : (m : MachineState) (p : Auxiliary) → length p.records ≡ length m.readers → (event : Event) → length (auxiliary_step m p event).records ≡ length (transition m event).0.readers
-as_many m p long (Submit command) =
-    elim (is_idle m.writer.phase) as (λ b. length p.records ≡ length (cond b (submitted m command (verdict_of m.ledger command)) (m, Skipped)).0.readers) [ true ↦ long | false ↦ long ]
-as_many m p long Publish =
-    elim (is_idle m.writer.phase) as (λ b. length p.records ≡ length (cond b (published_by m (is_pending m)) (m, Skipped)).0.readers) [
-      | true ↦ elim (is_pending m) as (λ c. length p.records ≡ length (published_by m c).0.readers) [ true ↦ long | false ↦ long ]
+as_many : (m : MachineState) (aux : Auxiliary) → length aux.records ≡ length m.readers → (event : Event) → length (auxiliary_step m aux event).records ≡ length (transition m event).0.readers
+as_many m aux long (Submit command) =
+    elim (is_idle m.writer.phase) as (λ b. length aux.records ≡ length (cond b (submitted m command (verdict_of m.ledger command)) (m, Skipped)).0.readers) [ true ↦ long | false ↦ long ]
+as_many m aux long Publish =
+    elim (is_idle m.writer.phase) as (λ b. length aux.records ≡ length (cond b (published_by m (is_pending m)) (m, Skipped)).0.readers) [
+      | true ↦ elim (is_pending m) as (λ c. length aux.records ≡ length (published_by m c).0.readers) [ true ↦ long | false ↦ long ]
       | false ↦ long
     ]
-as_many m p long Writer = long
-as_many m p long (Reader zero) = long
-as_many m p long (Reader (suc r)) =
-    elim (slice_get m.readers r) as (λ o. length (auxiliary_reader_step m p r o).records ≡ length (reader_transition m r o).0.readers) [
+as_many m aux long Writer = long
+as_many m aux long (Reader zero) = long
+as_many m aux long (Reader (suc r)) =
+    elim (slice_get m.readers r) as (λ o. length (auxiliary_reader_step m aux r o).records ≡ length (reader_transition m r o).0.readers) [
       | None ↦ long
       | Some stage ↦ let d = stage_action r stage in
           let found : ℕ = get_or m.words d.word 0 in
-          length-set p.records r (recorded stage (d.after found) (record_at p.records r)) ∙ (long ∙ sym (length-set m.readers r (d.after found)))
+          length-set aux.records r (recorded stage (d.after found) (record_at aux.records r)) ∙ (long ∙ sym (length-set m.readers r (d.after found)))
     ]
 
-told_all : (events : List Event) (m : MachineState) (p : Auxiliary) (told : ℕ → List (List ℕ)) → Tells m p told → length p.records ≡ length m.readers
-    → Tells (after m events) (auxiliary_steps m p events) (λ r. told r ++ sheets_told (suc r) (notes m events))
-told_all [] m p told h long = silent m p told h
-told_all (event ∷ events) m p told h long = λ r stage at.
-    told_all events (transition m event).0 (auxiliary_step m p event) (λ q. told q ++ told_of (suc q) (transition m event).1) (after_event m p told h long event) (as_many m p long event) r stage at
+told_all : (events : List Event) (m : MachineState) (aux : Auxiliary) (told : ℕ → List (List ℕ)) → Tells m aux told → length aux.records ≡ length m.readers
+    → Tells (after m events) (auxiliary_steps m aux events) (λ r. told r ++ sheets_told (suc r) (notes m events))
+told_all [] m aux told h long = silent m aux told h
+told_all (event ∷ events) m aux told h long = λ r stage at.
+    told_all events (transition m event).0 (auxiliary_step m aux event) (λ q. told q ++ told_of (suc q) (transition m event).1) (after_event m aux told h long event) (as_many m aux long event) r stage at
     ∙ ap (λ (l : List (List ℕ)). l ++ about_to_leave stage) (append_assoc (told r) (told_of (suc r) (transition m event).1) (sheets_told (suc r) (notes (transition m event).0 events)))
 
 stage_at_start : (n r : ℕ) (stage : Stage) → slice_get (replicate n AtRest) r ≡ Some stage → AtRest ≡ stage
@@ -252,8 +252,8 @@ module _ (ledger : Ledger) (readers : ℕ) (events : List Event) where
   abbrev m : MachineState
   m = after (started ledger readers) events
 
-  abbrev p : Auxiliary
-  p = auxiliary_steps (started ledger readers) (auxiliary_start ledger readers) events
+  abbrev aux : Auxiliary
+  aux = auxiliary_steps (started ledger readers) (auxiliary_start ledger readers) events
 
   abbrev told : ℕ → List (List ℕ)
   told number = sheets_told number (notes (started ledger readers) events)
@@ -263,13 +263,13 @@ module _ (ledger : Ledger) (readers : ℕ) (events : List Event) where
       told_all events (started ledger readers) (auxiliary_start ledger readers) (λ r. [])
       (λ r stage at. record_at_start readers r ∙ ap about_to_leave (stage_at_start readers r stage at)) (as_many_at_start readers)
 
-  from_record : AreRecords m.ledger.opening m.writer.published p.cuts p.records → (r : ℕ) (stage : Stage) → slice_get m.readers r ≡ Some stage → IsNonDecreasingBy front_of (told (suc r))
+  from_record : AreRecords m.ledger.opening m.writer.published aux.cuts aux.records → (r : ℕ) (stage : Stage) → slice_get m.readers r ≡ Some stage → IsNonDecreasingBy front_of (told (suc r))
   from_record legal r stage at =
-      first_rise (told (suc r)) (about_to_leave stage) (record_at p.records r) (run_told r stage at)
-      (IsNonDecreasingBy-from_default front_of (record_at p.records r) []
-      (fronts_rise m.ledger.opening m.writer.published p.cuts 0 (record_at p.records r) (record_of m.ledger.opening m.writer.published p.cuts p.records legal r)))
+      first_rise (told (suc r)) (about_to_leave stage) (record_at aux.records r) (run_told r stage at)
+      (IsNonDecreasingBy-from_default front_of (record_at aux.records r) []
+      (fronts_rise m.ledger.opening m.writer.published aux.cuts 0 (record_at aux.records r) (record_of m.ledger.opening m.writer.published aux.cuts aux.records legal r)))
 
-  never_older_of : AreRecords m.ledger.opening m.writer.published p.cuts p.records → (r : ℕ) (o : Option Stage) → slice_get (started ledger readers).readers r ≡ o → IsNonDecreasingBy front_of (told (suc r))
+  never_older_of : AreRecords m.ledger.opening m.writer.published aux.cuts aux.records → (r : ℕ) (o : Option Stage) → slice_get (started ledger readers).readers r ≡ o → IsNonDecreasingBy front_of (told (suc r))
   never_older_of legal r (Some stage) at =
       let later = there m.readers r (subst (λ (n : ℕ). r < n) (sym (readers_all events (started ledger readers))) (inside (started ledger readers).readers r stage at)) in
       from_record legal r later.0 later.1

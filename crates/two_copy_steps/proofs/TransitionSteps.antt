@@ -80,61 +80,61 @@ still_whole opening w Swapping found journal e h = λ _. h (ap is_idle e)
 
 module _ (Legal : Opening → List Command → Type 0) where
   abbrev Keeps : MachineState → Auxiliary → Event → Type 0
-  Keeps m p event = IsLawful Legal (transition m event).0 (auxiliary_step m p event)
+  Keeps m aux event = IsLawful Legal (transition m event).0 (auxiliary_step m aux event)
 
   -- a reader's step
-  read_keeps : (m : MachineState) (p : Auxiliary) → IsLawful Legal m p → (r : ℕ) (o : Option Stage) → slice_get m.readers r ≡ o
-      → IsLawful Legal (reader_transition m r o).0 (auxiliary_reader_step m p r o)
-  read_keeps m p l r None at = l
-  read_keeps m p l r (Some stage) at =
+  read_keeps : (m : MachineState) (aux : Auxiliary) → IsLawful Legal m aux → (r : ℕ) (o : Option Stage) → slice_get m.readers r ≡ o
+      → IsLawful Legal (reader_transition m r o).0 (auxiliary_reader_step m aux r o)
+  read_keeps m aux l r None at = l
+  read_keeps m aux l r (Some stage) at =
       let d = stage_action r stage in
       let found : ℕ = get_or m.words d.word 0 in
-      let readings : List (List ℕ) = recorded stage (d.after found) (record_at p.records r) in
-      let here : r < length p.records = subst (λ (n : ℕ). r < n) (sym l.each_record) (inside m.readers r stage at) in
-      let kept = reader_keeps m.ledger.opening (Legal m.ledger.opening) (state_of m p) l.state r (view_at stage (record_at p.records r)) (viewed_at m.readers p.records r stage at) in
+      let readings : List (List ℕ) = recorded stage (d.after found) (record_at aux.records r) in
+      let here : r < length aux.records = subst (λ (n : ℕ). r < n) (sym l.each_record) (inside m.readers r stage at) in
+      let kept = reader_keeps m.ledger.opening (Legal m.ledger.opening) (state_of m aux) l.state r (view_at stage (record_at aux.records r)) (viewed_at m.readers aux.records r stage at) in
       record {
         state = subst (λ (views : List ReaderView). Lawful m.ledger.opening (Legal m.ledger.opening)
-            (let s : State = record { words = set m.words d.word (d.becomes found); writer = record { state = m.writer; cuts = p.cuts }; readers = views } in s))
-            (sym (viewed_set m.readers p.records r (d.after found) readings here)) kept;
+            (let s : State = record { words = set m.words d.word (d.becomes found); writer = record { state = m.writer; cuts = aux.cuts }; readers = views } in s))
+            (sym (viewed_set m.readers aux.records r (d.after found) readings here)) kept;
         extends = l.extends;
         whole = l.whole;
-        each_record = length-set p.records r readings ∙ (l.each_record ∙ sym (length-set m.readers r (d.after found)));
+        each_record = length-set aux.records r readings ∙ (l.each_record ∙ sym (length-set m.readers r (d.after found)));
       }
 
   -- the writer's step
-  pub written_keeps : (m : MachineState) (p : Auxiliary) → IsLawful Legal m p → Keeps m p Writer
-  written_keeps m p l =
+  pub written_keeps : (m : MachineState) (aux : Auxiliary) → IsLawful Legal m aux → Keeps m aux Writer
+  written_keeps m aux l =
       let w = m.writer in
       let opening = m.ledger.opening in
       let found : ℕ = get_or m.words (writing_action (sheet opening) w).word 0 in
       record {
-        state = writer_keeps opening (Legal opening) (state_of m p) l.state;
+        state = writer_keeps opening (Legal opening) (state_of m aux) l.state;
         extends = (l.extends.0, ap (λ (commands : List Command). commands ++ l.extends.0) (taken_kept opening w w.phase found) ∙ l.extends.1);
         whole = still_whole opening w w.phase found m.ledger.journal refl l.whole;
         each_record = l.each_record;
       }
 
   -- a publication begins, or nothing is pending
-  published_keeps : (m : MachineState) (p : Auxiliary) → IsLawful Legal m p → Legal m.ledger.opening m.ledger.journal → (b : Bool) → IsLawful Legal (published_by m b).0 p
-  published_keeps m p l legal false = l
-  published_keeps m p l legal true =
+  published_keeps : (m : MachineState) (aux : Auxiliary) → IsLawful Legal m aux → Legal m.ledger.opening m.ledger.journal → (b : Bool) → IsLawful Legal (published_by m b).0 aux
+  published_keeps m aux l legal false = l
+  published_keeps m aux l legal true =
       record {
-        state = begin_keeps m.ledger.opening (Legal m.ledger.opening) (state_of m p) l.state m.ledger.journal l.extends.0 legal l.extends.1;
+        state = begin_keeps m.ledger.opening (Legal m.ledger.opening) (state_of m aux) l.state m.ledger.journal l.extends.0 legal l.extends.1;
         extends = ([], append-nil m.ledger.journal);
         whole = λ _. refl;
         each_record = l.each_record;
       }
 
-  pub publish_keeps : (m : MachineState) (p : Auxiliary) → IsLawful Legal m p → Legal m.ledger.opening m.ledger.journal → Keeps m p Publish
-  publish_keeps m p l legal =
-      elim (is_idle m.writer.phase) as (λ b. IsLawful Legal (cond b (published_by m (is_pending m)) (m, Skipped)).0 p) [ true ↦ published_keeps m p l legal (is_pending m) | false ↦ l ]
+  pub publish_keeps : (m : MachineState) (aux : Auxiliary) → IsLawful Legal m aux → Legal m.ledger.opening m.ledger.journal → Keeps m aux Publish
+  publish_keeps m aux l legal =
+      elim (is_idle m.writer.phase) as (λ b. IsLawful Legal (cond b (published_by m (is_pending m)) (m, Skipped)).0 aux) [ true ↦ published_keeps m aux l legal (is_pending m) | false ↦ l ]
 
   true_not_false : true ≡ false → ⊥
   true_not_false e = cc
 
   -- the register accepts a command
-  pub accepted_keeps : (m : MachineState) (p : Auxiliary) → IsLawful Legal m p → (command : Command) → is_idle m.writer.phase ≡ true → IsLawful Legal (record m { ledger = appended m.ledger command }) p
-  accepted_keeps m p l command idle =
+  pub accepted_keeps : (m : MachineState) (aux : Auxiliary) → IsLawful Legal m aux → (command : Command) → is_idle m.writer.phase ≡ true → IsLawful Legal (record m { ledger = appended m.ledger command }) aux
+  accepted_keeps m aux l command idle =
       record {
         state = l.state;
         extends = (l.extends.0 ++ command ∷ [], sym (append_assoc m.writer.taken l.extends.0 (command ∷ [])) ∙ ap (λ (commands : List Command). commands ++ command ∷ []) l.extends.1);
@@ -142,43 +142,43 @@ module _ (Legal : Opening → List Command → Type 0) where
         each_record = l.each_record;
       }
 
-  submitted_keeps : (m : MachineState) (p : Auxiliary) → IsLawful Legal m p → (command : Command) (v : Result ⊤ Refusal) → is_idle m.writer.phase ≡ true → IsLawful Legal (submitted m command v).0 p
-  submitted_keeps m p l command (Ok u) idle = accepted_keeps m p l command idle
-  submitted_keeps m p l command (Err refusal) idle = l
+  submitted_keeps : (m : MachineState) (aux : Auxiliary) → IsLawful Legal m aux → (command : Command) (v : Result ⊤ Refusal) → is_idle m.writer.phase ≡ true → IsLawful Legal (submitted m command v).0 aux
+  submitted_keeps m aux l command (Ok u) idle = accepted_keeps m aux l command idle
+  submitted_keeps m aux l command (Err refusal) idle = l
 
-  pub submit_keeps : (m : MachineState) (p : Auxiliary) → IsLawful Legal m p → (command : Command) → Keeps m p (Submit command)
-  submit_keeps m p l command =
-      elim (is_idle m.writer.phase) as (λ b. is_idle m.writer.phase ≡ b → IsLawful Legal (cond b (submitted m command (verdict_of m.ledger command)) (m, Skipped)).0 p)
-      [ true ↦ λ idle. submitted_keeps m p l command (verdict_of m.ledger command) idle | false ↦ λ busy. l ] refl
+  pub submit_keeps : (m : MachineState) (aux : Auxiliary) → IsLawful Legal m aux → (command : Command) → Keeps m aux (Submit command)
+  submit_keeps m aux l command =
+      elim (is_idle m.writer.phase) as (λ b. is_idle m.writer.phase ≡ b → IsLawful Legal (cond b (submitted m command (verdict_of m.ledger command)) (m, Skipped)).0 aux)
+      [ true ↦ λ idle. submitted_keeps m aux l command (verdict_of m.ledger command) idle | false ↦ λ busy. l ] refl
 
   -- the step of an actor
-  pub step_keeps : (m : MachineState) (p : Auxiliary) → IsLawful Legal m p → (number : ℕ) → Keeps m p (Reader number)
-  step_keeps m p l zero = l
-  step_keeps m p l (suc r) = read_keeps m p l r (slice_get m.readers r) refl
+  pub step_keeps : (m : MachineState) (aux : Auxiliary) → IsLawful Legal m aux → (number : ℕ) → Keeps m aux (Reader number)
+  step_keeps m aux l zero = l
+  step_keeps m aux l (suc r) = read_keeps m aux l r (slice_get m.readers r) refl
 
   -- whatever the event
-  pub transition_keeps : (m : MachineState) (p : Auxiliary) → IsLawful Legal m p → Legal m.ledger.opening m.ledger.journal → (event : Event) → Keeps m p event
-  transition_keeps m p l legal (Submit command) = submit_keeps m p l command
-  transition_keeps m p l legal Publish = publish_keeps m p l legal
-  transition_keeps m p l legal Writer = written_keeps m p l
-  transition_keeps m p l legal (Reader number) = step_keeps m p l number
+  pub transition_keeps : (m : MachineState) (aux : Auxiliary) → IsLawful Legal m aux → Legal m.ledger.opening m.ledger.journal → (event : Event) → Keeps m aux event
+  transition_keeps m aux l legal (Submit command) = submit_keeps m aux l command
+  transition_keeps m aux l legal Publish = publish_keeps m aux l legal
+  transition_keeps m aux l legal Writer = written_keeps m aux l
+  transition_keeps m aux l legal (Reader number) = step_keeps m aux l number
 
   -- the records of a lawful machine are legal
-  pub records_are : (m : MachineState) (p : Auxiliary) → IsLawful Legal m p → AreRecords m.ledger.opening m.writer.published p.cuts p.records
-  records_are m p l =
-      records_from_each m.ledger.opening m.writer.published p.cuts p.records
+  pub records_are : (m : MachineState) (aux : Auxiliary) → IsLawful Legal m aux → AreRecords m.ledger.opening m.writer.published aux.cuts aux.records
+  records_are m aux l =
+      records_from_each m.ledger.opening m.writer.published aux.cuts aux.records
       (λ r readings e.
-      let here : r < length m.readers = subst (λ (n : ℕ). r < n) l.each_record (inside p.records r readings e) in
+      let here : r < length m.readers = subst (λ (n : ℕ). r < n) l.each_record (inside aux.records r readings e) in
       let there = stage_there m.readers r here in
-      subst (λ (x : List (List ℕ)). IsRecordFrom m.ledger.opening m.writer.published p.cuts 0 x) (record_there p.records r readings e)
-      (l.state.each_reader r (view_at there.0 (record_at p.records r)) (viewed_at m.readers p.records r there.0 there.1)).record_legal)
+      subst (λ (x : List (List ℕ)). IsRecordFrom m.ledger.opening m.writer.published aux.cuts 0 x) (record_there aux.records r readings e)
+      (l.state.each_reader r (view_at there.0 (record_at aux.records r)) (viewed_at m.readers aux.records r there.0 there.1)).record_legal)
 
-  holds_held : (m : MachineState) (p : Auxiliary) → IsLawful Legal m p → (side r : ℕ) (stage : Stage) → Stands m.ledger.opening (Legal m.ledger.opening) m.words (state_of m p).writer (record_at p.records r) r stage
-      → side_held stage ≡ Some side → HoldsCopy m.ledger.opening (Legal m.ledger.opening) m.words (state_of m p).writer (record_at p.records r) r side
-  holds_held m p l side r AtRest h e = absurd (none-some side e)
-  holds_held m p l side r Arrived h e = absurd (none-some side e)
-  holds_held m p l side r (Reading s words) h e = subst (λ (z : ℕ). HoldsCopy m.ledger.opening (Legal m.ledger.opening) m.words (state_of m p).writer (record_at p.records r) r z) (same_Some s side e) h.0
-  holds_held m p l side r (Leaving s words) h e = subst (λ (z : ℕ). HoldsCopy m.ledger.opening (Legal m.ledger.opening) m.words (state_of m p).writer (record_at p.records r) r z) (same_Some s side e) h.0
+  holds_held : (m : MachineState) (aux : Auxiliary) → IsLawful Legal m aux → (side r : ℕ) (stage : Stage) → Stands m.ledger.opening (Legal m.ledger.opening) m.words (state_of m aux).writer (record_at aux.records r) r stage
+      → side_held stage ≡ Some side → HoldsCopy m.ledger.opening (Legal m.ledger.opening) m.words (state_of m aux).writer (record_at aux.records r) r side
+  holds_held m aux l side r AtRest h e = absurd (none-some side e)
+  holds_held m aux l side r Arrived h e = absurd (none-some side e)
+  holds_held m aux l side r (Reading s words) h e = subst (λ (z : ℕ). HoldsCopy m.ledger.opening (Legal m.ledger.opening) m.words (state_of m aux).writer (record_at aux.records r) r z) (same_Some s side e) h.0
+  holds_held m aux l side r (Leaving s words) h e = subst (λ (z : ℕ). HoldsCopy m.ledger.opening (Legal m.ledger.opening) m.words (state_of m aux).writer (record_at aux.records r) r z) (same_Some s side e) h.0
 
   not_other : (side : ℕ) → side ≢ other side
   not_other zero e = omega arith
@@ -190,16 +190,16 @@ module _ (Legal : Opening → List Command → Type 0) where
     pub at : slice_get m.readers r ≡ Some stage
     pub held : side_held stage ≡ Some side
 
-  none_there : (m : MachineState) (p : Auxiliary) → IsLawful Legal m p → (phase : Phase) → m.writer.phase ≡ phase → (side r : ℕ) → side_filled m.writer.side phase ≡ Some side → Holds m side r → ⊥
-  none_there m p l Idle is side r e h = none-some side e
-  none_there m p l Seeing is side r e h = none-some side e
-  none_there m p l Swapping is side r e h = none-some side e
-  none_there m p l (Filling k) is side r e h =
-      let ok = l.state.each_reader r (view_at h.stage (record_at p.records r)) (viewed_at m.readers p.records r h.stage h.at) in
-      let b = holds_held m p l side r h.stage ok.stands h.held in
-      let same : side ≡ m.writer.side = no_reader_there m.ledger.opening (Legal m.ledger.opening) (state_of m p) k l.state is r side (record_at p.records r) b in
+  none_there : (m : MachineState) (aux : Auxiliary) → IsLawful Legal m aux → (phase : Phase) → m.writer.phase ≡ phase → (side r : ℕ) → side_filled m.writer.side phase ≡ Some side → Holds m side r → ⊥
+  none_there m aux l Idle is side r e h = none-some side e
+  none_there m aux l Seeing is side r e h = none-some side e
+  none_there m aux l Swapping is side r e h = none-some side e
+  none_there m aux l (Filling k) is side r e h =
+      let ok = l.state.each_reader r (view_at h.stage (record_at aux.records r)) (viewed_at m.readers aux.records r h.stage h.at) in
+      let b = holds_held m aux l side r h.stage ok.stands h.held in
+      let same : side ≡ m.writer.side = no_reader_there m.ledger.opening (Legal m.ledger.opening) (state_of m aux) k l.state is r side (record_at aux.records r) b in
       not_other m.writer.side (sym same ∙ sym (same_Some (other m.writer.side) side e))
 
   -- no word is stored under a reader
-  pub none_under : (m : MachineState) (p : Auxiliary) → IsLawful Legal m p → NoneUnder m
-  none_under m p l side r stage e at held = none_there m p l m.writer.phase refl side r e record { stage = stage; at = at; held = held }
+  pub none_under : (m : MachineState) (aux : Auxiliary) → IsLawful Legal m aux → NoneUnder m
+  none_under m aux l side r stage e at held = none_there m aux l m.writer.phase refl side r e record { stage = stage; at = at; held = held }

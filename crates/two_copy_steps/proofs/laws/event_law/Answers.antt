@@ -10,7 +10,7 @@ use Rattle.two_copy_steps.proofs.Journals.{journal_accepted, journal_within, sta
 use Rattle.two_copy_steps.proofs.laws.event_law.Goals as goal
 
 pub returns-clause-lawful : goal.returns-clause-lawful
-returns-clause-lawful c = λ m p l legal event. transition_keeps IsPublishable m p l legal event
+returns-clause-lawful c = λ m aux l legal event. transition_keeps IsPublishable m aux l legal event
 
 -- the register after an event
 journal_kept : (m : MachineState) → IsLedger m.ledger → (event : Event) → IsLedger (transition m event).0.ledger
