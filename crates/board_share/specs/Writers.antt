@@ -21,8 +21,8 @@ use Rattle.board_share.specs.declared.views.History.{History}
 use Rattle.board_share.specs.Histories.{Adds, KnowsAfter, handed_over, is_writers, known_after, last_told, machine_of}
 use Rattle.board_share.specs.Steps.{WriterActed, begin_events, begun_with, step_note, with_writer}
 
--- what contracts see of a `WordWriter`: the register, what its seat knows, the commands of a publication that has begun
--- and has not taken a step yet, and what happened on the board up to the writer's last step
+-- what contracts see of a `WordWriter`, step by step: the register, what its seat knows, the commands of a publication
+-- that has begun and has not taken a step yet, and what happened on the board up to the writer's last step
 pub record WriterSeen : Type 0 where
   pub ledger : Ledger
   pub held : WriterView
@@ -190,8 +190,8 @@ pub record Filled (from to : ℕ) (before after : WriterSeen) : Type 0 where
   pub stored : IsFilling after to
   pub steps : WroteSteps (to - from) before after
 
--- what contracts see of a `Writer`: its register, the commands published, the lengths of the lists published so far,
--- who is seen out, and what happened on the board up to its last step
+-- what contracts see of a `Writer`, whose calls are whole: its register, the commands published, the lengths of the
+-- lists published so far, who is seen out, and what happened on the board up to its last step
 pub record Publisher : Type 0 where
   pub ledger : Ledger
   pub published : List Command
