@@ -25,17 +25,17 @@ partners-any least mask entries none =
     count_agree (λ e. nat_le least (count_ones mask + size_of e)) (λ e. true) entries (λ k d h. le-leb least _ (omega (arith, none))) ∙ count_all entries
 
 -- by the places of a chain, once the set is passed
-pub any_partners : (least mask : ℕ) (falls : Bool) (up rest : ℕ) (rising falling : List Entry) → least ≡ 0 →
-    cond falls (length rising - (up + cond falls 0 1)) (length falling - (rest - cond falls 1 0)) ≡ cond falls (partners_of least mask (drop up rising)) (partners_of least mask (drop rest falling))
-any_partners least mask true up rest rising falling none = omega (arith, partners-any least mask (drop up rising) none, length-drop up rising)
-any_partners least mask false up rest rising falling none = omega (arith, partners-any least mask (drop rest falling) none, length-drop rest falling)
+pub any_partners : (least high low : ℕ) (falls : Bool) (up rest : ℕ) (rising falling : List Entry) → least ≡ 0 →
+    cond falls (length rising - (up + cond falls 0 1)) (length falling - (rest - cond falls 1 0)) ≡ cond falls (partners_of least high (drop up rising)) (partners_of least low (drop rest falling))
+any_partners least high low true up rest rising falling none = omega (arith, partners-any least high (drop up rising) none, length-drop up rising)
+any_partners least high low false up rest rising falling none = omega (arith, partners-any least low (drop rest falling) none, length-drop rest falling)
 
 few_partners : (least mask : ℕ) (entries : List Entry) → partners_of least mask entries ≤ length entries
 few_partners least mask entries = count_by-le-length (λ (e : Entry). nat_le least (count_ones mask + size_of e)) entries
 
-pub partners_room : (least mask : ℕ) (falls : Bool) (up rest : ℕ) (rising falling : List Entry) → length rising ≤ ROOM → length falling ≤ ROOM → cond falls (partners_of least mask (drop up rising)) (partners_of least mask (drop rest falling)) ≤ ROOM
-partners_room least mask true up rest rising falling few_rising few_falling = omega (arith, few_partners least mask (drop up rising), length-drop up rising)
-partners_room least mask false up rest rising falling few_rising few_falling = omega (arith, few_partners least mask (drop rest falling), length-drop rest falling)
+pub partners_room : (least high low : ℕ) (falls : Bool) (up rest : ℕ) (rising falling : List Entry) → length rising ≤ ROOM → length falling ≤ ROOM → cond falls (partners_of least high (drop up rising)) (partners_of least low (drop rest falling)) ≤ ROOM
+partners_room least high low true up rest rising falling few_rising few_falling = omega (arith, few_partners least high (drop up rising), length-drop up rising)
+partners_room least high low false up rest rising falling few_rising few_falling = omega (arith, few_partners least low (drop rest falling), length-drop rest falling)
 
 and_true : (a b : Bool) → b ≡ true → (a && b) ≡ a
 and_true true b h = h

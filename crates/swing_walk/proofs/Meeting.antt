@@ -13,7 +13,7 @@ use Rattle.half_sums.proofs.Merging.{sum_default}
 use Rattle.half_sums.specs.Merges.{entry_at}
 use Rattle.swing_walk.specs.Pairs.{pairs_where, is_enough, has}
 use Rattle.swing_walk.specs.Sizes.{partners_of}
-use Rattle.swing_walk.specs.Walks.{IsBetween, IsNext, HasCredited}
+use Rattle.swing_walk.specs.Walks.{IsBetween, IsPassed, HasCredited}
 use Rattle.swing_walk.specs.Tallies.{marked, total, IsEven, CreditsEach}
 use Rattle.swing_walk.specs.Sides.{side}
 use Rattle.swing_walk.specs.declared.tally.MaskTally.{MaskTally}
@@ -151,17 +151,17 @@ both_parts test entries others up rest same =
     rw same (sum_by-take-drop (λ l. count_by (test l) others) entries rest)
 
 -- a step: which entry is passed, and what the tallies of the two lists have then
-pub record Pass (quota least up rest p q : ℕ) (rising falling : List Entry) (mask amount : ℕ) (old new : List MaskTally) (falls : Bool) : Type 0 where
+pub record Pass (quota least up rest p q : ℕ) (rising falling : List Entry) (low high : Entry) (amount : ℕ) (old new : List MaskTally) (falls : Bool) : Type 0 where
   pub at : At quota up rest rising falling
-  pub next : IsNext quota falls mask up rest rising falling
+  pub next : IsPassed falls quota low high up rest rising falling
   pub credited : HasCredited quota least up rest rising falling old
-  pub partners : amount ≡ cond falls (partners_of least mask (drop up rising)) (partners_of least mask (drop rest falling))
+  pub partners : amount ≡ cond falls (partners_of least high.mask (drop up rising)) (partners_of least low.mask (drop rest falling))
   pub rising_even : IsEven (side 0 new)
   pub rising_total : total (side 0 new) ≡ total (side 0 old) + cond falls 0 amount
-  pub rising_marked : (slot : ℕ) → marked slot (side 0 new) ≡ marked slot (side 0 old) + bit_at mask slot * cond falls 0 amount
+  pub rising_marked : (slot : ℕ) → marked slot (side 0 new) ≡ marked slot (side 0 old) + bit_at (cond falls high.mask low.mask) slot * cond falls 0 amount
   pub falling_even : IsEven (side 1 new)
   pub falling_total : total (side 1 new) ≡ total (side 1 old) + cond falls amount 0
-  pub falling_marked : (slot : ℕ) → marked slot (side 1 new) ≡ marked slot (side 1 old) + bit_at mask slot * cond falls amount 0
+  pub falling_marked : (slot : ℕ) → marked slot (side 1 new) ≡ marked slot (side 1 old) + bit_at (cond falls high.mask low.mask) slot * cond falls amount 0
   pub next_up : p ≡ up + cond falls 0 1
   pub next_rest : q ≡ rest - cond falls 1 0
 
@@ -170,9 +170,9 @@ pub record Passed (quota least p q : ℕ) (rising falling : List Entry) (new : L
   pub credited : HasCredited quota least p q rising falling new
 
 -- where a falling entry is next, one is left
-pub one_left : (quota : ℕ) (falls : Bool) (mask up rest : ℕ) (rising falling : List Entry) → IsNext quota falls mask up rest rising falling → cond falls 1 0 ≤ rest
-one_left quota true mask up rest rising falling next = omega (arith, next.0)
-one_left quota false mask up rest rising falling next = omega arith
+pub one_left : (quota : ℕ) (falls : Bool) (low high : Entry) (up rest : ℕ) (rising falling : List Entry) → IsPassed falls quota low high up rest rising falling → cond falls 1 0 ≤ rest
+one_left quota true low high up rest rising falling next = omega (arith, next.0)
+one_left quota false low high up rest rising falling next = omega arith
 
 -- and each step passes one
 pub one_step : (falls : Bool) (up rest : ℕ) → cond falls 1 0 ≤ rest → up + cond falls 0 1 + rest ≡ up + (rest - cond falls 1 0) + 1
@@ -188,21 +188,21 @@ pub record Looked (quota up rest : ℕ) (rising falling : List Entry) (low high 
   pub test : falls ≡ (not (ltb up (length rising)) || (ltb 0 rest && nat_le quota (low.sum + high.sum)))
 
 -- the test says which is next
-pub looked : (quota up rest : ℕ) (rising falling : List Entry) (low high : Entry) (falls : Bool) → Looked quota up rest rising falling low high falls → IsNext quota falls (cond falls high.mask low.mask) up rest rising falling
+pub looked : (quota up rest : ℕ) (rising falling : List Entry) (low high : Entry) (falls : Bool) → Looked quota up rest rising falling low high falls → IsPassed falls quota low high up rest rising falling
 looked quota up rest rising falling low high true s =
     let more : up < length rising → (ltb 0 rest && nat_le quota (low.sum + high.sum)) ≡ true = λ h. sym (s.test ∙ ap (λ b. not b || (ltb 0 rest && nat_le quota (low.sum + high.sum))) (lt-ltb up (length rising) h)) in
     let some : 0 < rest = elim (cases_lt up (length rising)) as (λ _. 0 < rest) [
       | inl before ↦ ltb-true 0 rest (and_parts (ltb 0 rest) (nat_le quota (low.sum + high.sum)) (more before)).0
       | inr end ↦ omega (arith, s.some)
     ] in
-    (some, ap (λ (e : Entry). e.mask) (s.high_is some), λ h. omega (arith, leb-true quota (low.sum + high.sum) (and_parts (ltb 0 rest) (nat_le quota (low.sum + high.sum)) (more h)).1, ap (λ (e : Entry). e.sum) (s.low_is h), ap (λ (e : Entry). e.sum) (s.high_is some)))
+    (some, s.high_is some, λ h. omega (arith, leb-true quota (low.sum + high.sum) (and_parts (ltb 0 rest) (nat_le quota (low.sum + high.sum)) (more h)).1, ap (λ (e : Entry). e.sum) (s.low_is h), ap (λ (e : Entry). e.sum) (s.high_is some)))
 looked quota up rest rising falling low high false s =
     let none = or_parts (not (ltb up (length rising))) (ltb 0 rest && nat_le quota (low.sum + high.sum)) (sym s.test) in
     let some : up < length rising = elim (cases_lt up (length rising)) as (λ _. up < length rising) [
       | inl before ↦ before
       | inr end ↦ absurd (let bad : true ≡ false = sym (ap not (le-ltb up (length rising) end)) ∙ none.0 in cc)
     ] in
-    (some, ap (λ (e : Entry). e.mask) (s.low_is some), λ h. omega (arith, leb-false quota (low.sum + high.sum) (sym (ap (λ b. b && nat_le quota (low.sum + high.sum)) (lt-ltb 0 rest h)) ∙ none.1), ap (λ (e : Entry). e.sum) (s.low_is some), ap (λ (e : Entry). e.sum) (s.high_is h)))
+    (some, s.low_is some, λ h. omega (arith, leb-false quota (low.sum + high.sum) (sym (ap (λ b. b && nat_le quota (low.sum + high.sum)) (lt-ltb 0 rest h)) ∙ none.1), ap (λ (e : Entry). e.sum) (s.low_is some), ap (λ (e : Entry). e.sum) (s.high_is h)))
 
 -- where neither list has ended, the sums alone say which entry is next
 pub both_last : (up n rest : ℕ) (reach : Bool) → up < n → 0 < rest → reach ≡ (not (ltb up n) || (ltb 0 rest && reach))
@@ -211,41 +211,41 @@ both_last up n rest reach before some = sym (ap (λ b. not b || (ltb 0 rest && r
 zero_times : (m : ℕ) → m * 0 ≡ 0
 zero_times m = omega arith
 
-pub pass : (quota least up rest p q : ℕ) (rising falling : List Entry) (mask amount : ℕ) (old new : List MaskTally) (falls : Bool) → Pass quota least up rest p q rising falling mask amount old new falls → Passed quota least p q rising falling new
-pass quota least up rest p q rising falling mask amount old new true s =
+pub pass : (quota least up rest p q : ℕ) (rising falling : List Entry) (low high : Entry) (amount : ℕ) (old new : List MaskTally) (falls : Bool) → Pass quota least up rest p q rising falling low high amount old new falls → Passed quota least p q rising falling new
+pass quota least up rest p q rising falling low high amount old new true s =
     let f : Entry = entry_at falling (rest - 1) in
-    let mask_is : mask ≡ f.mask = s.next.1 in
-    let step : Falls quota least up rest rising falling = falls_at quota least up rest rising falling s.at s.next.0 s.next.2 in
+    let high_is : high ≡ f = s.next.1 in
+    let step : Falls quota least up rest rising falling = falls_at quota least up rest rising falling s.at s.next.0 (λ h. omega (arith, s.next.2 h, ap (λ (e : Entry). e.sum) high_is)) in
     let same_up : p ≡ up = omega (arith, s.next_up) in
     let same_rest : q ≡ rest - 1 = omega (arith, s.next_rest) in
-    let partners : amount ≡ partners_of least f.mask (drop up rising) = s.partners ∙ ap (λ m. partners_of least m (drop up rising)) mask_is in
+    let partners : amount ≡ partners_of least f.mask (drop up rising) = s.partners ∙ ap (λ (e : Entry). partners_of least e.mask (drop up rising)) high_is in
     record {
       between = rw (same_up, same_rest) step.between;
       credited = rw (same_up, same_rest) (record {
         rising_even = s.rising_even;
         rising_total = omega (arith, s.rising_total, s.credited.rising_total);
-        rising_marked = λ slot. omega (arith, s.rising_marked slot, s.credited.rising_marked slot, zero_times (bit_at mask slot));
+        rising_marked = λ slot. omega (arith, s.rising_marked slot, s.credited.rising_marked slot, zero_times (bit_at high.mask slot));
         falling_even = s.falling_even;
         falling_total = omega (arith, s.falling_total, s.credited.falling_total, step.total, partners);
-        falling_marked = λ slot. omega (arith, s.falling_marked slot, s.credited.falling_marked slot, step.marks slot, ap (λ m. bit_at m slot * amount) mask_is, ap (λ n. bit_at f.mask slot * n) partners);
+        falling_marked = λ slot. omega (arith, s.falling_marked slot, s.credited.falling_marked slot, step.marks slot, ap (λ (e : Entry). bit_at e.mask slot * amount) high_is, ap (λ n. bit_at f.mask slot * n) partners);
       });
     }
-pass quota least up rest p q rising falling mask amount old new false s =
+pass quota least up rest p q rising falling low high amount old new false s =
     let r : Entry = entry_at rising up in
-    let mask_is : mask ≡ r.mask = s.next.1 in
-    let step : Rises quota least up rest rising falling = rises quota least up rest rising falling s.at s.next.0 s.next.2 in
+    let low_is : low ≡ r = s.next.1 in
+    let step : Rises quota least up rest rising falling = rises quota least up rest rising falling s.at s.next.0 (λ h. omega (arith, s.next.2 h, ap (λ (e : Entry). e.sum) low_is)) in
     let same_up : p ≡ up + 1 = omega (arith, s.next_up) in
     let same_rest : q ≡ rest = omega (arith, s.next_rest) in
-    let partners : amount ≡ partners_of least r.mask (drop rest falling) = s.partners ∙ ap (λ m. partners_of least m (drop rest falling)) mask_is in
+    let partners : amount ≡ partners_of least r.mask (drop rest falling) = s.partners ∙ ap (λ (e : Entry). partners_of least e.mask (drop rest falling)) low_is in
     record {
       between = rw (same_up, same_rest) step.between;
       credited = rw (same_up, same_rest) (record {
         rising_even = s.rising_even;
         rising_total = omega (arith, s.rising_total, s.credited.rising_total, step.total, partners);
-        rising_marked = λ slot. omega (arith, s.rising_marked slot, s.credited.rising_marked slot, step.marks slot, ap (λ m. bit_at m slot * amount) mask_is, ap (λ n. bit_at r.mask slot * n) partners);
+        rising_marked = λ slot. omega (arith, s.rising_marked slot, s.credited.rising_marked slot, step.marks slot, ap (λ (e : Entry). bit_at e.mask slot * amount) low_is, ap (λ n. bit_at r.mask slot * n) partners);
         falling_even = s.falling_even;
         falling_total = omega (arith, s.falling_total, s.credited.falling_total);
-        falling_marked = λ slot. omega (arith, s.falling_marked slot, s.credited.falling_marked slot, zero_times (bit_at mask slot));
+        falling_marked = λ slot. omega (arith, s.falling_marked slot, s.credited.falling_marked slot, zero_times (bit_at low.mask slot));
       });
     }
 

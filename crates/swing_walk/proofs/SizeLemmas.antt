@@ -12,7 +12,7 @@ use Rattle.half_sums.specs.Merges.{entry_at}
 use Rattle.half_sums.proofs.GroupFacts.{sizes_few}
 use Rattle.swing_walk.specs.Sizes.{partners_of, at_least, one_at, counted, CountsBySize}
 use Rattle.swing_walk.specs.Sides.{size_side}
-use Rattle.swing_walk.specs.Walks.{IsNext}
+use Rattle.swing_walk.specs.Walks.{IsPassed}
 use Rattle.swing_walk.specs.declared.partners.BySize.{BySize}
 use Rattle.swing_walk.specs.declared.sizes.TheConstants.{LANES}
 use Rattle.swing_walk.proofs.Counting.{count_none, count_agree}
@@ -121,14 +121,13 @@ reads by size up rest rising falling counts few early within =
     }
 
 -- which are the partners of a set
-pub partners-read : (by : BySize) (least mask lane up rest : ℕ) (rising falling : List Entry) (falls : Bool) (left gone : ℕ) → Reads by lane up rest rising falling → lane ≡ min (least - count_ones mask) SIZES →
+pub partners-read : (by : BySize) (least high low lane up rest : ℕ) (rising falling : List Entry) (falls : Bool) (left gone : ℕ) → Reads by lane up rest rising falling → lane ≡ min (least - count_ones (cond falls high low)) SIZES →
     All (λ e. e.mask < 2 ^ SLOTS) rising → All (λ e. e.mask < 2 ^ SLOTS) falling → left ≡ length rising - get_or by.fewer lane 0 - counted lane (size_side 0 by.passed) → gone ≡ counted lane (size_side 1 by.passed) →
-    cond falls left gone ≡ cond falls (partners_of least mask (drop up rising)) (partners_of least mask (drop rest falling))
-partners-read by least mask lane up rest rising falling falls left gone r is rising_slots falling_slots is_left is_gone =
-    let P : Entry → Type 0 = λ e. e.mask < 2 ^ SLOTS in
-    let of_left : left ≡ partners_of least mask (drop up rising) = omega (arith, is_left, r.left, partners-lacking least mask lane (drop up rising) (All-drop P up rising rising_slots) is) in
-    let of_gone : gone ≡ partners_of least mask (drop rest falling) = omega (arith, is_gone, r.gone, partners-lacking least mask lane (drop rest falling) (All-drop P rest falling falling_slots) is) in
-    rw (of_left, of_gone) refl
+    cond falls left gone ≡ cond falls (partners_of least high (drop up rising)) (partners_of least low (drop rest falling))
+partners-read by least high low lane up rest rising falling true left gone r is rising_slots falling_slots is_left is_gone =
+    omega (arith, is_left, r.left, partners-lacking least high lane (drop up rising) (All-drop (λ (e : Entry). e.mask < 2 ^ SLOTS) up rising rising_slots) is)
+partners-read by least high low lane up rest rising falling false left gone r is rising_slots falling_slots is_left is_gone =
+    omega (arith, is_gone, r.gone, partners-lacking least low lane (drop rest falling) (All-drop (λ (e : Entry). e.mask < 2 ^ SLOTS) rest falling falling_slots) is)
 
 -- a set is passed
 pub record Counted (old new : BySize) (mask : ℕ) (falls : Bool) : Type 0 where
@@ -138,21 +137,21 @@ pub record Counted (old new : BySize) (mask : ℕ) (falls : Bool) : Type 0 where
   pub falling : (size : ℕ) → size < LANES → counted size (size_side 1 new.passed)
       ≡ cond falls ((counted size (size_side 1 old.passed) + one_at size mask) % 2 ^ 16) (counted size (size_side 1 old.passed))
 
-pub passed : (quota up rest p q : ℕ) (rising falling : List Entry) (old new : BySize) (mask : ℕ) (falls : Bool) → CountsBySize old up rest rising falling → IsNext quota falls mask up rest rising falling → rest ≤ length falling →
-    Counted old new mask falls → p ≡ up + cond falls 0 1 → q ≡ rest - cond falls 1 0 → CountsBySize new p q rising falling
-passed quota up rest p q rising falling old new mask true counts next within c is_up is_rest =
+pub passed : (quota up rest p q : ℕ) (rising falling : List Entry) (old new : BySize) (low high : Entry) (mask : ℕ) (falls : Bool) → CountsBySize old up rest rising falling → IsPassed falls quota low high up rest rising falling → rest ≤ length falling →
+    Counted old new mask falls → mask ≡ cond falls high.mask low.mask → p ≡ up + cond falls 0 1 → q ≡ rest - cond falls 1 0 → CountsBySize new p q rising falling
+passed quota up rest p q rising falling old new low high mask true counts next within c is_mask is_up is_rest =
     let same_up : p ≡ up = omega (arith, is_up) in
     let same_rest : q ≡ rest - 1 = omega (arith, is_rest) in
     rw (same_up, same_rest) (record {
       fewer = λ size few. ap (λ xs. get_or xs size 0) c.fewer ∙ counts.fewer size few;
       risen = λ size few. c.rising size few ∙ counts.risen size few;
-      fallen = λ size few. omega (arith, c.falling size few, counts.fallen size few, dropped_more size rest falling next.0 within, ap (one_at size) next.1);
+      fallen = λ size few. omega (arith, c.falling size few, counts.fallen size few, dropped_more size rest falling next.0 within, ap (one_at size) (is_mask ∙ ap (λ (e : Entry). e.mask) next.1));
     })
-passed quota up rest p q rising falling old new mask false counts next within c is_up is_rest =
+passed quota up rest p q rising falling old new low high mask false counts next within c is_mask is_up is_rest =
     let same_up : p ≡ up + 1 = omega (arith, is_up) in
     let same_rest : q ≡ rest = omega (arith, is_rest) in
     rw (same_up, same_rest) (record {
       fewer = λ size few. ap (λ xs. get_or xs size 0) c.fewer ∙ counts.fewer size few;
-      risen = λ size few. omega (arith, c.rising size few, counts.risen size few, taken_more size up rising next.0, ap (one_at size) next.1);
+      risen = λ size few. omega (arith, c.rising size few, counts.risen size few, taken_more size up rising next.0, ap (one_at size) (is_mask ∙ ap (λ (e : Entry). e.mask) next.1));
       fallen = λ size few. c.falling size few ∙ counts.fallen size few;
     })

@@ -9,6 +9,7 @@ use Rattle.swing_walk.specs.Tallies.{marked, total, IsEven}
 use Rattle.swing_walk.specs.Sides.{side}
 use Rattle.swing_walk.specs.declared.places.Asked.{Asked}
 use Rattle.swing_walk.specs.declared.places.Places.{Places}
+use Rattle.swing_walk.specs.declared.places.Next.{Next}
 use Rattle.swing_walk.specs.declared.tally.MaskTally.{MaskTally}
 
 -- no pair of the first `i` left entries and the first `j` right ones reaches the quota
@@ -30,13 +31,17 @@ pub record IsBetween (quota up rest : ℕ) (rising falling : List Entry) : Type 
   pub apart : NoneReach quota up rest rising falling
   pub reached : AllReach quota up rest rising falling
 
--- the set that is passed next has this mask: it is the greatest falling one that is left, where that one reaches the
--- quota with the least rising one that is left, or else that rising one
-abbrev pub IsNext : ℕ → Bool → ℕ → ℕ → ℕ → List Entry → List Entry → Type 0
-IsNext quota true mask up rest rising falling = (0 < rest) × (mask ≡ (entry_at falling (rest - 1)).mask)
-    × (up < length rising → quota ≤ (entry_at rising up).sum + (entry_at falling (rest - 1)).sum)
-IsNext quota false mask up rest rising falling = (up < length rising) × (mask ≡ (entry_at rising up).mask)
-    × (0 < rest → (entry_at rising up).sum + (entry_at falling (rest - 1)).sum < quota)
+-- the entry that is passed next is the falling one, which reaches the quota with the rising one, if there is one, or
+-- else the rising one, which falls short with the falling one
+abbrev pub IsPassed : Bool → ℕ → Entry → Entry → ℕ → ℕ → List Entry → List Entry → Type 0
+IsPassed true quota low high up rest rising falling = (0 < rest) × (high ≡ entry_at falling (rest - 1))
+    × (up < length rising → quota ≤ (entry_at rising up).sum + high.sum)
+IsPassed false quota low high up rest rising falling = (up < length rising) × (low ≡ entry_at rising up)
+    × (0 < rest → low.sum + (entry_at falling (rest - 1)).sum < quota)
+
+abbrev pub IsNext : ℕ → Next → Places → List Entry → List Entry → Type 0
+IsNext quota next places rising falling =
+    IsPassed next.falls quota next.low next.high places.up places.rest rising falling
 
 -- the first tally has what the passed rising entries come to, each as often as there are falling ones that are enough
 -- with it, and the second one likewise what the passed falling entries come to

@@ -84,7 +84,15 @@ fn credit_pairs(
 {
     let asked = Asked { quota, least_size };
     if least_size == 0 {
-        return walk(left, right, asked, OfAnySize {}, OfAnySize {}, lefts, rights);
+        return walk(
+            left,
+            right,
+            asked,
+            OfAnySize {},
+            OfAnySize {},
+            lefts,
+            rights,
+        );
     }
     let (front, back) = (BySize::start(left), BySize::start(right));
     walk(left, right, asked, front, back, lefts, rights)

@@ -8,7 +8,7 @@ ghost use Rattle.half_sums.specs.Entries.{IsHalf};
 ghost use Rattle.swing_walk.specs.Sizes.{partners_of, CountsBySize};
 ghost use Rattle.swing_walk.specs.Walks.{IsNext};
 
-use crate::places::{Asked, Places};
+use crate::places::{Asked, Next, Places};
 use crate::sides::{FALLING, RISING, count_on};
 use crate::sizes::{SizeTally, lacking};
 use half_sums::{ROOM, STARTS, SumList, either, starts_of};
@@ -24,8 +24,7 @@ pub(crate) trait Partners: Copy {
         &mut self,
         asked: Asked,
         places: Places,
-        falls: bool,
-        mask: u16,
+        next: Next,
         rising: &SumList,
         falling: &SumList,
     ) -> u64
@@ -36,14 +35,15 @@ pub(crate) trait Partners: Copy {
         requires up { places.up ≤ length rising.now }
         requires rest { places.rest ≤ length falling.now }
         requires few { places.up + length falling.now < places.rest + ROOM }
-        requires next { IsNext asked.quota falls mask places.up places.rest rising.now falling.now }
+        requires next { IsNext asked.quota next places rising.now falling.now }
         requires counted { counts self.old asked.least_size places.up places.rest rising.now falling.now }
 
         // One set further.
-        ensures partners { result ≡ cond falls (partners_of asked.least_size mask (drop places.up rising.now))
-            (partners_of asked.least_size mask (drop places.rest falling.now)) }
-        ensures counted { counts self.new asked.least_size (places.up + cond falls 0 1) (places.rest - cond falls 1 0)
-            rising.now falling.now };
+        ensures partners { result
+            ≡ cond next.falls (partners_of asked.least_size next.high.mask (drop places.up rising.now))
+            (partners_of asked.least_size next.low.mask (drop places.rest falling.now)) }
+        ensures counted { counts self.new asked.least_size (places.up + cond next.falls 0 1)
+            (places.rest - cond next.falls 1 0) rising.now falling.now };
 }
 
 // What counts partners where no size is asked for.
@@ -58,12 +58,13 @@ impl Partners for OfAnySize {
         &mut self,
         _asked: Asked,
         places: Places,
-        falls: bool,
-        _mask: u16,
+        next: Next,
         rising: &SumList,
         falling: &SumList,
     ) -> u64 {
-        places.after(falls).partners(falls, rising, falling) as u64
+        places
+            .after(next.falls)
+            .partners(next.falls, rising, falling) as u64
     }
 }
 
@@ -97,15 +98,17 @@ impl Partners for BySize {
         &mut self,
         asked: Asked,
         _places: Places,
-        falls: bool,
-        mask: u16,
+        next: Next,
         rising: &SumList,
         _falling: &SumList,
     ) -> u64 {
+        let mask = next.mask();
         let lane = lacking(asked.least_size, mask);
-        let left = rising.len() - self.fewer[lane] - usize::from(self.passed[RISING].at_least[lane]);
+        let left = rising.len()
+            - self.fewer[lane]
+            - usize::from(self.passed[RISING].at_least[lane]);
         let gone = usize::from(self.passed[FALLING].at_least[lane]);
-        count_on(&mut self.passed, falls, mask);
-        either(falls, left, gone) as u64
+        count_on(&mut self.passed, next.falls, mask);
+        either(next.falls, left, gone) as u64
     }
 }

@@ -1,7 +1,7 @@
-//! Where a chain of a walk stands, and what a walk asks for.
+//! What a walk asks for, where a chain of it stands, and which entry the chain passes next.
 ghost use Rattle.std.specs.Prelude.{◌≡◌, ◌+◌, ◌-◌, ◌≤◌, length, cond};
 
-use half_sums::{ROOM, SumList, either};
+use half_sums::{Entry, ROOM, SumList, either};
 
 // What a pair must have: votes and chairs.
 #[derive(Clone, Copy)]
@@ -16,6 +16,23 @@ pub(crate) struct Asked {
 pub(crate) struct Places {
     pub(crate) up: usize,
     pub(crate) rest: usize,
+}
+
+// The next rising and the next falling entry of a chain, and whether the falling one is passed.
+#[derive(Clone, Copy)]
+pub(crate) struct Next {
+    pub(crate) low: Entry,
+    pub(crate) high: Entry,
+    pub(crate) falls: bool,
+}
+
+impl Next {
+    // The mask of the entry that is passed.
+    pub(crate) fn mask(self) -> u16
+        ensures mask { result ≡ cond self.falls self.high.mask self.low.mask }
+    {
+        either(self.falls, self.high.mask, self.low.mask)
+    }
 }
 
 impl Places {

@@ -14,10 +14,10 @@ ghost use Rattle.swing_walk.specs.Sides.{side};
 ghost use Rattle.swing_walk.specs.Tallies.{total, IsEven, CreditsEach, CreditsLefts, CreditsRights};
 
 use crate::partners::Partners;
-use crate::places::{Asked, Places};
+use crate::places::{Asked, Next, Places};
 use crate::sides::{FALLING, RISING, add_to};
 use crate::tally::MaskTally;
-use half_sums::{Entry, ROOM, SumList, either};
+use half_sums::{Entry, ROOM, SumList};
 
 // What a chain has counted: the tallies of its rising and its falling list, and what counts partners.
 #[derive(Clone, Copy)]
@@ -214,8 +214,14 @@ fn pass_within<P: Partners>(
     let low = rising.at(places.up);
     let high = falling.at(places.rest - 1);
     let falls = asked.quota <= low.sum + high.sum;
-    let mask = either(falls, high.mask, low.mask);
-    pass_next(falls, mask, places, rising, falling, asked, chain)
+    pass_next(
+        Next { low, high, falls },
+        places,
+        rising,
+        falling,
+        asked,
+        chain,
+    )
 }
 
 // Passes the next entry of two lists of which one may have ended.
@@ -243,15 +249,20 @@ fn pass<P: Partners>(
     let high = next_down(falling, places.rest);
     let some_rising = places.up < rising.len();
     let falls = falls_next(&low, &high, some_rising, places.rest > 0, asked.quota);
-    let mask = either(falls, high.mask, low.mask);
-    pass_next(falls, mask, places, rising, falling, asked, chain)
+    pass_next(
+        Next { low, high, falls },
+        places,
+        rising,
+        falling,
+        asked,
+        chain,
+    )
 }
 
-// Passes the next entry, of which is known whether it falls, and its mask.
+// Passes the next entry.
 #[inline(always)]
 fn pass_next<P: Partners>(
-    falls: bool,
-    mask: u16,
+    next: Next,
     places: Places,
     rising: &SumList,
     falling: &SumList,
@@ -260,7 +271,7 @@ fn pass_next<P: Partners>(
 ) -> Places
     requires rising { IsHalf rising.now }
     requires falling { IsHalf falling.now }
-    requires next { IsNext asked.quota falls mask places.up places.rest rising.now falling.now }
+    requires next { IsNext asked.quota next places rising.now falling.now }
 
     // Where the chain stands.
     requires few { places.up + length falling.now < places.rest + ROOM }
@@ -270,9 +281,9 @@ fn pass_next<P: Partners>(
     ensures next { result.up + places.rest ≡ places.up + result.rest + 1 }
     ensures stands { StandsAt (P.counts chain.new.partners) asked result rising.now falling.now chain.new.tallies }
 {
-    let partners = chain.partners.pass(asked, places, falls, mask, rising, falling);
-    add_to(&mut chain.tallies, falls, mask, partners);
-    places.after(falls)
+    let partners = chain.partners.pass(asked, places, next, rising, falling);
+    add_to(&mut chain.tallies, next.falls, next.mask(), partners);
+    places.after(next.falls)
 }
 
 // Whether the falling entry comes before the rising one: there is one, and it reaches the quota with the rising one,

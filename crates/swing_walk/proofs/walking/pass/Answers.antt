@@ -3,10 +3,10 @@ use Rattle.swing_walk.proofs.walking.pass.Goals as goal
 
 pub pass_next-requires-clause-next : goal.pass_next-requires-clause-next
 pass_next-requires-clause-next g c =
-    rw c.either-mask.ensures.chosen (looked c.args.asked.quota c.args.places.up c.args.places.rest c.args.rising.now c.args.falling.now c.next_up-low.result c.next_down-high.result c.falls_next-falls.result (record {
+    looked c.args.asked.quota c.args.places.up c.args.places.rest c.args.rising.now c.args.falling.now c.next_up-low.result c.next_down-high.result c.falls_next-falls.result (record {
       within = c.requires.stands.between.up_in;
       some = c.requires.some;
       low_is = c.next_up-low.ensures.entry;
       high_is = c.next_down-high.ensures.entry;
       test = rw c.len.ensures.count at c.falls_next-falls.ensures.next;
-    }))
+    })

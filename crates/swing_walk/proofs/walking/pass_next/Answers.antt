@@ -8,34 +8,34 @@ use Rattle.swing_walk.proofs.walking.pass_next.Goals as goal
 
 pub add_to-requires-clause-left_room : goal.add_to-requires-clause-left_room
 add_to-requires-clause-left_room g c =
-    omega (arith, c.pass-partners.ensures.partners, partners_room c.args.asked.least_size c.args.mask c.args.falls c.args.places.up c.args.places.rest c.args.rising.now c.args.falling.now c.requires.rising.few c.requires.falling.few, c.requires.stands.credited.rising_total, pairs_room (is_enough c.args.asked.quota c.args.asked.least_size) c.args.rising.now c.args.falling.now c.args.places.up c.requires.rising.few c.requires.falling.few)
+    omega (arith, c.pass-partners.ensures.partners, partners_room c.args.asked.least_size c.args.next.high.mask c.args.next.low.mask c.args.next.falls c.args.places.up c.args.places.rest c.args.rising.now c.args.falling.now c.requires.rising.few c.requires.falling.few, c.requires.stands.credited.rising_total, pairs_room (is_enough c.args.asked.quota c.args.asked.least_size) c.args.rising.now c.args.falling.now c.args.places.up c.requires.rising.few c.requires.falling.few)
 
 pub add_to-requires-clause-right_room : goal.add_to-requires-clause-right_room
 add_to-requires-clause-right_room g c =
-    omega (arith, c.pass-partners.ensures.partners, partners_room c.args.asked.least_size c.args.mask c.args.falls c.args.places.up c.args.places.rest c.args.rising.now c.args.falling.now c.requires.rising.few c.requires.falling.few, c.requires.stands.credited.falling_total, back_room (is_enough c.args.asked.quota c.args.asked.least_size) c.args.rising.now c.args.falling.now c.args.places.rest c.requires.rising.few c.requires.falling.few)
+    omega (arith, c.pass-partners.ensures.partners, partners_room c.args.asked.least_size c.args.next.high.mask c.args.next.low.mask c.args.next.falls c.args.places.up c.args.places.rest c.args.rising.now c.args.falling.now c.requires.rising.few c.requires.falling.few, c.requires.stands.credited.falling_total, back_room (is_enough c.args.asked.quota c.args.asked.least_size) c.args.rising.now c.args.falling.now c.args.places.rest c.requires.rising.few c.requires.falling.few)
 
 pub after-requires-clause-some : goal.after-requires-clause-some
-after-requires-clause-some g c = one_left c.args.asked.quota c.args.falls c.args.mask c.args.places.up c.args.places.rest c.args.rising.now c.args.falling.now c.requires.next
+after-requires-clause-some g c = one_left c.args.asked.quota c.args.next.falls c.args.next.low c.args.next.high c.args.places.up c.args.places.rest c.args.rising.now c.args.falling.now c.requires.next
 
 pub returns : goal.returns
 returns g c =
-    let some = one_left c.args.asked.quota c.args.falls c.args.mask c.args.places.up c.args.places.rest c.args.rising.now c.args.falling.now c.requires.next in
+    let some = one_left c.args.asked.quota c.args.next.falls c.args.next.low c.args.next.high c.args.places.up c.args.places.rest c.args.rising.now c.args.falling.now c.requires.next in
     let passed : Passed c.args.asked.quota c.args.asked.least_size c.after.result.up c.after.result.rest c.args.rising.now c.args.falling.now c.add_to.new.sides =
-    pass c.args.asked.quota c.args.asked.least_size c.args.places.up c.args.places.rest c.after.result.up c.after.result.rest c.args.rising.now c.args.falling.now c.args.mask c.pass-partners.result c.args.chain.now.tallies c.add_to.new.sides c.args.falls record {
+    pass c.args.asked.quota c.args.asked.least_size c.args.places.up c.args.places.rest c.after.result.up c.after.result.rest c.args.rising.now c.args.falling.now c.args.next.low c.args.next.high c.pass-partners.result c.args.chain.now.tallies c.add_to.new.sides c.args.next.falls record {
       at = record { rising_up = c.requires.rising.ascending; falling_up = c.requires.falling.ascending; between = c.requires.stands.between };
       next = c.requires.next;
       credited = c.requires.stands.credited;
       partners = c.pass-partners.ensures.partners;
       rising_even = c.add_to.ensures.left_even;
       rising_total = c.add_to.ensures.left_total;
-      rising_marked = c.add_to.ensures.left_marked;
+      rising_marked = λ slot. rw c.mask.ensures.mask at (c.add_to.ensures.left_marked slot);
       falling_even = c.add_to.ensures.right_even;
       falling_total = c.add_to.ensures.right_total;
-      falling_marked = c.add_to.ensures.right_marked;
+      falling_marked = λ slot. rw c.mask.ensures.mask at (c.add_to.ensures.right_marked slot);
       next_up = c.after.ensures.up;
       next_rest = c.after.ensures.rest;
     } in
     record {
-      next = rw (c.after.ensures.up, c.after.ensures.rest) (one_step c.args.falls c.args.places.up c.args.places.rest some);
+      next = rw (c.after.ensures.up, c.after.ensures.rest) (one_step c.args.next.falls c.args.places.up c.args.places.rest some);
       stands = record { between = passed.between; credited = passed.credited; counted = rw (c.after.ensures.up, c.after.ensures.rest) c.pass-partners.ensures.counted };
     }
