@@ -1,8 +1,9 @@
 //! What counts the partners of the sets that a chain of a walk passes.
 //!
-//! Where no size is asked for, a set's partners are all sets of the other list that reach the quota with it. Else they
-//! are those of them with which it has chairs enough, by tables of what was passed.
-ghost use Rattle.std.specs.Prelude.{◌≡◌, ℕ, ◌+◌, ◌-◌, ◌<◌, ◌≤◌, List, length, take, drop, cond, not};
+//! Those that reach the quota with a set are known by the order of the walk: where it falls, all rising ones that are
+//! left, else all falling ones that were passed. Where no size is asked for, these are its partners, by place. Else its
+//! partners are those of them with which it has chairs enough, by tables of what was passed.
+ghost use Rattle.std.specs.Prelude.{◌≡◌, ℕ, ◌+◌, ◌-◌, ◌<◌, ◌≤◌, List, length, drop, cond};
 ghost use Rattle.half_sums.specs.declared.entry.Entry.{Entry};
 ghost use Rattle.half_sums.specs.Entries.{IsHalf};
 ghost use Rattle.swing_walk.specs.Sizes.{partners_of, CountsBySize};
@@ -18,8 +19,7 @@ pub(crate) trait Partners: Copy {
     // It has counted what was passed: the first so many rising sets, and the falling ones but the first so many.
     ghost counts: { Self → ℕ → ℕ → ℕ → List Entry → List Entry → Type 0 };
 
-    // Passes the next set, and answers with how many sets of the other list it makes pairs: where it falls, of the
-    // rising ones that are left, else of the falling ones that were passed.
+    // Passes the next set, and answers how many partners it has.
     fn pass(
         &mut self,
         asked: Asked,

@@ -18,23 +18,6 @@ pub(crate) struct Places {
     pub(crate) rest: usize,
 }
 
-// The next rising and the next falling entry of a chain, and whether the falling one is passed.
-#[derive(Clone, Copy)]
-pub(crate) struct Next {
-    pub(crate) low: Entry,
-    pub(crate) high: Entry,
-    pub(crate) falls: bool,
-}
-
-impl Next {
-    // The mask of the entry that is passed.
-    pub(crate) fn mask(self) -> u16
-        ensures mask { result ≡ cond self.falls self.high.mask self.low.mask }
-    {
-        either(self.falls, self.high.mask, self.low.mask)
-    }
-}
-
 impl Places {
     // No entry is passed.
     pub(crate) fn start(falling: &SumList) -> Places
@@ -68,5 +51,22 @@ impl Places {
         ensures chosen { result ≡ cond falls (length rising.now - self.up) (length falling.now - self.rest) }
     {
         either(falls, rising.len() - self.up, falling.len() - self.rest)
+    }
+}
+
+// The next rising and the next falling entry of a chain, and whether the falling one is passed.
+#[derive(Clone, Copy)]
+pub(crate) struct Next {
+    pub(crate) low: Entry,
+    pub(crate) high: Entry,
+    pub(crate) falls: bool,
+}
+
+impl Next {
+    // The mask of the entry that is passed.
+    pub(crate) fn mask(self) -> u16
+        ensures mask { result ≡ cond self.falls self.high.mask self.low.mask }
+    {
+        either(self.falls, self.high.mask, self.low.mask)
     }
 }

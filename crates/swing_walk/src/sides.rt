@@ -39,7 +39,7 @@ pub(crate) fn add_to(sides: &mut [MaskTally; 2], to_right: bool, mask: u16, amou
     sides[usize::from(to_right)].add(mask, amount);
 }
 
-// Counts a set by its size on the right side, or else on the left one.
+// Counts a set by its size on the right side, or else on the left one. A call for it in each step takes longer.
 #[inline(always)]
 pub(crate) fn count_on(sides: &mut [SizeTally; 2], on_right: bool, mask: u16)
     ensures left { (size : ℕ) → size < LANES
