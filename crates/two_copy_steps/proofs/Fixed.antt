@@ -1,11 +1,11 @@
 -- Lists kept in storage of a fixed size.
-use Rattle.std.proofs.Common.{◌≡◌, ℕ, zero, suc, ◌+◌, ◌-◌, ◌<◌, ◌≤◌, List, length, get_or, take, set, replicate, refl, sym, ap, ◌∙◌, subst, arith, length-take}
+use Rattle.std.proofs.Common.{◌≡◌, ℕ, zero, suc, ◌+◌, ◌-◌, ◌<◌, ◌≤◌, Bool, true, false, [], ◌∷◌, List, length, get_or, take, set, replicate, refl, sym, ap, ◌∙◌, subst, arith, length-take}
 use Rattle.std.proofs.lemmas.List.{get_or-take, ext_get_or, get_or-replicate, length-replicate}
 use Rattle.std.proofs.Math.Seq.{take-set-lt}
 use mathlib.Core.Logic.{dite}
 use native.Mathlib.Decide.{ℕ_discrete, dec_le}
 use Rattle.two_copy_steps.specs.declared.table.TheConstants.{COPY_WORDS, READERS}
-use Rattle.two_copy_steps.specs.Actions.{pin, place}
+use Rattle.two_copy_steps.specs.Actions.{first_false, pin, place}
 use Rattle.two_copy_steps.proofs.Starts.{words_at_start, start_length, start_first, start_second, start_pin}
 
 module _ {A : Type 0} where
@@ -18,6 +18,15 @@ module _ {A : Type 0} where
 
   pub kept_length : (n k : ℕ) (xs ys : List A) → take n xs ≡ ys → n ≤ k → length xs ≡ k → length ys ≡ n
   kept_length n k xs ys e h len = let l = ap (length {A = A}) e in omega (arith, length-take n xs)
+
+-- of a list whose entries before one are true, and that one false, that one is the first false one
+pub first_false_at : (bs : List Bool) (i n : ℕ) → first_false (take i bs) ≡ i → i < n → i < length bs → get_or bs i false ≡ false → first_false (take n bs) ≡ i
+first_false_at [] i n e h inside is = absurd (omega (arith, inside))
+first_false_at (b ∷ bs) i zero e h inside is = absurd (omega (arith, h))
+first_false_at (true ∷ bs) zero (suc n) e h inside is = absurd cc
+first_false_at (false ∷ bs) zero (suc n) e h inside is = refl
+first_false_at (true ∷ bs) (suc i) (suc n) e h inside is = ap suc (first_false_at bs i n (omega (arith, e)) (omega (arith, h)) (omega (arith, inside)) is)
+first_false_at (false ∷ bs) (suc i) (suc n) e h inside is = absurd (omega (arith, e))
 
 pub zeros : (n k : ℕ) → ◌≡◌ {A = ℕ} (get_or (replicate {A = ℕ} n 0) k 0) 0
 zeros zero k = refl

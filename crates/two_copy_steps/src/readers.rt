@@ -36,7 +36,11 @@ impl ReaderStages {
         ensures { result ≡ replicate readers AtRest }
     {
         ReaderStages {
-            stages: array::from_fn(|_| ReaderStage::new()),
+            stages: array::from_fn(
+                |_| -> ReaderStage
+                    ensures { result ≡ AtRest }
+                { ReaderStage::new() },
+            ),
             len: readers as usize,
         }
     }
