@@ -4,105 +4,111 @@ ghost use Rattle.council_core.specs.Refusals.{code_of, name_of, refusal_of};
 ghost use Rattle.council_core.specs.declared.refusals.Refusal.TheVariants.{OutOfMemory};
 
 use std::alloc::{AllocError, AllocFailed};
-use thiserror::Error;
+use std::error::Error;
+use std::fmt;
 
 /// Every refusal and fault of the workspace. Its number is `code`, its name is `name`, and its
 /// text, by `Display`, says the reason in words.
-#[derive(Clone, Copy, Debug, PartialEq, Eq, Hash, Error)]
+#[derive(Clone, Copy, Debug, PartialEq, Eq, Hash)]
 pub enum Refusal {
-    #[error("the chair is open already")]
     ChairOpen = 1,
-    #[error("the chair is not open")]
     ChairNotOpen = 2,
-    #[error("the chair has members, suspended ones counted")]
     ChairHasMembers = 3,
-    #[error("no member has this code")]
     UnknownMember = 4,
-    #[error("the member's voting rights are suspended")]
     MemberSuspended = 5,
-    #[error("the member is there already")]
     AlreadyThere = 6,
-    #[error("the member is suspended already")]
     AlreadySuspended = 7,
-    #[error("the member is not suspended")]
     NotSuspended = 8,
-    #[error("as many commands as the journal limit were accepted")]
     JournalFull = 9,
-    #[error("out of memory")]
     OutOfMemory = 10,
-    #[error("two members have the same code")]
     DuplicateMember = 11,
-    #[error("there are more than 256 members")]
     TooManyMembers = 12,
-    #[error("a limit is out of its range")]
     BadLimit = 13,
-    #[error("a chair's number is not from 1 to 32")]
     BadChair = 14,
-    #[error("a member's code is not three ASCII capitals")]
     BadMember = 15,
-    #[error("a member has more than 2^40 votes")]
     VotesTooLarge = 16,
-    #[error("a record is not well formed")]
     BadRecord = 17,
-    #[error("no place or no entry for a reader")]
     NoEntry = 18,
-    #[error("the input could not be read")]
     ReadFault = 19,
-    #[error("the output could not be written")]
     WriteFault = 20,
-    #[error("the first record is not 'member,votes'")]
     BadHeader = 21,
-    #[error("there is no reader of this number")]
     BadReader = 22,
-    #[error("a reader is in the way of the publication")]
     Busy = 23,
-    #[error("a reading is not the sheet of a publication, or is older than the one before")]
     Mismatch = 24,
-    #[error("a member has this code already")]
     MemberExists = 25,
-    #[error("the member sits in a chair")]
     MemberSeated = 26,
-    #[error("a gate was closed")]
     GateClosed = 27,
-    #[error("the input ends before the record 'script'")]
     NoScript = 28,
-    #[error("the input has more than 4,194,304 bytes")]
     TooLong = 29,
-    #[error("a command of the journal is refused")]
     BadJournal = 30,
-    #[error("the cuts are not in order, or one is past the journal's end")]
     BadCuts = 31,
-    #[error("the words are not a sheet's")]
     BadSheet = 32,
-    #[error("more chairs are open than are counted")]
     TooManyChairs = 33,
 }
 
-// The refusals by number, for whatever is made of all of them: the macro of that name is called with this list.
+// The refusals by number, each with its reason, for whatever is made of all of them: the macro of that name is called with
+// this list.
 macro_rules! refusals {
     ($make:ident $($given:expr)?) => {
         $make! { $($given)? =>
-            ChairOpen, ChairNotOpen, ChairHasMembers, UnknownMember, MemberSuspended, AlreadyThere,
-            AlreadySuspended, NotSuspended, JournalFull, OutOfMemory, DuplicateMember,
-            TooManyMembers, BadLimit, BadChair, BadMember, VotesTooLarge, BadRecord, NoEntry,
-            ReadFault, WriteFault, BadHeader, BadReader, Busy, Mismatch, MemberExists, MemberSeated,
-            GateClosed, NoScript, TooLong, BadJournal, BadCuts, BadSheet, TooManyChairs
+            ChairOpen: "the chair is open already",
+            ChairNotOpen: "the chair is not open",
+            ChairHasMembers: "the chair has members, suspended ones counted",
+            UnknownMember: "no member has this code",
+            MemberSuspended: "the member's voting rights are suspended",
+            AlreadyThere: "the member is there already",
+            AlreadySuspended: "the member is suspended already",
+            NotSuspended: "the member is not suspended",
+            JournalFull: "as many commands as the journal limit were accepted",
+            OutOfMemory: "out of memory",
+            DuplicateMember: "two members have the same code",
+            TooManyMembers: "there are more than 256 members",
+            BadLimit: "a limit is out of its range",
+            BadChair: "a chair's number is not from 1 to 32",
+            BadMember: "a member's code is not three ASCII capitals",
+            VotesTooLarge: "a member has more than 2^40 votes",
+            BadRecord: "a record is not well formed",
+            NoEntry: "no place or no entry for a reader",
+            ReadFault: "the input could not be read",
+            WriteFault: "the output could not be written",
+            BadHeader: "the first record is not 'member,votes'",
+            BadReader: "there is no reader of this number",
+            Busy: "a reader is in the way of the publication",
+            Mismatch: "a reading is not the sheet of a publication, or is older than the one before",
+            MemberExists: "a member has this code already",
+            MemberSeated: "the member sits in a chair",
+            GateClosed: "a gate was closed",
+            NoScript: "the input ends before the record 'script'",
+            TooLong: "the input has more than 4,194,304 bytes",
+            BadJournal: "a command of the journal is refused",
+            BadCuts: "the cuts are not in order, or one is past the journal's end",
+            BadSheet: "the words are not a sheet's",
+            TooManyChairs: "more chairs are open than are counted",
         }
     };
 }
 
 // All of them as an array.
 macro_rules! listed {
-    (=> $($name:ident),*) => {
+    (=> $($name:ident: $reason:literal,)*) => {
         [$(Refusal::$name),*]
     };
 }
 
 // The name of one, as it is written above.
 macro_rules! named {
-    ($refusal:expr => $($name:ident),*) => {
+    ($refusal:expr => $($name:ident: $reason:literal,)*) => {
         match $refusal {
             $(Refusal::$name => stringify!($name),)*
+        }
+    };
+}
+
+// The reason of one.
+macro_rules! reasoned {
+    ($refusal:expr => $($name:ident: $reason:literal,)*) => {
+        match $refusal {
+            $(Refusal::$name => $reason,)*
         }
     };
 }
@@ -134,6 +140,16 @@ impl Refusal {
         refusals!(named self)
     }
 }
+
+impl fmt::Display for Refusal {
+    /// Its reason in words.
+    fn fmt<W: fmt::Write>(&self, f: &mut fmt::Formatter<W>) -> fmt::Result {
+        // The prover asks for one call: one in each arm, as thiserror writes it, takes it more than a minute.
+        f.write_str(refusals!(reasoned self))
+    }
+}
+
+impl Error for Refusal {}
 
 impl From<AllocError> for Refusal {
     ghost from_gives = { λ _ refusal. refusal ≡ OutOfMemory };
