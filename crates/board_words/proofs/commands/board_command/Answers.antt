@@ -9,9 +9,9 @@ returns c =
     let replay = c.in_ok-replay.ensures.app in
     let trace = c.in_ok-trace.ensures.app in
     let serve = c.in_ok-serve.ensures.app in
-    let one = c.in_ok-subcommand.ensures.shape (no-globals _ _ _ _ (ap (λ (a : App). a.top.is_plain) replay))
+    let one = c.in_ok-with_replay.ensures.shape (no-globals _ _ _ _ (ap (λ (a : App). a.top.is_plain) replay))
     ∙ ap₂ with_subcommand c.bare_command.ensures.app (ap (λ (a : App). a.top) replay) in
-    let two = c.in_ok-subcommand-2.ensures.shape (no-globals _ _ _ _ (ap (λ (a : App). a.top.is_plain) trace))
+    let two = c.in_ok-with_trace.ensures.shape (no-globals _ _ _ _ (ap (λ (a : App). a.top.is_plain) trace))
     ∙ ap₂ with_subcommand one (ap (λ (a : App). a.top) trace) in
     record {
       app = IfOk-weaker c.subcommand-3.result _ _ (λ command added. added.shape (no-globals _ _ _ _ (ap (λ (a : App). a.top.is_plain) serve))

@@ -14,6 +14,12 @@ given c = subst (λ (m : MachineState). IsLedger m.ledger) c.in-Ok.ensures.start
 told_is : (c : goal.In-Ok-take_all) → c.take_all.new.told.items ≡ notes (started c.args.register c.args.readers) c.args.events.now
 told_is c = c.in-Ok-take_all.ensures.notes ∙ ap (λ (m : MachineState). notes m c.args.events.now) c.in-Ok.ensures.started
 
+pub returns-in-Ok-take_all-clause-notes : goal.returns-in-Ok-take_all-clause-notes
+returns-in-Ok-take_all-clause-notes c = told_is c
+
+pub returns-in-Ok-take_all-clause-machine : goal.returns-in-Ok-take_all-clause-machine
+returns-in-Ok-take_all-clause-machine c = c.in-Ok-take_all.ensures.machine ∙ ap (λ (m : MachineState). after m c.args.events.now) c.in-Ok.ensures.started
+
 pub returns-in-Ok-take_all-clause-replies : goal.returns-in-Ok-take_all-clause-replies
 returns-in-Ok-take_all-clause-replies c = run_answers c.args.register c.args.readers (given c).legal.0 c.args.events.now
 
