@@ -1,25 +1,27 @@
 //! The indices of sheets.
 use council_core::{ChairId, Command, MemberCode, Refusal, Register, Sheet, Votes};
 use majority_rule::Majority;
-use power_index::{ChairPower, Evaluator, Fraction, Indices};
+use power_index::{ChairPower, Evaluator, Fraction};
 use std::alloc::Global;
 use std::test::Fail;
 
-/// AAA with 10 votes in chair 16 and BBB with 20 in chair 17.
+// A function that has an evaluator or a register of its own is proved slowly: what happens to one is in functions that are
+// lent it.
+
+/// AAA with 10 votes and BBB with 20, in no chair.
 fn two_members(alloc: Global) -> Result<Register, Refusal> {
-    let first = MemberCode::new(b"AAA")?;
-    let second = MemberCode::new(b"BBB")?;
-    let members = [(first, Votes::new(10)?), (second, Votes::new(20)?)];
-    let mut register = Register::start(alloc, &members, 100)?;
-    seat(&mut register, first, ChairId::new(16)?)?;
-    seat(&mut register, second, ChairId::new(17)?)?;
-    Ok(register)
+    let first = (MemberCode::new(b"AAA")?, Votes::new(10)?);
+    let second = (MemberCode::new(b"BBB")?, Votes::new(20)?);
+    Register::start(alloc, &[first, second], 100)
 }
 
-fn seat(register: &mut Register, member: MemberCode, chair: ChairId) -> Result<(), Refusal> {
+/// The sheet once a chair is opened and a member sits there.
+fn seated(register: &mut Register, letters: &[u8], chair: u8) -> Result<Sheet, Refusal> {
+    let member = MemberCode::new(letters)?;
+    let chair = ChairId::new(chair)?;
     register.apply(Command::Open(chair))?;
     register.apply(Command::Move(member, Some(chair)))?;
-    Ok(())
+    Ok(register.sheet())
 }
 
 /// The sheet once a member has other votes.
@@ -29,26 +31,47 @@ fn revised(register: &mut Register, letters: &[u8], votes: u64) -> Result<Sheet,
     Ok(register.sheet())
 }
 
-fn swings_at(indices: &Indices, row: usize) -> Option<u64> {
-    indices.rows.as_slice().get(row).map(|power| power.swings)
+/// In how many halves the sheet differs each time: once AAA sits in chair 16 and BBB in chair 17, once one and then the
+/// other has other votes, for the same sheet, and once BBB is given the votes that it has.
+fn halves_that_differ(
+    register: &mut Register,
+    evaluator: &mut Evaluator,
+) -> Result<[u8; 5], Refusal> {
+    seated(register, b"AAA", 16)?;
+    let both = evaluator.set(&seated(register, b"BBB", 17)?);
+    let left = evaluator.set(&revised(register, b"AAA", 11)?);
+    let right = evaluator.set(&revised(register, b"BBB", 21)?);
+    let same = evaluator.set(&register.sheet());
+    let equal = evaluator.set(&revised(register, b"BBB", 21)?);
+    Ok([both, left, right, same, equal])
+}
+
+/// The quota, the winning and all coalitions at more than half of the votes, and the swings of the first two chairs.
+fn figures(evaluator: &Evaluator) -> ([u64; 3], [Option<u64>; 2]) {
+    let indices = evaluator.evaluate(Majority::Half);
+    let swings = |row: usize| indices.rows.as_slice().get(row).map(|power| power.swings);
+    (
+        [indices.quota, indices.winning, indices.coalitions],
+        [swings(0), swings(1)],
+    )
+}
+
+/// The same by a new evaluator, with its figures at last.
+fn rebuild_in_parts(
+    alloc: Global,
+    register: &mut Register,
+) -> Result<([u8; 5], [u64; 3], [Option<u64>; 2]), Refusal> {
+    let mut evaluator = Evaluator::new(alloc)?;
+    let halves = halves_that_differ(register, &mut evaluator)?;
+    let (counts, swings) = figures(&evaluator);
+    Ok((halves, counts, swings))
 }
 
 #[test]
 fn partial_rebuild(rt: HostRuntime) -> Result<(), Fail> {
     let mut register = two_members(rt.alloc())?;
-    let mut evaluator = Evaluator::new(rt.alloc())?;
-    assert_eq!(rt; evaluator.set(&register.sheet()), 2);
-    assert_eq!(rt; evaluator.set(&revised(&mut register, b"AAA", 11)?), 1);
-    assert_eq!(rt; evaluator.set(&revised(&mut register, b"BBB", 21)?), 1);
-    assert_eq!(rt; evaluator.set(&register.sheet()), 0);
-    assert_eq!(rt; evaluator.set(&revised(&mut register, b"BBB", 21)?), 0);
-    let indices = evaluator.evaluate(Majority::Half);
-    assert_eq!(rt;
-        (indices.quota, indices.winning, indices.coalitions),
-        (17, 2, 4)
-    );
-    assert_eq!(rt; swings_at(&indices, 0), Some(0));
-    assert_eq!(rt; swings_at(&indices, 1), Some(2));
+    let got = rebuild_in_parts(rt.alloc(), &mut register)?;
+    assert_eq!(rt; got, ([2, 1, 1, 0, 0], [17, 2, 4], [Some(0), Some(2)]));
     Ok(())
 }
 
@@ -61,14 +84,17 @@ fn left_chairs(first: u64, second: u64) -> Result<Sheet, Refusal> {
     Sheet::from_words(&words)
 }
 
+/// In how many halves two sheets with two weights exchanged differ from the one before, and the second's figures.
+fn exchanged(evaluator: &mut Evaluator) -> Result<([u8; 2], [Option<u64>; 2]), Refusal> {
+    let first = evaluator.set(&left_chairs(61, 31)?);
+    let second = evaluator.set(&left_chairs(31, 61)?);
+    Ok(([first, second], figures(evaluator).1))
+}
+
 #[test]
 fn exchanged_weights_differ(rt: HostRuntime) -> Result<(), Fail> {
     let mut evaluator = Evaluator::new(rt.alloc())?;
-    assert_eq!(rt; evaluator.set(&left_chairs(61, 31)?), 1);
-    assert_eq!(rt; evaluator.set(&left_chairs(31, 61)?), 1);
-    let indices = evaluator.evaluate(Majority::Half);
-    assert_eq!(rt; swings_at(&indices, 0), Some(0));
-    assert_eq!(rt; swings_at(&indices, 1), Some(2));
+    assert_eq!(rt; exchanged(&mut evaluator)?, ([1, 1], [Some(0), Some(2)]));
     Ok(())
 }
 
@@ -79,13 +105,23 @@ fn with_front(front: u64) -> Result<Sheet, Refusal> {
     Sheet::from_words(&words)
 }
 
+/// The front that an evaluator begins with, in how many halves a sheet with another differs, and the fronts after it.
+fn fronts(evaluator: &mut Evaluator) -> Result<[u32; 4], Refusal> {
+    let before = evaluator.sheet().front();
+    let halves = evaluator.set(&with_front(7)?);
+    let evaluated = evaluator.evaluate(Majority::Half).front;
+    Ok([
+        before,
+        u32::from(halves),
+        evaluator.sheet().front(),
+        evaluated,
+    ])
+}
+
 #[test]
 fn front_alone_changes_no_half(rt: HostRuntime) -> Result<(), Fail> {
     let mut evaluator = Evaluator::new(rt.alloc())?;
-    assert_eq!(rt; evaluator.sheet().front(), 0);
-    assert_eq!(rt; evaluator.set(&with_front(7)?), 0);
-    assert_eq!(rt; evaluator.sheet().front(), 7);
-    assert_eq!(rt; evaluator.evaluate(Majority::Half).front, 7);
+    assert_eq!(rt; fronts(&mut evaluator)?, [0, 0, 7, 7]);
     Ok(())
 }
 
@@ -99,33 +135,34 @@ fn equal_chairs(alloc: Global) -> Result<Evaluator, Refusal> {
     Ok(evaluator)
 }
 
-/// Whether each of 32 rows has a number of swings.
-fn all_swing(indices: &Indices, swings: u64) -> bool {
-    indices.rows.len() == 32
-        && indices
-            .rows
-            .as_slice()
-            .iter()
-            .all(|row| row.swings == swings)
+/// The quota, the least size and the winning coalitions of 32 chairs, and their swings, where all have the same.
+fn figures_of_equals(evaluator: &Evaluator, majority: Majority) -> ([u64; 3], Option<u64>) {
+    let indices = evaluator.evaluate(majority);
+    let rows = indices.rows.as_slice();
+    let swings = rows.first().map(|row| row.swings);
+    let is_equal = rows.len() == 32 && rows.iter().all(|row| Some(row.swings) == swings);
+    (
+        [
+            indices.quota,
+            u64::from(indices.least_size),
+            indices.winning,
+        ],
+        if is_equal { swings } else { None },
+    )
 }
 
 #[test]
 fn thirty_two_equal_chairs(rt: HostRuntime) -> Result<(), Fail> {
     let evaluator = equal_chairs(rt.alloc())?;
-    let half = evaluator.evaluate(Majority::Half);
-    assert_eq!(rt;
-        (half.quota, half.winning, half.coalitions),
-        (17, 1846943453, 4294967296)
-    );
-    assert!(rt; all_swing(&half, 300540195));
-    let most = evaluator.evaluate(Majority::EightyFive);
-    assert_eq!(rt; (most.quota, most.winning), (28, 41449));
-    assert!(rt; all_swing(&most, 31465));
-    let quorum = evaluator.evaluate(Majority::Quorum);
-    assert_eq!(rt;
-        (quorum.quota, quorum.least_size, quorum.winning),
-        (16, 17, 1846943453)
-    );
-    assert!(rt; all_swing(&quorum, 300540195));
+    for (majority, counts, swings) in [
+        (Majority::Half, [17, 0, 1846943453], 300540195),
+        (Majority::EightyFive, [28, 0, 41449], 31465),
+        (Majority::Quorum, [16, 17, 1846943453], 300540195),
+    ] {
+        assert_eq!(rt;
+            figures_of_equals(&evaluator, majority),
+            (counts, Some(swings))
+        );
+    }
     Ok(())
 }

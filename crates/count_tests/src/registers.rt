@@ -42,20 +42,36 @@ fn sheet_from_words(rt: HostRuntime) -> Result<(), Fail> {
     Ok(())
 }
 
+// AAA with 10 votes.
+fn one_member(alloc: Global) -> Result<Register, Refusal> {
+    Register::start(alloc, &[(MemberCode::new(b"AAA")?, Votes::new(10)?)], 5)
+}
+
+// Opens chair 1, seats AAA there, and tries to close the chair: what each call answers.
+fn seat_first(register: &mut Register) -> Result<([u32; 2], Option<Refusal>), Refusal> {
+    let chair = ChairId::new(1)?;
+    let opened = register.apply(Command::Open(chair))?;
+    let seated = register.apply(Command::Move(MemberCode::new(b"AAA")?, Some(chair)))?;
+    let closes = register.check(Command::Close(chair)).err();
+    Ok(([opened, seated], closes))
+}
+
+// The first chair's words, the total and the front, by the register and by its sheet.
+fn words_of(register: &Register) -> ([u64; 4], [u64; 4]) {
+    let places = [0, 1, TOTAL, FRONT];
+    let words = register.sheet().words();
+    (
+        places.map(|place| register.sheet_word(place)),
+        places.map(|place| words[place]),
+    )
+}
+
 #[test]
 fn register_accepts(rt: HostRuntime) -> Result<(), Fail> {
-    let code = MemberCode::new(b"AAA")?;
-    let chair = ChairId::new(1)?;
-    let mut register = Register::start(rt.alloc(), &[(code, Votes::new(10)?)], 5)?;
-    assert_eq!(rt; register.apply(Command::Open(chair))?, 1);
-    assert_eq!(rt; register.apply(Command::Move(code, Some(chair)))?, 2);
-    assert!(rt; register.check(Command::Close(chair)).err() == Some(Refusal::ChairHasMembers));
-    assert_eq!(rt; register.sheet().weight(chair), Some(10));
-    assert_eq!(rt; register.sheet().front(), 2);
-    assert_eq!(rt; register.sheet_word(0), 11);
-    assert_eq!(rt; register.sheet_word(1), 0);
-    assert_eq!(rt; register.sheet_word(TOTAL), 10);
-    assert_eq!(rt; register.sheet_word(FRONT), 2);
+    let mut register = one_member(rt.alloc())?;
+    let answers = seat_first(&mut register)?;
+    assert_eq!(rt; answers, ([1, 2], Some(Refusal::ChairHasMembers)));
+    assert_eq!(rt; words_of(&register), ([11, 0, 10, 2], [11, 0, 10, 2]));
     Ok(())
 }
 
@@ -66,29 +82,40 @@ fn code_at(register: &Register, place: usize) -> Option<MemberCode> {
     Some(register.member_at(place)?.code)
 }
 
+// AAA with 50 votes, BBB with 49 and CCC with 1.
+fn three_members(alloc: Global) -> Result<Register, Refusal> {
+    let first = (MemberCode::new(b"AAA")?, Votes::new(50)?);
+    let second = (MemberCode::new(b"BBB")?, Votes::new(49)?);
+    let third = (MemberCode::new(b"CCC")?, Votes::new(1)?);
+    Register::start(alloc, &[first, second, third], 5)
+}
+
+// The codes at places 0 to 2, once the first member has withdrawn and once it is admitted again with 7 votes.
+fn withdraw_and_admit(register: &mut Register) -> Result<[[Option<MemberCode>; 3]; 2], Refusal> {
+    let first = MemberCode::new(b"AAA")?;
+    register.apply(Command::Withdraw(first))?;
+    let without = codes_of(register);
+    register.apply(Command::Admit(first, Votes::new(7)?))?;
+    Ok([without, codes_of(register)])
+}
+
+fn codes_of(register: &Register) -> [Option<MemberCode>; 3] {
+    [
+        code_at(register, 0),
+        code_at(register, 1),
+        code_at(register, 2),
+    ]
+}
+
 #[test]
 fn members_move_up(rt: HostRuntime) -> Result<(), Fail> {
-    let first = MemberCode::new(b"AAA")?;
-    let second = MemberCode::new(b"BBB")?;
-    let third = MemberCode::new(b"CCC")?;
-    let members = [
-        (first, Votes::new(50)?),
-        (second, Votes::new(49)?),
-        (third, Votes::new(1)?),
-    ];
-    let mut register = Register::start(rt.alloc(), &members, 5)?;
-    let left = register.apply(Command::Withdraw(first))?;
-    let places = (
-        code_at(&register, 0),
-        code_at(&register, 1),
-        code_at(&register, 2),
-    );
-    let again = register.apply(Command::Admit(first, Votes::new(7)?))?;
-    let last = code_at(&register, 2);
-    assert!(rt; (left, again) == (1, 2));
-    assert!(rt; places == (Some(second), Some(third), None));
-    assert!(rt; last == Some(first));
-    assert_eq!(rt; register.sheet().total(), 57);
+    let first = Some(MemberCode::new(b"AAA")?);
+    let second = Some(MemberCode::new(b"BBB")?);
+    let third = Some(MemberCode::new(b"CCC")?);
+    let mut register = three_members(rt.alloc())?;
+    let codes = withdraw_and_admit(&mut register)?;
+    assert!(rt; codes == [[second, third, None], [second, third, first]]);
+    assert!(rt; (register.accepted(), register.sheet().total()) == (2, 57));
     Ok(())
 }
 
@@ -109,17 +136,29 @@ fn at_the_limit(alloc: Global) -> Result<Register, Fail> {
     Ok(register)
 }
 
-#[test]
-fn members_at_the_limit(rt: HostRuntime) -> Result<(), Fail> {
-    let mut register = at_the_limit(rt.alloc())?;
+// How commands are refused of a register with as many members and commands as there may be: to admit a member that it has and
+// another, to withdraw one, and what a check of the second says.
+fn refusals_of(register: &mut Register) -> Result<[Option<Refusal>; 4], Refusal> {
     let (held, votes) = numbered(255)?;
     let new = MemberCode::new(b"ZZZ")?;
     let admits_held = register.apply(Command::Admit(held, votes)).err();
     let admits_new = register.apply(Command::Admit(new, votes)).err();
     let withdraws = register.apply(Command::Withdraw(held)).err();
-    assert!(rt; admits_held == Some(Refusal::MemberExists));
-    assert!(rt; admits_new == Some(Refusal::TooManyMembers));
-    assert!(rt; withdraws == Some(Refusal::JournalFull));
-    assert!(rt; register.check(Command::Admit(new, votes)).err() == Some(Refusal::TooManyMembers));
+    let checks_new = register.check(Command::Admit(new, votes)).err();
+    Ok([admits_held, admits_new, withdraws, checks_new])
+}
+
+#[test]
+fn members_at_the_limit(rt: HostRuntime) -> Result<(), Fail> {
+    let mut register = at_the_limit(rt.alloc())?;
+    let refusals = refusals_of(&mut register)?;
+    let too_many = Some(Refusal::TooManyMembers);
+    let want = [
+        Some(Refusal::MemberExists),
+        too_many,
+        Some(Refusal::JournalFull),
+        too_many,
+    ];
+    assert_eq!(rt; refusals, want);
     Ok(())
 }

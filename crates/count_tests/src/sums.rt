@@ -2,28 +2,27 @@
 use half_sums::{Entry, HalfSums, OrderedSums};
 use std::test::Fail;
 
+// The sets of three chairs of 50, 49 and 1 votes: by sum, and by size as well.
+const OF_THREE: [Entry; 8] = [
+    Entry { sum: 0, mask: 0 },
+    Entry { sum: 1, mask: 4 },
+    Entry { sum: 49, mask: 2 },
+    Entry { sum: 50, mask: 1 },
+    Entry { sum: 50, mask: 6 },
+    Entry { sum: 51, mask: 5 },
+    Entry { sum: 99, mask: 3 },
+    Entry { sum: 100, mask: 7 },
+];
+
 #[test]
 fn sums_of_three(rt: HostRuntime) -> Result<(), Fail> {
     let mut half = HalfSums::new(rt.alloc())?;
     half.rebuild(&[(0, 50), (1, 49), (2, 1)]);
-    let entries = half.entries();
-    assert_eq!(rt; entries.len(), 8);
-    assert_eq!(rt; entries[0], Entry { sum: 0, mask: 0 });
-    assert_eq!(rt; entries[1], Entry { sum: 1, mask: 4 });
-    assert_eq!(rt; entries[2], Entry { sum: 49, mask: 2 });
-    assert_eq!(rt; entries[3], Entry { sum: 50, mask: 1 });
-    assert_eq!(rt; entries[4], Entry { sum: 50, mask: 6 });
-    assert_eq!(rt; entries[5], Entry { sum: 51, mask: 5 });
-    assert_eq!(rt; entries[6], Entry { sum: 99, mask: 3 });
-    assert_eq!(rt; entries[7], Entry { sum: 100, mask: 7 });
-    let pairs = half.group(2);
-    assert_eq!(rt; pairs.len(), 3);
-    assert_eq!(rt; pairs[0], Entry { sum: 50, mask: 6 });
-    assert_eq!(rt; half.group(4).len(), 0);
-    assert_eq!(rt; half.group(17).len(), 0);
+    assert!(rt; half.entries() == OF_THREE.as_slice());
+    assert!(rt; half.group(2) == &OF_THREE[4..7]);
+    assert_eq!(rt; (half.group(4).len(), half.group(17).len()), (0, 0));
     let sums = half.ascending();
-    assert_eq!(rt; sums.len(), 8);
-    assert_eq!(rt; sums.at(2), Entry { sum: 49, mask: 2 });
+    assert_eq!(rt; (sums.len(), sums.at(2)), (8, OF_THREE[2]));
     Ok(())
 }
 
@@ -33,33 +32,50 @@ fn ordered_sums_of_three(rt: HostRuntime) -> Result<(), Fail> {
     assert_eq!(rt; half.ascending().len(), 1);
     half.rebuild(&[(0, 50), (1, 49), (2, 1)]);
     let sums = half.ascending();
-    assert_eq!(rt; sums.len(), 8);
-    assert_eq!(rt; sums.at(0), Entry { sum: 0, mask: 0 });
-    assert_eq!(rt; sums.at(2), Entry { sum: 49, mask: 2 });
-    assert_eq!(rt; sums.at(7), Entry { sum: 100, mask: 7 });
+    let some = (sums.len(), sums.at(0), sums.at(2), sums.at(7));
+    assert!(rt; some == (8, OF_THREE[0], OF_THREE[2], OF_THREE[7]));
     half.rebuild(&[(3, 5)]);
     let sums = half.ascending();
-    assert_eq!(rt; sums.len(), 2);
-    assert_eq!(rt; sums.at(1), Entry { sum: 5, mask: 8 });
+    assert!(rt; (sums.len(), sums.at(1)) == (2, Entry { sum: 5, mask: 8 }));
     Ok(())
+}
+
+// Whether sets have these sums, one for one.
+fn have_sums(entries: &[Entry], sums: &[u64]) -> bool {
+    for (entry, sum) in entries.iter().zip(sums) {
+        if entry.sum != *sum {
+            return false;
+        }
+    }
+    entries.len() == sums.len()
+}
+
+// Whether each is a set of two chairs.
+fn are_pairs(entries: &[Entry]) -> bool {
+    entries
+        .iter()
+        .all(|entry| u32::from(entry.mask).count_ones() == 2)
 }
 
 #[test]
 fn three_chairs_of_one_vote(rt: HostRuntime) -> Result<(), Fail> {
     let mut half = HalfSums::new(rt.alloc())?;
     half.rebuild(&[(0, 1), (1, 1), (2, 1)]);
-    let entries = half.entries();
-    assert_eq!(rt; entries.len(), 8);
-    assert_eq!(rt; entries[0], Entry { sum: 0, mask: 0 });
-    assert_eq!(rt; entries[3].sum, 1);
-    assert_eq!(rt; entries[4].sum, 2);
-    assert_eq!(rt; entries[7], Entry { sum: 3, mask: 7 });
-    let pairs = half.group(2);
-    assert_eq!(rt; pairs.len(), 3);
-    assert_eq!(rt; u32::from(pairs[0].mask).count_ones(), 2);
-    assert_eq!(rt; u32::from(pairs[2].mask).count_ones(), 2);
-    assert_eq!(rt; half.group(3).len(), 1);
+    assert!(rt; have_sums(half.entries(), &[0, 1, 1, 1, 2, 2, 2, 3]));
+    assert!(rt; have_sums(half.group(2), &[2, 2, 2]) && are_pairs(half.group(2)));
+    assert!(rt; have_sums(half.group(3), &[3]));
     Ok(())
+}
+
+// Whether each set of sixteen chairs is there once: a place for each mask says whether it was seen.
+fn are_all_sets(entries: &[Entry], seen: &mut [bool]) -> bool {
+    for entry in entries {
+        match seen.get_mut(usize::from(entry.mask)) {
+            Some(place) if !*place => *place = true,
+            _ => return false,
+        }
+    }
+    entries.len() == seen.len()
 }
 
 #[test]
@@ -83,14 +99,7 @@ fn sixteen_chairs_of_no_weight(rt: HostRuntime) -> Result<(), Fail> {
         (14, 0),
         (15, 0),
     ]);
-    assert_eq!(rt; half.entries().len(), 65536);
     let mut seen = vec![in rt.alloc(); false; 65536]?;
-    for entry in half.entries() {
-        let place = usize::from(entry.mask);
-        assert_eq!(rt; seen.get(place), Some(&false));
-        if let Some(place) = seen.get_mut(place) {
-            *place = true;
-        }
-    }
+    assert!(rt; are_all_sets(half.entries(), &mut seen));
     Ok(())
 }

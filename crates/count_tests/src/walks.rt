@@ -25,9 +25,8 @@ fn sums_of_three(rt: HostRuntime) -> Result<(), Fail> {
     expected[0] = 3;
     expected[1] = 1;
     expected[2] = 1;
-    assert_eq!(rt; counts.winning, 3);
-    assert_eq!(rt; counts.with_chair, with_chair);
-    assert_eq!(rt; swings, expected);
+    assert!(rt; (counts.winning, counts.with_chair) == (3, with_chair));
+    assert!(rt; swings == expected);
     Ok(())
 }
 
@@ -42,8 +41,7 @@ fn ordered_sums_of_three(rt: HostRuntime) -> Result<(), Fail> {
     with_chair[0] = 3;
     with_chair[1] = 2;
     with_chair[20] = 2;
-    assert_eq!(rt; counts.winning, 3);
-    assert_eq!(rt; counts.with_chair, with_chair);
+    assert!(rt; (counts.winning, counts.with_chair) == (3, with_chair));
     Ok(())
 }
 

@@ -77,30 +77,39 @@ fn schedule(alloc: Global) -> Result<Vec<Event>, Fail> {
     Ok(events)
 }
 
+/// How many notes the events give of one member's register and one reader, the number published at last, and the lines told.
+fn told_at_once(alloc: Global, events: &[Event]) -> Result<(usize, u32, Vec<Line>), Refusal> {
+    match run(alloc, one_member(alloc)?, 1, events) {
+        Ok(log) => {
+            let notes = log.notes.as_slice();
+            Ok((
+                notes.len(),
+                log.machine.published(),
+                lines_of(alloc, notes)?,
+            ))
+        }
+        Err(fault) => Err(fault.why),
+    }
+}
+
 #[test]
 fn reader_in_the_way(rt: HostRuntime) -> Result<(), Fail> {
     let events = schedule(rt.alloc())?;
-    match run(rt.alloc(), one_member(rt.alloc())?, 1, &events) {
-        Ok(log) => {
-            assert_eq!(rt; log.notes.as_slice().len(), 151);
-            assert_eq!(rt; log.machine.published(), 2);
-            let want = [
-                Line::Accepted(1),
-                Line::Began,
-                Line::Published(1),
-                Line::Accepted(2),
-                Line::Began,
-                Line::Busy(1),
-                Line::Sheet(1, 0, 0, 10),
-                Line::Began,
-                Line::Published(2),
-                Line::Sheet(1, 2, 10, 10),
-            ];
-            let told = lines_of(rt.alloc(), log.notes.as_slice())?;
-            assert_eq!(rt; told.as_slice(), want.as_slice());
-        }
-        Err(fault) => assert_eq!(rt; fault.done, 151),
-    }
+    let (notes, published, told) = told_at_once(rt.alloc(), &events)?;
+    assert_eq!(rt; (notes, published), (151, 2));
+    let want = [
+        Line::Accepted(1),
+        Line::Began,
+        Line::Published(1),
+        Line::Accepted(2),
+        Line::Began,
+        Line::Busy(1),
+        Line::Sheet(1, 0, 0, 10),
+        Line::Began,
+        Line::Published(2),
+        Line::Sheet(1, 2, 10, 10),
+    ];
+    assert_eq!(rt; told.as_slice(), want.as_slice());
     Ok(())
 }
 
@@ -123,46 +132,82 @@ const FIVE_LINES: [Option<Line>; 5] = [
     None,
 ];
 
+/// Whether the events, all at once, tell these lines.
+fn tell_at_once(alloc: Global, events: &[Event], lines: &[Option<Line>]) -> Result<bool, Refusal> {
+    match run(alloc, one_member(alloc)?, 1, events) {
+        Ok(log) => {
+            let notes = log.notes.as_slice();
+            Ok(notes.len() == lines.len() && are_lines(notes, lines))
+        }
+        Err(fault) => Err(fault.why),
+    }
+}
+
+fn are_lines(notes: &[Note], lines: &[Option<Line>]) -> bool {
+    for (note, line) in notes.iter().zip(lines) {
+        if line_of(note) != *line {
+            return false;
+        }
+    }
+    true
+}
+
+/// Whether the events, one by one, tell these lines.
+fn tell_each(
+    machine: &mut Machine,
+    events: &[Event],
+    lines: &[Option<Line>],
+) -> Result<bool, Refusal> {
+    for (event, line) in events.iter().zip(lines) {
+        match machine.step(*event) {
+            Ok(note) if line_of(&note) == *line => {}
+            Ok(_) => return Ok(false),
+            Err(why) => return Err(why),
+        }
+    }
+    Ok(true)
+}
+
+/// A machine over one member's register.
+fn machine_for(alloc: Global, readers: u8) -> Result<Machine, Refusal> {
+    match Machine::start(one_member(alloc)?, readers) {
+        Ok(machine) => Ok(machine),
+        Err((_, why)) => Err(why),
+    }
+}
+
 #[test]
 fn five_events_at_once(rt: HostRuntime) -> Result<(), Fail> {
-    match run(rt.alloc(), one_member(rt.alloc())?, 1, &five_events()?) {
-        Ok(log) => {
-            let told = log.notes.into_vec();
-            assert_eq!(rt; told.len(), 5);
-            for (note, want) in told.iter().zip(&FIVE_LINES) {
-                assert_eq!(rt; line_of(note), *want);
-            }
-        }
-        Err(fault) => assert_eq!(rt; fault.done, 5),
-    }
+    assert!(rt; tell_at_once(rt.alloc(), &five_events()?, &FIVE_LINES)?);
     Ok(())
 }
 
 #[test]
 fn five_events_one_by_one(rt: HostRuntime) -> Result<(), Fail> {
-    match Machine::start(one_member(rt.alloc())?, 1) {
-        Ok(mut machine) => {
-            for (event, want) in five_events()?.iter().zip(&FIVE_LINES) {
-                assert_eq!(rt; line_of(&machine.step(*event)?), *want);
-            }
-            assert_eq!(rt; machine.register().accepted(), 1);
-            assert_eq!(rt; machine.published(), 0);
-        }
-        Err((_, why)) => return Err(why.into()),
-    }
+    let mut machine = machine_for(rt.alloc(), 1)?;
+    assert!(rt; tell_each(&mut machine, &five_events()?, &FIVE_LINES)?);
+    assert_eq!(rt;
+        (machine.register().accepted(), machine.published()),
+        (1, 0)
+    );
     Ok(())
+}
+
+/// How a machine for so many readers is refused, and what its register had accepted.
+fn refusal_of(alloc: Global, readers: u8) -> Result<Option<(Refusal, u32)>, Refusal> {
+    match Machine::start(one_member(alloc)?, readers) {
+        Ok(_) => Ok(None),
+        Err((register, why)) => Ok(Some((why, register.accepted()))),
+    }
 }
 
 #[test]
 fn constructors_refuse(rt: HostRuntime) -> Result<(), Fail> {
     for readers in [0, READERS as u8 + 1] {
-        match Machine::start(one_member(rt.alloc())?, readers) {
-            Ok(machine) => assert_eq!(rt; machine.published(), 1),
-            Err((register, why)) => {
-                assert_eq!(rt; why, Refusal::BadLimit);
-                assert_eq!(rt; register.accepted(), 0);
-            }
-        }
+        assert_eq!(rt;
+            refusal_of(rt.alloc(), readers)?,
+            Some((Refusal::BadLimit, 0))
+        );
     }
     Ok(())
 }
@@ -175,23 +220,15 @@ fn opened_twice() -> Result<[Event; 2], Refusal> {
 
 #[test]
 fn refused_commands_want_no_memory(rt: HostRuntime) -> Result<(), Fail> {
-    let want = [Line::Accepted(1), Line::Refused(Refusal::ChairOpen)];
-    match Machine::start(one_member(rt.alloc())?, 1) {
-        Ok(mut machine) => {
-            for (event, line) in opened_twice()?.iter().zip(&want) {
-                assert_eq!(rt; line_of(&machine.step(*event)?), Some(*line));
-            }
-            assert_eq!(rt; machine.register().accepted(), 1);
-        }
-        Err((_, why)) => return Err(why.into()),
-    }
-    match run(rt.alloc(), one_member(rt.alloc())?, 1, &opened_twice()?) {
-        Ok(log) => {
-            let told = lines_of(rt.alloc(), log.notes.as_slice())?;
-            assert_eq!(rt; told.as_slice(), want.as_slice());
-        }
-        Err(fault) => assert_eq!(rt; fault.done, 2),
-    }
+    let events = opened_twice()?;
+    let lines = [
+        Some(Line::Accepted(1)),
+        Some(Line::Refused(Refusal::ChairOpen)),
+    ];
+    assert!(rt; tell_at_once(rt.alloc(), &events, &lines)?);
+    let mut machine = machine_for(rt.alloc(), 1)?;
+    assert!(rt; tell_each(&mut machine, &events, &lines)?);
+    assert_eq!(rt; machine.register().accepted(), 1);
     Ok(())
 }
 
@@ -251,26 +288,36 @@ fn past_a_reader(alloc: Global, chair: ChairId) -> Result<Vec<Event>, AllocError
     Ok(events)
 }
 
-#[test]
-fn two_readers_seen_out(rt: HostRuntime) -> Result<(), Fail> {
+/// Which of the readers 0 to 3 a publication has seen out.
+fn seen_out(machine: &Machine) -> [bool; 4] {
+    [0, 1, 2, 3].map(|reader| machine.seen_out(reader))
+}
+
+/// Publishes past reader 2, and then has it in the way: what the last event of each tells, and who is seen out after it.
+fn see_out(
+    alloc: Global,
+    machine: &mut Machine,
+) -> Result<[(Option<Line>, [bool; 4]); 2], Refusal> {
     let chair = ChairId::new(1)?;
+    let published = take_all(machine, &past_a_reader(alloc, chair)?)?;
+    let after = seen_out(machine);
     let seat = Command::Move(MemberCode::new(b"AAA")?, Some(chair));
-    let Ok(mut machine) = Machine::start(one_member(rt.alloc())?, 2) else {
-        assert!(rt; false);
-        return Ok(());
-    };
-    assert_eq!(rt; (machine.seen_out(1), machine.seen_out(2)), (true, true));
-    assert_eq!(rt; (machine.seen_out(0), machine.seen_out(3)), (false, false));
-    let published = take_all(&mut machine, &past_a_reader(rt.alloc(), chair)?)?;
-    assert_eq!(rt; published, Some(Line::Published(1)));
-    assert_eq!(rt; (machine.seen_out(1), machine.seen_out(2)), (false, false));
     let tries = [
         Event::Submit(seat),
         Event::Publish,
         Event::Writer,
         Event::Writer,
     ];
-    assert_eq!(rt; take_all(&mut machine, &tries)?, Some(Line::Busy(2)));
-    assert_eq!(rt; (machine.seen_out(1), machine.seen_out(2)), (true, false));
+    let tried = take_all(machine, &tries)?;
+    Ok([(published, after), (tried, seen_out(machine))])
+}
+
+#[test]
+fn two_readers_seen_out(rt: HostRuntime) -> Result<(), Fail> {
+    let mut machine = machine_for(rt.alloc(), 2)?;
+    assert_eq!(rt; seen_out(&machine), [false, true, true, false]);
+    let published = (Some(Line::Published(1)), [false; 4]);
+    let tried = (Some(Line::Busy(2)), [false, true, false, false]);
+    assert_eq!(rt; see_out(rt.alloc(), &mut machine)?, [published, tried]);
     Ok(())
 }

@@ -169,16 +169,21 @@ fn numbers_of(indices: &Indices) -> [u64; 6] {
     ]
 }
 
-// One question at more than half of the votes cast, by an analyst made for it. Its sheet is that of the
-// question, and the reader that comes back still reads it.
-fn ask_half(alloc: Global, reader: Reader) -> Result<[u64; 6], Refusal> {
+// An analyst over a reader at rest.
+fn analyst_of(alloc: Global, reader: Reader) -> Result<Analyst, Refusal> {
     if !reader.at_rest() {
         return Err(Refusal::BadReader);
     }
-    let mut analyst = match Analyst::new(alloc, reader) {
-        Ok(analyst) => analyst,
-        Err((_, why)) => return Err(why),
-    };
+    match Analyst::new(alloc, reader) {
+        Ok(analyst) => Ok(analyst),
+        Err((_, why)) => Err(why),
+    }
+}
+
+// One question at more than half of the votes cast, by an analyst made for it. Its sheet is that of the
+// question, and the reader that comes back still reads it.
+fn ask_half(alloc: Global, reader: Reader) -> Result<[u64; 6], Refusal> {
+    let mut analyst = analyst_of(alloc, reader)?;
     let indices = analyst.ask(Majority::Half);
     let held = analyst.sheet().front();
     let mut reader = analyst.into_reader();
@@ -188,19 +193,29 @@ fn ask_half(alloc: Global, reader: Reader) -> Result<[u64; 6], Refusal> {
     Ok(numbers_of(&indices))
 }
 
+// What a writer answers that has published all: to publish again, to a command that is refused, and its counts.
+fn goes_on<R: Wait>(rt: &R, writer: &mut Writer) -> (u32, Result<u32, Refusal>, [usize; 2]) {
+    let again = writer.publish(rt);
+    let refused = submit_open(writer, 1);
+    let counts = [writer.published() as usize, writer.journal().len()];
+    (again, refused, counts)
+}
+
 #[test]
 fn board_on_one_thread(rt: HostRuntime) -> Result<(), Fail> {
     let (mut writer, mut first, second) = begin_two(rt.alloc())?;
     assert_eq!(rt; (first.number(), second.number()), (1, 2));
     let answers = open_and_move(&rt, &mut writer, &mut first)?;
+    let asked = ask_half(rt.alloc(), second)?;
+    let more = goes_on(&rt, &mut writer);
     assert_eq!(rt;
         answers,
         [Some(1), Some(0), Some(1), Some(1), Some(2), Some(2)]
     );
-    assert_eq!(rt; ask_half(rt.alloc(), second)?, [2, 6, 1, 2, 1, 1]);
-    assert_eq!(rt; writer.publish(&rt), 2);
-    assert_eq!(rt; submit_open(&mut writer, 1), Err(Refusal::ChairOpen));
-    assert_eq!(rt; (writer.published(), writer.journal().len()), (2, 2));
+    assert_eq!(rt;
+        (asked, more),
+        ([2, 6, 1, 2, 1, 1], (2, Err(Refusal::ChairOpen), [2, 2]))
+    );
     Ok(())
 }
 
@@ -220,17 +235,23 @@ fn no_reader_and_one_too_many_refused(rt: HostRuntime) -> Result<(), Fail> {
     Ok(())
 }
 
+// Whether so many steps end no reading, and leave the reader in one.
+fn are_within(reader: &mut Reader, count: u32) -> bool {
+    for _ in 0..count {
+        if reader.step().is_some() || reader.at_rest() {
+            return false;
+        }
+    }
+    true
+}
+
 #[test]
 fn reader_in_37_steps(rt: HostRuntime) -> Result<(), Fail> {
-    let (mut writer, mut reader, _second) = begin_two(rt.alloc())?;
+    let (mut writer, mut reader) = begin_one(rt.alloc())?;
     submit_open(&mut writer, 1)?;
     assert_eq!(rt; try_now(&mut writer), Tried::Published(1));
-    for _ in 0..36u32 {
-        assert!(rt; reader.step().is_none());
-        assert!(rt; !reader.at_rest());
-    }
-    assert_eq!(rt; front_of(steps(&mut reader, 1)), Some(1));
-    assert!(rt; reader.at_rest());
+    assert!(rt; are_within(&mut reader, 36));
+    assert!(rt; front_of(steps(&mut reader, 1)) == Some(1) && reader.at_rest());
     Ok(())
 }
 
@@ -256,18 +277,32 @@ fn reads_a_register_with_a_command_in_37_steps(rt: HostRuntime) -> Result<(), Fa
     Ok(())
 }
 
+// A reader is stopped after two steps, and goes on after two tries to publish: what three tries answer, and the fronts that
+// it reads.
+fn past_a_stopped_reader(
+    writer: &mut Writer,
+    reader: &mut Reader,
+) -> Result<([Tried; 3], [Option<u32>; 4]), Refusal> {
+    let early = front_of(steps(reader, 2));
+    submit_open(writer, 1)?;
+    let one = try_now(writer);
+    submit_move(writer)?;
+    let two = try_now(writer);
+    let within = front_of(steps(reader, 34));
+    let ended = front_of(steps(reader, 1));
+    let three = try_now(writer);
+    Ok((
+        [one, two, three],
+        [early, within, ended, read_front(reader)],
+    ))
+}
+
 #[test]
 fn publish_past_a_stopped_reader(rt: HostRuntime) -> Result<(), Fail> {
     let (mut writer, mut reader) = begin_one(rt.alloc())?;
-    assert!(rt; steps(&mut reader, 2).is_none());
-    submit_open(&mut writer, 1)?;
-    assert_eq!(rt; try_now(&mut writer), Tried::Published(1));
-    submit_move(&mut writer)?;
-    assert_eq!(rt; try_now(&mut writer), Tried::Busy(1));
-    assert!(rt; steps(&mut reader, 34).is_none());
-    assert_eq!(rt; front_of(steps(&mut reader, 1)), Some(0));
-    assert_eq!(rt; try_now(&mut writer), Tried::Published(2));
-    assert_eq!(rt; read_front(&mut reader), Some(2));
+    let tried = [Tried::Published(1), Tried::Busy(1), Tried::Published(2)];
+    let got = past_a_stopped_reader(&mut writer, &mut reader)?;
+    assert_eq!(rt; got, (tried, [None, None, Some(0), Some(2)]));
     Ok(())
 }
 
@@ -311,38 +346,57 @@ fn reader_stopped_at_each_step(rt: HostRuntime) -> Result<(), Fail> {
     Ok(())
 }
 
-// Opens chair 1 past the second reader, and moves AAA into it with both readers in the way in turn.
+// Opens chair 1 past the second reader, and moves AAA into it with both readers in the way in turn: what each try answers, and
+// which of the readers 0 to 3 the writer has seen out.
 fn two_in_the_way(
     writer: &mut Writer,
     first: &mut Reader,
     second: &mut Reader,
-) -> Result<[Tried; 3], Refusal> {
+) -> Result<([Tried; 3], [bool; 4]), Refusal> {
     let _none = steps(second, 5);
     submit_open(writer, 1)?;
     let one = try_now(writer);
     submit_move(writer)?;
     let two = try_now(writer);
     let _arrived = steps(first, 1);
-    Ok([one, two, try_now(writer)])
+    let three = try_now(writer);
+    Ok((
+        [one, two, three],
+        [0, 1, 2, 3].map(|reader| writer.seen_out(reader)),
+    ))
+}
+
+// Both readers go on, the second first, and AAA's votes are set between: what each try answers, and what they read.
+fn both_go_on(
+    writer: &mut Writer,
+    first: &mut Reader,
+    second: &mut Reader,
+) -> Result<([Tried; 3], [Option<[u64; 3]>; 3]), Refusal> {
+    let old = shown(steps(second, 32));
+    let one = try_now(writer);
+    submit_votes(writer, 11)?;
+    let two = try_now(writer);
+    let middle = shown(steps(first, 36));
+    let three = try_now(writer);
+    Ok(([one, two, three], [old, middle, shown(steps(second, 37))]))
 }
 
 #[test]
 fn two_readers_stopped(rt: HostRuntime) -> Result<(), Fail> {
     let (mut writer, mut first, mut second) = begin_two(rt.alloc())?;
-    let tried = two_in_the_way(&mut writer, &mut first, &mut second)?;
+    let stopped = two_in_the_way(&mut writer, &mut first, &mut second)?;
+    let went_on = both_go_on(&mut writer, &mut first, &mut second)?;
+    let busy = Tried::Busy(2);
     assert_eq!(rt;
-        tried,
-        [Tried::Published(1), Tried::Busy(2), Tried::Busy(2)]
+        stopped,
+        (
+            [Tried::Published(1), busy, busy],
+            [false, true, false, false]
+        )
     );
-    assert_eq!(rt; (writer.seen_out(1), writer.seen_out(2)), (true, false));
-    assert_eq!(rt; (writer.seen_out(0), writer.seen_out(3)), (false, false));
-    assert_eq!(rt; shown(steps(&mut second, 32)), Some([0, 0, 10]));
-    assert_eq!(rt; try_now(&mut writer), Tried::Published(2));
-    submit_votes(&mut writer, 11)?;
-    assert_eq!(rt; try_now(&mut writer), Tried::Busy(1));
-    assert_eq!(rt; shown(steps(&mut first, 36)), Some([2, 10, 10]));
-    assert_eq!(rt; try_now(&mut writer), Tried::Published(3));
-    assert_eq!(rt; shown(steps(&mut second, 37)), Some([3, 11, 11]));
+    let tried = [Tried::Published(2), Tried::Busy(1), Tried::Published(3)];
+    let sheets = [Some([0, 0, 10]), Some([2, 10, 10]), Some([3, 11, 11])];
+    assert_eq!(rt; went_on, (tried, sheets));
     Ok(())
 }
 
@@ -449,26 +503,23 @@ fn answers_without_memory(
     Ok([published, u64::from(stepped), u64::from(read), asked, out])
 }
 
+// The same of a board with two commands to publish, whose second reader is the analyst's.
+fn two_commands_without_memory(
+    alloc: Global,
+    writer: &mut Writer,
+    first: &mut Reader,
+    second: Reader,
+) -> Result<[u64; 5], Refusal> {
+    submit_open(writer, 1)?;
+    submit_move(writer)?;
+    let mut analyst = analyst_of(alloc, second)?;
+    Ok(answers_without_memory(alloc, writer, first, &mut analyst)?)
+}
+
 #[test]
 fn calls_that_take_no_memory(rt: HostRuntime) -> Result<(), Fail> {
     let (mut writer, mut first, second) = begin_two(rt.alloc())?;
-    submit_open(&mut writer, 1)?;
-    submit_move(&mut writer)?;
-    if !second.at_rest() {
-        assert!(rt; false);
-        return Ok(());
-    }
-    match Analyst::new(rt.alloc(), second) {
-        Ok(mut analyst) => {
-            let answers = answers_without_memory(
-                rt.alloc(),
-                &mut writer,
-                &mut first,
-                &mut analyst,
-            )?;
-            assert_eq!(rt; answers, [2, 2, 2, 6, 0]);
-        }
-        Err((_, why)) => return Err(why.into()),
-    }
+    let got = two_commands_without_memory(rt.alloc(), &mut writer, &mut first, second)?;
+    assert_eq!(rt; got, [2, 2, 2, 6, 0]);
     Ok(())
 }

@@ -5,7 +5,7 @@ use council_core::{Command, MemberCode, Refusal, Sheet, Votes};
 use std::alloc::{AllocError, Global};
 use std::sync::Wait;
 use std::test::Fail;
-use std::thread::join;
+use std::thread::{Threads, join};
 
 // Opens chairs 1 to 5, and publishes after each.
 fn publish_five<R: Wait>(rt: &R, writer: &mut Writer) -> Result<u32, Refusal> {
@@ -127,35 +127,47 @@ fn audit_of(
     }
 }
 
+// A board of four readers.
+fn begin_four(alloc: Global) -> Result<(Writer, [Reader; 4]), Refusal> {
+    let (writer, mut readers) = begin(alloc, 4)?;
+    match (readers.pop(), readers.pop(), readers.pop(), readers.pop()) {
+        (Some(d), Some(c), Some(b), Some(a)) => Ok((writer, [a, b, c, d])),
+        _ => Err(Refusal::BadReader),
+    }
+}
+
+type Read = Result<Vec<Sheet>, AllocError>;
+
+// What four readers read, each in a thread of its own.
+fn read_by_four<R: Threads + Sync>(rt: &R, alloc: Global, readers: [Reader; 4]) -> [Read; 4] {
+    let [a, b, c, d] = readers;
+    let (left, right) = join(
+        rt,
+        move || join(rt, move || read_all(alloc, a), move || read_all(alloc, b)),
+        move || join(rt, move || read_all(alloc, c), move || read_all(alloc, d)),
+    );
+    [left.0, left.1, right.0, right.1]
+}
+
+// What readers read, where none lacked memory.
+fn listed(alloc: Global, reads: [Read; 4]) -> Result<Vec<Vec<Sheet>>, AllocError> {
+    let mut readings = Vec::new(alloc);
+    for sheets in reads {
+        readings.push(sheets?)?;
+    }
+    Ok(readings)
+}
+
 #[test]
 fn four_readers_audited(rt: HostRuntime) -> Result<(), Fail> {
     let alloc = rt.alloc();
-    let (mut writer, mut readers) = begin(alloc, 4)?;
-    let (Some(d), Some(c), Some(b), Some(a)) = (
-        readers.pop(),
-        readers.pop(),
-        readers.pop(),
-        readers.pop(),
-    ) else {
-        assert!(rt; false);
-        return Ok(());
-    };
-    let (cuts, (left, right)) = join(
+    let (mut writer, readers) = begin_four(alloc)?;
+    let (cuts, reads) = join(
         &rt,
         || publish_each(&rt, alloc, &mut writer),
-        || {
-            join(
-                &rt,
-                move || join(&rt, move || read_all(alloc, a), move || read_all(alloc, b)),
-                move || join(&rt, move || read_all(alloc, c), move || read_all(alloc, d)),
-            )
-        },
+        || read_by_four(&rt, alloc, readers),
     );
-    let cuts = cuts?;
-    let mut readings = Vec::new(alloc);
-    for sheets in [left.0, left.1, right.0, right.1] {
-        readings.push(sheets?)?;
-    }
+    let (cuts, readings) = (cuts?, listed(alloc, reads)?);
     assert_eq!(rt; cuts.len(), PUBLICATIONS as usize);
     assert!(rt; readings.iter().all(|sheets| sheets.len() == READINGS));
     assert_eq!(rt; audit_of(alloc, writer.journal(), &cuts, &readings), Ok(()));
@@ -210,30 +222,26 @@ fn follow(reader: &mut Reader, by_steps: bool) -> bool {
     true
 }
 
+// Whether each of four readers, in a thread of its own, follows the publications: two at once, and two by steps.
+fn follow_by_four<R: Threads + Sync>(rt: &R, readers: &mut [Reader; 4]) -> [bool; 4] {
+    let [a, b, c, d] = readers;
+    let (left, right) = join(
+        rt,
+        || join(rt, || follow(a, false), || follow(b, true)),
+        || join(rt, || follow(c, false), || follow(d, true)),
+    );
+    [left.0, left.1, right.0, right.1]
+}
+
 #[test]
 fn four_readers_beside_publications_at_full_speed(rt: HostRuntime) -> Result<(), Fail> {
-    let (mut writer, mut readers) = begin(rt.alloc(), 4)?;
-    let (Some(mut d), Some(mut c), Some(mut b), Some(mut a)) = (
-        readers.pop(),
-        readers.pop(),
-        readers.pop(),
-        readers.pop(),
-    ) else {
-        assert!(rt; false);
-        return Ok(());
-    };
+    let (mut writer, mut readers) = begin_four(rt.alloc())?;
     let (front, fine) = join(
         &rt,
         || publish_to_the_last(&rt, &mut writer),
-        || {
-            join(
-                &rt,
-                || join(&rt, || follow(&mut a, false), || follow(&mut b, true)),
-                || join(&rt, || follow(&mut c, false), || follow(&mut d, true)),
-            )
-        },
+        || follow_by_four(&rt, &mut readers),
     );
     assert_eq!(rt; front, Ok(LAST));
-    assert_eq!(rt; fine, ((true, true), (true, true)));
+    assert_eq!(rt; fine, [true; 4]);
     Ok(())
 }
