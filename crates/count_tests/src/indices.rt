@@ -135,8 +135,8 @@ fn equal_chairs(alloc: Global) -> Result<Evaluator, Refusal> {
     Ok(evaluator)
 }
 
-/// The quota, the least size and the winning coalitions of 32 chairs, and their swings, where all have the same.
-fn figures_of_equals(evaluator: &Evaluator, majority: Majority) -> ([u64; 3], Option<u64>) {
+/// The quota, the least size, the winning and all coalitions of 32 chairs, and their swings, where all have the same.
+fn figures_of_equals(evaluator: &Evaluator, majority: Majority) -> ([u64; 4], Option<u64>) {
     let indices = evaluator.evaluate(majority);
     let rows = indices.rows.as_slice();
     let swings = rows.first().map(|row| row.swings);
@@ -146,6 +146,7 @@ fn figures_of_equals(evaluator: &Evaluator, majority: Majority) -> ([u64; 3], Op
             indices.quota,
             u64::from(indices.least_size),
             indices.winning,
+            indices.coalitions,
         ],
         if is_equal { swings } else { None },
     )
@@ -155,9 +156,9 @@ fn figures_of_equals(evaluator: &Evaluator, majority: Majority) -> ([u64; 3], Op
 fn thirty_two_equal_chairs(rt: HostRuntime) -> Result<(), Fail> {
     let evaluator = equal_chairs(rt.alloc())?;
     for (majority, counts, swings) in [
-        (Majority::Half, [17, 0, 1846943453], 300540195),
-        (Majority::EightyFive, [28, 0, 41449], 31465),
-        (Majority::Quorum, [16, 17, 1846943453], 300540195),
+        (Majority::Half, [17, 0, 1846943453, 1 << 32], 300540195),
+        (Majority::EightyFive, [28, 0, 41449, 1 << 32], 31465),
+        (Majority::Quorum, [16, 17, 1846943453, 1 << 32], 300540195),
     ] {
         assert_eq!(rt;
             figures_of_equals(&evaluator, majority),

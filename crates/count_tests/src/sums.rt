@@ -63,7 +63,8 @@ fn three_chairs_of_one_vote(rt: HostRuntime) -> Result<(), Fail> {
     half.rebuild(&[(0, 1), (1, 1), (2, 1)]);
     assert!(rt; have_sums(half.entries(), &[0, 1, 1, 1, 2, 2, 2, 3]));
     assert!(rt; have_sums(half.group(2), &[2, 2, 2]) && are_pairs(half.group(2)));
-    assert!(rt; have_sums(half.group(3), &[3]));
+    assert!(rt; half.group(0) == [Entry { sum: 0, mask: 0 }].as_slice());
+    assert!(rt; half.group(3) == [Entry { sum: 3, mask: 7 }].as_slice());
     Ok(())
 }
 
