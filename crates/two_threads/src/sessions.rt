@@ -199,10 +199,7 @@ pub(crate) fn hold<R: Threads + Wait + Sync>(
         sheets,
     } = asked;
     let answer = ask_once(&mut analyst);
-    let mut readings = Vec::new(alloc);
-    readings.push(first)?;
-    readings.push(second)?;
-    readings.push(sheets)?;
+    let readings = vec![in alloc; first, second, sheets]?;
     audit(
         alloc,
         members,
