@@ -60,11 +60,16 @@ fn seat_first(
 
 // The first chair's words, the total and the front, by the register and by its sheet.
 fn words_of(register: &Register) -> ([u64; 4], [u64; 4]) {
-    let places = [0, 1, TOTAL, FRONT];
     let words = register.sheet().words();
+    let by_register = [
+        register.sheet_word(0),
+        register.sheet_word(1),
+        register.sheet_word(TOTAL),
+        register.sheet_word(FRONT),
+    ];
     (
-        places.map(|place| register.sheet_word(place)),
-        places.map(|place| words[place]),
+        by_register,
+        [words[0], words[1], words[TOTAL], words[FRONT]],
     )
 }
 

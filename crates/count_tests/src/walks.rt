@@ -25,7 +25,7 @@ fn sums_of_three(rt: HostRuntime) -> Result<(), Fail> {
     expected[0] = 3;
     expected[1] = 1;
     expected[2] = 1;
-    assert!(rt; (counts.winning, counts.with_chair) == (3, with_chair));
+    assert!(rt; counts.winning == 3 && counts.with_chair == with_chair);
     assert!(rt; swings == expected);
     Ok(())
 }
@@ -41,7 +41,7 @@ fn ordered_sums_of_three(rt: HostRuntime) -> Result<(), Fail> {
     with_chair[0] = 3;
     with_chair[1] = 2;
     with_chair[20] = 2;
-    assert!(rt; (counts.winning, counts.with_chair) == (3, with_chair));
+    assert!(rt; counts.winning == 3 && counts.with_chair == with_chair);
     Ok(())
 }
 

@@ -205,10 +205,10 @@ fn next_sheet(reader: &mut Reader, by_steps: bool) -> Option<Sheet> {
 }
 
 // Whether each reading up to the last publication is the sheet of its front, and no front falls.
-fn follow(reader: &mut Reader, by_steps: bool) -> bool {
+fn follow(mut reader: Reader, by_steps: bool) -> bool {
     let mut low = 0;
     for _ in 0..MOST_READINGS {
-        let Some(sheet) = next_sheet(reader, by_steps) else {
+        let Some(sheet) = next_sheet(&mut reader, by_steps) else {
             return false;
         };
         if sheet.front() < low || !is_sheet_of_its_front(&sheet.words()) {
@@ -223,23 +223,23 @@ fn follow(reader: &mut Reader, by_steps: bool) -> bool {
 }
 
 // Whether each of four readers, in a thread of its own, follows the publications: two at once, and two by steps.
-fn follow_by_four<R: Threads + Sync>(rt: &R, readers: &mut [Reader; 4]) -> [bool; 4] {
+fn follow_by_four<R: Threads + Sync>(rt: &R, readers: [Reader; 4]) -> [bool; 4] {
     let [a, b, c, d] = readers;
     let (left, right) = join(
         rt,
-        || join(rt, || follow(a, false), || follow(b, true)),
-        || join(rt, || follow(c, false), || follow(d, true)),
+        move || join(rt, move || follow(a, false), move || follow(b, true)),
+        move || join(rt, move || follow(c, false), move || follow(d, true)),
     );
     [left.0, left.1, right.0, right.1]
 }
 
 #[test]
 fn four_readers_beside_publications_at_full_speed(rt: HostRuntime) -> Result<(), Fail> {
-    let (mut writer, mut readers) = begin_four(rt.alloc())?;
+    let (mut writer, readers) = begin_four(rt.alloc())?;
     let (front, fine) = join(
         &rt,
         || publish_to_the_last(&rt, &mut writer),
-        || follow_by_four(&rt, &mut readers),
+        || follow_by_four(&rt, readers),
     );
     assert_eq!(rt; front, Ok(LAST));
     assert_eq!(rt; fine, [true; 4]);
