@@ -46,8 +46,8 @@ pub enum Refusal {
     TooManyChairs = 33,
 }
 
-// The refusals by number, each with its reason, for whatever is made of all of them: the macro of that name is called with
-// this list.
+// The refusals by number, each with its reason, for whatever is made of all of them: the macro of that name is called
+// with this list.
 macro_rules! refusals {
     ($make:ident $($given:expr)?) => {
         $make! { $($given)? =>

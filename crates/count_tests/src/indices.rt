@@ -5,8 +5,8 @@ use power_index::{ChairPower, Evaluator, Fraction};
 use std::alloc::Global;
 use std::test::Fail;
 
-// A function that has an evaluator or a register of its own is proved slowly: what happens to one is in functions that are
-// lent it.
+// A function that has an evaluator or a register of its own is proved slowly: what happens to one is in functions that
+// are lent it.
 
 /// AAA with 10 votes and BBB with 20, in no chair.
 fn two_members(alloc: Global) -> Result<Register, Refusal> {

@@ -97,8 +97,8 @@ fn three_members(alloc: Global) -> Result<Register, Refusal> {
     Register::start(alloc, &[first, second, third], 5)
 }
 
-// What the calls answer, and the codes at places 0 to 2, once the first member has withdrawn and once it is admitted again with
-// 7 votes.
+// What the calls answer, and the codes at places 0 to 2, once the first member has withdrawn and once it is admitted
+// again with 7 votes.
 fn withdraw_and_admit(
     register: &mut Register,
 ) -> Result<[(u32, [Option<MemberCode>; 3]); 2], Refusal> {
@@ -146,8 +146,8 @@ fn at_the_limit(alloc: Global) -> Result<Register, Fail> {
     Ok(register)
 }
 
-// How commands are refused of a register with as many members and commands as there may be: to admit a member that it has and
-// another, to withdraw one, and what a check of the second says.
+// How commands are refused of a register with as many members and commands as there may be: to admit a member that it
+// has and another, to withdraw one, and what a check of the second says.
 fn refusals_of(register: &mut Register) -> Result<[Option<Refusal>; 4], Refusal> {
     let (held, votes) = numbered(255)?;
     let new = MemberCode::new(b"ZZZ")?;

@@ -77,7 +77,8 @@ fn schedule(alloc: Global) -> Result<Vec<Event>, Fail> {
     Ok(events)
 }
 
-/// How many notes the events give of one member's register and one reader, the number published at last, and the lines told.
+/// How many notes the events give of one member's register and one reader, the number published at last, and the lines
+/// told.
 fn told_at_once(alloc: Global, events: &[Event]) -> Result<(usize, u32, Vec<Line>), Refusal> {
     match run(alloc, one_member(alloc)?, 1, events) {
         Ok(log) => {
@@ -293,7 +294,8 @@ fn seen_out(machine: &Machine) -> [bool; 4] {
     [0, 1, 2, 3].map(|reader| machine.seen_out(reader))
 }
 
-/// Publishes past reader 2, and then has it in the way: what the last event of each tells, and who is seen out after it.
+/// Publishes past reader 2, and then has it in the way: what the last event of each tells, and who is seen out after
+/// it.
 fn see_out(
     alloc: Global,
     machine: &mut Machine,

@@ -277,8 +277,8 @@ fn reads_a_register_with_a_command_in_37_steps(rt: HostRuntime) -> Result<(), Fa
     Ok(())
 }
 
-// A reader is stopped after two steps, and goes on after two tries to publish: what three tries answer, and the fronts that
-// it reads.
+// A reader is stopped after two steps, and goes on after two tries to publish: what three tries answer, and the fronts
+// that it reads.
 fn past_a_stopped_reader(
     writer: &mut Writer,
     reader: &mut Reader,
@@ -346,8 +346,8 @@ fn reader_stopped_at_each_step(rt: HostRuntime) -> Result<(), Fail> {
     Ok(())
 }
 
-// Opens chair 1 past the second reader, and moves AAA into it with both readers in the way in turn: what each try answers, and
-// which of the readers 0 to 3 the writer has seen out.
+// Opens chair 1 past the second reader, and moves AAA into it with both readers in the way in turn: what each try
+// answers, and which of the readers 0 to 3 the writer has seen out.
 fn two_in_the_way(
     writer: &mut Writer,
     first: &mut Reader,
