@@ -1,0 +1,150 @@
+"""The edits that must fail: reads them, and says of each whether the prover refuses it.
+
+An edit changes the code of a crate. Since a proof reads of another function its contract alone, edits of different functions are
+tried in one check, and each is refused where its own function isn't proved, for a reason that is no lacking name. What one check
+doesn't settle so is tried alone."""
+import re
+from dataclasses import dataclass, field
+
+# What the prover says of a proof that names what an edit took away: that tells nothing of a contract.
+NAMES = re.compile(r"has no field|is not in scope|has no `|was not admitted|that depends on `[^`]*`, which was rejected")
+# The longest reason that is shown.
+SHOWN = 160
+
+
+class BadEdit(Exception):
+    """An edit that can't be applied."""
+
+
+@dataclass
+class Edit:
+    """A mistake: what it is called, the files that it changes with their texts then, and the functions that the changes stand in,
+    each with its file, or nothing where a change stands in none."""
+
+    crate: str
+    name: str
+    texts: dict = field(default_factory=dict)
+    functions: set | None = field(default_factory=set)
+
+    def change(self, folder, path, old, new):
+        """Changes a text, which stands once in a file, for another: one line for one line."""
+        if not path or not old or not (folder / path).is_file():
+            raise BadEdit(f"{self.crate}/{self.name}: a new text without an old one, or without a file")
+        text = self.texts.get(path) or (folder / path).read_text()
+        if text.count(old) != 1:
+            raise BadEdit(f"{self.crate}/{self.name}: the old text stands in {path} {text.count(old)} times, and not once")
+        self.texts[path] = text.replace(old, new)
+        function = function_at(text, text.index(old) + len(old)) if path.startswith("src/") else None
+        self.functions = None if function is None or self.functions is None else {*self.functions, (path, function)}
+
+
+def function_at(text, at):
+    """The name of the function whose body stands at a place of a file that is laid out, if any does."""
+    found = [*re.finditer(r"^( *)(?:[a-z]+(?:\([a-z]+\)| \"C\")? )*fn (\w+)", text[:at], re.MULTILINE)]
+    if not found:
+        return None
+    last = found[-1]
+    return None if f"\n{last[1]}}}" in text[last.start() : at] else last[2]
+
+
+def read(folder):
+    """The edits of a crate's folder."""
+    return [read_one(folder, file) for file in sorted((folder / "must-fail").glob("*.edit"))]
+
+
+def read_one(folder, file):
+    edit, path, old = Edit(folder.name, file.stem), None, None
+    for line in file.read_text().splitlines():
+        if line.startswith("file: "):
+            path = line.removeprefix("file: ").strip()
+        elif line.startswith("old: "):
+            old = line.removeprefix("old: ")
+        elif line.startswith("new:"):
+            edit.change(folder, path, old, line.removeprefix("new:").removeprefix(" "))
+            old = None
+    if not edit.texts:
+        raise BadEdit(f"{edit.crate}/{edit.name}: it changes nothing")
+    return edit
+
+
+def together(edits):
+    """Lists of edits that are tried in one check: those of one list change different functions."""
+    lists, taken = [], []
+    for edit in edits:
+        at = next((at for at, functions in enumerate(taken) if edit.functions and functions and not edit.functions & functions), None)
+        if at is None:
+            lists.append([edit])
+            taken.append(edit.functions)
+        else:
+            lists[at].append(edit)
+            taken[at] = taken[at] | edit.functions
+    return lists
+
+
+def apply(edits, folder):
+    """Makes the changes of edits in a copy of their crate: no two change one line."""
+    for path in {path for edit in edits for path in edit.texts}:
+        was = (folder / path).read_text().split("\n")
+        lines = list(was)
+        for edit in (it for it in edits if path in it.texts):
+            for at, line in enumerate(edit.texts[path].split("\n")):
+                if line != was[at]:
+                    lines[at] = line
+        (folder / path).write_text("\n".join(lines))
+
+
+def path_of(function, crate):
+    """Where the prover says a function of a file is: the module's path, and the function's name."""
+    file, name = function
+    module = [it for it in re.sub(r"^src/|\.rt$", "", file).split("/") if it not in ("lib", "main", "mod")]
+    return [crate, *module], name
+
+
+def not_proved(said):
+    """The functions that weren't proved by themselves, by their paths, each with a reason: nothing where only names lack.
+
+    One that merely calls a function that isn't proved is not among them."""
+    found = {}
+    for path, what in re.findall(r"^fn (\S+): (.*)$", said, re.MULTILINE):
+        of_search = re.search(r"`search` did not prove .*?(?=;|$)", what)
+        folder = re.escape(f"./proofs/{'/'.join(path.split('::')[1:])}/")
+        told = re.findall(rf"^{folder}\w+\.antt:\S+ error: .*$", said, re.MULTILINE)
+        real = [it for it in told if not NAMES.search(it)]
+        if real or of_search:
+            found[path] = (real or [of_search[0]])[0][:SHOWN]
+        elif what.startswith("not proved"):
+            found[path] = None
+    return found
+
+
+def is_of(path, function, crate):
+    """Whether the prover's path leads to a function of a file, or into it."""
+    module, name = path_of(function, crate)
+    words = path.split("::")
+    return words[: len(module)] == module and name in words[len(module) :]
+
+
+def is_refused(status, said):
+    return status == 1 and re.search(r"^logic=not-proved", said, re.MULTILINE)
+
+
+def reasons(edits, status, said):
+    """Why each of some edits was refused in one check, by their names, as far as that settles it.
+
+    Where a function that none of them changes isn't proved either, nothing is settled."""
+    failed = not_proved(said) if is_refused(status, said) else {}
+    by = {path: edit.name for path in failed for edit in edits if any(is_of(path, it, edit.crate) for it in edit.functions)}
+    return {by[path]: why for path, why in failed.items() if why} if by.keys() == failed.keys() else {}
+
+
+def reason_alone(status, said):
+    """Why an edit was refused that was tried alone, or nothing where it wasn't, or where only names lack."""
+    told = re.findall(r"^\S+:\d+:\d+: error.*$|^fn .*`search` did not prove.*$", said, re.MULTILINE) if is_refused(status, said) else []
+    return next((it[:SHOWN] for it in told if not NAMES.search(it)), None)
+
+
+def tried(edits, check):
+    """Tries edits: each with why it was refused, or with nothing where it wasn't. A check of some of them gives rt's status, and what
+    rt said."""
+    why = reasons(edits, *check(edits)) if len(edits) > 1 else {}
+    return [(edit, why.get(edit.name) or reason_alone(*check([edit]))) for edit in edits]
