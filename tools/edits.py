@@ -71,7 +71,8 @@ def together(edits):
     """Lists of edits that are tried in one check: those of one list change different functions."""
     lists, taken = [], []
     for edit in edits:
-        at = next((at for at, functions in enumerate(taken) if edit.functions and functions and not edit.functions & functions), None)
+        free = (at for at, functions in enumerate(taken) if edit.functions and functions and not edit.functions & functions)
+        at = next(free, None)
         if at is None:
             lists.append([edit])
             taken.append(edit.functions)
@@ -125,6 +126,7 @@ def is_of(path, function, crate):
 
 
 def is_refused(status, said):
+    """Whether rt came to a verdict, and it is that the crate isn't proved."""
     return status == 1 and re.search(r"^logic=not-proved", said, re.MULTILINE)
 
 
@@ -139,8 +141,8 @@ def reasons(edits, status, said):
 
 def reason_alone(status, said):
     """Why an edit was refused that was tried alone, or nothing where it wasn't, or where only names lack."""
-    told = re.findall(r"^\S+:\d+:\d+: error.*$|^fn .*`search` did not prove.*$", said, re.MULTILINE) if is_refused(status, said) else []
-    return next((it[:SHOWN] for it in told if not NAMES.search(it)), None)
+    told = re.findall(r"^\S+:\d+:\d+: error.*$|^fn .*`search` did not prove.*$", said, re.MULTILINE)
+    return next((it[:SHOWN] for it in told if is_refused(status, said) and not NAMES.search(it)), None)
 
 
 def tried(edits, check):
