@@ -16,8 +16,8 @@ class Task:
 
 def started(left, running, proved, most, room):
     """Which of the tasks that are left are started beside those that run, each with how many processes. The first of all, for which
-    the others wait longest, has the most that gain something. There is room for so many processes more: one for each other task,
-    and several where no task waits for them."""
+    the others wait longest, has 'most', since more gain nothing. Beside it there is 'room' for so many processes: each task has
+    one, and the last that is ready has those that no other waits for."""
     ready = [it for it in left if it not in running and it.needs <= proved]
     free = room - sum(jobs for it, jobs in running.items() if it is not left[0])
     found = {}
