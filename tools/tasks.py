@@ -14,28 +14,31 @@ class Task:
     edits: list | None = None
 
 
-def started(left, running, proved, most, room):
+def started(left, running, proved, most, room, limit):
     """Which of the tasks that are left are started beside those that run, each with how many processes. The first of all, for which
-    the others wait longest, has 'most', since more gain nothing. Beside it there is 'room' for so many processes: each task has
-    one, and the last that is ready has those that no other waits for."""
+    the others wait longest, has 'most', since more gain nothing. Any other is started where those between the first and it leave
+    some of 'room' processes: those behind it don't keep it waiting. Each has one, and the last that is ready has those that no
+    other waits for. All together never are more than 'limit', but for the first."""
     ready = [it for it in left if it not in running and it.needs <= proved]
-    free = room - sum(jobs for it, jobs in running.items() if it is not left[0])
     found = {}
     for at, task in enumerate(ready):
         if task is left[0]:
             found[task] = most
-        elif free > 0:
+            continue
+        busy = running | found
+        ahead = sum(busy.get(it, 0) for it in left[1 : left.index(task)])
+        free = min(room - ahead, limit - sum(busy.values()))
+        if free > 0:
             found[task] = max(1, min(most, free - len(ready[at + 1 :])))
-            free -= found[task]
     return found
 
 
-def carried_out(tasks, proved, most, room):
+def carried_out(tasks, proved, most, room, limit):
     """Does tasks, each once what it needs is among what is proved, the first of them first: each, with what it gave."""
     left, running, futures = [*tasks], {}, {}
-    with ThreadPoolExecutor(most + room) as pool:
+    with ThreadPoolExecutor(limit + 1) as pool:
         while left:
-            new = started(left, running, proved, most, room)
+            new = started(left, running, proved, most, room, limit)
             running |= new
             futures |= {pool.submit(task.call, jobs): task for task, jobs in new.items()}
             if not futures:
