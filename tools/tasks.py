@@ -16,9 +16,9 @@ class Task:
 
 def started(left, running, proved, most, room, limit):
     """Which of the tasks that are left are started beside those that run, each with how many processes. The first of all, for which
-    the others wait longest, has 'most', since more gain nothing. Any other is started where those between the first and it leave
-    some of 'room' processes: those behind it don't keep it waiting. Each has one, and the last that is ready has those that no
-    other waits for. All together never are more than 'limit', but for the first."""
+    the others wait longest, has 'most', since more gain nothing. Another is started where those between the first and it leave
+    some of 'room' processes, however many those behind it have. It has one, but the last that is ready has all that no other waits
+    for. Together they are never more than 'limit', but for the first."""
     ready = [it for it in left if it not in running and it.needs <= proved]
     found = {}
     for at, task in enumerate(ready):
