@@ -16,20 +16,17 @@ class Task:
 
 def started(left, running, proved, most, room, limit):
     """Which of the tasks that are left are started beside those that run, each with how many processes. The first of all, for which
-    the others wait longest, has 'most', since more gain nothing. Another is started where those between the first and it leave
-    some of 'room' processes, however many those behind it have. It has one, but the last that is ready has all that no other waits
-    for. Together they are never more than 'limit', but for the first."""
-    ready = [it for it in left if it not in running and it.needs <= proved]
+    the others wait longest, has 'most', since more gain nothing. Another has one, and is started where between the first and it
+    fewer than 'room' run, however many run behind it. Together they have no more than 'limit' processes, but for the first."""
     found = {}
-    for at, task in enumerate(ready):
+    for task in left:
+        busy = running | found
+        if task in running or not task.needs <= proved:
+            continue
         if task is left[0]:
             found[task] = most
-            continue
-        busy = running | found
-        ahead = sum(busy.get(it, 0) for it in left[1 : left.index(task)])
-        free = min(room - ahead, limit - sum(busy.values()))
-        if free > 0:
-            found[task] = max(1, min(most, free - len(ready[at + 1 :])))
+        elif sum(it in busy for it in left[1 : left.index(task)]) < room and sum(busy.values()) < limit:
+            found[task] = 1
     return found
 
 
