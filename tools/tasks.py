@@ -16,17 +16,16 @@ class Task:
 
 def started(left, running, proved, most, room, limit):
     """Which of the tasks that are left are started beside those that run, each with how many processes. The first of all, for which
-    the others wait longest, has 'most', since more gain nothing. Another has one, and is started where between the first and it
-    fewer than 'room' run, however many run behind it. Together they have no more than 'limit' processes, but for the first."""
+    the others wait longest, has 'most', since more gain nothing; another has what those before it leave of 'most', and at least
+    one. Another is started where between the first and it fewer than 'room' run, however many run behind it. Together they have no
+    more than 'limit' processes, but for the last that is started."""
     found = {}
-    for task in left:
+    for at, task in enumerate(left):
         busy = running | found
         if task in running or not task.needs <= proved:
             continue
-        if task is left[0]:
-            found[task] = most
-        elif sum(it in busy for it in left[1 : left.index(task)]) < room and sum(busy.values()) < limit:
-            found[task] = 1
+        if at == 0 or sum(it in busy for it in left[1:at]) < room and sum(busy.values()) < limit:
+            found[task] = max(1, most - sum(busy.get(it, 0) for it in left[:at]))
     return found
 
 
