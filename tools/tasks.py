@@ -2,30 +2,35 @@
 from concurrent.futures import FIRST_COMPLETED, ThreadPoolExecutor, wait
 from dataclasses import dataclass
 
+# What part of the longest work is nearly as long.
+NEARLY = 5 / 6
+
 
 @dataclass(eq=False)
 class Task:
     """A proof of a crate, or a try of some of its edits: what it needs is proved first, and it is called with how many processes
-    it may have."""
+    it may have. 'behind' is the work of it and of the longest chain of those that wait for it."""
 
     crate: str
     needs: set
     call: object
     edits: list | None = None
+    behind: int = 0
 
 
 def started(left, running, proved, most, room, limit):
     """Which of the tasks that are left are started beside those that run, each with how many processes. The first of all, for which
-    the others wait longest, has 'most', since more gain nothing; another has what those before it leave of 'most', and at least
-    one. Another is started where between the first and it fewer than 'room' run, however many run behind it. Together they have no
-    more than 'limit' processes, but for the last that is started."""
+    the others wait longest, has 'most', since more gain nothing. Another has one, or 'most' where others wait for it nearly as long
+    and fewer than 'room' can be done at all. It is started where between the first and it fewer than 'room' run, however many run
+    behind it, and where all together have less than 'limit' processes."""
+    ready = [it for it in left if it not in running and it.needs <= proved]
+    are_few = len(running) + len(ready) < room
     found = {}
-    for at, task in enumerate(left):
-        busy = running | found
-        if task in running or not task.needs <= proved:
-            continue
+    for task in ready:
+        at, busy = left.index(task), running | found
+        waited_for = at == 0 or are_few and NEARLY * left[0].behind <= task.behind
         if at == 0 or sum(it in busy for it in left[1:at]) < room and sum(busy.values()) < limit:
-            found[task] = max(1, most - sum(busy.get(it, 0) for it in left[:at]))
+            found[task] = most if waited_for else 1
     return found
 
 
