@@ -20,17 +20,20 @@ class Task:
 
 def started(left, running, proved, most, room, limit):
     """Which of the tasks that are left are started beside those that run, each with how many processes. The first of all, for which
-    the others wait longest, has 'most', since more gain nothing. Another has one, or 'most' where others wait for it nearly as long
-    and fewer than 'room' can be done at all. It is started where between the first and it fewer than 'room' run, however many run
-    behind it, and where all together have less than 'limit' processes."""
+    the others wait longest, has 'most', since more gain nothing. Another has one, or up to 'most' where others wait for it nearly
+    as long and fewer than 'room' can be done at all. It is started where between the first and it fewer than 'room' run, however
+    many run behind it, and where all together then have no more than 'limit' processes."""
     ready = [it for it in left if it not in running and it.needs <= proved]
     are_few = len(running) + len(ready) < room
     found = {}
     for task in ready:
         at, busy = left.index(task), running | found
-        waited_for = at == 0 or are_few and NEARLY * left[0].behind <= task.behind
-        if at == 0 or sum(it in busy for it in left[1:at]) < room and sum(busy.values()) < limit:
-            found[task] = most if waited_for else 1
+        spare = limit - sum(busy.values())
+        is_waited_for = are_few and NEARLY * left[0].behind <= task.behind
+        if at == 0:
+            found[task] = most
+        elif spare > 0 and sum(it in busy for it in left[1:at]) < room:
+            found[task] = min(most, spare) if is_waited_for else 1
     return found
 
 
