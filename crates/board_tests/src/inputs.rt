@@ -1,16 +1,11 @@
 //! Inputs at the limit of their length, and a field that is far too long.
-ghost use Rattle.std.specs.Thread.{IsSync};
-
-use board_report::{Fault, FreeGate, Given, Limits, replay, serve, trace};
+use crate::calls::{Call, LIMITS, writes, writes_bytes};
+use board_report::Fault;
 use std::alloc::{AllocError, Global};
+use std::process::Abort;
 use std::sync::Wait;
 use std::test::Fail;
 use std::thread::Threads;
-
-const LIMITS: Limits = Limits {
-    readers: 1,
-    journal: 1_000_000,
-};
 
 const LONGEST: usize = 4_194_304;
 
@@ -31,21 +26,36 @@ fn repeated(
     Ok(text)
 }
 
+// The longest input gives so many bytes, and one that is a byte longer is refused.
+fn is_longest<R: Abort + Threads + Wait + Sync>(
+    rt: &R,
+    alloc: Global,
+    call: Call,
+    text: &mut Vec<u8>,
+    count: usize,
+) -> Result<(), AllocError> {
+    assert!(rt; text.len() == LONGEST);
+    assert!(rt; writes_bytes(rt, alloc, call, text, count));
+    text.extend_from_slice(b"\n")?;
+    assert!(rt;
+        writes(
+            rt,
+            alloc,
+            call,
+            LIMITS,
+            text,
+            "fault,0,TooLong\n",
+            Some(TOO_LONG)
+        )
+    );
+    Ok(())
+}
+
 #[test]
 fn longest_input(rt: HostRuntime) -> Result<(), Fail> {
     let head = b"member,votes\nAAA,0000010\nscript\n";
     let mut text = repeated(rt.alloc(), head, b"publish\n", 524_284)?;
-    assert!(rt; text.len() == LONGEST);
-    let mut input = Given::new(text.as_slice());
-    let mut out: Vec<u8> = Vec::new(rt.alloc());
-    assert!(rt; replay(rt.alloc(), &mut input, &mut out, LIMITS) == Ok(()));
-    assert!(rt; out.len() == 524_284 * 12);
-    text.extend_from_slice(b"\n")?;
-    let mut input = Given::new(text.as_slice());
-    let mut out: Vec<u8> = Vec::new(rt.alloc());
-    let end = replay(rt.alloc(), &mut input, &mut out, LIMITS);
-    assert!(rt; end == Err(TOO_LONG));
-    assert!(rt; out.as_slice() == "fault,0,TooLong\n".as_bytes());
+    is_longest(&rt, rt.alloc(), Call::Replay, &mut text, 524_284 * 12)?;
     Ok(())
 }
 
@@ -53,41 +63,21 @@ fn longest_input(rt: HostRuntime) -> Result<(), Fail> {
 fn longest_schedule(rt: HostRuntime) -> Result<(), Fail> {
     let head = b"member,votes\nAAA,000000010\nscript\n";
     let mut text = repeated(rt.alloc(), head, b"writer,1\n", 466_030)?;
-    assert!(rt; text.len() == LONGEST);
-    let mut input = Given::new(text.as_slice());
-    let mut out: Vec<u8> = Vec::new(rt.alloc());
-    assert!(rt; trace(rt.alloc(), &mut input, &mut out, LIMITS) == Ok(()));
-    assert!(rt; out.len() == 466_030 * 8);
-    text.extend_from_slice(b"\n")?;
-    let mut input = Given::new(text.as_slice());
-    let mut out: Vec<u8> = Vec::new(rt.alloc());
-    let end = trace(rt.alloc(), &mut input, &mut out, LIMITS);
-    assert!(rt; end == Err(TOO_LONG));
-    assert!(rt; out.as_slice() == "fault,0,TooLong\n".as_bytes());
+    is_longest(&rt, rt.alloc(), Call::Trace, &mut text, 466_030 * 8)?;
     Ok(())
-}
-
-// What a run of the threads writes, whether it ends well, and the place of its fault.
-fn served<R: Threads + Wait + Sync>(rt: &R, alloc: Global, text: &[u8]) -> (Vec<u8>, Option<Fault>)
-    requires shared { IsSync R.row }
-{
-    let mut input = Given::new(text);
-    let mut out: Vec<u8> = Vec::new(alloc);
-    let end = serve(rt, alloc, &FreeGate, &mut input, &mut out, 1_000_000);
-    (out, end.err())
 }
 
 #[test]
 fn longest_work_for_threads(rt: HostRuntime) -> Result<(), Fail> {
     let head = b"member,votes\nAAA,0000010\nscript\n";
     let mut text = repeated(rt.alloc(), head, b"publish\n", 524_284)?;
-    let (out, fault) = served(&rt, rt.alloc(), text.as_slice());
-    assert!(rt; fault == None);
-    assert!(rt; out.len() == 524_284 * 12 + 11 + 11 + 9);
-    text.extend_from_slice(b"\n")?;
-    let (out, fault) = served(&rt, rt.alloc(), text.as_slice());
-    assert!(rt; fault == Some(TOO_LONG));
-    assert!(rt; out.as_slice() == "fault,0,TooLong\n".as_bytes());
+    is_longest(
+        &rt,
+        rt.alloc(),
+        Call::Serve,
+        &mut text,
+        524_284 * 12 + 11 + 11 + 9,
+    )?;
     Ok(())
 }
 
@@ -105,16 +95,21 @@ fn with_a_long_field(alloc: Global, head: &[u8]) -> Result<Vec<u8>, AllocError> 
 
 #[test]
 fn a_field_of_a_million_bytes(rt: HostRuntime) -> Result<(), Fail> {
-    let bad = Err(Fault { code: 17, place: 5 });
-    let text = with_a_long_field(rt.alloc(), b"open,1\nopen,")?;
-    let mut input = Given::new(text.as_slice());
-    let mut out: Vec<u8> = Vec::new(rt.alloc());
-    assert!(rt; replay(rt.alloc(), &mut input, &mut out, LIMITS) == bad);
-    assert!(rt; out.as_slice() == "accepted,1\nfault,5,BadRecord\n".as_bytes());
-    let text = with_a_long_field(rt.alloc(), b"writer,1\nwriter,")?;
-    let mut input = Given::new(text.as_slice());
-    let mut out: Vec<u8> = Vec::new(rt.alloc());
-    assert!(rt; trace(rt.alloc(), &mut input, &mut out, LIMITS) == bad);
-    assert!(rt; out.as_slice() == "skipped\nfault,5,BadRecord\n".as_bytes());
+    for (call, head, wanted) in [
+        (
+            Call::Replay,
+            "open,1\nopen,",
+            "accepted,1\nfault,5,BadRecord\n",
+        ),
+        (
+            Call::Trace,
+            "writer,1\nwriter,",
+            "skipped\nfault,5,BadRecord\n",
+        ),
+    ] {
+        let text = with_a_long_field(rt.alloc(), head.as_bytes())?;
+        let bad = Some(Fault { code: 17, place: 5 });
+        assert!(rt; writes(&rt, rt.alloc(), call, LIMITS, &text, wanted, bad));
+    }
     Ok(())
 }

@@ -1,21 +1,15 @@
 //! The program on its words, and its calls on whole inputs.
-use board_report::{
-    Fault, Given, Limits, Streams, program, replay, trace, words_out_of_memory, words_refused,
-};
-use std::alloc::Global;
+use crate::calls::{Call, LIMITS, writes};
+use board_report::{Fault, Given, Limits, Streams, program, words_out_of_memory, words_refused};
+use std::alloc::{AllocError, Global};
 use std::process::Abort;
 use std::sync::Wait;
 use std::test::Fail;
 use std::thread::Threads;
 use two_copy_steps::READERS;
 
-const LIMITS: Limits = Limits {
-    readers: 1,
-    journal: 1_000_000,
-};
-
 // Three chairs of 50, 49 and 1 votes.
-const INPUT: &str = "member,votes\n\
+const INPUT: &[u8] = b"member,votes\n\
      AAA,50\n\
      BBB,49\n\
      CCC,1\n\
@@ -43,27 +37,18 @@ const OUTPUT: &str = "accepted,1\n\
 
 #[test]
 fn replays_three_chairs(rt: HostRuntime) -> Result<(), Fail> {
-    let mut input = Given::new(INPUT.as_bytes());
-    let mut out: Vec<u8> = Vec::new(rt.alloc());
-    let end = replay(rt.alloc(), &mut input, &mut out, LIMITS);
-    assert!(rt; end == Ok(()));
-    assert!(rt; out.as_slice() == OUTPUT.as_bytes());
+    let alloc = rt.alloc();
+    assert!(rt; writes(&rt, alloc, Call::Replay, LIMITS, INPUT, OUTPUT, None));
     Ok(())
 }
 
 #[test]
 fn refuses_limits_out_of_range(rt: HostRuntime) -> Result<(), Fail> {
+    let (alloc, told) = (rt.alloc(), "fault,0,BadLimit\n");
+    let bad = Some(Fault { code: 13, place: 0 });
     for (readers, journal) in [(0u8, 1u32), (READERS as u8 + 1, 1), (1, 0), (1, 1_000_001)] {
-        let mut input = Given::new(INPUT.as_bytes());
-        let mut out: Vec<u8> = Vec::new(rt.alloc());
-        let end = replay(
-            rt.alloc(),
-            &mut input,
-            &mut out,
-            Limits { readers, journal },
-        );
-        assert!(rt; end == Err(Fault { code: 13, place: 0 }));
-        assert!(rt; out.as_slice() == "fault,0,BadLimit\n".as_bytes());
+        let limits = Limits { readers, journal };
+        assert!(rt; writes(&rt, alloc, Call::Replay, limits, INPUT, told, bad));
     }
     Ok(())
 }
@@ -76,7 +61,7 @@ fn a_fault_has_its_name(rt: HostRuntime) -> Result<(), Fail> {
 }
 
 // One reader, that is in the way of a publication.
-const SCHEDULE: &str = "member,votes\n\
+const SCHEDULE: &[u8] = b"member,votes\n\
      AAA,10\n\
      script\n\
      reader,1,2\n\
@@ -96,12 +81,17 @@ const TOLD: &str =
 
 #[test]
 fn traces_a_reader_in_the_way(rt: HostRuntime) -> Result<(), Fail> {
-    let mut input = Given::new(SCHEDULE.as_bytes());
-    let mut out: Vec<u8> = Vec::new(rt.alloc());
-    let end = trace(rt.alloc(), &mut input, &mut out, LIMITS);
-    assert!(rt; end == Ok(()));
-    assert!(rt; out.as_slice() == TOLD.as_bytes());
+    let alloc = rt.alloc();
+    assert!(rt; writes(&rt, alloc, Call::Trace, LIMITS, SCHEDULE, TOLD, None));
     Ok(())
+}
+
+// A schedule whose fourth record is this.
+fn with_record(alloc: Global, record: &str) -> Result<Vec<u8>, AllocError> {
+    let mut text: Vec<u8> = Vec::new(alloc);
+    text.extend_from_slice(b"member,votes\nscript\nwriter,1\n")?;
+    text.extend_from_slice(record.as_bytes())?;
+    Ok(text)
 }
 
 #[test]
@@ -113,98 +103,110 @@ fn a_trace_stops_at_a_bad_record(rt: HostRuntime) -> Result<(), Fail> {
         ("open,1\n", 17, "skipped\nfault,4,BadRecord\n"),
     ];
     for (bad, code, told) in rows {
-        let mut text: Vec<u8> = Vec::new(rt.alloc());
-        text.extend_from_slice(b"member,votes\nscript\nwriter,1\n")?;
-        text.extend_from_slice(bad.as_bytes())?;
-        let mut input = Given::new(text.as_slice());
-        let mut out: Vec<u8> = Vec::new(rt.alloc());
-        let end = trace(rt.alloc(), &mut input, &mut out, LIMITS);
-        assert!(rt; end == Err(Fault { code, place: 4 }));
-        assert!(rt; out.as_slice() == told.as_bytes());
+        let text = with_record(rt.alloc(), bad)?;
+        let fault = Some(Fault { code, place: 4 });
+        assert!(rt; writes(&rt, rt.alloc(), Call::Trace, LIMITS, &text, told, fault));
     }
     Ok(())
 }
+
+// The words that the program is given, its name first.
+fn words_of(alloc: Global, texts: &[&str]) -> Result<Vec<String>, AllocError> {
+    let mut words: Vec<String> = Vec::new(alloc);
+    words.push(String::from_str(alloc, "board")?)?;
+    for text in texts {
+        words.push(String::from_str(alloc, text)?)?;
+    }
+    Ok(words)
+}
+
+// The program's status, and whether the streams got what they are to get: something on standard output or nothing, and
+// these bytes on standard error, or with status 2 any.
+fn status_of<R: Threads + Wait + Sync>(
+    rt: &R,
+    alloc: Global,
+    words: &[String],
+    text: &[u8],
+    writes: bool,
+    said: &str,
+) -> (u8, bool) {
+    let mut streams = Streams {
+        input: Given::new(text),
+        out: Vec::<u8>::new(alloc),
+        err: Vec::<u8>::new(alloc),
+    };
+    let status = program(rt, alloc, words, &mut streams);
+    let err = streams.err.as_slice();
+    let is_said = if status == 2 {
+        !err.is_empty()
+    } else {
+        err == said.as_bytes()
+    };
+    (status, is_said && streams.out.is_empty() != writes)
+}
+
+// A status, whether something is on standard output, and what is on standard error.
+type Wanted = (u8, bool, &'static str);
+
+const FINE: Wanted = (0, true, "");
+
+const BAD_READER: Wanted = (1, true, "board: BadReader\n");
+
+const BAD_WORDS: Wanted = (2, false, "");
 
 // Runs the program, and looks at its status and at which stream got what.
 fn runs<R: Abort + Threads + Wait + Sync>(
     rt: &R,
     alloc: Global,
     texts: &[&str],
-    text: &str,
-    wanted: (u8, bool, &str),
-) -> Result<(), Fail> {
-    let mut words: Vec<String> = Vec::new(alloc);
-    for text in texts {
-        words.push(String::from_str(alloc, text)?)?;
-    }
-    let mut streams = Streams {
-        input: Given::new(text.as_bytes()),
-        out: Vec::<u8>::new(alloc),
-        err: Vec::<u8>::new(alloc),
-    };
-    let status = program(rt, alloc, words.as_slice(), &mut streams);
-    assert!(rt; status == wanted.0);
-    assert!(rt; streams.out.is_empty() != wanted.1);
-    if status == 2 {
-        assert!(rt; !streams.err.is_empty());
-    } else {
-        assert!(rt; streams.err.as_slice() == wanted.2.as_bytes());
-    }
+    text: &[u8],
+    wanted: Wanted,
+) -> Result<(), AllocError> {
+    let words = words_of(alloc, texts)?;
+    let got = status_of(rt, alloc, &words, text, wanted.1, wanted.2);
+    assert!(rt; got == (wanted.0, true));
+    Ok(())
+}
+
+// An input that reader 2 is asked in.
+const SECOND: &[u8] = b"member,votes\nscript\nread,2,half\n";
+
+// A schedule of reader 2.
+const STEPS: &[u8] = b"member,votes\nscript\nreader,2,37\n";
+
+#[test]
+fn replay_answers_a_status(rt: HostRuntime) -> Result<(), Fail> {
+    let alloc = rt.alloc();
+    runs(&rt, alloc, &["replay"], INPUT, FINE)?;
+    runs(&rt, alloc, &["replay"], SECOND, BAD_READER)?;
+    runs(&rt, alloc, &["replay", "--readers", "2"], SECOND, FINE)?;
+    runs(
+        &rt,
+        alloc,
+        &["replay", "--readers", "255"],
+        SECOND,
+        BAD_WORDS,
+    )?;
     Ok(())
 }
 
 #[test]
-fn program_answers_a_status(rt: HostRuntime) -> Result<(), Fail> {
-    let bad = "member,votes\nscript\nread,2,half\n";
-    let replay = ["board", "replay"];
-    runs(&rt, rt.alloc(), &replay, INPUT, (0, true, ""))?;
-    runs(
-        &rt,
-        rt.alloc(),
-        &replay,
-        bad,
-        (1, true, "board: BadReader\n"),
-    )?;
-    runs(
-        &rt,
-        rt.alloc(),
-        &["board", "replay", "--readers", "2"],
-        bad,
-        (0, true, ""),
-    )?;
-    runs(
-        &rt,
-        rt.alloc(),
-        &["board", "replay", "--readers", "255"],
-        bad,
-        (2, false, ""),
-    )?;
-    let schedule = "member,votes\nscript\nreader,2,37\n";
-    runs(
-        &rt,
-        rt.alloc(),
-        &["board", "trace", "--readers=2"],
-        schedule,
-        (0, true, ""),
-    )?;
-    runs(
-        &rt,
-        rt.alloc(),
-        &["board", "trace"],
-        schedule,
-        (1, true, "board: BadReader\n"),
-    )?;
-    runs(&rt, rt.alloc(), &["board", "serve"], bad, (0, true, ""))?;
-    runs(
-        &rt,
-        rt.alloc(),
-        &["board", "serve", "--readers", "2"],
-        bad,
-        (2, false, ""),
-    )?;
-    runs(&rt, rt.alloc(), &["board", "--version"], bad, (0, true, ""))?;
-    runs(&rt, rt.alloc(), &["board"], bad, (2, false, ""))?;
-    runs(&rt, rt.alloc(), &["board", "--help"], bad, (0, true, ""))
+fn trace_and_serve_answer_a_status(rt: HostRuntime) -> Result<(), Fail> {
+    let alloc = rt.alloc();
+    runs(&rt, alloc, &["trace", "--readers=2"], STEPS, FINE)?;
+    runs(&rt, alloc, &["trace"], STEPS, BAD_READER)?;
+    runs(&rt, alloc, &["serve"], SECOND, FINE)?;
+    runs(&rt, alloc, &["serve", "--readers", "2"], SECOND, BAD_WORDS)?;
+    Ok(())
+}
+
+#[test]
+fn words_answer_a_status(rt: HostRuntime) -> Result<(), Fail> {
+    let alloc = rt.alloc();
+    runs(&rt, alloc, &["--version"], SECOND, FINE)?;
+    runs(&rt, alloc, &[], SECOND, BAD_WORDS)?;
+    runs(&rt, alloc, &["--help"], SECOND, FINE)?;
+    Ok(())
 }
 
 #[test]

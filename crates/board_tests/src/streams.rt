@@ -1,5 +1,6 @@
 //! Readers and writers over memory that interrupt, fail, give or take single bytes, or take none.
-use board_report::{Fault, FreeGate, Given, Limits, replay, serve, trace};
+use crate::calls::{Call, run};
+use board_report::{Fault, Limits};
 use std::alloc::Global;
 use std::io;
 use std::io::{ErrorKind, Read, Write};
@@ -92,84 +93,50 @@ impl Write for Narrow {
     }
 }
 
-// The commands of the program, each with an input and what it writes.
-#[derive(Clone, Copy)]
-enum Command {
-    Replay,
-    Trace,
-    Serve,
-}
+const CALLS: [Call; 3] = [Call::Replay, Call::Trace, Call::Serve];
 
-const COMMANDS: [Command; 3] = [Command::Replay, Command::Trace, Command::Serve];
-
-fn input_of(command: &Command) -> &'static [u8] {
-    match command {
-        Command::Replay =>
-            b"member,votes\nAAA,50\nscript\nopen,1\nmove,AAA,1\npublish\nread,1,half\n",
-        Command::Trace =>
+fn input_of(call: Call) -> &'static [u8] {
+    match call {
+        Call::Replay => b"member,votes\nAAA,50\nscript\nopen,1\nmove,AAA,1\npublish\nread,1,half\n",
+        Call::Trace =>
             b"member,votes\nAAA,10\nscript\nsubmit,open,1\npublish\nwriter,35\nreader,1,37\n",
-        Command::Serve =>
-            b"member,votes\nAAA,10\nscript\nopen,1\npublish\nread,1,half\nread,2,70\n",
+        Call::Serve => b"member,votes\nAAA,10\nscript\nopen,1\npublish\nread,1,half\nread,2,70\n",
     }
 }
 
-fn output_of(command: &Command) -> &'static [u8] {
-    match command {
-        Command::Replay => {
+fn output_of(call: Call) -> &'static [u8] {
+    match call {
+        Call::Replay => {
             b"accepted,1\naccepted,2\npublished,2\nreading,1,2,half,1,26,50,50,1,2\nchair,1,50,1,1/1,1/1,1/1,1/1\n"
         }
-        Command::Trace => b"accepted,1\nbegan\npublished,1\nsheet,1,1,0,10\n",
-        Command::Serve => b"accepted,1\npublished,1\nreader,1,1\nreader,2,1\naudit,ok\n",
+        Call::Trace => b"accepted,1\nbegan\npublished,1\nsheet,1,1,0,10\n",
+        Call::Serve => b"accepted,1\npublished,1\nreader,1,1\nreader,2,1\naudit,ok\n",
     }
 }
 
-// Runs a command, and answers its fault's number, 0 for none.
-fn run<T: Threads + Wait + Sync, R: Read + Drop, W: Write>(
-    rt: &T,
-    alloc: Global,
-    command: &Command,
-    limits: Limits,
-    input: R,
-    out: &mut W,
-) -> u8 {
-    let mut given = Given::new(input);
-    let end = match command {
-        Command::Replay => replay(alloc, &mut given, out, limits),
-        Command::Trace => trace(alloc, &mut given, out, limits),
-        Command::Serve => match serve(rt, alloc, &FreeGate, &mut given, out, limits.journal) {
-            Ok(_) => Ok(()),
-            Err(fault) => Err(fault),
-        },
-    };
-    number_of(end)
-}
-
-fn number_of(end: Result<(), Fault>) -> u8 {
-    match end {
-        Ok(()) => 0,
-        Err(fault) => fault.code,
-    }
+fn number_of(fault: Option<Fault>) -> u8 {
+    fault.map(|fault| fault.code).unwrap_or_default()
 }
 
 // Reads through a choppy reader: the fault's number, and whether these bytes were written.
 fn reads<T: Threads + Wait + Sync>(
     rt: &T,
     alloc: Global,
-    command: &Command,
+    call: Call,
     limits: Limits,
     choppy: Choppy<'_>,
     wanted: &[u8],
 ) -> (u8, bool) {
     let mut out: Vec<u8> = Vec::new(alloc);
-    let code = run(rt, alloc, command, limits, choppy, &mut out);
-    (code, out.as_slice() == wanted)
+    let fault = run(rt, alloc, call, limits, choppy, &mut out);
+    (number_of(fault), out.as_slice() == wanted)
 }
 
 // Writes through a narrow writer: the fault's number, and whether these bytes were taken.
 fn writes<T: Threads + Wait + Sync>(
     rt: &T,
     alloc: Global,
-    command: &Command,
+    call: Call,
     interruptions: u32,
     limit: usize,
     fails: bool,
@@ -182,8 +149,8 @@ fn writes<T: Threads + Wait + Sync>(
         fails,
         rested: false,
     };
-    let code = run(rt, alloc, command, LIMITS, input_of(command), &mut out);
-    (code, out.taken.as_slice() == wanted)
+    let fault = run(rt, alloc, call, LIMITS, input_of(call), &mut out);
+    (number_of(fault), out.taken.as_slice() == wanted)
 }
 
 const READ_FAULT: &[u8] = b"fault,0,ReadFault\n";
@@ -193,8 +160,8 @@ const BAD_LIMIT: &[u8] = b"fault,0,BadLimit\n";
 #[test]
 fn readers_that_interrupt_or_fail(rt: HostRuntime) -> Result<(), Fail> {
     for place in 0..3usize {
-        let command = &COMMANDS[place];
-        let bytes = input_of(command);
+        let call = CALLS[place];
+        let bytes = input_of(call);
         for (interruptions, fails, code) in [
             (1_000u32, false, 0u8),
             (1_001, false, 19),
@@ -204,7 +171,7 @@ fn readers_that_interrupt_or_fail(rt: HostRuntime) -> Result<(), Fail> {
             let given = bytes.get(..cut).unwrap_or_default();
             let rest = bytes.get(cut..).unwrap_or_default();
             let wanted = if code == 0 {
-                output_of(command)
+                output_of(call)
             } else {
                 READ_FAULT
             };
@@ -214,7 +181,7 @@ fn readers_that_interrupt_or_fail(rt: HostRuntime) -> Result<(), Fail> {
                 interruptions,
                 fails,
             };
-            assert!(rt; reads(&rt, rt.alloc(), command, LIMITS, choppy, wanted) == (code, true));
+            assert!(rt; reads(&rt, rt.alloc(), call, LIMITS, choppy, wanted) == (code, true));
         }
     }
     Ok(())
@@ -223,16 +190,16 @@ fn readers_that_interrupt_or_fail(rt: HostRuntime) -> Result<(), Fail> {
 #[test]
 fn bad_limits_come_before_a_failed_read(rt: HostRuntime) -> Result<(), Fail> {
     for place in 0..3usize {
-        let command = &COMMANDS[place];
+        let call = CALLS[place];
         for (readers, journal) in [(0u8, 0u32), (READERS as u8 + 1, 1_000_001)] {
             let limits = Limits { readers, journal };
             let choppy = Choppy {
                 bytes: b"",
-                rest: input_of(command),
+                rest: input_of(call),
                 interruptions: 0,
                 fails: true,
             };
-            assert!(rt; reads(&rt, rt.alloc(), command, limits, choppy, BAD_LIMIT) == (13, true));
+            assert!(rt; reads(&rt, rt.alloc(), call, limits, choppy, BAD_LIMIT) == (13, true));
         }
     }
     Ok(())
@@ -248,21 +215,13 @@ fn writers_that_interrupt_or_fail(rt: HostRuntime) -> Result<(), Fail> {
         (0, 15, false, 20),
     ];
     for place in 0..3usize {
-        let command = &COMMANDS[place];
+        let call = CALLS[place];
         for (interruptions, limit, fails, code) in rows {
-            let all = output_of(command);
+            let all = output_of(call);
             // one byte after the first interruption, and one after each hundred up to the 901st
             let taken = if interruptions > 1_000 { 10 } else { limit };
             let wanted = all.get(..taken).unwrap_or(all);
-            let seen = writes(
-                &rt,
-                rt.alloc(),
-                command,
-                interruptions,
-                limit,
-                fails,
-                wanted,
-            );
+            let seen = writes(&rt, rt.alloc(), call, interruptions, limit, fails, wanted);
             assert!(rt; seen == (code, true), "limit {limit}");
         }
     }

@@ -1,18 +1,16 @@
 //! The indices of sheets.
+use crate::lent::{with_evaluator, with_register};
 use council_core::{ChairId, Command, MemberCode, Refusal, Register, Sheet, Votes};
 use majority_rule::Majority;
 use power_index::{ChairPower, Evaluator, Fraction};
-use std::alloc::Global;
+use std::process::Abort;
 use std::test::Fail;
 
-// A function that has an evaluator or a register of its own is proved slowly: what happens to one is in functions that
-// are lent it.
-
-/// AAA with 10 votes and BBB with 20, in no chair.
-fn two_members(alloc: Global) -> Result<Register, Refusal> {
+/// AAA with 10 votes and BBB with 20.
+fn two_members() -> Result<[(MemberCode, Votes); 2], Refusal> {
     let first = (MemberCode::new(b"AAA")?, Votes::new(10)?);
     let second = (MemberCode::new(b"BBB")?, Votes::new(20)?);
-    Register::start(alloc, &[first, second], 100)
+    Ok([first, second])
 }
 
 /// The sheet once a chair is opened and a member sits there.
@@ -56,21 +54,22 @@ fn figures(evaluator: &Evaluator) -> ([u64; 3], [Option<u64>; 2]) {
     )
 }
 
-/// The same by a new evaluator, with its figures at last.
+/// The same, with the evaluator's figures at last.
 fn rebuild_in_parts(
-    alloc: Global,
     register: &mut Register,
+    evaluator: &mut Evaluator,
 ) -> Result<([u8; 5], [u64; 3], [Option<u64>; 2]), Refusal> {
-    let mut evaluator = Evaluator::new(alloc)?;
-    let halves = halves_that_differ(register, &mut evaluator)?;
-    let (counts, swings) = figures(&evaluator);
+    let halves = halves_that_differ(register, evaluator)?;
+    let (counts, swings) = figures(evaluator);
     Ok((halves, counts, swings))
 }
 
 #[test]
 fn partial_rebuild(rt: HostRuntime) -> Result<(), Fail> {
-    let mut register = two_members(rt.alloc())?;
-    let got = rebuild_in_parts(rt.alloc(), &mut register)?;
+    let alloc = rt.alloc();
+    let got = with_register(alloc, &two_members()?, 100, |register| {
+        with_evaluator(alloc, |evaluator| rebuild_in_parts(register, evaluator))
+    })?;
     assert_eq!(rt; got, ([2, 1, 1, 0, 0], [17, 2, 4], [Some(0), Some(2)]));
     Ok(())
 }
@@ -93,8 +92,8 @@ fn exchanged(evaluator: &mut Evaluator) -> Result<([u8; 2], [Option<u64>; 2]), R
 
 #[test]
 fn exchanged_weights_differ(rt: HostRuntime) -> Result<(), Fail> {
-    let mut evaluator = Evaluator::new(rt.alloc())?;
-    assert_eq!(rt; exchanged(&mut evaluator)?, ([1, 1], [Some(0), Some(2)]));
+    let got = with_evaluator(rt.alloc(), exchanged)?;
+    assert_eq!(rt; got, ([1, 1], [Some(0), Some(2)]));
     Ok(())
 }
 
@@ -120,19 +119,16 @@ fn fronts(evaluator: &mut Evaluator) -> Result<[u32; 4], Refusal> {
 
 #[test]
 fn front_alone_changes_no_half(rt: HostRuntime) -> Result<(), Fail> {
-    let mut evaluator = Evaluator::new(rt.alloc())?;
-    assert_eq!(rt; fronts(&mut evaluator)?, [0, 0, 7, 7]);
+    assert_eq!(rt; with_evaluator(rt.alloc(), fronts)?, [0, 0, 7, 7]);
     Ok(())
 }
 
 /// Chairs 1 to 32 with one vote each.
-fn equal_chairs(alloc: Global) -> Result<Evaluator, Refusal> {
+fn equal_chairs() -> Result<Sheet, Refusal> {
     let mut words = [2; 34];
     words[32] = 32;
     words[33] = 64;
-    let mut evaluator = Evaluator::new(alloc)?;
-    evaluator.set(&Sheet::from_words(&words)?);
-    Ok(evaluator)
+    Sheet::from_words(&words)
 }
 
 /// The quota, the least size, the winning and all coalitions of 32 chairs, and their swings, where all have the same.
@@ -152,18 +148,26 @@ fn figures_of_equals(evaluator: &Evaluator, majority: Majority) -> ([u64; 4], Op
     )
 }
 
-#[test]
-fn thirty_two_equal_chairs(rt: HostRuntime) -> Result<(), Fail> {
-    let evaluator = equal_chairs(rt.alloc())?;
+fn has_figures_of_equals<R: Abort>(rt: &R, evaluator: &mut Evaluator) -> Result<(), Refusal> {
+    evaluator.set(&equal_chairs()?);
     for (majority, counts, swings) in [
         (Majority::Half, [17, 0, 1846943453, 1 << 32], 300540195),
         (Majority::EightyFive, [28, 0, 41449, 1 << 32], 31465),
         (Majority::Quorum, [16, 17, 1846943453, 1 << 32], 300540195),
     ] {
         assert_eq!(rt;
-            figures_of_equals(&evaluator, majority),
+            figures_of_equals(evaluator, majority),
             (counts, Some(swings))
         );
     }
+    Ok(())
+}
+
+#[test]
+fn thirty_two_equal_chairs(rt: HostRuntime) -> Result<(), Fail> {
+    with_evaluator(
+        rt.alloc(),
+        |evaluator| has_figures_of_equals(&rt, evaluator),
+    )?;
     Ok(())
 }

@@ -5,6 +5,8 @@
 #[cfg(test)]
 mod indices;
 #[cfg(test)]
+mod lent;
+#[cfg(test)]
 mod plain;
 #[cfg(test)]
 mod registers;

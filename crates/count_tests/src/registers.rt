@@ -1,6 +1,10 @@
 //! The register, its sheet and what it refuses.
-use council_core::{ChairId, Command, FRONT, MemberCode, Refusal, Register, Sheet, TOTAL, Votes};
+use crate::lent::with_register;
+use council_core::{
+    ChairId, Command, FRONT, MemberCode, Refusal, Register, SHEET_WORDS, Sheet, TOTAL, Votes,
+};
 use std::alloc::Global;
+use std::process::Abort;
 use std::test::Fail;
 
 #[test]
@@ -24,27 +28,36 @@ fn register_starts_refuse(rt: HostRuntime) -> Result<(), Fail> {
     Ok(())
 }
 
+// The sheet of these words: chair 1, the total and the front.
+fn sheet_of(first: u64, total: u64, front: u64) -> Result<Sheet, Refusal> {
+    let mut words = [0; SHEET_WORDS];
+    words[0] = first;
+    words[TOTAL] = total;
+    words[FRONT] = front;
+    Sheet::from_words(&words)
+}
+
 #[test]
-fn sheet_from_words(rt: HostRuntime) -> Result<(), Fail> {
-    let mut words = [0; 34];
-    let sheet = Sheet::from_words(&words)?;
-    assert_eq!(rt; sheet.chairs(), 0);
-    assert_eq!(rt; sheet.total(), 0);
-    words[0] = 11;
-    words[32] = 9;
-    assert!(rt; Sheet::from_words(&words).err() == Some(Refusal::BadSheet));
-    words[32] = 10;
-    let sheet = Sheet::from_words(&words)?;
-    assert_eq!(rt; sheet.weight(ChairId::new(1)?), Some(10));
-    assert_eq!(rt; Sheet::from_words(&sheet.words())?, sheet);
-    words[33] = 1000001;
-    assert!(rt; Sheet::from_words(&words).err() == Some(Refusal::BadSheet));
+fn sheet_of_no_words(rt: HostRuntime) -> Result<(), Fail> {
+    let sheet = sheet_of(0, 0, 0)?;
+    assert_eq!(rt; (sheet.chairs(), sheet.total()), (0, 0));
     Ok(())
 }
 
-// AAA with 10 votes.
-fn one_member(alloc: Global) -> Result<Register, Refusal> {
-    Register::start(alloc, &[(MemberCode::new(b"AAA")?, Votes::new(10)?)], 5)
+#[test]
+fn sheet_from_words(rt: HostRuntime) -> Result<(), Fail> {
+    let sheet = sheet_of(11, 10, 0)?;
+    assert_eq!(rt; sheet.weight(ChairId::new(1)?), Some(10));
+    assert_eq!(rt; Sheet::from_words(&sheet.words())?, sheet);
+    Ok(())
+}
+
+#[test]
+fn words_of_no_sheet_refused(rt: HostRuntime) -> Result<(), Fail> {
+    for (total, front) in [(9, 0), (10, 1000001)] {
+        assert!(rt; sheet_of(11, total, front).err() == Some(Refusal::BadSheet));
+    }
+    Ok(())
 }
 
 // Opens chair 1, seats AAA there, and tries to close the chair: what each call answers, and the chair's weight.
@@ -58,7 +71,7 @@ fn seat_first(
     Ok(([opened, seated], closes, register.sheet().weight(chair)))
 }
 
-// The first chair's words, the total and the front, by the register and by its sheet.
+// The first two chairs' words, the total and the front, by the register and by its sheet.
 fn words_of(register: &Register) -> ([u64; 4], [u64; 4]) {
     let words = register.sheet().words();
     let by_register = [
@@ -73,12 +86,17 @@ fn words_of(register: &Register) -> ([u64; 4], [u64; 4]) {
     )
 }
 
+fn accepts<R: Abort>(rt: &R, register: &mut Register) -> Result<(), Refusal> {
+    let answers = seat_first(register)?;
+    assert_eq!(rt; answers, ([1, 2], Some(Refusal::ChairHasMembers), Some(10)));
+    assert_eq!(rt; words_of(register), ([11, 0, 10, 2], [11, 0, 10, 2]));
+    Ok(())
+}
+
 #[test]
 fn register_accepts(rt: HostRuntime) -> Result<(), Fail> {
-    let mut register = one_member(rt.alloc())?;
-    let answers = seat_first(&mut register)?;
-    assert_eq!(rt; answers, ([1, 2], Some(Refusal::ChairHasMembers), Some(10)));
-    assert_eq!(rt; words_of(&register), ([11, 0, 10, 2], [11, 0, 10, 2]));
+    let member = (MemberCode::new(b"AAA")?, Votes::new(10)?);
+    with_register(rt.alloc(), &[member], 5, |register| accepts(&rt, register))?;
     Ok(())
 }
 
@@ -90,23 +108,24 @@ fn code_at(register: &Register, place: usize) -> Option<MemberCode> {
 }
 
 // AAA with 50 votes, BBB with 49 and CCC with 1.
-fn three_members(alloc: Global) -> Result<Register, Refusal> {
+fn three_members() -> Result<[(MemberCode, Votes); 3], Refusal> {
     let first = (MemberCode::new(b"AAA")?, Votes::new(50)?);
     let second = (MemberCode::new(b"BBB")?, Votes::new(49)?);
     let third = (MemberCode::new(b"CCC")?, Votes::new(1)?);
-    Register::start(alloc, &[first, second, third], 5)
+    Ok([first, second, third])
 }
 
 // What the calls answer, and the codes at places 0 to 2, once the first member has withdrawn and once it is admitted
-// again with 7 votes.
+// again with 7 votes; and the total at last.
 fn withdraw_and_admit(
     register: &mut Register,
-) -> Result<[(u32, [Option<MemberCode>; 3]); 2], Refusal> {
+) -> Result<([(u32, [Option<MemberCode>; 3]); 2], u64), Refusal> {
     let first = MemberCode::new(b"AAA")?;
     let left = register.apply(Command::Withdraw(first))?;
     let without = codes_of(register);
     let again = register.apply(Command::Admit(first, Votes::new(7)?))?;
-    Ok([(left, without), (again, codes_of(register))])
+    let steps = [(left, without), (again, codes_of(register))];
+    Ok((steps, register.sheet().total()))
 }
 
 fn codes_of(register: &Register) -> [Option<MemberCode>; 3] {
@@ -122,10 +141,9 @@ fn members_move_up(rt: HostRuntime) -> Result<(), Fail> {
     let first = Some(MemberCode::new(b"AAA")?);
     let second = Some(MemberCode::new(b"BBB")?);
     let third = Some(MemberCode::new(b"CCC")?);
-    let mut register = three_members(rt.alloc())?;
-    let codes = withdraw_and_admit(&mut register)?;
-    assert!(rt; codes == [(1, [second, third, None]), (2, [second, third, first])]);
-    assert_eq!(rt; register.sheet().total(), 57);
+    let (steps, total) = with_register(rt.alloc(), &three_members()?, 5, withdraw_and_admit)?;
+    assert!(rt; steps == [(1, [second, third, None]), (2, [second, third, first])]);
+    assert_eq!(rt; total, 57);
     Ok(())
 }
 
@@ -135,20 +153,19 @@ fn numbered(number: u8) -> Result<(MemberCode, Votes), Refusal> {
     Ok((code, Votes::new(1)?))
 }
 
-// As many members as there may be, and a journal of one command at its limit.
-fn at_the_limit(alloc: Global) -> Result<Register, Fail> {
+// As many members as there may be.
+fn all_members(alloc: Global) -> Result<Vec<(MemberCode, Votes)>, Refusal> {
     let mut members = Vec::new(alloc);
     for number in 0..=255 {
         members.push(numbered(number)?)?;
     }
-    let mut register = Register::start(alloc, members.as_slice(), 1)?;
-    register.apply(Command::Open(ChairId::new(1)?))?;
-    Ok(register)
+    Ok(members)
 }
 
-// How commands are refused of a register with as many members and commands as there may be: to admit a member that it
-// has and another, to withdraw one, and what a check of the second says.
+// How commands are refused once chair 1 is opened, of a register that then has as many members and commands as there
+// may be: to admit a member that it has and another, to withdraw one, and what a check of the second says.
 fn refusals_of(register: &mut Register) -> Result<[Option<Refusal>; 4], Refusal> {
+    register.apply(Command::Open(ChairId::new(1)?))?;
     let (held, votes) = numbered(255)?;
     let new = MemberCode::new(b"ZZZ")?;
     let admits_held = register.apply(Command::Admit(held, votes)).err();
@@ -160,8 +177,8 @@ fn refusals_of(register: &mut Register) -> Result<[Option<Refusal>; 4], Refusal>
 
 #[test]
 fn members_at_the_limit(rt: HostRuntime) -> Result<(), Fail> {
-    let mut register = at_the_limit(rt.alloc())?;
-    let refusals = refusals_of(&mut register)?;
+    let members = all_members(rt.alloc())?;
+    let refusals = with_register(rt.alloc(), &members, 1, refusals_of)?;
     let too_many = Some(Refusal::TooManyMembers);
     let want = [
         Some(Refusal::MemberExists),

@@ -1,4 +1,5 @@
 //! The evaluator's indices against a plain recursion.
+use crate::lent::with_evaluator;
 use crate::plain::{self, Part};
 use council_core::{CHAIRS, Refusal, SHEET_WORDS, Sheet, TOTAL};
 use majority_rule::Majority;
@@ -106,7 +107,9 @@ fn agrees<R: Abort>(rt: &R, indices: &Indices, sheet: &Sheet) {
     assert!(rt; rows_agree(indices, &chairs, all));
 }
 
-fn agrees_by_each<R: Abort>(rt: &R, evaluator: &Evaluator, sheet: &Sheet) {
+// Sets the evaluator to a sheet, and asks it by each majority.
+fn agrees_on<R: Abort>(rt: &R, evaluator: &mut Evaluator, sheet: &Sheet) {
+    evaluator.set(sheet);
     for majority in [
         Majority::Half,
         Majority::Seventy,
@@ -117,14 +120,16 @@ fn agrees_by_each<R: Abort>(rt: &R, evaluator: &Evaluator, sheet: &Sheet) {
     }
 }
 
+fn agrees_on_sheets<R: Abort>(rt: &R, evaluator: &mut Evaluator) -> Result<(), Refusal> {
+    for (weights, outside) in SHEETS {
+        agrees_on(rt, evaluator, &sheet_of(weights, outside)?);
+    }
+    Ok(())
+}
+
 #[test]
 fn evaluator_agrees_with_a_plain_recursion(rt: HostRuntime) -> Result<(), Fail> {
-    let mut evaluator = Evaluator::new(rt.alloc())?;
-    for (weights, outside) in SHEETS {
-        let sheet = sheet_of(weights, outside)?;
-        evaluator.set(&sheet);
-        agrees_by_each(&rt, &evaluator, &sheet);
-    }
+    with_evaluator(rt.alloc(), |evaluator| agrees_on_sheets(&rt, evaluator))?;
     Ok(())
 }
 
@@ -167,18 +172,23 @@ fn drawn_sheet(numbers: &mut Numbers, least: u64, span: u64) -> Result<Sheet, Re
     Sheet::from_words(&words)
 }
 
-#[test]
-fn evaluator_agrees_on_drawn_boards(rt: HostRuntime) -> Result<(), Fail> {
+fn agrees_on_drawn_sheets<R: Abort>(rt: &R, evaluator: &mut Evaluator) -> Result<(), Refusal> {
     let mut numbers = Numbers {
         seed: 0x9E37_79B9_7F4A_7C15,
     };
-    let mut evaluator = Evaluator::new(rt.alloc())?;
     for _ in 0..6 {
         for (least, span) in VOTES {
-            let sheet = drawn_sheet(&mut numbers, least, span)?;
-            evaluator.set(&sheet);
-            agrees_by_each(&rt, &evaluator, &sheet);
+            agrees_on(rt, evaluator, &drawn_sheet(&mut numbers, least, span)?);
         }
     }
+    Ok(())
+}
+
+#[test]
+fn evaluator_agrees_on_drawn_boards(rt: HostRuntime) -> Result<(), Fail> {
+    with_evaluator(
+        rt.alloc(),
+        |evaluator| agrees_on_drawn_sheets(&rt, evaluator),
+    )?;
     Ok(())
 }

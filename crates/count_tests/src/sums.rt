@@ -1,5 +1,7 @@
 //! Subset sums of a half.
+use crate::lent::{with_half, with_ordered_half};
 use half_sums::{Entry, HalfSums, OrderedSums};
+use std::process::Abort;
 use std::test::Fail;
 
 // The sets of three chairs of 50, 49 and 1 votes: by sum, and by size as well.
@@ -14,9 +16,7 @@ const OF_THREE: [Entry; 8] = [
     Entry { sum: 100, mask: 7 },
 ];
 
-#[test]
-fn sums_of_three(rt: HostRuntime) -> Result<(), Fail> {
-    let mut half = HalfSums::new(rt.alloc())?;
+fn has_sums_of_three<R: Abort>(rt: &R, half: &mut HalfSums) {
     half.rebuild(&[(0, 50), (1, 49), (2, 1)]);
     assert!(rt; half.entries() == OF_THREE.as_slice());
     assert!(rt; half.group(2) == &OF_THREE[4..7]);
@@ -24,12 +24,15 @@ fn sums_of_three(rt: HostRuntime) -> Result<(), Fail> {
     let sums = half.ascending();
     assert_eq!(rt; sums.len(), 8);
     assert!(rt; sums.at(2) == OF_THREE[2]);
-    Ok(())
 }
 
 #[test]
-fn ordered_sums_of_three(rt: HostRuntime) -> Result<(), Fail> {
-    let mut half = OrderedSums::new(rt.alloc())?;
+fn sums_of_three(rt: HostRuntime) -> Result<(), Fail> {
+    with_half(rt.alloc(), |half| has_sums_of_three(&rt, half))?;
+    Ok(())
+}
+
+fn has_ordered_sums<R: Abort>(rt: &R, half: &mut OrderedSums) {
     assert_eq!(rt; half.ascending().len(), 1);
     half.rebuild(&[(0, 50), (1, 49), (2, 1)]);
     let sums = half.ascending();
@@ -40,6 +43,11 @@ fn ordered_sums_of_three(rt: HostRuntime) -> Result<(), Fail> {
     let sums = half.ascending();
     assert_eq!(rt; sums.len(), 2);
     assert!(rt; sums.at(1) == Entry { sum: 5, mask: 8 });
+}
+
+#[test]
+fn ordered_sums_of_three(rt: HostRuntime) -> Result<(), Fail> {
+    with_ordered_half(rt.alloc(), |half| has_ordered_sums(&rt, half))?;
     Ok(())
 }
 
@@ -60,14 +68,17 @@ fn are_pairs(entries: &[Entry]) -> bool {
         .all(|entry| u32::from(entry.mask).count_ones() == 2)
 }
 
-#[test]
-fn three_chairs_of_one_vote(rt: HostRuntime) -> Result<(), Fail> {
-    let mut half = HalfSums::new(rt.alloc())?;
+fn has_sums_of_one_vote<R: Abort>(rt: &R, half: &mut HalfSums) {
     half.rebuild(&[(0, 1), (1, 1), (2, 1)]);
     assert!(rt; have_sums(half.entries(), &[0, 1, 1, 1, 2, 2, 2, 3]));
     assert!(rt; have_sums(half.group(2), &[2, 2, 2]) && are_pairs(half.group(2)));
     assert!(rt; half.group(0) == [Entry { sum: 0, mask: 0 }].as_slice());
     assert!(rt; half.group(3) == [Entry { sum: 3, mask: 7 }].as_slice());
+}
+
+#[test]
+fn three_chairs_of_one_vote(rt: HostRuntime) -> Result<(), Fail> {
+    with_half(rt.alloc(), |half| has_sums_of_one_vote(&rt, half))?;
     Ok(())
 }
 
@@ -82,9 +93,8 @@ fn are_all_sets(entries: &[Entry], seen: &mut [bool]) -> bool {
     entries.len() == seen.len()
 }
 
-#[test]
-fn sixteen_chairs_of_no_weight(rt: HostRuntime) -> Result<(), Fail> {
-    let mut half = HalfSums::new(rt.alloc())?;
+// The sets of sixteen chairs of no weight: whether each is there once.
+fn has_all_sets(half: &mut HalfSums, seen: &mut [bool]) -> bool {
     half.rebuild(&[
         (0, 0),
         (1, 0),
@@ -103,7 +113,12 @@ fn sixteen_chairs_of_no_weight(rt: HostRuntime) -> Result<(), Fail> {
         (14, 0),
         (15, 0),
     ]);
+    are_all_sets(half.entries(), seen)
+}
+
+#[test]
+fn sixteen_chairs_of_no_weight(rt: HostRuntime) -> Result<(), Fail> {
     let mut seen = vec![in rt.alloc(); false; 65536]?;
-    assert!(rt; are_all_sets(half.entries(), &mut seen));
+    assert!(rt; with_half(rt.alloc(), |half| has_all_sets(half, &mut seen))?);
     Ok(())
 }

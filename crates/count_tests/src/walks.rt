@@ -1,22 +1,29 @@
 //! Winning pairs and swings of two lists.
-ghost use Rattle.std.specs.Prelude.{IfOk};
 ghost use Rattle.half_sums.specs.Entries.{AreSubsets};
 ghost use Rattle.swing_walk.specs.Laws.{ones};
 
+use crate::lent::{with_half, with_ordered_half};
 use council_core::Refusal;
 use half_sums::{HalfSums, OrderedSums};
 use std::alloc::Global;
 use std::test::Fail;
 use swing_walk::{Counts, count, count_lists, swings};
 
-#[test]
-fn sums_of_three(rt: HostRuntime) -> Result<(), Fail> {
-    let mut left = HalfSums::new(rt.alloc())?;
-    let mut right = HalfSums::new(rt.alloc())?;
+/// The counts and the swings of three chairs, all in the left half.
+fn of_three(left: &mut HalfSums, right: &mut HalfSums) -> (Counts, [u64; 32]) {
     left.rebuild(&[(0, 50), (1, 49), (2, 1)]);
     right.rebuild(&[]);
-    let counts = count(&left, &right, 51, 0);
-    let swings = swings(&counts);
+    let counts = count(left, right, 51, 0);
+    (counts, swings(&counts))
+}
+
+#[test]
+fn sums_of_three(rt: HostRuntime) -> Result<(), Fail> {
+    let alloc = rt.alloc();
+    let (counts, swings) = with_half(
+        alloc,
+        |left| with_half(alloc, |right| of_three(left, right)),
+    )??;
     let mut with_chair = [0; 32];
     with_chair[0] = 3;
     with_chair[1] = 2;
@@ -30,13 +37,19 @@ fn sums_of_three(rt: HostRuntime) -> Result<(), Fail> {
     Ok(())
 }
 
-#[test]
-fn ordered_sums_of_three(rt: HostRuntime) -> Result<(), Fail> {
-    let mut left = OrderedSums::new(rt.alloc())?;
-    let mut right = OrderedSums::new(rt.alloc())?;
+/// The counts of the same chairs, one of them in the right half.
+fn of_two_and_one(left: &mut OrderedSums, right: &mut OrderedSums) -> Counts {
     left.rebuild(&[(0, 50), (1, 49)]);
     right.rebuild(&[(4, 1)]);
-    let counts = count_lists(&left, &right, 51, 0);
+    count_lists(left, right, 51, 0)
+}
+
+#[test]
+fn ordered_sums_of_three(rt: HostRuntime) -> Result<(), Fail> {
+    let alloc = rt.alloc();
+    let counts = with_ordered_half(alloc, |left| {
+        with_ordered_half(alloc, |right| of_two_and_one(left, right))
+    })??;
     let mut with_chair = [0; 32];
     with_chair[0] = 3;
     with_chair[1] = 2;
@@ -45,11 +58,10 @@ fn ordered_sums_of_three(rt: HostRuntime) -> Result<(), Fail> {
     Ok(())
 }
 
-/// A half of sixteen chairs of one vote each.
-fn half_of_ones(alloc: Global) -> Result<HalfSums, Refusal>
-    ensures ones { IfOk result (λ half. AreSubsets ones half) }
+/// Makes a half that of sixteen chairs of one vote each.
+fn fill_with_ones(half: &mut HalfSums)
+    ensures ones { AreSubsets ones half.new }
 {
-    let mut half = HalfSums::new(alloc)?;
     half.rebuild(&[
         (0, 1),
         (1, 1),
@@ -68,7 +80,19 @@ fn half_of_ones(alloc: Global) -> Result<HalfSums, Refusal>
         (14, 1),
         (15, 1),
     ]);
-    Ok(half)
+}
+
+/// The counts and the swings of two such halves.
+fn of_ones(
+    left: &mut HalfSums,
+    right: &mut HalfSums,
+    quota: u64,
+    least_size: u8,
+) -> (Counts, [u64; 32]) {
+    fill_with_ones(left);
+    fill_with_ones(right);
+    let counts = count(left, right, quota, least_size);
+    (counts, swings(&counts))
 }
 
 /// The counts and the swings of thirty-two chairs of one vote each.
@@ -77,10 +101,9 @@ fn board_of_ones(
     quota: u64,
     least_size: u8,
 ) -> Result<(Counts, [u64; 32]), Refusal> {
-    let left = half_of_ones(alloc)?;
-    let right = half_of_ones(alloc)?;
-    let counts = count(&left, &right, quota, least_size);
-    Ok((counts, swings(&counts)))
+    with_half(alloc, |left| {
+        with_half(alloc, |right| of_ones(left, right, quota, least_size))
+    })?
 }
 
 #[test]

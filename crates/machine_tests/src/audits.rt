@@ -36,7 +36,7 @@ fn audited(
     journal: &[Command],
     cuts: &[u32],
     rows: &[&[Sheet]],
-) -> Result<Result<(), AuditFault>, Fail> {
+) -> Result<Result<(), AuditFault>, Refusal> {
     let member = (MemberCode::new(b"AAA")?, Votes::new(10)?);
     let all = readings(alloc, rows)?;
     Ok(audit(alloc, &[member], journal, cuts, &all))
@@ -46,54 +46,76 @@ fn mismatch(reader: usize, place: usize) -> Result<(), AuditFault> {
     Err(AuditFault::Mismatch { reader, place })
 }
 
+/// Whether an audit of the two commands finds this.
+fn finds(alloc: Global, cuts: &[u32], rows: &[&[Sheet]], found: Result<(), AuditFault>) -> bool {
+    let Ok(journal) = commands() else {
+        return false;
+    };
+    match audited(alloc, &journal, cuts, rows) {
+        Ok(got) => got == found,
+        Err(_) => false,
+    }
+}
+
 #[test]
 fn finds_no_fault(rt: HostRuntime) -> Result<(), Fail> {
-    let journal = commands()?;
-    let (s0, s1, s2) = (sheet(0, 10, 0)?, sheet(1, 10, 1)?, sheet(11, 10, 2)?);
     let alloc = rt.alloc();
+    let (s0, s1, s2) = (sheet(0, 10, 0)?, sheet(1, 10, 1)?, sheet(11, 10, 2)?);
     let rows: [&[Sheet]; 2] = [&[s0, s2], &[s1]];
-    assert!(rt; audited(alloc, &journal, &[1, 2], &rows)? == Ok(()));
-    assert!(rt; audited(alloc, &journal, &[0, 0, 1, 1, 2, 2], &rows)? == Ok(()));
-    assert!(rt; audited(alloc, &journal, &[1, 2], &[])? == Ok(()));
-    assert!(rt; audited(alloc, &journal, &[], &[&[], &[s0, s0], &[]])? == Ok(()));
-    assert!(rt; audited(alloc, &[], &[0], &[&[s0]])? == Ok(()));
+    assert!(rt; finds(alloc, &[1, 2], &rows, Ok(())));
+    assert!(rt; finds(alloc, &[0, 0, 1, 1, 2, 2], &rows, Ok(())));
+    assert!(rt; finds(alloc, &[1, 2], &[], Ok(())));
+    assert!(rt; finds(alloc, &[], &[&[], &[s0, s0], &[]], Ok(())));
+    Ok(())
+}
+
+#[test]
+fn finds_no_fault_in_no_commands(rt: HostRuntime) -> Result<(), Fail> {
+    assert!(rt; audited(rt.alloc(), &[], &[0], &[&[sheet(0, 10, 0)?]])? == Ok(()));
+    Ok(())
+}
+
+#[test]
+fn finds_the_mismatch_of_one_reading(rt: HostRuntime) -> Result<(), Fail> {
+    let alloc = rt.alloc();
+    let (s0, s1, s2) = (sheet(0, 10, 0)?, sheet(1, 10, 1)?, sheet(11, 10, 2)?);
+    assert!(rt; finds(alloc, &[1, 2], &[&[s2, s0]], mismatch(1, 2)));
+    assert!(rt; finds(alloc, &[2], &[&[s1]], mismatch(1, 1)));
     Ok(())
 }
 
 #[test]
 fn finds_the_first_mismatch(rt: HostRuntime) -> Result<(), Fail> {
-    let journal = commands()?;
+    let alloc = rt.alloc();
     let (s0, s1, s2) = (sheet(0, 10, 0)?, sheet(1, 10, 1)?, sheet(11, 10, 2)?);
     let other = sheet(11, 11, 2)?;
-    let alloc = rt.alloc();
-    assert!(rt; audited(alloc, &journal, &[1, 2], &[&[s0, other], &[s1]])? == mismatch(1, 2));
-    assert!(rt; audited(alloc, &journal, &[1, 2], &[&[s2, s0]])? == mismatch(1, 2));
-    assert!(rt; audited(alloc, &journal, &[2], &[&[s1]])? == mismatch(1, 1));
-    assert!(rt;
-        audited(
-            alloc,
-            &journal,
-            &[1, 2],
-            &[&[], &[s0, s1, s2, s1], &[other]]
-        )? == mismatch(2, 4)
-    );
-    assert!(rt; audited(alloc, &journal, &[1], &[&[s0], &[s1, s2]])? == mismatch(2, 2));
+    let rows: [&[Sheet]; 3] = [&[], &[s0, s1, s2, s1], &[other]];
+    assert!(rt; finds(alloc, &[1, 2], &rows, mismatch(2, 4)));
+    assert!(rt; finds(alloc, &[1, 2], &[&[s0, other], &[s1]], mismatch(1, 2)));
+    assert!(rt; finds(alloc, &[1], &[&[s0], &[s1, s2]], mismatch(2, 2)));
     Ok(())
 }
 
 #[test]
-fn finds_the_first_fault_of_journal_and_cuts(rt: HostRuntime) -> Result<(), Fail> {
-    let journal = commands()?;
-    let other = sheet(11, 11, 2)?;
+fn finds_the_first_fault_of_the_journal(rt: HostRuntime) -> Result<(), Fail> {
     let alloc = rt.alloc();
-    let refused = [journal[1]];
-    assert!(rt; audited(alloc, &refused, &[], &[])? == Err(AuditFault::BadJournal(1)));
-    let admitted = [Command::Admit(MemberCode::new(b"AAA")?, Votes::new(1)?)];
-    assert!(rt; audited(alloc, &admitted, &[], &[])? == Err(AuditFault::BadJournal(1)));
-    let repeated = [journal[0], journal[1], journal[0]];
-    assert!(rt; audited(alloc, &repeated, &[2, 1], &[&[other]])? == Err(AuditFault::BadJournal(3)));
-    assert!(rt; audited(alloc, &journal, &[2, 1], &[&[other]])? == Err(AuditFault::BadCuts(2)));
-    assert!(rt; audited(alloc, &journal, &[1, 3, 0], &[])? == Err(AuditFault::BadCuts(2)));
+    let [open, seat] = commands()?;
+    let admit = Command::Admit(MemberCode::new(b"AAA")?, Votes::new(1)?);
+    for first in [seat, admit] {
+        assert!(rt; audited(alloc, &[first], &[], &[])? == Err(AuditFault::BadJournal(1)));
+    }
+    let (repeated, other) = ([open, seat, open], sheet(11, 11, 2)?);
+    let found = audited(alloc, &repeated, &[2, 1], &[&[other]])?;
+    assert!(rt; found == Err(AuditFault::BadJournal(3)));
+    Ok(())
+}
+
+#[test]
+fn finds_the_first_fault_of_the_cuts(rt: HostRuntime) -> Result<(), Fail> {
+    let alloc = rt.alloc();
+    let other = sheet(11, 11, 2)?;
+    assert!(rt; finds(alloc, &[2, 1], &[&[other]], Err(AuditFault::BadCuts(2))));
+    assert!(rt; finds(alloc, &[1, 3, 0], &[], Err(AuditFault::BadCuts(2))));
     Ok(())
 }
 

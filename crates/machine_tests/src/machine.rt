@@ -169,12 +169,29 @@ fn tell_each(
     Ok(true)
 }
 
-/// A machine over one member's register.
-fn machine_for(alloc: Global, readers: u8) -> Result<Machine, Refusal> {
+/// What a machine over one member's register is asked.
+fn with_machine<T: Drop, F: FnOnce(&mut Machine) -> Result<T, Refusal>>(
+    alloc: Global,
+    readers: u8,
+    ask: F,
+) -> Result<T, Refusal>
+    requires { F.IsAlwaysCallable ask }
+{
+    // A function that owns a machine is proved slowly; one that is lent it isn't.
     match Machine::start(one_member(alloc)?, readers) {
-        Ok(machine) => Ok(machine),
+        Ok(mut machine) => ask(&mut machine),
         Err((_, why)) => Err(why),
     }
+}
+
+/// Whether the events, one by one, tell these lines; how many commands are then accepted, and how many published.
+fn told_each(
+    machine: &mut Machine,
+    events: &[Event],
+    lines: &[Option<Line>],
+) -> Result<(bool, u32, u32), Refusal> {
+    let told = tell_each(machine, events, lines)?;
+    Ok((told, machine.register().accepted(), machine.published()))
 }
 
 #[test]
@@ -185,12 +202,11 @@ fn five_events_at_once(rt: HostRuntime) -> Result<(), Fail> {
 
 #[test]
 fn five_events_one_by_one(rt: HostRuntime) -> Result<(), Fail> {
-    let mut machine = machine_for(rt.alloc(), 1)?;
-    assert!(rt; tell_each(&mut machine, &five_events()?, &FIVE_LINES)?);
-    assert_eq!(rt;
-        (machine.register().accepted(), machine.published()),
-        (1, 0)
-    );
+    let events = five_events()?;
+    let told = with_machine(rt.alloc(), 1, |machine| {
+        told_each(machine, &events, &FIVE_LINES)
+    })?;
+    assert_eq!(rt; told, (true, 1, 0));
     Ok(())
 }
 
@@ -227,40 +243,46 @@ fn refused_commands_want_no_memory(rt: HostRuntime) -> Result<(), Fail> {
         Some(Line::Refused(Refusal::ChairOpen)),
     ];
     assert!(rt; tell_at_once(rt.alloc(), &events, &lines)?);
-    let mut machine = machine_for(rt.alloc(), 1)?;
-    assert!(rt; tell_each(&mut machine, &events, &lines)?);
-    assert_eq!(rt; machine.register().accepted(), 1);
+    let told = with_machine(rt.alloc(), 1, |machine| told_each(machine, &events, &lines))?;
+    assert_eq!(rt; told, (true, 1, 0));
     Ok(())
 }
 
-/// What each of the first events of the schedule above tells, and nothing where `run` can't be taken to
-/// its end.
-fn notes_of_first(
+/// What each of the first events of the schedule above tells.
+fn notes_of_first(alloc: Global, events: &[Event], count: usize) -> Result<Vec<Note>, Refusal> {
+    let some = events.get(..count).unwrap_or_default();
+    match run(alloc, one_member(alloc)?, 1, some) {
+        Ok(log) => Ok(log.notes.into_vec()),
+        Err(fault) => Err(fault.why),
+    }
+}
+
+/// Whether the first of the events tell the first of these notes.
+fn first_tell(
     alloc: Global,
     events: &[Event],
     count: usize,
-) -> Result<Option<Vec<Note>>, Fail> {
-    let some = events.get(..count).unwrap_or_default();
-    match run(alloc, one_member(alloc)?, 1, some) {
-        Ok(log) => Ok(Some(log.notes.into_vec())),
-        Err(_) => Ok(None),
+    notes: &[Note],
+) -> Result<bool, Refusal> {
+    let first = notes_of_first(alloc, events, count)?;
+    Ok(Some(first.as_slice()) == notes.get(..count))
+}
+
+/// Whether as many notes as events are told, and events cut anywhere tell the notes cut there.
+fn are_cut_anywhere(alloc: Global, events: &[Event]) -> Result<bool, Refusal> {
+    let whole = notes_of_first(alloc, events, events.len())?;
+    for count in 0..events.len() {
+        if !first_tell(alloc, events, count, &whole)? {
+            return Ok(false);
+        }
     }
+    Ok(whole.len() == events.len())
 }
 
 #[test]
 fn events_cut_anywhere(rt: HostRuntime) -> Result<(), Fail> {
     let events = schedule(rt.alloc())?;
-    let Some(whole) = notes_of_first(rt.alloc(), &events, events.len())? else {
-        assert!(rt; false);
-        return Ok(());
-    };
-    assert_eq!(rt; whole.len(), events.len());
-    for count in 0..events.len() {
-        match notes_of_first(rt.alloc(), &events, count)? {
-            Some(notes) => assert_eq!(rt; Some(notes.as_slice()), whole.get(..count)),
-            None => assert!(rt; false),
-        }
-    }
+    assert!(rt; are_cut_anywhere(rt.alloc(), &events)?);
     Ok(())
 }
 
@@ -316,10 +338,13 @@ fn see_out(
 
 #[test]
 fn two_readers_seen_out(rt: HostRuntime) -> Result<(), Fail> {
-    let mut machine = machine_for(rt.alloc(), 2)?;
-    assert_eq!(rt; seen_out(&machine), [false, true, true, false]);
+    let alloc = rt.alloc();
+    let (at_first, then) = with_machine(alloc, 2, |machine| {
+        Ok((seen_out(machine), see_out(alloc, machine)?))
+    })?;
+    assert_eq!(rt; at_first, [false, true, true, false]);
     let published = (Some(Line::Published(1)), [false; 4]);
     let tried = (Some(Line::Busy(2)), [false, true, false, false]);
-    assert_eq!(rt; see_out(rt.alloc(), &mut machine)?, [published, tried]);
+    assert_eq!(rt; then, [published, tried]);
     Ok(())
 }

@@ -4,6 +4,7 @@ use council_core::{ChairId, Command, MemberCode, Refusal, Register, Sheet, Votes
 use majority_rule::Majority;
 use power_index::Indices;
 use std::alloc::{AllocError, Global};
+use std::process::Abort;
 use std::sync::Wait;
 use std::test::Fail;
 use two_copy_steps::READERS;
@@ -17,40 +18,65 @@ pub(crate) fn one_member(alloc: Global) -> Result<Register, Refusal> {
     )
 }
 
-fn begin_over(
+// A function that owns a board is proved slowly; one that is lent it isn't. So each kind of board is made in one
+// function here, and lent.
+
+// What a board over this register, with so many readers, is asked.
+fn with_board<T: Drop, F: FnOnce(&mut Writer, &mut Vec<Reader>) -> Result<T, Refusal>>(
     alloc: Global,
     register: Register,
     readers: u8,
-) -> Result<(Writer, Vec<Reader>), Refusal> {
+    ask: F,
+) -> Result<T, Refusal>
+    requires { F.IsAlwaysCallable ask }
+{
     match start(alloc, register, readers) {
-        Ok(board) => Ok(board),
+        Ok((mut writer, mut readers)) => ask(&mut writer, &mut readers),
         Err((_, why)) => Err(why),
     }
 }
 
-pub(crate) fn begin(alloc: Global, readers: u8) -> Result<(Writer, Vec<Reader>), Refusal> {
-    begin_over(alloc, one_member(alloc)?, readers)
+// What a board of AAA with 10 votes, with so many readers, is asked.
+pub(crate) fn with_readers<T: Drop, F: FnOnce(&mut Writer, &mut Vec<Reader>) -> Result<T, Refusal>>(
+    alloc: Global,
+    readers: u8,
+    ask: F,
+) -> Result<T, Refusal>
+    requires { F.IsAlwaysCallable ask }
+{
+    with_board(alloc, one_member(alloc)?, readers, ask)
 }
 
-// A board of one reader.
-pub(crate) fn begin_one(alloc: Global) -> Result<(Writer, Reader), Refusal> {
-    let (writer, mut readers) = begin(alloc, 1)?;
-    match readers.pop() {
-        Some(reader) => Ok((writer, reader)),
-        None => Err(Refusal::BadReader),
-    }
+// What a board of one reader is asked.
+fn with_one<T: Drop, F: FnOnce(&mut Writer, &mut Reader) -> Result<T, Refusal>>(
+    alloc: Global,
+    ask: F,
+) -> Result<T, Refusal>
+    requires { F.IsAlwaysCallable ask }
+{
+    with_readers(alloc, 1, |writer, readers| ask(writer, first_of(readers)?))
 }
 
-// A board of two readers.
-pub(crate) fn begin_two(alloc: Global) -> Result<(Writer, Reader, Reader), Refusal> {
-    let (writer, mut readers) = begin(alloc, 2)?;
-    let Some(second) = readers.pop() else {
-        return Err(Refusal::BadReader);
-    };
-    match readers.pop() {
-        Some(first) => Ok((writer, first, second)),
-        None => Err(Refusal::BadReader),
-    }
+// What a board of two readers is asked.
+pub(crate) fn with_two<
+    T: Drop,
+    F: FnOnce(&mut Writer, &mut Reader, &mut Reader) -> Result<T, Refusal>,
+>(alloc: Global, ask: F) -> Result<T, Refusal>
+    requires { F.IsAlwaysCallable ask }
+{
+    with_readers(alloc, 2, |writer, readers| match readers.as_mut_slice() {
+        [first, second] => ask(writer, first, second),
+        _ => Err(Refusal::BadReader),
+    })
+}
+
+fn first_of(readers: &mut [Reader]) -> Result<&mut Reader, Refusal> {
+    readers.get_mut(0).ok_or(Refusal::BadReader)
+}
+
+// A reader is taken from those of a board, the last first.
+fn taken(readers: &mut Vec<Reader>) -> Result<Reader, Refusal> {
+    readers.pop().ok_or(Refusal::BadReader)
 }
 
 pub(crate) fn submit_open(writer: &mut Writer, chair: u8) -> Result<u32, Refusal> {
@@ -123,7 +149,7 @@ fn front_of(sheet: Option<Sheet>) -> Option<u32> {
     }
 }
 
-fn read_front(reader: &mut Reader) -> Option<u32> {
+pub(crate) fn read_front(reader: &mut Reader) -> Option<u32> {
     if !reader.at_rest() {
         return None;
     }
@@ -180,6 +206,18 @@ fn analyst_of(alloc: Global, reader: Reader) -> Result<Analyst, Refusal> {
     }
 }
 
+// What an analyst over a reader at rest is asked.
+fn with_analyst<T: Drop, F: FnOnce(&mut Analyst) -> T>(
+    alloc: Global,
+    reader: Reader,
+    ask: F,
+) -> Result<T, Refusal>
+    requires { F.IsAlwaysCallable ask }
+{
+    let mut analyst = analyst_of(alloc, reader)?;
+    Ok(ask(&mut analyst))
+}
+
 // One question at more than half of the votes cast, by an analyst made for it. Its sheet is that of the
 // question, and the reader that comes back still reads it.
 fn ask_half(alloc: Global, reader: Reader) -> Result<[u64; 6], Refusal> {
@@ -201,13 +239,23 @@ fn goes_on<R: Wait>(rt: &R, writer: &mut Writer) -> (u32, Result<u32, Refusal>, 
     (again, refused, counts)
 }
 
-#[test]
-fn board_on_one_thread(rt: HostRuntime) -> Result<(), Fail> {
-    let (mut writer, mut first, second) = begin_two(rt.alloc())?;
-    assert_eq!(rt; (first.number(), second.number()), (1, 2));
-    let answers = open_and_move(&rt, &mut writer, &mut first)?;
-    let asked = ask_half(rt.alloc(), second)?;
-    let more = goes_on(&rt, &mut writer);
+fn number_at(readers: &[Reader], place: usize) -> Option<u8> {
+    Some(readers.get(place)?.number())
+}
+
+fn runs_on_one_thread<R: Wait + Abort>(
+    rt: &R,
+    alloc: Global,
+    writer: &mut Writer,
+    readers: &mut Vec<Reader>,
+) -> Result<(), Refusal> {
+    assert_eq!(rt;
+        [number_at(readers, 0), number_at(readers, 1)],
+        [Some(1), Some(2)]
+    );
+    let answers = open_and_move(rt, writer, first_of(readers)?)?;
+    let asked = ask_half(alloc, taken(readers)?)?;
+    let more = goes_on(rt, writer);
     assert_eq!(rt;
         answers,
         [Some(1), Some(0), Some(1), Some(1), Some(2), Some(2)]
@@ -216,6 +264,17 @@ fn board_on_one_thread(rt: HostRuntime) -> Result<(), Fail> {
         (asked, more),
         ([2, 6, 1, 2, 1, 1], (2, Err(Refusal::ChairOpen), [2, 2]))
     );
+    Ok(())
+}
+
+#[test]
+fn board_on_one_thread(rt: HostRuntime) -> Result<(), Fail> {
+    let alloc = rt.alloc();
+    with_readers(
+        alloc,
+        2,
+        |writer, readers| runs_on_one_thread(&rt, alloc, writer, readers),
+    )?;
     Ok(())
 }
 
@@ -245,35 +304,53 @@ fn are_within(reader: &mut Reader, count: u32) -> bool {
     true
 }
 
-#[test]
-fn reader_in_37_steps(rt: HostRuntime) -> Result<(), Fail> {
-    let (mut writer, mut reader) = begin_one(rt.alloc())?;
-    submit_open(&mut writer, 1)?;
-    assert_eq!(rt; try_now(&mut writer), Tried::Published(1));
-    assert!(rt; are_within(&mut reader, 36));
-    assert!(rt; front_of(steps(&mut reader, 1)) == Some(1) && reader.at_rest());
+fn reads_in_37_steps<R: Abort>(
+    rt: &R,
+    writer: &mut Writer,
+    reader: &mut Reader,
+) -> Result<(), Refusal> {
+    submit_open(writer, 1)?;
+    assert_eq!(rt; try_now(writer), Tried::Published(1));
+    assert!(rt; are_within(reader, 36));
+    assert!(rt; front_of(steps(reader, 1)) == Some(1) && reader.at_rest());
     Ok(())
 }
 
-// A board of one reader over a register that has accepted a command: chair 1 is open.
-fn begin_with_a_command(alloc: Global) -> Result<(Writer, Reader), Refusal> {
+#[test]
+fn reader_in_37_steps(rt: HostRuntime) -> Result<(), Fail> {
+    with_one(
+        rt.alloc(),
+        |writer, reader| reads_in_37_steps(&rt, writer, reader),
+    )?;
+    Ok(())
+}
+
+// A register that has accepted a command: chair 1 is open.
+fn with_a_command(alloc: Global) -> Result<Register, Refusal> {
     let mut register = one_member(alloc)?;
     register.apply(Command::Open(ChairId::new(1)?))?;
-    let (writer, mut readers) = begin_over(alloc, register, 1)?;
-    match readers.pop() {
-        Some(reader) => Ok((writer, reader)),
-        None => Err(Refusal::BadReader),
-    }
+    Ok(register)
+}
+
+fn reads_the_command<R: Abort>(
+    rt: &R,
+    writer: &Writer,
+    reader: &mut Reader,
+) -> Result<(), Refusal> {
+    assert_eq!(rt; writer.published(), 1);
+    assert!(rt; steps(reader, 36).is_none());
+    assert!(rt; !reader.at_rest());
+    assert_eq!(rt; shown(steps(reader, 1)), Some([1, 0, 10]));
+    assert!(rt; reader.at_rest());
+    Ok(())
 }
 
 #[test]
 fn reads_a_register_with_a_command_in_37_steps(rt: HostRuntime) -> Result<(), Fail> {
-    let (writer, mut reader) = begin_with_a_command(rt.alloc())?;
-    assert_eq!(rt; writer.published(), 1);
-    assert!(rt; steps(&mut reader, 36).is_none());
-    assert!(rt; !reader.at_rest());
-    assert_eq!(rt; shown(steps(&mut reader, 1)), Some([1, 0, 10]));
-    assert!(rt; reader.at_rest());
+    let register = with_a_command(rt.alloc())?;
+    with_board(rt.alloc(), register, 1, |writer, readers| {
+        reads_the_command(&rt, writer, first_of(readers)?)
+    })?;
     Ok(())
 }
 
@@ -299,9 +376,8 @@ fn past_a_stopped_reader(
 
 #[test]
 fn publish_past_a_stopped_reader(rt: HostRuntime) -> Result<(), Fail> {
-    let (mut writer, mut reader) = begin_one(rt.alloc())?;
     let tried = [Tried::Published(1), Tried::Busy(1), Tried::Published(2)];
-    let got = past_a_stopped_reader(&mut writer, &mut reader)?;
+    let got = with_one(rt.alloc(), past_a_stopped_reader)?;
     assert_eq!(rt; got, (tried, [None, None, Some(0), Some(2)]));
     Ok(())
 }
@@ -329,7 +405,6 @@ fn stopped_after(
 #[test]
 fn reader_stopped_at_each_step(rt: HostRuntime) -> Result<(), Fail> {
     for count in 0..38u32 {
-        let (mut writer, mut reader) = begin_one(rt.alloc())?;
         let two = if count == 0 || count == 37 {
             Tried::Published(2)
         } else {
@@ -341,7 +416,11 @@ fn reader_stopped_at_each_step(rt: HostRuntime) -> Result<(), Fail> {
             _ => 0,
         };
         let want = (Tried::Published(1), two, Some(front), Tried::Published(2));
-        assert_eq!(rt; stopped_after(&mut writer, &mut reader, count)?, want);
+        let got = with_one(
+            rt.alloc(),
+            |writer, reader| stopped_after(writer, reader, count),
+        )?;
+        assert_eq!(rt; got, want);
     }
     Ok(())
 }
@@ -381,11 +460,14 @@ fn both_go_on(
     Ok(([one, two, three], [old, middle, shown(steps(second, 37))]))
 }
 
-#[test]
-fn two_readers_stopped(rt: HostRuntime) -> Result<(), Fail> {
-    let (mut writer, mut first, mut second) = begin_two(rt.alloc())?;
-    let stopped = two_in_the_way(&mut writer, &mut first, &mut second)?;
-    let went_on = both_go_on(&mut writer, &mut first, &mut second)?;
+fn stop_in_turn<R: Abort>(
+    rt: &R,
+    writer: &mut Writer,
+    first: &mut Reader,
+    second: &mut Reader,
+) -> Result<(), Refusal> {
+    let stopped = two_in_the_way(writer, first, second)?;
+    let went_on = both_go_on(writer, first, second)?;
     let busy = Tried::Busy(2);
     assert_eq!(rt;
         stopped,
@@ -400,32 +482,52 @@ fn two_readers_stopped(rt: HostRuntime) -> Result<(), Fail> {
     Ok(())
 }
 
+#[test]
+fn two_readers_stopped(rt: HostRuntime) -> Result<(), Fail> {
+    with_two(
+        rt.alloc(),
+        |writer, first, second| stop_in_turn(&rt, writer, first, second),
+    )?;
+    Ok(())
+}
+
+// Opens chairs 1 and 2: what a try to publish answers after each.
+fn open_two(writer: &mut Writer) -> Result<[Tried; 2], Refusal> {
+    submit_open(writer, 1)?;
+    let one = try_now(writer);
+    submit_open(writer, 2)?;
+    Ok([one, try_now(writer)])
+}
+
 // Reader 1 is stopped after so many steps, or dropped there, and chairs 1 and 2 are opened: what both tries to publish
 // answer, and the fronts that reader 2 then reads at once, step by step, and as it asks.
 fn beside_a_stopped_reader(
     alloc: Global,
+    writer: &mut Writer,
+    readers: &mut Vec<Reader>,
     count: u32,
     is_dropped: bool,
 ) -> Result<([Tried; 2], [Option<u32>; 2], u64), Refusal> {
-    let (mut writer, mut first, mut second) = begin_two(alloc)?;
-    let _none = steps(&mut first, count);
-    let _kept = if is_dropped { None } else { Some(first) };
-    submit_open(&mut writer, 1)?;
-    let one = try_now(&mut writer);
-    submit_open(&mut writer, 2)?;
-    let two = try_now(&mut writer);
+    let mut second = taken(readers)?;
+    let _none = steps(first_of(readers)?, count);
+    if is_dropped {
+        drop(taken(readers)?);
+    }
+    let tried = open_two(writer)?;
     let at_once = read_front(&mut second);
     let by_steps = front_of(steps(&mut second, 37));
     let [front, ..] = ask_half(alloc, second)?;
-    Ok(([one, two], [at_once, by_steps], front))
+    Ok((tried, [at_once, by_steps], front))
 }
 
 #[test]
 fn reader_goes_on_beside_a_stopped_one(rt: HostRuntime) -> Result<(), Fail> {
-    let tried = [Tried::Published(1), Tried::Busy(1)];
+    let (alloc, tried) = (rt.alloc(), [Tried::Published(1), Tried::Busy(1)]);
     for count in [1, 2, 36] {
         for is_dropped in [false, true] {
-            let got = beside_a_stopped_reader(rt.alloc(), count, is_dropped)?;
+            let got = with_readers(alloc, 2, |writer, readers| {
+                beside_a_stopped_reader(alloc, writer, readers, count, is_dropped)
+            })?;
             assert_eq!(rt; got, (tried, [Some(1); 2], 1));
         }
     }
@@ -433,48 +535,63 @@ fn reader_goes_on_beside_a_stopped_one(rt: HostRuntime) -> Result<(), Fail> {
 }
 
 // Opens chairs 1 and 2 past a reader that was dropped after so many steps: what four tries answer.
-fn past_a_dropped_reader(alloc: Global, count: u32) -> Result<([Tried; 4], u32, usize), Refusal> {
-    let (mut writer, mut reader) = begin_one(alloc)?;
-    let _none = steps(&mut reader, count);
-    drop(reader);
-    submit_open(&mut writer, 1)?;
-    let one = try_now(&mut writer);
-    submit_open(&mut writer, 2)?;
-    let two = try_now(&mut writer);
-    let tried = [one, two, try_now(&mut writer), try_now(&mut writer)];
+fn past_a_dropped_reader(
+    writer: &mut Writer,
+    readers: &mut Vec<Reader>,
+    count: u32,
+) -> Result<([Tried; 4], u32, usize), Refusal> {
+    let _none = steps(first_of(readers)?, count);
+    drop(taken(readers)?);
+    let [one, two] = open_two(writer)?;
+    let tried = [one, two, try_now(writer), try_now(writer)];
     Ok((tried, writer.published(), writer.journal().len()))
 }
 
 #[test]
 fn reader_dropped(rt: HostRuntime) -> Result<(), Fail> {
-    let busy = Tried::Busy(1);
-    let (tried, published, accepted) = past_a_dropped_reader(rt.alloc(), 5)?;
-    assert_eq!(rt; tried, [Tried::Published(1), busy, busy, busy]);
-    assert_eq!(rt; (published, accepted), (1, 2));
-    let two = Tried::Published(2);
-    let (tried, published, accepted) = past_a_dropped_reader(rt.alloc(), 0)?;
-    assert_eq!(rt; tried, [Tried::Published(1), two, two, two]);
-    assert_eq!(rt; (published, accepted), (2, 2));
+    let (busy, done) = (Tried::Busy(1), Tried::Published(2));
+    for (count, late, published) in [(5, busy, 1), (0, done, 2)] {
+        let got = with_readers(rt.alloc(), 1, |writer, readers| {
+            past_a_dropped_reader(writer, readers, count)
+        })?;
+        let tried = [Tried::Published(1), late, late, late];
+        assert_eq!(rt; got, (tried, published, 2));
+    }
     Ok(())
 }
 
-// Publishes one command, hands over another, and is dropped.
-fn publish_and_go(mut writer: Writer) -> Result<Tried, Refusal> {
-    submit_open(&mut writer, 1)?;
-    let tried = try_now(&mut writer);
-    submit_open(&mut writer, 2)?;
+// Publishes one command, and hands over another.
+fn publish_one(writer: &mut Writer) -> Result<Tried, Refusal> {
+    submit_open(writer, 1)?;
+    let tried = try_now(writer);
+    submit_open(writer, 2)?;
     Ok(tried)
+}
+
+// The same by a writer that is then dropped: what its try to publish answered, and the readers of its board.
+fn publish_and_go(alloc: Global) -> Result<(Tried, Vec<Reader>), Refusal> {
+    match start(alloc, one_member(alloc)?, 2) {
+        Ok((mut writer, readers)) => Ok((publish_one(&mut writer)?, readers)),
+        Err((_, why)) => Err(why),
+    }
+}
+
+// What the first reader reads, the second, and the first again.
+fn read_in_turn(readers: &mut Vec<Reader>) -> Result<[Option<u32>; 3], Refusal> {
+    let mut second = taken(readers)?;
+    let first = first_of(readers)?;
+    Ok([
+        read_front(first),
+        read_front(&mut second),
+        read_front(first),
+    ])
 }
 
 #[test]
 fn writer_dropped(rt: HostRuntime) -> Result<(), Fail> {
-    let (writer, mut first, mut second) = begin_two(rt.alloc())?;
-    assert_eq!(rt; publish_and_go(writer)?, Tried::Published(1));
-    assert_eq!(rt;
-        (read_front(&mut first), read_front(&mut second)),
-        (Some(1), Some(1))
-    );
-    assert_eq!(rt; read_front(&mut first), Some(1));
+    let (tried, mut readers) = publish_and_go(rt.alloc())?;
+    assert_eq!(rt; tried, Tried::Published(1));
+    assert_eq!(rt; read_in_turn(&mut readers)?, [Some(1); 3]);
     Ok(())
 }
 
@@ -507,19 +624,24 @@ fn answers_without_memory(
 fn two_commands_without_memory(
     alloc: Global,
     writer: &mut Writer,
-    first: &mut Reader,
-    second: Reader,
+    readers: &mut Vec<Reader>,
 ) -> Result<[u64; 5], Refusal> {
     submit_open(writer, 1)?;
     submit_move(writer)?;
-    let mut analyst = analyst_of(alloc, second)?;
-    Ok(answers_without_memory(alloc, writer, first, &mut analyst)?)
+    let second = taken(readers)?;
+    let first = first_of(readers)?;
+    let answers = with_analyst(alloc, second, |analyst| {
+        answers_without_memory(alloc, writer, first, analyst)
+    })?;
+    Ok(answers?)
 }
 
 #[test]
 fn calls_that_take_no_memory(rt: HostRuntime) -> Result<(), Fail> {
-    let (mut writer, mut first, second) = begin_two(rt.alloc())?;
-    let got = two_commands_without_memory(rt.alloc(), &mut writer, &mut first, second)?;
+    let alloc = rt.alloc();
+    let got = with_readers(alloc, 2, |writer, readers| {
+        two_commands_without_memory(alloc, writer, readers)
+    })?;
     assert_eq!(rt; got, [2, 2, 2, 6, 0]);
     Ok(())
 }

@@ -1,8 +1,9 @@
 //! The running board in threads.
-use crate::boards::{begin, begin_two, steps, submit_open, submit_votes};
+use crate::boards::{read_front, steps, submit_open, submit_votes, with_readers, with_two};
 use board_share::{AuditFault, Reader, Writer, audit};
 use council_core::{Command, MemberCode, Refusal, Sheet, Votes};
 use std::alloc::{AllocError, Global};
+use std::process::Abort;
 use std::sync::Wait;
 use std::test::Fail;
 use std::thread::{Threads, join};
@@ -44,24 +45,29 @@ fn read_often(reader: &mut Reader) -> bool {
     true
 }
 
-fn last_front(mut reader: Reader) -> Option<u32> {
-    if !reader.at_rest() {
-        return None;
-    }
-    Some(reader.read().sheet.front())
+// Publishes in one thread while two others read.
+fn read_beside<R: Threads + Wait + Sync + Abort>(
+    rt: &R,
+    writer: &mut Writer,
+    first: &mut Reader,
+    second: &mut Reader,
+) {
+    let (front, fine) = join(
+        rt,
+        || publish_five(rt, writer),
+        || join(rt, || read_often(first), || read_often(second)),
+    );
+    assert_eq!(rt; front, Ok(5));
+    assert_eq!(rt; fine, (true, true));
+    assert_eq!(rt; (read_front(first), read_front(second)), (Some(5), Some(5)));
 }
 
 #[test]
 fn reads_from_threads(rt: HostRuntime) -> Result<(), Fail> {
-    let (mut writer, mut first, mut second) = begin_two(rt.alloc())?;
-    let (front, fine) = join(
-        &rt,
-        || publish_five(&rt, &mut writer),
-        || join(&rt, || read_often(&mut first), || read_often(&mut second)),
-    );
-    assert_eq!(rt; front, Ok(5));
-    assert_eq!(rt; fine, (true, true));
-    assert_eq!(rt; (last_front(first), last_front(second)), (Some(5), Some(5)));
+    with_two(rt.alloc(), |writer, first, second| {
+        read_beside(&rt, writer, first, second);
+        Ok(())
+    })?;
     Ok(())
 }
 
@@ -78,8 +84,9 @@ fn step_often(reader: &mut Reader) -> bool {
 
 #[test]
 fn steps_from_threads(rt: HostRuntime) -> Result<(), Fail> {
-    let (_writer, mut first, mut second) = begin_two(rt.alloc())?;
-    let fine = join(&rt, || step_often(&mut first), || step_often(&mut second));
+    let fine = with_two(rt.alloc(), |_writer, first, second| {
+        Ok(join(&rt, || step_often(first), || step_often(second)))
+    })?;
     assert_eq!(rt; fine, (true, true));
     Ok(())
 }
@@ -89,7 +96,7 @@ const READINGS: usize = 1000;
 const PUBLICATIONS: u32 = 1000;
 
 // What one reader reads.
-fn read_all(alloc: Global, mut reader: Reader) -> Result<Vec<Sheet>, AllocError> {
+fn read_all(alloc: Global, reader: &mut Reader) -> Result<Vec<Sheet>, AllocError> {
     let mut sheets = Vec::new(alloc);
     for _ in 0..READINGS {
         if reader.at_rest() {
@@ -127,26 +134,25 @@ fn audit_of(
     }
 }
 
-// A board of four readers.
-fn begin_four(alloc: Global) -> Result<(Writer, [Reader; 4]), Refusal> {
-    let (writer, mut readers) = begin(alloc, 4)?;
-    match (readers.pop(), readers.pop(), readers.pop(), readers.pop()) {
-        (Some(d), Some(c), Some(b), Some(a)) => Ok((writer, [a, b, c, d])),
-        _ => Err(Refusal::BadReader),
-    }
-}
-
 type Read = Result<Vec<Sheet>, AllocError>;
 
 // What four readers read, each in a thread of its own.
-fn read_by_four<R: Threads + Sync>(rt: &R, alloc: Global, readers: [Reader; 4]) -> [Read; 4] {
-    let [a, b, c, d] = readers;
-    let (left, right) = join(
-        rt,
-        move || join(rt, move || read_all(alloc, a), move || read_all(alloc, b)),
-        move || join(rt, move || read_all(alloc, c), move || read_all(alloc, d)),
-    );
-    [left.0, left.1, right.0, right.1]
+fn read_by_four<R: Threads + Sync>(
+    rt: &R,
+    alloc: Global,
+    readers: &mut [Reader],
+) -> Result<[Read; 4], Refusal> {
+    match readers {
+        [a, b, c, d] => {
+            let (left, right) = join(
+                rt,
+                || join(rt, || read_all(alloc, a), || read_all(alloc, b)),
+                || join(rt, || read_all(alloc, c), || read_all(alloc, d)),
+            );
+            Ok([left.0, left.1, right.0, right.1])
+        }
+        _ => Err(Refusal::BadReader),
+    }
 }
 
 // What readers read, where none lacked memory.
@@ -158,19 +164,53 @@ fn listed(alloc: Global, reads: [Read; 4]) -> Result<Vec<Vec<Sheet>>, AllocError
     Ok(readings)
 }
 
+// Publishes in one thread while four others read: the cuts, and what each of them read.
+fn publish_beside_four<R: Threads + Wait + Sync>(
+    rt: &R,
+    alloc: Global,
+    writer: &mut Writer,
+    readers: &mut [Reader],
+) -> Result<(Vec<u32>, Vec<Vec<Sheet>>), Refusal> {
+    let (cuts, reads) = join(
+        rt,
+        || publish_each(rt, alloc, writer),
+        || read_by_four(rt, alloc, readers),
+    );
+    Ok((cuts?, listed(alloc, reads?)?))
+}
+
+// Whether the cuts and the readings of a run are as many as they are to be, and an audit finds no fault.
+fn are_right<R: Abort>(
+    rt: &R,
+    alloc: Global,
+    journal: &[Command],
+    cuts: &[u32],
+    readings: &[Vec<Sheet>],
+) {
+    assert_eq!(rt; cuts.len(), PUBLICATIONS as usize);
+    assert!(rt; readings.iter().all(|sheets| sheets.len() == READINGS));
+    assert_eq!(rt; audit_of(alloc, journal, cuts, readings), Ok(()));
+}
+
+fn audits_four<R: Threads + Wait + Sync + Abort>(
+    rt: &R,
+    alloc: Global,
+    writer: &mut Writer,
+    readers: &mut [Reader],
+) -> Result<(), Refusal> {
+    let (cuts, readings) = publish_beside_four(rt, alloc, writer, readers)?;
+    are_right(rt, alloc, writer.journal(), &cuts, &readings);
+    Ok(())
+}
+
 #[test]
 fn four_readers_audited(rt: HostRuntime) -> Result<(), Fail> {
     let alloc = rt.alloc();
-    let (mut writer, readers) = begin_four(alloc)?;
-    let (cuts, reads) = join(
-        &rt,
-        || publish_each(&rt, alloc, &mut writer),
-        || read_by_four(&rt, alloc, readers),
-    );
-    let (cuts, readings) = (cuts?, listed(alloc, reads)?);
-    assert_eq!(rt; cuts.len(), PUBLICATIONS as usize);
-    assert!(rt; readings.iter().all(|sheets| sheets.len() == READINGS));
-    assert_eq!(rt; audit_of(alloc, writer.journal(), &cuts, &readings), Ok(()));
+    with_readers(
+        alloc,
+        4,
+        |writer, readers| audits_four(&rt, alloc, writer, readers),
+    )?;
     Ok(())
 }
 
@@ -205,10 +245,10 @@ fn next_sheet(reader: &mut Reader, by_steps: bool) -> Option<Sheet> {
 }
 
 // Whether each reading up to the last publication is the sheet of its front, and no front falls.
-fn follow(mut reader: Reader, by_steps: bool) -> bool {
+fn follow(reader: &mut Reader, by_steps: bool) -> bool {
     let mut low = 0;
     for _ in 0..MOST_READINGS {
-        let Some(sheet) = next_sheet(&mut reader, by_steps) else {
+        let Some(sheet) = next_sheet(reader, by_steps) else {
             return false;
         };
         if sheet.front() < low || !is_sheet_of_its_front(&sheet.words()) {
@@ -223,25 +263,30 @@ fn follow(mut reader: Reader, by_steps: bool) -> bool {
 }
 
 // Whether each of four readers, in a thread of its own, follows the publications: two at once, and two by steps.
-fn follow_by_four<R: Threads + Sync>(rt: &R, readers: [Reader; 4]) -> [bool; 4] {
-    let [a, b, c, d] = readers;
-    let (left, right) = join(
-        rt,
-        move || join(rt, move || follow(a, false), move || follow(b, true)),
-        move || join(rt, move || follow(c, false), move || follow(d, true)),
-    );
-    [left.0, left.1, right.0, right.1]
+fn follow_by_four<R: Threads + Sync>(rt: &R, readers: &mut [Reader]) -> Result<[bool; 4], Refusal> {
+    match readers {
+        [a, b, c, d] => {
+            let (left, right) = join(
+                rt,
+                || join(rt, || follow(a, false), || follow(b, true)),
+                || join(rt, || follow(c, false), || follow(d, true)),
+            );
+            Ok([left.0, left.1, right.0, right.1])
+        }
+        _ => Err(Refusal::BadReader),
+    }
 }
 
 #[test]
 fn four_readers_beside_publications_at_full_speed(rt: HostRuntime) -> Result<(), Fail> {
-    let (mut writer, readers) = begin_four(rt.alloc())?;
-    let (front, fine) = join(
-        &rt,
-        || publish_to_the_last(&rt, &mut writer),
-        || follow_by_four(&rt, readers),
-    );
+    let (front, fine) = with_readers(rt.alloc(), 4, |writer, readers| {
+        Ok(join(
+            &rt,
+            || publish_to_the_last(&rt, writer),
+            || follow_by_four(&rt, readers),
+        ))
+    })?;
     assert_eq!(rt; front, Ok(LAST));
-    assert_eq!(rt; fine, [true; 4]);
+    assert_eq!(rt; fine, Ok([true; 4]));
     Ok(())
 }

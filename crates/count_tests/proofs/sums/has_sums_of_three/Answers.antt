@@ -1,6 +1,6 @@
 use Rattle.std.proofs.Common.{rules}
 use Rattle.std.specs.List.{IsDistinct}
-use Rattle.count_tests.proofs.walks.half_of_ones.Goals as goal
+use Rattle.count_tests.proofs.sums.has_sums_of_three.Goals as goal
 
 pub rebuild-requires-clause-distinct : goal.rebuild-requires-clause-distinct
 unfolding IsDistinct

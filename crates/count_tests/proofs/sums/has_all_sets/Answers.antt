@@ -1,6 +1,6 @@
 use Rattle.std.proofs.Common.{rules}
 use Rattle.std.specs.List.{IsDistinct}
-use Rattle.count_tests.proofs.sums.sixteen_chairs_of_no_weight.Goals as goal
+use Rattle.count_tests.proofs.sums.has_all_sets.Goals as goal
 
 pub rebuild-requires-clause-distinct : goal.rebuild-requires-clause-distinct
 unfolding IsDistinct
