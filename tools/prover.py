@@ -1,8 +1,7 @@
 """Calls the prover, rattle, for one crate over the libraries that it stands on, and builds and runs what is made of it.
 
-rt's own commands build a library with its proofs, which each crate above reads, too: that takes a quarter more in all. Here a library
-that is built has its statements alone, as in rt verdict and rt ci."""
-import shutil
+A library that is built has its statements alone, as in rt ci. rt's own commands build one with its proofs, and each crate above
+reads these, too."""
 import signal
 import subprocess
 from dataclasses import dataclass
@@ -55,7 +54,7 @@ class Crate:
         return (self.room if name in self.own else kit() / "rlibs") / f"{name}.rlib"
 
     def rattle(self, verb, jobs, *more):
-        """Has the prover check or build the crate by so many processes, and by one where those were too many for memory: its status,
+        """Has the prover check or build the crate by so many processes, and by one where memory was too small for them: its status,
         and what it said."""
         words = [kit() / "bin" / "rattle", verb, "--crate-name", self.name, f"src/{'main' if self.is_program() else 'lib'}.rt"]
         for it in ["std", *self.uses]:
@@ -68,19 +67,22 @@ class Crate:
             return self.rattle(verb, 1, *more)
         return status, err + out
 
-    def build(self, jobs, kept):
-        """Proves the crate and builds it: whether that went well, and what was said. With 'kept' it leaves there what it proved, for
-        checks of the crate with edits, and a library has its proofs."""
-        is_linked = self.is_program() or self.is_of_tests()
+    def check(self, jobs, kept):
+        """Checks the crate over what was kept of checks before, and keeps what it proves: the prover's status, and what it said."""
+        return self.rattle("check", jobs, "--incremental", kept)
+
+    def build(self, jobs, *more):
+        """Proves the crate and builds it: whether that went well, and what was said."""
         how, made = ["--toolchain", kit() / "toolchain", "--backend", "llvm"], f"lib{self.name}.a"
-        if is_linked:
+        if self.is_linked():
             how, made = [*how, *["--test"] * self.is_of_tests()], f"{self.built()}.o"
         elif not self.is_static:
-            how, made = ["--statements"] * (not kept), f"{self.name}.rlib"
-        if kept:
-            how += ["--incremental", kept]
-        status, said = self.rattle("build", jobs, *how, "-o", self.room / made)
-        return self.link_and_run() if is_linked and status == 0 else (status == 0, said)
+            how, made = ["--statements"], f"{self.name}.rlib"
+        status, said = self.rattle("build", jobs, *how, *more, "-o", self.room / made)
+        return self.link_and_run() if self.is_linked() and status == 0 else (status == 0, said)
+
+    def is_linked(self):
+        return self.is_program() or self.is_of_tests()
 
     def built(self):
         """What the program is called that is made of the crate."""

@@ -2,16 +2,27 @@
 from concurrent.futures import FIRST_COMPLETED, ThreadPoolExecutor, wait
 from dataclasses import dataclass
 
+# How much a task leaves processors to others at most: what 'nice' takes.
+NICEST = 19
+
 
 @dataclass(eq=False)
 class Task:
-    """A proof of a crate, or a try of some of its edits: what it needs is proved first, and it is called with how many processes
-    it may have."""
+    """A proof, or a try of some edits: what it needs is proved first, and it is called with how many processes it may have, and how
+    much they leave processors to others. 'behind' is the work of it and of the longest chain of those that wait for it. One that
+    waits for a proof that is made elsewhere has no process, and is called at once."""
 
-    crate: str
+    name: str
     needs: set
     call: object
     edits: list | None = None
+    behind: int = 0
+    waits: bool = False
+
+
+def niceness(task, first):
+    """How much a task leaves processors to others: the more, the less waits for it than for the first."""
+    return round(NICEST * (1 - task.behind / max(1, first.behind)))
 
 
 def started(left, running, proved, most, ahead, limit):
@@ -22,21 +33,21 @@ def started(left, running, proved, most, ahead, limit):
     for at, task in enumerate(left):
         busy = running | found
         spare = most if at == 0 else limit - sum(busy.values())
-        if task in running or not task.needs <= proved or spare <= 0:
+        if task.waits or spare <= 0 or task in running or not task.needs <= proved:
             continue
         if sum(busy.get(it, 0) for it in left[:at]) < ahead:
             found[task] = min(most, spare)
-    return found
+    return found | {it: 0 for it in left if it.waits and it not in running}
 
 
 def carried_out(tasks, proved, most, ahead, limit):
     """Does tasks, each once what it needs is among what is proved, the first of them first: each, with what it gave."""
     left, running, futures = [*tasks], {}, {}
-    with ThreadPoolExecutor(most + limit) as pool:
+    with ThreadPoolExecutor(len(left)) as pool:
         while left:
             new = started(left, running, proved, most, ahead, limit)
             running |= new
-            futures |= {pool.submit(task.call, jobs): task for task, jobs in new.items()}
+            futures |= {pool.submit(task.call, jobs, niceness(task, left[0])): task for task, jobs in new.items()}
             if not futures:
                 break
             for ended in wait(futures, return_when=FIRST_COMPLETED).done:

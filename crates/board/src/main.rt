@@ -13,18 +13,16 @@ fn main(rt: HostRuntime) -> ExitCode {
         out: Told::new(&mut stdout),
         err: Told::new(&mut stderr),
     };
-    let args = match env::args(&rt) {
-        Ok(args) => args,
-        Err(e) => {
-            if e.kind() == ErrorKind::OutOfMemory {
-                return ExitCode::from(words_out_of_memory(&mut streams.err));
-            }
-            return ExitCode::from(words_refused(&mut streams.err));
-        }
+    let status = match words(&rt) {
+        Ok(words) => program(&rt, rt.alloc(), words.as_slice(), &mut streams),
+        Err(ErrorKind::OutOfMemory) => words_out_of_memory(&mut streams.err),
+        Err(_) => words_refused(&mut streams.err),
     };
-    let words: Vec<String> = match args.collect(rt.alloc()) {
-        Ok(words) => words,
-        Err(_) => return ExitCode::from(words_out_of_memory(&mut streams.err)),
-    };
-    ExitCode::from(program(&rt, rt.alloc(), words.as_slice(), &mut streams))
+    ExitCode::from(status)
+}
+
+// The words of the command line, or why they can't be read.
+fn words(rt: &HostRuntime) -> Result<Vec<String>, ErrorKind> {
+    let args = env::args(rt).map_err(|e| e.kind())?;
+    args.collect(rt.alloc()).map_err(|_| ErrorKind::OutOfMemory)
 }
