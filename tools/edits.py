@@ -126,7 +126,7 @@ def is_of(path, function, crate):
 
 
 def is_refused(status, said):
-    """Whether rt came to a verdict, and it is that the crate isn't proved."""
+    """Whether the prover came to a verdict, and it is that the crate isn't proved."""
     return status == 1 and re.search(r"^logic=not-proved", said, re.MULTILINE)
 
 
@@ -146,7 +146,7 @@ def reason_alone(status, said):
 
 
 def tried(edits, check):
-    """Tries edits: each with why it was refused, or with nothing where it wasn't. A check of some of them gives rt's status, and what
-    rt said."""
+    """Tries edits: each with why it was refused, or with nothing where it wasn't. A check of some of them gives the prover's
+    status, and what it said."""
     why = reasons(edits, *check(edits)) if len(edits) > 1 else {}
     return [(edit, why.get(edit.name) or reason_alone(*check([edit]))) for edit in edits]
