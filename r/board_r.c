@@ -4,6 +4,9 @@
 
 static const double MOST = 281474976710656.0; /* 2^48 */
 
+/* R calls one function at a time. */
+static struct board_room room;
+
 static int is_count(double number) { return number >= 0 && number <= MOST && number == (double)(uint64_t)number; }
 
 /* `weights` are `*len`, `counts` has room for quota, least size, cast, total, chairs, omega and coalitions, `swings` for 32. */
@@ -17,7 +20,7 @@ void board_r(const double *weights, const int *len, const double *total, const i
         if (!is_count(weights[at])) return;
         words[at] = (uint64_t)weights[at];
     }
-    *refusal = board_counts_of_weights(words, (size_t)*len, (uint64_t)*total, (uint8_t)*majority, &found);
+    *refusal = board_counts_of_weights(words, (size_t)*len, (uint64_t)*total, (uint8_t)*majority, &room, &found);
     if (*refusal != BOARD_DONE) return;
     const uint64_t told[] = {found.quota, found.least_size, found.cast, found.total, found.chairs, found.omega, found.coalitions};
     for (int at = 0; at < 7; at++) counts[at] = (double)told[at];

@@ -3,10 +3,12 @@
 #include <inttypes.h>
 #include <stdio.h>
 
+static struct board_room room;
+
 int main(void) {
     const uint64_t weights[] = {50, 49, 1};
     struct board_counts counts;
-    uint8_t refusal = board_counts_of_weights(weights, 3, 100, BOARD_HALF, &counts);
+    uint8_t refusal = board_counts_of_weights(weights, 3, 100, BOARD_HALF, &room, &counts);
     if (refusal != BOARD_DONE) {
         fprintf(stderr, "refused as number %d\n", refusal);
         return 1;

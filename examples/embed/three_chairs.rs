@@ -24,18 +24,29 @@ struct BoardCounts {
     rows: [BoardChair; 32],
 }
 
+/// How many words of 64 bits a board_room has.
+const ROOM_WORDS: usize = 163_840;
+
 const HALF: u8 = 0;
 
 #[link(name = "board", kind = "static")]
 unsafe extern "C" {
-    fn board_counts_of_weights(weights: *const u64, len: usize, total: u64, majority: u8, counts: *mut BoardCounts) -> u8;
+    fn board_counts_of_weights(
+        weights: *const u64,
+        len: usize,
+        total: u64,
+        majority: u8,
+        room: *mut u64,
+        counts: *mut BoardCounts,
+    ) -> u8;
 }
 
 /// The counts of a board by the weights of its chairs, or the number of the refusal.
 fn counts_of(weights: &[u64], total: u64, majority: u8) -> Result<BoardCounts, u8> {
     let mut counts = BoardCounts::default();
-    // SAFETY: `weights` points to so many numbers, and nobody else sees `counts` during the call.
-    match unsafe { board_counts_of_weights(weights.as_ptr(), weights.len(), total, majority, &mut counts) } {
+    let mut room = vec![0u64; ROOM_WORDS];
+    // SAFETY: `weights` points to so many numbers, the room is as long as board.h says, and nobody else sees it and `counts`.
+    match unsafe { board_counts_of_weights(weights.as_ptr(), weights.len(), total, majority, room.as_mut_ptr(), &mut counts) } {
         0 => Ok(counts),
         refusal => Err(refusal),
     }

@@ -15,6 +15,7 @@ from __future__ import annotations
 import ctypes
 import operator
 import os
+import threading
 from collections.abc import Sequence
 from dataclasses import asdict, dataclass
 from fractions import Fraction
@@ -123,7 +124,7 @@ def indices(weights: Sequence[int], total: int | None = None, majority: str = "8
     counts = _Counts()
     given = (ctypes.c_uint64 * len(votes))(*votes)
     number = MAJORITIES.get(majority, _NO_MAJORITY)
-    refusal = _library().board_counts_of_weights(given, len(votes), whole, number, ctypes.byref(counts))
+    refusal = _library().board_counts_of_weights(given, len(votes), whole, number, _room(), ctypes.byref(counts))
     if refusal:
         raise Refused(refusal)
     return _indices_of(majority, counts)
@@ -140,13 +141,23 @@ class _Counts(ctypes.Structure):
     ]
 
 
+_lent = threading.local()
+
+
+def _room() -> ctypes.Array:
+    """The room that this thread lends the library, a board_room."""
+    if not hasattr(_lent, "room"):
+        _lent.room = (ctypes.c_uint64 * 163_840)()
+    return _lent.room
+
+
 @cache
 def _library() -> ctypes.CDLL:
     """The library beside this module, or that of the environment's BOARD_LIBRARY."""
     path = os.environ.get("BOARD_LIBRARY") or Path(__file__).resolve().parent / "libboard.so"
     library = ctypes.CDLL(str(path))
     words, counts = ctypes.POINTER(ctypes.c_uint64), ctypes.POINTER(_Counts)
-    library.board_counts_of_weights.argtypes = [words, ctypes.c_size_t, ctypes.c_uint64, ctypes.c_uint8, counts]
+    library.board_counts_of_weights.argtypes = [words, ctypes.c_size_t, ctypes.c_uint64, ctypes.c_uint8, words, counts]
     library.board_counts_of_weights.restype = ctypes.c_uint8
     return library
 

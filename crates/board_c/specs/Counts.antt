@@ -1,6 +1,6 @@
 -- What a caller is told: the majority of a number, the words of a board that is given by its weights, and the counts.
 use Rattle.std.specs.Prelude.{◌≡◌, ℕ, ◌+◌, ◌-◌, ◌^◌, ◌≤◌, ◌==◌, ◌↔◌}
-use Rattle.std.specs.Prelude.{IsTrue, IsSome, if◌then◌else◌}
+use Rattle.std.specs.Prelude.{IsTrue, if◌then◌else◌}
 use Rattle.std.specs.Prelude.{Option, None, Some, List, [], ◌∷◌, ◌++◌, length, map, replicate}
 use Rattle.council_core.specs.declared.limits.TheConstants.{CHAIRS, SHEET_WORDS}
 use Rattle.council_core.specs.Sheets.{Chair, open_chairs, cast_of, total_of, IsSheet}
@@ -9,10 +9,11 @@ use Rattle.majority_rule.specs.declared.majorities.Majority.{Majority}
 use Rattle.majority_rule.specs.declared.majorities.Majority.TheVariants.{Half, Seventy, EightyFive, Quorum}
 use Rattle.majority_rule.specs.Winning.{wins, rule_of}
 use Rattle.council_core.specs.declared.refusals.Refusal.{Refusal}
-use Rattle.council_core.specs.declared.refusals.Refusal.TheVariants.{BadRecord, BadSheet, OutOfMemory}
+use Rattle.council_core.specs.declared.refusals.Refusal.TheVariants.{BadRecord, BadSheet}
 use Rattle.council_core.specs.Refusals.{code_of}
 use Rattle.board_c.specs.declared.counts.BoardChair.{BoardChair}
 use Rattle.board_c.specs.declared.counts.BoardCounts.{BoardCounts}
+use Rattle.board_c.specs.declared.counts.BoardAllCounts.{BoardAllCounts}
 
 -- the majority of a number
 abbrev pub majority_of : ℕ → Option Majority
@@ -58,14 +59,25 @@ pub record ShowsCounts (number : ℕ) (words : List ℕ) (counts : BoardCounts) 
   pub whole : IsWhole words
   pub counts_of : AreCountsOf majority words counts
 
--- why a call by the majority of a number is refused: the words are no sheet's; they are, and there is no majority of
--- this number; or both are as they should be, and memory was not granted
+-- the counts of a sheet by each majority
+pub record ShowsAllCounts (words : List ℕ) (counts : BoardAllCounts) : Type 0 where
+  pub whole : IsWhole words
+  pub half : AreCountsOf Half words counts.half
+  pub seventy : AreCountsOf Seventy words counts.seventy
+  pub eighty_five : AreCountsOf EightyFive words counts.eighty_five
+  pub quorum : AreCountsOf Quorum words counts.quorum
+
+-- why a call by the majority of a number is refused: the words are no sheet's; or they are, and there is no majority of
+-- this number
 abbrev pub IsRefusedAs : ℕ → List ℕ → Refusal → Type 0
 IsRefusedAs number words BadSheet = IsWhole words → ⊥
 IsRefusedAs number words BadRecord = IsWhole words × (majority_of number ≡ None)
-IsRefusedAs number words OutOfMemory = IsWhole words × IsSome (majority_of number)
 IsRefusedAs number words _ = ⊥
 
 -- the number of such a refusal
 abbrev pub IsRefusal : ℕ → List ℕ → ℕ → Type 0
 IsRefusal number words answer = (why : Refusal) × (answer ≡ code_of why) × IsRefusedAs number words why
+
+-- the number of a refusal by each majority: the words are no sheet's
+abbrev pub IsRefusalOfAll : List ℕ → ℕ → Type 0
+IsRefusalOfAll words answer = (answer ≡ code_of BadSheet) × (IsWhole words → ⊥)

@@ -1,13 +1,12 @@
 //! The counts, as a caller in C sees them.
-ghost use Rattle.std.specs.Prelude.{◌≡◌, ◌≤◌, ◌-◌, ◌++◌, length, map, replicate, IfOk, IsOkUnless};
-ghost use Rattle.council_core.specs.declared.refusals.Refusal.TheVariants.{OutOfMemory};
+ghost use Rattle.std.specs.Prelude.{◌≡◌, ◌≤◌, ◌-◌, ◌++◌, length, map, replicate};
+ghost use Rattle.majority_rule.specs.declared.majorities.Majority.TheVariants.{Half, Seventy, EightyFive, Quorum};
 ghost use Rattle.board_c.specs.Counts.{AreCountsOf, no_chair};
 ghost use Rattle.board_c.specs.Rows.{AreCountsAmong, without_indices};
 
-use council_core::{CHAIRS, Refusal, Sheet};
+use council_core::{CHAIRS, Sheet};
 use majority_rule::Majority;
-use power_index::{ChairPower, Evaluator, Indices};
-use std::alloc::Global;
+use power_index::{ChairPower, Indices, LentEvaluator, ListRoom};
 
 /// An open chair.
 #[repr(C)]
@@ -41,6 +40,20 @@ pub struct BoardCounts {
     pub coalitions: u64,
     /// The open chairs, by number, and zeros behind.
     pub rows: [BoardChair; CHAIRS],
+}
+
+/// The counts by each of the four majorities.
+#[repr(C)]
+#[derive(Clone, Copy)]
+pub struct BoardAllCounts {
+    /// More than half of the votes cast.
+    pub half: BoardCounts,
+    /// At least 70 per cent of the total.
+    pub seventy: BoardCounts,
+    /// At least 85 per cent of the total.
+    pub eighty_five: BoardCounts,
+    /// More than half of the open chairs, having at least half of the total.
+    pub quorum: BoardCounts,
 }
 
 // A chair without its indices.
@@ -86,17 +99,33 @@ fn counts_of(indices: &Indices) -> BoardCounts
     }
 }
 
-// The counts of a sheet by a majority. Its memory is taken and given back here.
-pub(crate) fn evaluated(
-    alloc: Global,
-    sheet: &Sheet,
-    majority: Majority,
-) -> Result<BoardCounts, Refusal>
-    ensures counts { IfOk result (λ c. AreCountsOf majority sheet.now c) }
-    ensures memory { IsOkUnless result OutOfMemory }
+// The counts of a sheet by a majority, in room that is lent.
+pub(crate) fn evaluated(sheet: &Sheet, majority: Majority, room: &mut ListRoom) -> BoardCounts
+    ensures counts { AreCountsOf majority sheet.now result }
 {
-    let mut evaluator = Evaluator::new(alloc)?;
-    evaluator.set(sheet);
+    by(&LentEvaluator::over(sheet, room), majority)
+}
+
+// The counts of a sheet by each majority, its lists made once.
+pub(crate) fn all_evaluated(sheet: &Sheet, room: &mut ListRoom) -> BoardAllCounts
+    ensures half { AreCountsOf Half sheet.now result.half }
+    ensures seventy { AreCountsOf Seventy sheet.now result.seventy }
+    ensures eighty_five { AreCountsOf EightyFive sheet.now result.eighty_five }
+    ensures quorum { AreCountsOf Quorum sheet.now result.quorum }
+{
+    let evaluator = LentEvaluator::over(sheet, room);
+    BoardAllCounts {
+        half: by(&evaluator, Majority::Half),
+        seventy: by(&evaluator, Majority::Seventy),
+        eighty_five: by(&evaluator, Majority::EightyFive),
+        quorum: by(&evaluator, Majority::Quorum),
+    }
+}
+
+// The counts by a majority.
+fn by(evaluator: &LentEvaluator, majority: Majority) -> BoardCounts
+    ensures counts { AreCountsOf majority evaluator.now result }
+{
     let indices = evaluator.evaluate(majority);
-    Ok(counts_of(&indices))
+    counts_of(&indices)
 }

@@ -41,7 +41,7 @@ fn sums_of_three(rt: HostRuntime) -> Result<(), Fail> {
 fn of_two_and_one(left: &mut OrderedSums, right: &mut OrderedSums) -> Counts {
     left.rebuild(&[(0, 50), (1, 49)]);
     right.rebuild(&[(4, 1)]);
-    count_lists(left, right, 51, 0)
+    count_lists(&left.ascending(), &right.ascending(), 51, 0)
 }
 
 #[test]

@@ -1,4 +1,5 @@
 pub mod Columns
+mod Doubling
 pub mod Merging
 pub mod Mirrors
 pub mod SubsetFacts

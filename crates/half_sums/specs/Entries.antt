@@ -1,6 +1,6 @@
 -- Entries: the sets of a half's chairs by weight and slots, as lists of subset sums (Horowitz and Sahni 1974).
 use Rattle.std.specs.Prelude.{ℕ, ◌+◌, ◌^◌, ◌<◌, ◌≤◌, List, [], ◌∷◌, map}
-use Rattle.std.specs.Prelude.{length, bit_or}
+use Rattle.std.specs.Prelude.{length, take, bit_or}
 use Rattle.std.specs.Simd.Lanes.{zip2}
 use Rattle.std.specs.List.{All}
 use Rattle.std.specs.List.Sorted.{IsPermutation, IsNonDecreasingBy}
@@ -26,6 +26,10 @@ joined weight bit e = record { sum = e.sum + weight; mask = bit_or e.mask bit }
 -- the entries whose sums and masks stand in two lists
 abbrev pub entries_from : List ℕ → List ℕ → List Entry
 entries_from sums masks = zip2 (λ sum mask. record { sum = sum; mask = mask }) sums masks
+
+-- the entries of the first so many sums and masks
+abbrev pub first_entries : ℕ → List ℕ → List ℕ → List Entry
+first_entries count sums masks = entries_from (take count sums) (take count masks)
 
 -- each subset of the chairs once, ascending by sum
 pub record AreSubsets (chairs : List (ℕ × ℕ)) (entries : List Entry) : Type 0 where

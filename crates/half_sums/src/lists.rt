@@ -1,60 +1,59 @@
-//! Lists of sets in the room of the longest half's.
-ghost use Rattle.std.specs.Prelude.{◌≡◌, ℕ, ◌+◌, ◌-◌, ◌*◌, ◌<◌, ◌≤◌, List, [], ◌∷◌, length, take};
-ghost use Rattle.std.specs.Prelude.{slice_index_or, set, IfOk, IsOkUnless};
-ghost use Rattle.std.specs.Box.{boxed_slice_items};
-ghost use Rattle.council_core.specs.declared.refusals.Refusal.TheVariants.{OutOfMemory};
+//! Lists of sets, over room that is lent.
+ghost use Rattle.std.specs.Prelude.{◌≡◌, ℕ, ◌+◌, ◌-◌, ◌<◌, ◌≤◌, List, length, set};
+ghost use Rattle.std.specs.Prelude.{slice_index_or};
 ghost use Rattle.half_sums.specs.declared.entry.Entry.{Entry};
 ghost use Rattle.half_sums.specs.declared.lists.TheConstants.{ROOM};
 ghost use Rattle.half_sums.specs.Entries.{entries_from, zero_entry};
-ghost use Rattle.half_sums.specs.Merges.{entry_at, rest_of};
+ghost use Rattle.half_sums.specs.Merges.{rest_of};
 
 use crate::Entry;
-use council_core::Refusal;
-use std::alloc::Global;
-use std::boxed::BoxedSlice;
 use std::marker::Model;
 
 /// The sets of a half of sixteen chairs: 2 to the power 16.
 pub const ROOM: usize = 65_536;
 
-/// A list of at most 65,536 sets, whose room is taken once and can't grow: to write it anew takes no memory. Sums and
-/// masks stand in slices of their own, so that a set takes ten bytes in place of the sixteen of an `Entry`.
+/// A list of sets that is lent to be read. Sums and masks stand in slices of their own, so that a set takes ten bytes
+/// in place of the sixteen of an `Entry`.
 #[derive(Debug, Drop)]
-pub struct SumList {
-    // The list is the first `count` of these. Behind them stand those of earlier lists.
-    sums: BoxedSlice<u64>,
-    masks: BoxedSlice<u16>,
-    count: usize,
+pub struct SumList<'a> {
+    sums: &'a [u64],
+    masks: &'a [u16],
 }
 
-impl Model for SumList {
+impl<'a> Model for SumList<'a> {
     ghost Value = { List Entry };
 
-    ghost view = { λ l. entries_from (take l.count (boxed_slice_items l.sums))
-        (take l.count (boxed_slice_items l.masks)) };
+    ghost view = { λ l. entries_from l.sums.now l.masks.now };
 
-    ghost invariant = { λ l. (length (boxed_slice_items l.sums) ≡ ROOM) × (length (boxed_slice_items l.masks) ≡ ROOM)
-        × (l.count ≤ ROOM) };
+    ghost invariant = { λ l. (length l.sums.now ≡ length l.masks.now) × (length l.sums.now ≤ ROOM) };
 }
 
-impl SumList {
-    // The list of the empty set alone.
-    pub(crate) fn new(alloc: Global) -> Result<SumList, Refusal>
-        ensures empty { IfOk result (λ l. l ≡ record { sum = 0; mask = 0 } ∷ []) }
-        ensures memory { IsOkUnless result OutOfMemory }
+impl<'a> SumList<'a> {
+    /// The sets of these sums and masks.
+    pub fn over(sums: &'a [u64], masks: &'a [u16]) -> SumList<'a>
+        requires same { length sums.now ≡ length masks.now }
+        requires few { length sums.now ≤ ROOM }
+        ensures entries { result ≡ entries_from sums.now masks.now }
     {
-        Ok(SumList {
-            sums: Vec::from_elem(alloc, 0, ROOM)?.into_boxed_slice(),
-            masks: Vec::from_elem(alloc, 0, ROOM)?.into_boxed_slice(),
-            count: 1,
-        })
+        SumList { sums, masks }
+    }
+
+    /// The same list. A loop that holds it in its own frame doesn't look in each step where the slices lie.
+    #[inline(always)]
+    pub fn again(&self) -> SumList<'a>
+        ensures same { result ≡ self.now }
+    {
+        SumList {
+            sums: self.sums,
+            masks: self.masks,
+        }
     }
 
     /// How many sets there are.
     pub fn len(&self) -> usize
         ensures count { result ≡ length self.now }
     {
-        self.count
+        self.sums.len()
     }
 
     /// The set at a place.
@@ -62,70 +61,42 @@ impl SumList {
         requires within { place < length self.now }
         ensures same { result ≡ slice_index_or self.now place zero_entry }
     {
+        let (sums, masks) = (self.sums, self.masks);
         Entry {
-            sum: self.sums[place],
-            mask: self.masks[place],
+            sum: sums[place],
+            mask: masks[place],
         }
-    }
-
-    // Writes a set at a place.
-    pub(crate) fn put(&mut self, place: usize, entry: Entry)
-        requires within { place < length self.old }
-        ensures written { self.new ≡ set self.old place entry }
-    {
-        self.sums[place] = entry.sum;
-        self.masks[place] = entry.mask;
-    }
-
-    // Becomes a list of so many sets, each still to be written.
-    pub(crate) fn resize(&mut self, count: usize)
-        requires few { count ≤ ROOM }
-        ensures long { length self.new ≡ count }
-    {
-        self.count = count;
-    }
-
-    // Goes back to the empty set alone.
-    pub(crate) fn clear(&mut self)
-        ensures empty { self.new ≡ record { sum = 0; mask = 0 } ∷ [] }
-    {
-        self.sums[0] = 0;
-        self.masks[0] = 0;
-        self.count = 1;
-    }
-
-    // Writes to the upper half what each set of the lower half leaves of all chairs, that of the first set last.
-    pub(crate) fn mirror(&mut self, all: Entry)
-        requires within { (i j : ℕ) → i + j + 1 ≡ length self.old → i < j
-            → ((entry_at self.old i).sum ≤ all.sum) × ((entry_at self.old i).mask ≤ all.mask) }
-        ensures lower { (i j : ℕ) → i + j + 1 ≡ length self.old → i < j
-            → entry_at self.new i ≡ entry_at self.old i }
-        ensures rests { (i j : ℕ) → i + j + 1 ≡ length self.old → i < j
-            → entry_at self.new j ≡ rest_of all (entry_at self.old i) }
-        ensures room { length self.new ≡ length self.old }
-    {
-        mirror_sums(all.sum, &mut self.sums, self.count);
-        mirror_masks(all.mask, &mut self.masks, self.count);
     }
 }
 
-// Writes to the upper half of the first `count` sums what those of the lower half leave of all, that of the first last.
-fn mirror_sums(all: u64, sums: &mut [u64], count: usize)
-    requires within { count ≤ length sums.old }
-    requires small { (i : ℕ) → 2 * i + 1 < count → slice_index_or sums.old i 0 ≤ all }
-    ensures lower { (i : ℕ) → 2 * i < count → slice_index_or sums.new i 0 ≡ slice_index_or sums.old i 0 }
-    ensures rests { (i j : ℕ) → i + j + 1 ≡ count → i < j
-        → slice_index_or sums.new j 0 ≡ all - slice_index_or sums.old i 0 }
-    ensures room { length sums.new ≡ length sums.old }
+// Writes a set at a place of a list.
+#[inline(always)]
+pub(crate) fn put(sums: &mut [u64], masks: &mut [u16], place: usize, entry: Entry)
+    requires sums { place < length sums.old }
+    requires masks { place < length masks.old }
+    ensures written { entries_from sums.new masks.new ≡ set (entries_from sums.old masks.old) place entry }
+    ensures sums_room { length sums.new ≡ length sums.old }
+    ensures masks_room { length masks.new ≡ length masks.old }
 {
-    let half = count / 2;
-    let (lower, upper) = sums.split_at_mut(count - half);
-    rest_of_sums(all, &lower[..half], &mut upper[..half]);
+    sums[place] = entry.sum;
+    masks[place] = entry.mask;
+}
+
+// What a set leaves of all chairs.
+pub(crate) fn rest(all: Entry, set: Entry) -> Entry
+    requires sums { set.sum ≤ all.sum }
+    requires masks { set.mask ≤ all.mask }
+    ensures rest { result ≡ rest_of all set }
+{
+    Entry {
+        sum: all.sum - set.sum,
+        mask: all.mask - set.mask,
+    }
 }
 
 // Writes what some sums leave of all, that of the first last.
 #[inline(never)]
-fn rest_of_sums(all: u64, sums: &[u64], rests: &mut [u64])
+pub(crate) fn rest_of_sums(all: u64, sums: &[u64], rests: &mut [u64])
     requires same { length rests.old ≡ length sums.now }
     requires small { (i : ℕ) → i < length sums.now → slice_index_or sums.now i 0 ≤ all }
     ensures rests { (i j : ℕ) → i + j + 1 ≡ length sums.now
@@ -137,24 +108,9 @@ fn rest_of_sums(all: u64, sums: &[u64], rests: &mut [u64])
     }
 }
 
-// Writes to the upper half of the first `count` masks what those of the lower half leave of all, that of the first
-// last.
-fn mirror_masks(all: u16, masks: &mut [u16], count: usize)
-    requires within { count ≤ length masks.old }
-    requires small { (i : ℕ) → 2 * i + 1 < count → slice_index_or masks.old i 0 ≤ all }
-    ensures lower { (i : ℕ) → 2 * i < count → slice_index_or masks.new i 0 ≡ slice_index_or masks.old i 0 }
-    ensures rests { (i j : ℕ) → i + j + 1 ≡ count → i < j
-        → slice_index_or masks.new j 0 ≡ all - slice_index_or masks.old i 0 }
-    ensures room { length masks.new ≡ length masks.old }
-{
-    let half = count / 2;
-    let (lower, upper) = masks.split_at_mut(count - half);
-    rest_of_masks(all, &lower[..half], &mut upper[..half]);
-}
-
 // Writes what some masks leave of all, that of the first last.
 #[inline(never)]
-fn rest_of_masks(all: u16, masks: &[u16], rests: &mut [u16])
+pub(crate) fn rest_of_masks(all: u16, masks: &[u16], rests: &mut [u16])
     requires same { length rests.old ≡ length masks.now }
     requires small { (i : ℕ) → i < length masks.now → slice_index_or masks.now i 0 ≤ all }
     ensures rests { (i j : ℕ) → i + j + 1 ≡ length masks.now

@@ -51,7 +51,7 @@ impl HalfSums {
     {
         let ordered = OrderedSums::new(alloc)?;
         let mut groups = Vec::from_elem(alloc, NO_CHAIR, ROOM)?.into_boxed_slice();
-        let starts = regroup(ordered.ascending(), &mut groups);
+        let starts = regroup(&ordered.ascending(), &mut groups);
         Ok(HalfSums {
             ordered,
             groups,
@@ -60,9 +60,9 @@ impl HalfSums {
     }
 
     /// The sets of the half's chairs, ascending by sum; sets of equal sums stand in any order.
-    pub fn ascending(&self) -> &SumList
-        ensures same { result.now ≡ self.now }
-        ensures half { IsHalf result.now }
+    pub fn ascending(&self) -> SumList<'_>
+        ensures same { result ≡ self.now }
+        ensures half { IsHalf result }
     {
         self.ordered.ascending()
     }
@@ -97,6 +97,6 @@ impl HalfSums {
         ensures subsets { AreSubsets chairs.now self.new }
     {
         self.ordered.rebuild(chairs);
-        self.starts = regroup(self.ordered.ascending(), &mut self.groups);
+        self.starts = regroup(&self.ordered.ascending(), &mut self.groups);
     }
 }

@@ -1,22 +1,17 @@
 //! The sheet held, with the subset sums of its two halves.
-ghost use Rattle.std.specs.Prelude.{◌≡◌, ℕ, ◌≤◌, ◌↔◌, IfOk, IsOkUnless, IsTrue, replicate};
-ghost use Rattle.std.specs.Prelude.{slice_index};
+ghost use Rattle.std.specs.Prelude.{◌≡◌, IfOk, IsOkUnless, replicate};
 ghost use Rattle.council_core.specs.declared.refusals.Refusal.TheVariants.{OutOfMemory};
-ghost use Rattle.majority_rule.specs.Winning.{wins};
 ghost use Rattle.power_index.specs.Halves.{changed_halves};
-ghost use Rattle.power_index.specs.Counts.{AreCounts};
-ghost use Rattle.power_index.specs.Tallies.{IsSwingTally};
 ghost use Rattle.power_index.specs.Indices.{AreIndices, indices_of};
 
-use crate::halves::{differ, in_order, on_left, refresh, weights_of};
-use crate::indices::{Fraction, Indices};
-use crate::rows::{SwingTally, coalition_count, rows};
+use crate::halves::{differ, on_left, refresh, weights_of};
+use crate::indices::Indices;
+use crate::listed::indices_from;
 use council_core::{Refusal, SHEET_WORDS, Sheet};
 use half_sums::{OrderedSums, SLOTS};
-use majority_rule::{Majority, least_size, quota};
+use majority_rule::Majority;
 use std::alloc::Global;
 use std::marker::Model;
-use swing_walk::{Counts, count_lists, swings};
 
 /// A sheet, and what its indices are counted from.
 ///
@@ -83,51 +78,12 @@ impl Evaluator {
         ensures exact { AreIndices majority self.now result }
         ensures same { result ≡ indices_of majority self.now }
     {
-        let quota = quota(majority, &self.sheet);
-        let least_size = least_size(majority, &self.sheet);
-        let tally = self.tally(majority, quota, least_size);
-        let chairs = self.sheet.chairs();
-        let coalitions = coalition_count(chairs);
-        Indices {
+        indices_from(
+            &self.sheet,
+            &self.left.ascending(),
+            &self.right.ascending(),
             majority,
-            front: self.sheet.front(),
-            chairs,
-            quota,
-            least_size,
-            cast: self.sheet.cast(),
-            total: self.sheet.total(),
-            winning: tally.winning,
-            coalitions,
-            act: Fraction {
-                num: tally.winning,
-                den: coalitions,
-            },
-            rows: rows(&self.sheet, &tally),
-        }
-    }
-
-    // The winning coalitions of the sheet held, and the swings of its open chairs, by the quota and the least size of a
-    // majority.
-    fn tally(&self, majority: Majority, quota: u64, least_size: u8) -> SwingTally
-        requires quota { (w k : ℕ) → ((quota ≤ w) × (least_size ≤ k)) ↔ IsTrue (wins majority self.now w k) }
-        ensures counts { IsSwingTally self.now result }
-        ensures majority { result.majority ≡ majority }
-    {
-        let counts = self.counts(quota, least_size);
-        let seated = swings(&counts);
-        SwingTally {
-            majority,
-            winning: counts.winning,
-            swings: in_order(self.sheet.chairs(), &seated),
-        }
-    }
-
-    // The pairs of the two halves that reach a quota and a least size.
-    fn counts(&self, quota: u64, least_size: u8) -> Counts
-        ensures counts { AreCounts quota least_size self.now result.winning
-            (λ place. slice_index result.with_chair place) }
-    {
-        count_lists(&self.left, &self.right, quota, least_size)
+        )
     }
 
     /// The sheet held: the last one that was set, or the sheet of zeros.

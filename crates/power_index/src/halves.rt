@@ -30,7 +30,7 @@ pub(crate) fn on_left(chairs: usize) -> usize
 }
 
 // The chairs of these weights, by slot.
-fn chairs_of(weights: &[u64]) -> ArrayVec<(u8, u64), SLOTS>
+pub(crate) fn chairs_of(weights: &[u64]) -> ArrayVec<(u8, u64), SLOTS>
     requires few { length weights.now ≤ SLOTS }
     ensures chairs { result.items ≡ slotted 0 weights.now }
 {

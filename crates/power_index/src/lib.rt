@@ -9,8 +9,11 @@ mod evaluator;
 mod halves;
 mod indices;
 mod laws;
+mod lent;
+mod listed;
 mod rows;
 
 pub use evaluator::Evaluator;
 pub use indices::{ChairPower, Fraction, Indices};
 pub use laws::evaluation_law;
+pub use lent::{LentEvaluator, ListRoom};

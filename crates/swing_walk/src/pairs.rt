@@ -9,7 +9,7 @@ use crate::places::Asked;
 use crate::tally::MaskTally;
 use crate::walking::walk;
 use council_core::CHAIRS;
-use half_sums::{HalfSums, OrderedSums, SLOTS, SumList};
+use half_sums::{HalfSums, SLOTS, SumList};
 
 /// The winning pairs of the sets of a left and a right half. Where these are the halves of a board, the pairs are its
 /// coalitions.
@@ -31,20 +31,11 @@ pub fn count(left: &HalfSums, right: &HalfSums, quota: u64, least_size: u8) -> C
     ensures with_chair { (place : ℕ) → place < CHAIRS
         → slice_index result.with_chair place ≡ large_with quota least_size place left.now right.now }
 {
-    count_entries(left.ascending(), right.ascending(), quota, least_size)
+    count_lists(&left.ascending(), &right.ascending(), quota, least_size)
 }
 
-/// The same as `count`, for halves that are listed by weight alone.
-pub fn count_lists(left: &OrderedSums, right: &OrderedSums, quota: u64, least_size: u8) -> Counts
-    ensures winning { result.winning ≡ large_pairs quota least_size left.now right.now }
-    ensures with_chair { (place : ℕ) → place < CHAIRS
-        → slice_index result.with_chair place ≡ large_with quota least_size place left.now right.now }
-{
-    count_entries(left.ascending(), right.ascending(), quota, least_size)
-}
-
-// Counts the pairs of two ascending lists.
-fn count_entries(left: &SumList, right: &SumList, quota: u64, least_size: u8) -> Counts
+/// The same as `count`, for two lists that are lent.
+pub fn count_lists(left: &SumList, right: &SumList, quota: u64, least_size: u8) -> Counts
     requires left { IsHalf left.now }
     requires right { IsHalf right.now }
     ensures winning { result.winning ≡ large_pairs quota least_size left.now right.now }

@@ -137,6 +137,34 @@ fn walk_within<P: Partners>(
     ensures front { StandsAt (P.counts front.new.partners) asked result.front left.now right.now front.new.tallies }
     ensures back { StandsAt (P.counts back.new.partners) asked result.back right.now left.now back.new.tallies }
 {
+    steps_within(&left.again(), &right.again(), asked, front, back)
+}
+
+// Walks these steps over lists that stand in the caller's frame.
+#[inline(always)]
+fn steps_within<P: Partners>(
+    left: &SumList,
+    right: &SumList,
+    asked: Asked,
+    front: &mut Chain<P>,
+    back: &mut Chain<P>,
+) -> Ends
+    requires left { IsHalf left.now }
+    requires right { IsHalf right.now }
+
+    // No entry is passed.
+    requires front { StandsAt (P.counts front.old.partners) asked (at_start right.now) left.now right.now
+        front.old.tallies }
+    requires back { StandsAt (P.counts back.old.partners) asked (at_start left.now) right.now left.now
+        back.old.tallies }
+
+    // How far the two chains are.
+    ensures within { 2 * result.walked ≤ length left.now + length right.now }
+    ensures front_passed { HasPassed result.walked result.front right.now }
+    ensures back_passed { HasPassed result.walked result.back left.now }
+    ensures front { StandsAt (P.counts front.new.partners) asked result.front left.now right.now front.new.tallies }
+    ensures back { StandsAt (P.counts back.new.partners) asked result.back right.now left.now back.new.tallies }
+{
     let steps = left.len().min(right.len());
     let mut from_front = Places::start(right);
     let mut from_back = Places::start(left);

@@ -1,11 +1,15 @@
-use Rattle.std.proofs.Common.{drop}
-use Rattle.half_sums.specs.Entries.{AreSubsets, IsHalf}
+use Rattle.std.proofs.Common.{◌≡◌, ◌≤◌, drop, length}
+use Rattle.half_sums.specs.declared.lists.TheConstants.{ROOM}
+use Rattle.half_sums.specs.Entries.{first_entries, AreSubsets, IsHalf}
 use Rattle.half_sums.specs.Merges.{IsMirror}
 use Rattle.half_sums.proofs.ordered.list.Given as goal
 
 abbrev pub invariant-loop-at : goal.invariant-loop-at
 invariant-loop-at l = record {
-  subsets : AreSubsets (drop l.at l.chairs) l.ascending;
-  half : IsHalf l.ascending;
-  mirror : IsMirror l.ascending;
+  subsets : AreSubsets (drop l.at l.chairs) (first_entries l.count l.sums l.masks);
+  half : IsHalf (first_entries l.count l.sums l.masks);
+  mirror : IsMirror (first_entries l.count l.sums l.masks);
+  few : l.count ≤ ROOM;
+  sums_room : length l.sums ≡ ROOM;
+  masks_room : length l.masks ≡ ROOM;
 }

@@ -4,5 +4,5 @@ use Rattle.half_sums.proofs.lists.SumList.len.Goals as goal
 
 pub returns : goal.returns
 returns c = record {
-  count = sym (length_from c.self.inside.count c.self.inside.sums.items.items c.self.inside.masks.items.items c.self.invariant) ∙ ap length c.self.view_is;
+  count = sym (length_from c.self.inside.sums.now c.self.inside.masks.now c.self.invariant.0) ∙ ap length c.self.view_is;
 }

@@ -1,0 +1,87 @@
+//! Indices in room that a caller lends: no memory is taken.
+ghost use Rattle.std.specs.Prelude.{◌≡◌, ◌≤◌, ◌^◌, length, sum_by};
+ghost use Rattle.half_sums.specs.declared.lists.TheConstants.{ROOM};
+ghost use Rattle.half_sums.specs.Entries.{AreSubsets, IsHalf};
+ghost use Rattle.power_index.specs.Halves.{slotted};
+ghost use Rattle.power_index.specs.Indices.{AreIndices, indices_of};
+
+use crate::halves::{chairs_of, on_left, weights_of};
+use crate::indices::Indices;
+use crate::listed::indices_from;
+use council_core::Sheet;
+use half_sums::{ROOM, SLOTS, SumList, list};
+use majority_rule::Majority;
+use std::marker::Model;
+
+/// Room for the lists of both halves of a sheet. What stands in it means nothing before and after a call.
+#[repr(C)]
+pub struct ListRoom {
+    /// Sums of the left half, and of the right one.
+    pub left_sums: [u64; ROOM],
+    pub right_sums: [u64; ROOM],
+    /// Masks of the left half, and of the right one.
+    pub left_masks: [u16; ROOM],
+    pub right_masks: [u16; ROOM],
+}
+
+/// A sheet, and the lists of its halves in room that is lent.
+#[derive(Debug, Drop)]
+pub struct LentEvaluator<'a> {
+    sheet: Sheet,
+    left: SumList<'a>,
+    right: SumList<'a>,
+}
+
+impl<'a> Model for LentEvaluator<'a> {
+    ghost use Rattle.std.specs.Prelude.{ℕ, List};
+    ghost use Rattle.half_sums.specs.Entries.{IsHalf};
+    ghost use Rattle.power_index.specs.Halves.{AreHalves};
+
+    ghost Value = { List ℕ };
+
+    ghost view = { λ e. e.sheet };
+
+    ghost invariant = { λ e. AreHalves e.sheet e.left e.right × IsHalf e.left × IsHalf e.right };
+}
+
+impl<'a> LentEvaluator<'a> {
+    /// Lists the sets of both halves of a sheet.
+    pub fn over(sheet: &Sheet, room: &'a mut ListRoom) -> LentEvaluator<'a>
+        ensures held { result ≡ sheet.now }
+    {
+        // The sums fit, as any sheet's do.
+        let _words = sheet.words();
+        let weights = weights_of(sheet);
+        let (on_left, on_right) = weights.as_slice().split_at(on_left(weights.len()));
+        let (left_sums, left_masks) = (&mut room.left_sums, &mut room.left_masks);
+        let (right_sums, right_masks) = (&mut room.right_sums, &mut room.right_masks);
+        let left = listed(on_left, left_sums, left_masks);
+        let right = listed(on_right, right_sums, right_masks);
+        LentEvaluator {
+            sheet: *sheet,
+            left,
+            right,
+        }
+    }
+
+    /// The indices of the sheet under a majority.
+    pub fn evaluate(&self, majority: Majority) -> Indices
+        ensures exact { AreIndices majority self.now result }
+        ensures same { result ≡ indices_of majority self.now }
+    {
+        indices_from(&self.sheet, &self.left, &self.right, majority)
+    }
+}
+
+// Lists the sets of chairs of these weights in room that is lent.
+fn listed<'a>(weights: &[u64], sums: &'a mut [u64], masks: &'a mut [u16]) -> SumList<'a>
+    requires few { length weights.now ≤ SLOTS }
+    requires small { sum_by (λ n. n) weights.now ≤ 2 ^ 48 }
+    requires sums_room { length sums.old ≡ ROOM }
+    requires masks_room { length masks.old ≡ ROOM }
+    ensures subsets { AreSubsets (slotted 0 weights.now) result }
+    ensures half { IsHalf result }
+{
+    let count = list(chairs_of(weights).as_slice(), sums, masks);
+    SumList::over(&sums[..count], &masks[..count])
+}
