@@ -1,0 +1,141 @@
+//! The whole replay in one call, for programs in C and in what calls C.
+//!
+//! A static library with one export. Its contract ends at the call: nothing checks the program that makes it.
+#![tactic(auto)]
+
+ghost use Rattle.std.specs.Prelude.{◌≡◌, ◌≢◌, ◌≤◌, ◌<◌, ◌⊎◌, true, length, take, drop, min};
+ghost use Rattle.board_replay.specs.Shown.{IsLonger, IsTextOf, Shows, end_in, limits, number_of, record_of};
+ghost use Rattle.board_runs.specs.Replays.{run_of};
+ghost use Rattle.board_text.specs.Text.{Run};
+ghost use Rattle.council_core.specs.Refusals.{code_of};
+ghost use Rattle.council_core.specs.declared.refusals.Refusal.TheVariants.{ReadFault, WriteFault};
+
+use board_runs::replay;
+use board_text::{Fault, Limits, line_of_fault};
+use council_core::Refusal;
+use std::alloc::Global;
+use told_streams::Given;
+
+/// No fault ended the run, and its text is whole.
+pub const DONE: u8 = 0;
+
+// How many bytes of a run's text were written, and the fault that ended the run, if one did.
+#[derive(Clone, Copy)]
+struct Shown {
+    count: usize,
+    end: Option<Fault>,
+}
+
+// Copies as much of a text as there is room for, and answers how many bytes that is.
+fn copy_front(text: &[u8], out: &mut [u8]) -> usize
+    ensures count { result ≡ min (length out.old) (length text.now) }
+    ensures front { take result out.new ≡ take (length out.old) text.now }
+    ensures rest { drop result out.new ≡ drop result out.old }
+{
+    let count = out.len().min(text.len());
+    out[..count].copy_from_slice(&text[..count]);
+    count
+}
+
+// Shows a text: all of it, or as much as there is room for, and then the end is a fault of the writer.
+fn show(text: &[u8], end: Option<Fault>, out: &mut [u8]) -> Shown
+    ensures end { result.end ≡ end_in (length out.old) text.now end }
+    ensures within { result.count ≤ length out.old }
+    ensures front { take result.count out.new ≡ take (length out.old) text.now }
+    ensures rest { drop result.count out.new ≡ drop result.count out.old }
+    ensures writes { number_of result.end ≡ code_of WriteFault
+        → (number_of end ≡ code_of WriteFault) ⊎ (length out.old < length text.now) }
+{
+    let fits = text.len() <= out.len();
+    let count = copy_front(text, out);
+    if fits {
+        Shown { count, end }
+    } else {
+        let end = Some(Fault::new(Refusal::WriteFault, 0));
+        Shown { count, end }
+    }
+}
+
+// Whether a fault is that of a device. Here the reader and the writer are memory: the one never fails, and the other
+// fails where memory is refused.
+fn is_of_device(fault: Fault) -> bool
+    ensures read { fault.code ≡ code_of ReadFault → result ≡ true }
+    ensures write { fault.code ≡ code_of WriteFault → result ≡ true }
+{
+    fault.code == Refusal::ReadFault.code() || fault.code == Refusal::WriteFault.code()
+}
+
+// Shows the line of the fault that memory was refused.
+fn show_lack_of_memory(out: &mut [u8]) -> Shown
+    ensures end { (run : Run) → Shows run (length out.old) (take result.count out.new) (number_of result.end) (record_of result.end) }
+    ensures within { result.count ≤ length out.old }
+    ensures rest { drop result.count out.new ≡ drop result.count out.old }
+    ensures reads { number_of result.end ≢ code_of ReadFault }
+    ensures writes { (run : Run) → number_of result.end ≡ code_of WriteFault → IsLonger run (length out.old) }
+{
+    let fault = Fault::new(Refusal::OutOfMemory, 0);
+    let mut line = line_of_fault(fault);
+    line.end();
+    show(line.as_bytes(), Some(fault), out)
+}
+
+// Replays an input into memory, and shows its text.
+fn replay_into(alloc: Global, input: &[u8], limits: Limits, out: &mut [u8]) -> Shown
+    ensures shows { Shows (run_of limits input.now) (length out.old) (take result.count out.new)
+        (number_of result.end) (record_of result.end) }
+    ensures within { result.count ≤ length out.old }
+    ensures rest { drop result.count out.new ≡ drop result.count out.old }
+    ensures reads { number_of result.end ≢ code_of ReadFault }
+    ensures writes { number_of result.end ≡ code_of WriteFault → IsLonger (run_of limits input.now) (length out.old) }
+{
+    let mut text = Vec::new(alloc);
+    let mut from = Given::new(input);
+    match replay(alloc, &mut from, &mut text, limits) {
+        Ok(()) => show(text.as_slice(), None, out),
+        Err(fault) if is_of_device(fault) => show_lack_of_memory(out),
+        Err(fault) => show(text.as_slice(), Some(fault), out),
+    }
+}
+
+/// Replays an input: carries out its script, and writes the lines of the run to the front of `out`, as many bytes as
+/// there is room for. `written` is how many bytes that are; those after them stay as they were.
+///
+/// `readers` is how many readers there are, from 1 to `READERS`, and `journal` how many commands the register accepts at
+/// most, from 1 to `MAX_COMMANDS`. The answer is `DONE`, or the number of the fault that ended the run, whose line is
+/// the last of the text; `place` is the number of the fault's record, counted from 1, or 0 where it has none.
+///
+/// The faults of the input are those of `board_runs::replay`, in the same order. `WriteFault` (20): the text is longer
+/// than `out`, which is full; with more room the same call goes further. `OutOfMemory` (10): `malloc` refused memory,
+/// and the text is some first lines of the run, perhaps none, and the line of this fault. `ReadFault` never comes.
+///
+/// All memory that a call takes is given back before it answers, and nothing is kept for the next call.
+#[unsafe(no_mangle)]
+pub extern "C" fn board_replay(
+    alloc: Global,
+    input: &[u8],
+    readers: u8,
+    journal: u32,
+    out: &mut [u8],
+    written: &mut u64,
+    place: &mut u32,
+) -> u8
+    ensures shows { Shows (run_of (limits readers journal) input.now) (length out.old) (take written.new out.new)
+        result place.new }
+    ensures within { written.new ≤ length out.old }
+    ensures rest { drop written.new out.new ≡ drop written.new out.old }
+    ensures reads { result ≢ code_of ReadFault }
+    ensures writes { result ≡ code_of WriteFault → IsLonger (run_of (limits readers journal) input.now) (length out.old) }
+{
+    let shown = replay_into(alloc, input, Limits { readers, journal }, out);
+    *written = shown.count as u64;
+    match shown.end {
+        Some(fault) => {
+            *place = fault.place;
+            fault.code
+        }
+        None => {
+            *place = 0;
+            DONE
+        }
+    }
+}
