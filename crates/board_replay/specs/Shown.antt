@@ -41,6 +41,10 @@ pub record Shows (run : Run) (n : ℕ) (shown : List ℕ) (answer place : ℕ) :
   pub number : answer ≡ number_of (end_in n text end)
   pub at : place ≡ record_of (end_in n text end)
 
+-- no fault ended the run, and all that it writes is shown
+abbrev pub IsWhole : Run → List ℕ → Type 0
+IsWhole run shown = (run.end ≡ None) × (shown ≡ output run)
+
 -- a text of the run is longer than n bytes
 abbrev pub IsLonger : Run → ℕ → Type 0
 IsLonger run n = (text : List ℕ) × (end : Option Fault) × IsTextOf run text end × (n < length text)

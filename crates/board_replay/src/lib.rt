@@ -3,8 +3,8 @@
 //! A static library with one export. Its contract ends at the call: nothing checks the program that makes it.
 #![tactic(auto)]
 
-ghost use Rattle.std.specs.Prelude.{◌≡◌, ◌≢◌, ◌≤◌, ◌<◌, ◌⊎◌, true, length, take, drop, min};
-ghost use Rattle.board_replay.specs.Shown.{IsLonger, IsTextOf, Shows, end_in, limits, number_of, record_of};
+ghost use Rattle.std.specs.Prelude.{◌≡◌, ◌≢◌, ◌≤◌, true, length, take, drop, min};
+ghost use Rattle.board_replay.specs.Shown.{IsLonger, IsWhole, Shows, end_in, limits, number_of, record_of};
 ghost use Rattle.board_runs.specs.Replays.{run_of};
 ghost use Rattle.board_text.specs.Text.{Run};
 ghost use Rattle.council_core.specs.Refusals.{code_of};
@@ -26,6 +26,28 @@ struct Shown {
     end: Option<Fault>,
 }
 
+impl Shown {
+    // The number that is answered.
+    fn answer(&self) -> u8
+        ensures { result ≡ number_of self.now.end }
+    {
+        match self.end {
+            Some(fault) => fault.code,
+            None => DONE,
+        }
+    }
+
+    // The number of the fault's record.
+    fn place(&self) -> u32
+        ensures { result ≡ record_of self.now.end }
+    {
+        match self.end {
+            Some(fault) => fault.place,
+            None => 0,
+        }
+    }
+}
+
 // Copies as much of a text as there is room for, and answers how many bytes that is.
 fn copy_front(text: &[u8], out: &mut [u8]) -> usize
     ensures count { result ≡ min (length out.old) (length text.now) }
@@ -43,8 +65,6 @@ fn show(text: &[u8], end: Option<Fault>, out: &mut [u8]) -> Shown
     ensures within { result.count ≤ length out.old }
     ensures front { take result.count out.new ≡ take (length out.old) text.now }
     ensures rest { drop result.count out.new ≡ drop result.count out.old }
-    ensures writes { number_of result.end ≡ code_of WriteFault
-        → (number_of end ≡ code_of WriteFault) ⊎ (length out.old < length text.now) }
 {
     let fits = text.len() <= out.len();
     let count = copy_front(text, out);
@@ -67,11 +87,10 @@ fn is_of_device(fault: Fault) -> bool
 
 // Shows the line of the fault that memory was refused.
 fn show_lack_of_memory(out: &mut [u8]) -> Shown
-    ensures end { (run : Run) → Shows run (length out.old) (take result.count out.new) (number_of result.end) (record_of result.end) }
+    ensures shows { (run : Run) → Shows run (length out.old) (take result.count out.new)
+        (number_of result.end) (record_of result.end) }
     ensures within { result.count ≤ length out.old }
     ensures rest { drop result.count out.new ≡ drop result.count out.old }
-    ensures reads { number_of result.end ≢ code_of ReadFault }
-    ensures writes { (run : Run) → number_of result.end ≡ code_of WriteFault → IsLonger run (length out.old) }
 {
     let fault = Fault::new(Refusal::OutOfMemory, 0);
     let mut line = line_of_fault(fault);
@@ -85,8 +104,6 @@ fn replay_into(alloc: Global, input: &[u8], limits: Limits, out: &mut [u8]) -> S
         (number_of result.end) (record_of result.end) }
     ensures within { result.count ≤ length out.old }
     ensures rest { drop result.count out.new ≡ drop result.count out.old }
-    ensures reads { number_of result.end ≢ code_of ReadFault }
-    ensures writes { number_of result.end ≡ code_of WriteFault → IsLonger (run_of limits input.now) (length out.old) }
 {
     let mut text = Vec::new(alloc);
     let mut from = Given::new(input);
@@ -123,19 +140,12 @@ pub extern "C" fn board_replay(
         result place.new }
     ensures within { written.new ≤ length out.old }
     ensures rest { drop written.new out.new ≡ drop written.new out.old }
+    ensures done { result ≡ DONE → IsWhole (run_of (limits readers journal) input.now) (take written.new out.new) }
     ensures reads { result ≢ code_of ReadFault }
     ensures writes { result ≡ code_of WriteFault → IsLonger (run_of (limits readers journal) input.now) (length out.old) }
 {
     let shown = replay_into(alloc, input, Limits { readers, journal }, out);
     *written = shown.count as u64;
-    match shown.end {
-        Some(fault) => {
-            *place = fault.place;
-            fault.code
-        }
-        None => {
-            *place = 0;
-            DONE
-        }
-    }
+    *place = shown.place();
+    shown.answer()
 }

@@ -1,3 +1,4 @@
+pub mod EndFacts
 pub mod DeskFacts
 pub mod RecordFacts
 pub mod ReplayFacts
