@@ -1,1 +1,2 @@
 mod TextFacts
+mod WorkedCases

@@ -7,7 +7,7 @@ use Rattle.council_core.specs.declared.refusals.Refusal.TheVariants.{OutOfMemory
 use Rattle.board_text.specs.Text.{Run, fault_at}
 use Rattle.board_text.specs.declared.faults.Fault.{Fault}
 use Rattle.board_runs.proofs.EndFacts.{is_of_input}
-use Rattle.board_replay.specs.Shown.{IsLonger, IsTextOf, IsWhole, Shows, end_in, number_of}
+use Rattle.board_replay.specs.Shown.{IsLonger, IsTextOf, IsWhole, Shows, end_in, number_of, record_of}
 use Rattle.board_replay.specs.declared.TheConstants.{DONE}
 
 -- the end that is answered is that of a text that fits, or else the writer's fault
@@ -67,3 +67,12 @@ module _ (run : Run) (ends : (f : Fault) → run.end ≡ Some f → IsTrue (is_o
 
     pub shows-writes : answer ≡ code_of WriteFault → IsLonger run n
     shows-writes write = (shows.text, shows.end, shows.of_the_run, (only-long (code_of WriteFault) refl (lit< tt) (λ same. cc same) write).0)
+
+-- where the answer is the number of the run's own fault, the number of its record is there, too
+pub shows-place : (run : Run) (f : Fault) (n : ℕ) (shown : List ℕ) (place : ℕ) → Shows run n shown f.code place → run.end ≡ Some f → f.code ≢ code_of OutOfMemory → f.code ≢ code_of WriteFault → place ≡ f.place
+shows-place run f n shown place shows ended memory write = by_room (fitting n shows.text shows.end) shows.of_the_run
+  where
+    by_room : Fitting n shows.text shows.end → IsTextOf run shows.text shows.end → place ≡ f.place
+    by_room (inl (fits, same)) (inl own) = shows.at ∙ ap record_of (same ∙ own.1 ∙ ended)
+    by_room (inl (fits, same)) (inr (lacks, broken)) = absurd (memory (shows.number ∙ ap number_of (same ∙ lacks)))
+    by_room (inr (long, same)) text = absurd (write (shows.number ∙ ap number_of same))
