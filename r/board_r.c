@@ -20,7 +20,7 @@ void board_r(const double *weights, const int *len, const double *total, const i
         if (!is_count(weights[at])) return;
         words[at] = (uint64_t)weights[at];
     }
-    *refusal = board_counts_of_weights(words, (size_t)*len, (uint64_t)*total, (uint8_t)*majority, &room, &found);
+    *refusal = board_counts_of_weights(words, (size_t)*len, (uint64_t)*total, (uint32_t)*majority, &room, &found);
     if (*refusal != BOARD_DONE) return;
     const uint64_t told[] = {found.quota, found.least_size, found.cast, found.total, found.chairs, found.omega, found.coalitions};
     for (int at = 0; at < 7; at++) counts[at] = (double)told[at];

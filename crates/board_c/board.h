@@ -1,14 +1,20 @@
-/* The counts of a voting board: which weights and sizes win, how many coalitions do, and the swings of each chair.
+/* The counts of a voting board: which weights and sizes win, how many coalitions win, and the swings of each chair.
  *
- * Each call answers BOARD_DONE once it has written *counts, else the number of a refusal, and then *counts is as it was.
- * A call takes no memory and keeps nothing. Its lists are made in the board_room that the caller lends: what stands there before
- * means nothing, and nor does what stands there afterwards. It starts no thread and takes no lock; calls in several threads are
- * independent as long as each has its own *room and its own *counts.
+ * Each call answers BOARD_DONE once it has written *counts. Any other answer is the number of a refusal, and *counts is
+ * then unchanged. A call takes no memory, keeps nothing, starts no thread and takes no lock. It builds its lists in the
+ * board_room that the caller lends. The content of the room before a call has no effect, and its content after a call
+ * has no meaning. Calls on several threads are independent where each has its own room and its own counts.
  *
- * The library is proved to do what stands here. Nothing checks its callers, and what they owe is this: `words`, `weights` and
- * `members` point to so many items as `len` says, `counts` to room for a board_counts and `room` to a board_room, none of these
- * overlap, no pointer is null, all are aligned to 8 bytes, and no other thread reads or writes there during a call. A call takes
- * up to 64 KB of the stack.
+ * The library is proved to do what this header says. Nothing checks its callers, who have to see to this:
+ *
+ * - `words`, `weights` and `members` point to `len` items, `room` to a board_room and `counts` to what the call writes.
+ *   No pointer is null, except that of a list with `len` 0.
+ * - A length that no list can have is refused as BOARD_BAD_SHEET, and nothing is read then: of `words` any but 34, of
+ *   `weights` any above 32, up to SIZE_MAX. Of `members` all `len` items may be read.
+ * - Each pointer is aligned as its type is, to 8 bytes.
+ * - What a call reads, the room and the counts don't overlap, and no other thread reads or writes the room or the
+ *   counts, or writes what is read, during the call.
+ * - The thread has 64 KB of stack. The room is 1.25 MiB, so it belongs in static memory or on the heap.
  */
 #ifndef BOARD_H
 #define BOARD_H
@@ -20,20 +26,20 @@
 extern "C" {
 #endif
 
-enum { BOARD_CHAIRS = 32, BOARD_SHEET_WORDS = 34 };
+enum { BOARD_CHAIRS = 32, BOARD_SHEET_WORDS = 34, BOARD_ROOM_SETS = 65536 };
 
 /* Answers. */
 enum {
     BOARD_DONE = 0,
-    BOARD_BAD_RECORD = 17,    /* there is no majority of this number */
-    BOARD_BAD_SHEET = 32      /* the words are no sheet's, or the weights no board's */
+    BOARD_BAD_RECORD = 17, /* there is no majority of this number */
+    BOARD_BAD_SHEET = 32   /* the words, weights or members are not a board's */
 };
 
 /* Majorities. */
 enum {
     BOARD_HALF = 0,        /* more than half of the votes cast, all open chairs voting */
-    BOARD_SEVENTY = 1,     /* at least 70 per cent of the total */
-    BOARD_EIGHTY_FIVE = 2, /* at least 85 per cent of the total */
+    BOARD_SEVENTY = 1,     /* at least one vote, and at least 70 per cent of the total */
+    BOARD_EIGHTY_FIVE = 2, /* at least one vote, and at least 85 per cent of the total */
     BOARD_QUORUM = 3       /* more than half of the open chairs, having at least half of the total */
 };
 
@@ -41,18 +47,19 @@ enum {
 struct board_chair {
     uint64_t chair;  /* its number, from 1 to 32 */
     uint64_t weight; /* its weight, in votes */
-    uint64_t swings; /* coalitions of the other chairs that lose, and that win once it is added */
+    uint64_t swings; /* coalitions of the other open chairs that lose, and that win once it is added */
 };
 
+/* What wins on a board, and how many coalitions do: 824 bytes. */
 struct board_counts {
     uint64_t quota;      /* the least weight that wins, in votes */
     uint64_t least_size; /* the least number of chairs that wins, 0 where the majority asks for none */
     uint64_t cast;       /* the votes of the open chairs */
     uint64_t total;      /* the total voting power, in votes */
-    uint64_t chairs;     /* how many chairs are open: so many of the rows are theirs */
+    uint64_t chairs;     /* how many chairs are open */
     uint64_t omega;      /* how many coalitions win */
     uint64_t coalitions; /* how many coalitions there are: 2^chairs */
-    struct board_chair rows[BOARD_CHAIRS]; /* the open chairs, by number, and zeros behind */
+    struct board_chair rows[BOARD_CHAIRS]; /* a row for each open chair, by number, then zeros */
 };
 
 /* The counts by each of the four majorities. */
@@ -66,12 +73,11 @@ struct board_all_counts {
 /* A member. */
 struct board_member {
     uint64_t votes;
-    uint64_t chair;     /* the number of its chair, from 1 to 32, or 0 where it is in none */
-    uint64_t suspended; /* 0 where it votes, any other number where it is suspended */
+    uint64_t chair;     /* the number of its chair, from 1 to 32, or 0 for a member in no chair */
+    uint64_t suspended; /* 0 for a member that votes, any other number for one that is suspended */
 };
 
-/* Room for the lists of both halves of a board: 1,310,720 bytes. */
-enum { BOARD_ROOM_SETS = 65536 };
+/* Room for the lists of a call: 1,310,720 bytes, aligned to 8. */
 struct board_room {
     uint64_t left_sums[BOARD_ROOM_SETS];
     uint64_t right_sums[BOARD_ROOM_SETS];
@@ -79,24 +85,29 @@ struct board_room {
     uint16_t right_masks[BOARD_ROOM_SETS];
 };
 
-/* The counts of a sheet. `words` are its 34: for each chair 0 where it is closed, else its weight plus 1; the total; how many
- * commands were accepted. The weights add up to at most the total, that is at most 2^48, and the commands are at most a
- * million. Words that are no sheet's are refused first, then a number of no majority. */
-uint8_t board_counts(const uint64_t *words, size_t len, uint8_t majority, struct board_room *room, struct board_counts *counts);
+/* The counts of a sheet by a majority. `words` are its 34: for each chair 0 where it is closed, else its weight plus 1;
+ * the total; how many commands were accepted. The weights add up to at most the total, the total is at most 2^48, and
+ * the commands are at most 1,000,000. Other words are refused as BOARD_BAD_SHEET. Else a number of no majority is
+ * refused as BOARD_BAD_RECORD. */
+uint8_t board_counts(const uint64_t *words, size_t len, uint32_t majority, struct board_room *room,
+                     struct board_counts *counts);
 
-/* The same by each majority: the lists are made once. */
+/* The counts of a sheet by each of the four majorities, from lists that are built once. Words that are not a sheet's
+ * are refused as BOARD_BAD_SHEET. */
 uint8_t board_all_counts(const uint64_t *words, size_t len, struct board_room *room, struct board_all_counts *counts);
 
-/* The same as board_counts for a board without a register: at most 32 weights in votes, of chairs 1, 2 and so on, and a total in
- * votes that is at least their sum and at most 2^48. Other weights are refused as BOARD_BAD_SHEET. */
-uint8_t board_counts_of_weights(const uint64_t *weights, size_t len, uint64_t total, uint8_t majority, struct board_room *room,
-                                struct board_counts *counts);
+/* The counts of a board without a register: chairs 1, 2 and so on are open, with these weights in votes, and the others
+ * are closed. There are at most 32 weights, and the total, in votes, is at least their sum and at most 2^48. Others are
+ * refused as BOARD_BAD_SHEET. Else a number of no majority is refused as BOARD_BAD_RECORD. */
+uint8_t board_counts_of_weights(const uint64_t *weights, size_t len, uint64_t total, uint32_t majority,
+                                struct board_room *room, struct board_counts *counts);
 
-/* The same for a board that is given by its members: a chair is open where a member sits in it, suspended or not, its weight is
- * the votes of its members that aren't suspended, and the total the votes of all that aren't. A chair above 32, and votes that
- * add up to more than 2^48, are refused as BOARD_BAD_SHEET. */
-uint8_t board_counts_of_members(const struct board_member *members, size_t len, uint8_t majority, struct board_room *room,
-                                struct board_counts *counts);
+/* The counts of a board that is given by its members, in any order. Chair k is open where bit k - 1 of `open_chairs` is
+ * set, and where a member sits in it, suspended or not. Its weight is the votes of its members that are not suspended.
+ * The total is the votes of all members that are not suspended, in a chair or in none. A chair above 32 and a total
+ * above 2^48 are refused as BOARD_BAD_SHEET. Else a number of no majority is refused as BOARD_BAD_RECORD. */
+uint8_t board_counts_of_members(const struct board_member *members, size_t len, uint32_t open_chairs, uint32_t majority,
+                                struct board_room *room, struct board_counts *counts);
 
 #ifdef __cplusplus
 }

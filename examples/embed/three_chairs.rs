@@ -24,10 +24,10 @@ struct BoardCounts {
     rows: [BoardChair; 32],
 }
 
-/// How many words of 64 bits a board_room has.
+/// The length of a board_room, in words of 64 bits.
 const ROOM_WORDS: usize = 163_840;
 
-const HALF: u8 = 0;
+const HALF: u32 = 0;
 
 #[link(name = "board", kind = "static")]
 unsafe extern "C" {
@@ -35,18 +35,20 @@ unsafe extern "C" {
         weights: *const u64,
         len: usize,
         total: u64,
-        majority: u8,
+        majority: u32,
         room: *mut u64,
         counts: *mut BoardCounts,
     ) -> u8;
 }
 
 /// The counts of a board by the weights of its chairs, or the number of the refusal.
-fn counts_of(weights: &[u64], total: u64, majority: u8) -> Result<BoardCounts, u8> {
+fn counts_of(weights: &[u64], total: u64, majority: u32) -> Result<BoardCounts, u8> {
     let mut counts = BoardCounts::default();
     let mut room = vec![0u64; ROOM_WORDS];
-    // SAFETY: `weights` points to so many numbers, the room is as long as board.h says, and nobody else sees it and `counts`.
-    match unsafe { board_counts_of_weights(weights.as_ptr(), weights.len(), total, majority, room.as_mut_ptr(), &mut counts) } {
+    let (list, len, lent) = (weights.as_ptr(), weights.len(), room.as_mut_ptr());
+    // SAFETY: `list` points to `len` numbers, the room has the size and the alignment that board.h asks for, and
+    // nothing else sees the room or the counts during the call.
+    match unsafe { board_counts_of_weights(list, len, total, majority, lent, &mut counts) } {
         0 => Ok(counts),
         refusal => Err(refusal),
     }

@@ -157,7 +157,7 @@ def _library() -> ctypes.CDLL:
     path = os.environ.get("BOARD_LIBRARY") or Path(__file__).resolve().parent / "libboard.so"
     library = ctypes.CDLL(str(path))
     words, counts = ctypes.POINTER(ctypes.c_uint64), ctypes.POINTER(_Counts)
-    library.board_counts_of_weights.argtypes = [words, ctypes.c_size_t, ctypes.c_uint64, ctypes.c_uint8, words, counts]
+    library.board_counts_of_weights.argtypes = [words, ctypes.c_size_t, ctypes.c_uint64, ctypes.c_uint32, words, counts]
     library.board_counts_of_weights.restype = ctypes.c_uint8
     return library
 

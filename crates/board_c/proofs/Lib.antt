@@ -1,2 +1,4 @@
 mod RowLemmas
 mod MemberSums
+pub mod RollWords
+mod WorkedCases

@@ -1,4 +1,4 @@
--- What a caller is told: the majority of a number, the words of a board that is given by its weights, and the counts.
+-- The majority of a number, the words of a board that is given by its weights, and the counts that a caller gets.
 use Rattle.std.specs.Prelude.{◌≡◌, ℕ, ◌+◌, ◌-◌, ◌^◌, ◌≤◌, ◌==◌, ◌↔◌}
 use Rattle.std.specs.Prelude.{IsTrue, if◌then◌else◌}
 use Rattle.std.specs.Prelude.{Option, None, Some, List, [], ◌∷◌, ◌++◌, length, map, replicate}
@@ -38,8 +38,8 @@ counted rule board c = record { chair = c.0; weight = c.1; swings = eta_of rule 
 abbrev pub no_chair : BoardChair
 no_chair = record { chair = 0; weight = 0; swings = 0 }
 
--- the counts of a sheet by a majority: so much weight as the quota and so many chairs as the least size are what wins,
--- and a row for each open chair, by number, and zeros behind
+-- the counts of a sheet by a majority: a weight and a size win where they reach the quota and the least size, and there is
+-- a row for each open chair, by number, then zeros
 pub record AreCountsOf (majority : Majority) (words : List ℕ) (counts : BoardCounts) : Type 0 where
   pub least_winning : (w k : ℕ)
       → ((counts.quota ≤ w) × (counts.least_size ≤ k)) ↔ IsTrue (wins majority words w k)
@@ -67,8 +67,8 @@ pub record ShowsAllCounts (words : List ℕ) (counts : BoardAllCounts) : Type 0 
   pub eighty_five : AreCountsOf EightyFive words counts.eighty_five
   pub quorum : AreCountsOf Quorum words counts.quorum
 
--- why a call by the majority of a number is refused: the words are no sheet's; or they are, and there is no majority of
--- this number
+-- why a call by the majority of a number is refused: the words are not a sheet's; or they are, and there is no majority
+-- of this number
 abbrev pub IsRefusedAs : ℕ → List ℕ → Refusal → Type 0
 IsRefusedAs number words BadSheet = IsWhole words → ⊥
 IsRefusedAs number words BadRecord = IsWhole words × (majority_of number ≡ None)
@@ -78,6 +78,6 @@ IsRefusedAs number words _ = ⊥
 abbrev pub IsRefusal : ℕ → List ℕ → ℕ → Type 0
 IsRefusal number words answer = (why : Refusal) × (answer ≡ code_of why) × IsRefusedAs number words why
 
--- the number of a refusal by each majority: the words are no sheet's
-abbrev pub IsRefusalOfAll : List ℕ → ℕ → Type 0
-IsRefusalOfAll words answer = (answer ≡ code_of BadSheet) × (IsWhole words → ⊥)
+-- the number of the refusal of words by all majorities: the words are not a sheet's
+abbrev pub IsRefusalOfWords : List ℕ → ℕ → Type 0
+IsRefusalOfWords words answer = (answer ≡ code_of BadSheet) × (IsWhole words → ⊥)

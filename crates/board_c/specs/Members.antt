@@ -1,42 +1,58 @@
--- The members that a caller gives, and the words of their sheet.
-use Rattle.std.specs.Prelude.{◌≡◌, ℕ, ◌+◌, ◌≤◌, ◌==◌, not, if◌then◌else◌, None, Some, List, [], ◌∷◌, ◌++◌, map, sum_by}
+-- A board that is given by its members and a mask of open chairs, and the words of its sheet.
+use Rattle.std.specs.Prelude.{◌≡◌, ℕ, ◌+◌, ◌-◌, ◌≤◌, ◌==◌, Bool, not, ◌||◌, if◌then◌else◌, None, Some}
+use Rattle.std.specs.Prelude.{List, [], ◌∷◌, ◌++◌, map, sum_by}
+use Rattle.std.specs.Int.{bit_at}
 use Rattle.std.specs.List.{All, list_any}
-use Rattle.council_core.specs.declared.limits.TheConstants.{CHAIRS}
+use Rattle.council_core.specs.declared.limits.TheConstants.{CHAIRS, MAX_TOTAL}
 use Rattle.council_core.specs.declared.commands.Standing.{Standing}
 use Rattle.council_core.specs.Rolls.{sits_in, counted, votes_in, chair_numbers}
 use Rattle.council_core.specs.declared.refusals.Refusal.{Refusal}
-use Rattle.council_core.specs.declared.refusals.Refusal.TheVariants.{BadSheet}
+use Rattle.council_core.specs.declared.refusals.Refusal.TheVariants.{BadRecord, BadSheet}
 use Rattle.council_core.specs.Refusals.{code_of}
-use Rattle.board_c.specs.Counts.{IsRefusedAs}
+use Rattle.board_c.specs.Counts.{majority_of}
 use Rattle.board_c.specs.declared.members.BoardMember.{BoardMember}
 
--- the standing of a member: chair 0 is no chair
+-- the standing of a member: chair 0 is no chair, and any number but 0 is a suspension
 abbrev pub standing_of : BoardMember → Standing
-standing_of m = record { votes = m.votes; chair = if m.chair == 0 then None else Some m.chair; suspended = not (m.suspended == 0) }
+standing_of m = record {
+  votes = m.votes;
+  chair = if m.chair == 0 then None else Some m.chair;
+  suspended = not (m.suspended == 0);
+}
 
--- the word of a chair: it is open where a member sits in it, suspended or not
-abbrev pub member_word : List BoardMember → ℕ → ℕ
-member_word members c =
-    if list_any (λ m. sits_in c (standing_of m)) members then sum_by (λ m. votes_in c (standing_of m)) members + 1 else 0
+-- the mask names chair c: its bit c - 1 is set
+abbrev pub is_named : ℕ → ℕ → Bool
+is_named mask c = bit_at mask (c - 1) == 1
 
--- the votes of all members that are not suspended
+-- a chair is open where the mask names it or a member sits in it, suspended or not
+abbrev pub is_open_by : List BoardMember → ℕ → ℕ → Bool
+is_open_by members mask c = is_named mask c || list_any (λ m. sits_in c (standing_of m)) members
+
+-- the word of a chair: 0 where it is closed, else one more than the votes of its members that are not suspended
+abbrev pub member_word : List BoardMember → ℕ → ℕ → ℕ
+member_word members mask c =
+    if is_open_by members mask c then sum_by (λ m. votes_in c (standing_of m)) members + 1 else 0
+
+-- the votes of all members that are not suspended, in a chair or in none
 abbrev pub member_total : List BoardMember → ℕ
 member_total members = sum_by (λ m. counted (standing_of m)) members
 
--- the words of the members' sheet, on which no command was accepted
-abbrev pub member_words : List BoardMember → List ℕ
-member_words members = map (member_word members) chair_numbers ++ member_total members ∷ 0 ∷ []
+-- the words of the board's sheet, on which no command was accepted
+abbrev pub member_words : List BoardMember → ℕ → List ℕ
+member_words members mask = map (member_word members mask) chair_numbers ++ member_total members ∷ 0 ∷ []
 
--- each member is in a chair from 1 to 32, or in none
-abbrev pub AreSeated : List BoardMember → Type 0
-AreSeated members = All (λ m. m.chair ≤ CHAIRS) members
+-- the members of a board: each is in a chair from 1 to 32 or in none, and their total is one that a sheet can have
+pub record IsBoard (members : List BoardMember) : Type 0 where
+  pub seated : All (λ m. m.chair ≤ CHAIRS) members
+  pub small : member_total members ≤ MAX_TOTAL
 
--- why a call for members is refused: as the words of their sheet would be, and where one sits in no chair that there is,
--- as no sheet's
-pub record IsRefusedFor (number : ℕ) (members : List BoardMember) (why : Refusal) : Type 0 where
-  pub seated : AreSeated members → IsRefusedAs number (member_words members) why
-  pub unseated : (AreSeated members → ⊥) → why ≡ BadSheet
+-- why a call for members is refused: they are not a board's; or they are, and there is no majority of this number
+abbrev pub AreRefusedAs : ℕ → List BoardMember → Refusal → Type 0
+AreRefusedAs number members BadSheet = IsBoard members → ⊥
+AreRefusedAs number members BadRecord = IsBoard members × (majority_of number ≡ None)
+AreRefusedAs number members _ = ⊥
 
 -- the number of such a refusal
-abbrev pub IsRefusalFor : ℕ → List BoardMember → ℕ → Type 0
-IsRefusalFor number members answer = (why : Refusal) × (answer ≡ code_of why) × IsRefusedFor number members why
+abbrev pub IsRefusalOfMembers : ℕ → List BoardMember → ℕ → Type 0
+IsRefusalOfMembers number members answer =
+    (why : Refusal) × (answer ≡ code_of why) × AreRefusedAs number members why

@@ -1,4 +1,4 @@
--- What a caller is told of the indices.
+-- The counts among the indices.
 use Rattle.std.specs.Prelude.{ℕ, List}
 use Rattle.majority_rule.specs.declared.majorities.Majority.{Majority}
 use Rattle.power_index.specs.declared.indices.ChairPower.{ChairPower}
@@ -8,11 +8,11 @@ use Rattle.board_c.specs.declared.counts.BoardChair.{BoardChair}
 use Rattle.board_c.specs.declared.counts.BoardCounts.{BoardCounts}
 use Rattle.board_c.specs.Counts.{AreCountsOf}
 
--- chair, weight and swings of a row
+-- the chair, the weight and the swings of a row of the indices
 abbrev pub without_indices : ChairPower → BoardChair
 without_indices row = record { chair = row.chair; weight = row.weight; swings = row.swings }
 
--- whatever board these are the indices of, those are its counts
+-- these are the counts of each board that has these indices
 abbrev pub AreCountsAmong : Indices → BoardCounts → Type 0
 AreCountsAmong indices counts =
     (m : Majority) (words : List ℕ) → AreIndices m words indices → AreCountsOf m words counts

@@ -32,13 +32,13 @@ pub struct BoardCounts {
     pub cast: u64,
     /// The total voting power, in votes.
     pub total: u64,
-    /// How many chairs are open: so many of the rows are theirs.
+    /// How many chairs are open: the first `chairs` rows are theirs.
     pub chairs: u64,
     /// How many coalitions win.
     pub omega: u64,
     /// How many coalitions there are.
     pub coalitions: u64,
-    /// The open chairs, by number, and zeros behind.
+    /// The open chairs, by number, then zeros.
     pub rows: [BoardChair; CHAIRS],
 }
 
@@ -67,7 +67,7 @@ fn chair_of(row: &ChairPower) -> BoardChair
     }
 }
 
-// The rows of the open chairs, and zeros behind.
+// The rows of the open chairs, then zeros.
 fn rows_of(rows: &[ChairPower]) -> [BoardChair; CHAIRS]
     requires { length rows.now ≤ CHAIRS }
     ensures { result ≡ map without_indices rows.now ++ replicate (CHAIRS - length rows.now) no_chair }
@@ -99,15 +99,15 @@ fn counts_of(indices: &Indices) -> BoardCounts
     }
 }
 
-// The counts of a sheet by a majority, in room that is lent.
-pub(crate) fn evaluated(sheet: &Sheet, majority: Majority, room: &mut ListRoom) -> BoardCounts
+// The counts of a sheet by a majority, with its lists in the room.
+pub(crate) fn counts_of_sheet(sheet: &Sheet, majority: Majority, room: &mut ListRoom) -> BoardCounts
     ensures counts { AreCountsOf majority sheet.now result }
 {
-    by(&LentEvaluator::over(sheet, room), majority)
+    counts_by(&LentEvaluator::over(sheet, room), majority)
 }
 
-// The counts of a sheet by each majority, its lists made once.
-pub(crate) fn all_evaluated(sheet: &Sheet, room: &mut ListRoom) -> BoardAllCounts
+// The counts of a sheet by each majority, from lists that are made once.
+pub(crate) fn all_counts_of_sheet(sheet: &Sheet, room: &mut ListRoom) -> BoardAllCounts
     ensures half { AreCountsOf Half sheet.now result.half }
     ensures seventy { AreCountsOf Seventy sheet.now result.seventy }
     ensures eighty_five { AreCountsOf EightyFive sheet.now result.eighty_five }
@@ -115,15 +115,15 @@ pub(crate) fn all_evaluated(sheet: &Sheet, room: &mut ListRoom) -> BoardAllCount
 {
     let evaluator = LentEvaluator::over(sheet, room);
     BoardAllCounts {
-        half: by(&evaluator, Majority::Half),
-        seventy: by(&evaluator, Majority::Seventy),
-        eighty_five: by(&evaluator, Majority::EightyFive),
-        quorum: by(&evaluator, Majority::Quorum),
+        half: counts_by(&evaluator, Majority::Half),
+        seventy: counts_by(&evaluator, Majority::Seventy),
+        eighty_five: counts_by(&evaluator, Majority::EightyFive),
+        quorum: counts_by(&evaluator, Majority::Quorum),
     }
 }
 
-// The counts by a majority.
-fn by(evaluator: &LentEvaluator, majority: Majority) -> BoardCounts
+// The counts of an evaluator's sheet by a majority.
+fn counts_by(evaluator: &LentEvaluator, majority: Majority) -> BoardCounts
     ensures counts { AreCountsOf majority evaluator.now result }
 {
     let indices = evaluator.evaluate(majority);

@@ -1,4 +1,4 @@
-//! What a caller gives: a majority by its number, and the words of a sheet or the weights of a board.
+//! A caller's input: a majority by its number, and the words of a sheet or the weights of a board.
 ghost use Rattle.std.specs.Prelude.{◌≡◌, ◌↔◌, IfOk, IfErr, IsOk, IsOkUnless};
 ghost use Rattle.council_core.specs.declared.refusals.Refusal.TheVariants.{BadSheet};
 ghost use Rattle.board_c.specs.Counts.{IsWhole, majority_of, words_of};
@@ -7,7 +7,7 @@ use council_core::{CHAIRS, Refusal, SHEET_WORDS, Sheet, TOTAL};
 use majority_rule::Majority;
 
 // The majority of a number.
-pub(crate) fn majority_at(number: u8) -> Option<Majority>
+pub(crate) fn majority_at(number: u32) -> Option<Majority>
     ensures { result ≡ majority_of number }
 {
     match number {
@@ -22,7 +22,7 @@ pub(crate) fn majority_at(number: u8) -> Option<Majority>
 // The sheet of 34 words.
 pub(crate) fn sheet_of(words: &[u64]) -> Result<Sheet, Refusal>
     ensures in_range { IsOk result ↔ IsWhole words.now }
-    ensures kept { IfOk result (λ s. s ≡ words.now) }
+    ensures kept { IfOk result (λ sheet. sheet ≡ words.now) }
     ensures refused { IsOkUnless result BadSheet }
 {
     if words.len() != SHEET_WORDS {
@@ -33,7 +33,8 @@ pub(crate) fn sheet_of(words: &[u64]) -> Result<Sheet, Refusal>
     Sheet::from_words(&all)
 }
 
-// The words of a sheet whose first chairs are open with these weights, as far as words can say them.
+// The words of a sheet whose first chairs are open with these weights. It refuses too many weights, and a weight that a
+// word can't hold.
 pub(crate) fn words_at(weights: &[u64], total: u64) -> Result<[u64; SHEET_WORDS], Refusal>
     ensures same { IfOk result (λ words. words ≡ words_of weights.now total) }
     ensures refused { IfErr result (λ why. (why ≡ BadSheet) × (IsWhole (words_of weights.now total) → ⊥)) }

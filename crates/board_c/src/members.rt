@@ -1,11 +1,13 @@
-//! The members that a caller gives, and the words of their sheet.
+//! A board that is given by its members and a mask of open chairs, and the words of its sheet.
 ghost use Rattle.std.specs.Prelude.{◌≡◌, ℕ, ◌≤◌, ◌<◌, IfOk, IfErr};
 ghost use Rattle.council_core.specs.declared.refusals.Refusal.TheVariants.{BadSheet};
 ghost use Rattle.council_core.specs.declared.limits.TheConstants.{CHAIRS, MAX_TOTAL};
 ghost use Rattle.council_core.specs.Rolls.{sits_in, counted, votes_in};
-ghost use Rattle.board_c.specs.Members.{standing_of, member_word, member_total, member_words, AreSeated};
+ghost use Rattle.board_c.specs.Counts.{IsWhole};
+ghost use Rattle.board_c.specs.Members.{standing_of, is_named, member_word, member_total, member_words, IsBoard};
 
-use council_core::{CHAIRS, MAX_TOTAL, Refusal, SHEET_WORDS, TOTAL};
+use crate::inputs::sheet_of;
+use council_core::{CHAIRS, MAX_TOTAL, Refusal, SHEET_WORDS, Sheet, TOTAL};
 
 /// A member.
 #[repr(C)]
@@ -13,13 +15,13 @@ use council_core::{CHAIRS, MAX_TOTAL, Refusal, SHEET_WORDS, TOTAL};
 pub struct BoardMember {
     /// Its votes.
     pub votes: u64,
-    /// The number of its chair, from 1 to 32, or 0 where it is in none.
+    /// The number of its chair, from 1 to 32, or 0 for a member in no chair.
     pub chair: u64,
-    /// 0 where it votes, any other number where it is suspended.
+    /// 0 for a member that votes, any other number for one that is suspended.
     pub suspended: u64,
 }
 
-// The votes of a member that is not suspended.
+// The votes of a member, 0 where it is suspended.
 fn counted_votes(member: &BoardMember) -> u64
     ensures { result ≡ counted (standing_of member.now) }
 {
@@ -38,7 +40,7 @@ fn sits(member: &BoardMember, chair: u64) -> bool
     member.chair == chair
 }
 
-// The votes of a member for a chair.
+// The votes that a member adds to the weight of a chair.
 fn votes_for(member: &BoardMember, chair: u64) -> u64
     requires some { 0 < chair }
     ensures votes { result ≡ votes_in chair (standing_of member.now) }
@@ -50,13 +52,20 @@ fn votes_for(member: &BoardMember, chair: u64) -> u64
     }
 }
 
+// Whether a mask of chairs names a chair.
+fn names(mask: u32, chair: u64) -> bool
+    requires some { 0 < chair }
+    requires few { chair ≤ CHAIRS }
+    ensures named { result ≡ is_named mask chair }
+{
+    (mask >> (chair - 1)) & 1 == 1
+}
+
 // The votes of all members that are not suspended.
 fn total_of(members: &[BoardMember]) -> Result<u64, Refusal>
     ensures total { IfOk result (λ total. total ≡ member_total members.now) }
-    ensures high { IfOk result (λ total. total ≤ MAX_TOTAL) }
-    ensures seated { IfOk result (λ _. AreSeated members.now) }
-    ensures refused { IfErr result (λ why. (why ≡ BadSheet)
-        × (AreSeated members.now → member_total members.now ≤ MAX_TOTAL → ⊥)) }
+    ensures board { IfOk result (λ _. IsBoard members.now) }
+    ensures refused { IfErr result (λ why. (why ≡ BadSheet) × (IsBoard members.now → ⊥)) }
 {
     let mut total = 0;
     for place in 0..members.len() {
@@ -70,32 +79,47 @@ fn total_of(members: &[BoardMember]) -> Result<u64, Refusal>
 }
 
 // The word of a chair.
-fn word_of(members: &[BoardMember], chair: u64) -> u64
+fn word_of(members: &[BoardMember], mask: u32, chair: u64) -> u64
     requires some { 0 < chair }
+    requires few { chair ≤ CHAIRS }
     requires small { member_total members.now ≤ MAX_TOTAL }
-    ensures word { result ≡ member_word members.now chair }
+    ensures word { result ≡ member_word members.now mask chair }
 {
-    let mut is_open = false;
+    let mut is_taken = false;
     let mut votes = 0;
     for place in 0..members.len() {
-        is_open = is_open || sits(&members[place], chair);
+        is_taken = is_taken || sits(&members[place], chair);
         votes += votes_for(&members[place], chair);
     }
-    if is_open { votes + 1 } else { 0 }
+    if names(mask, chair) || is_taken {
+        votes + 1
+    } else {
+        0
+    }
 }
 
-// The words of the members' sheet.
-pub(crate) fn words_of_members(members: &[BoardMember]) -> Result<[u64; SHEET_WORDS], Refusal>
-    ensures same { IfOk result (λ words. words ≡ member_words members.now) }
-    ensures seated { IfOk result (λ _. AreSeated members.now) }
-    ensures refused { IfErr result (λ why. (why ≡ BadSheet)
-        × (AreSeated members.now → member_total members.now ≤ MAX_TOTAL → ⊥)) }
+// The words of the board's sheet.
+fn words_of_members(members: &[BoardMember], mask: u32) -> Result<[u64; SHEET_WORDS], Refusal>
+    ensures same { IfOk result (λ words. words ≡ member_words members.now mask) }
+    ensures board { IfOk result (λ _. IsBoard members.now) }
+    ensures refused { IfErr result (λ why. (why ≡ BadSheet) × (IsBoard members.now → ⊥)) }
 {
     let total = total_of(members)?;
     let mut words = [0; SHEET_WORDS];
     words[TOTAL] = total;
     for place in 0..CHAIRS {
-        words[place] = word_of(members, place as u64 + 1);
+        words[place] = word_of(members, mask, place as u64 + 1);
     }
     Ok(words)
+}
+
+// The board's sheet.
+pub(crate) fn sheet_of_members(members: &[BoardMember], mask: u32) -> Result<Sheet, Refusal>
+    ensures same { IfOk result (λ sheet. sheet ≡ member_words members.now mask) }
+    ensures whole { IfOk result (λ sheet. IsWhole sheet) }
+    ensures board { IfOk result (λ _. IsBoard members.now) }
+    ensures refused { IfErr result (λ why. (why ≡ BadSheet) × (IsBoard members.now → ⊥)) }
+{
+    let words = words_of_members(members, mask)?;
+    sheet_of(&words)
 }

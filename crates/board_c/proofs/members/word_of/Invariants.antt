@@ -6,6 +6,6 @@ use Rattle.board_c.proofs.members.word_of.Given as goal
 
 abbrev pub invariant-loop-place : goal.invariant-loop-place
 invariant-loop-place l = record {
-  is_open : l.is_open ≡ list_any (λ m. sits_in l.chair (standing_of m)) (take l.place l.members);
+  is_taken : l.is_taken ≡ list_any (λ m. sits_in l.chair (standing_of m)) (take l.place l.members);
   votes : l.votes ≡ sum_by (λ m. votes_in l.chair (standing_of m)) (take l.place l.members);
 }
