@@ -27,7 +27,7 @@ joined weight bit e = record { sum = e.sum + weight; mask = bit_or e.mask bit }
 abbrev pub entries_from : List ℕ → List ℕ → List Entry
 entries_from sums masks = zip2 (λ sum mask. record { sum = sum; mask = mask }) sums masks
 
--- the entries of the first so many sums and masks
+-- the entries of the first `count` sums and masks
 abbrev pub first_entries : ℕ → List ℕ → List ℕ → List Entry
 first_entries count sums masks = entries_from (take count sums) (take count masks)
 

@@ -15,5 +15,5 @@ pub use entry::Entry;
 pub use groups::{SIZES, SLOTS, STARTS, starts_of};
 pub use laws::mask_law;
 pub use lists::{ROOM, SumList};
-pub use ordered::{OrderedSums, list};
+pub use ordered::{OrderedSums, list_subsets};
 pub use sums::HalfSums;

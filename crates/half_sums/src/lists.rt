@@ -1,10 +1,10 @@
-//! Lists of sets, over room that is lent.
+//! Lists of sets over slices that are lent.
 ghost use Rattle.std.specs.Prelude.{◌≡◌, ℕ, ◌+◌, ◌-◌, ◌<◌, ◌≤◌, List, length, set};
 ghost use Rattle.std.specs.Prelude.{slice_index_or};
 ghost use Rattle.half_sums.specs.declared.entry.Entry.{Entry};
 ghost use Rattle.half_sums.specs.declared.lists.TheConstants.{ROOM};
 ghost use Rattle.half_sums.specs.Entries.{entries_from, zero_entry};
-ghost use Rattle.half_sums.specs.Merges.{rest_of};
+ghost use Rattle.half_sums.specs.Merges.{complement_of};
 
 use crate::Entry;
 use std::marker::Model;
@@ -12,8 +12,8 @@ use std::marker::Model;
 /// The sets of a half of sixteen chairs: 2 to the power 16.
 pub const ROOM: usize = 65_536;
 
-/// A list of sets that is lent to be read. Sums and masks stand in slices of their own, so that a set takes ten bytes
-/// in place of the sixteen of an `Entry`.
+/// A list of sets, to be read, over two slices that are lent: one of sums and one of masks. So a set takes ten bytes,
+/// where an `Entry` takes sixteen.
 #[derive(Debug, Drop)]
 pub struct SumList<'a> {
     sums: &'a [u64],
@@ -29,7 +29,7 @@ impl<'a> Model for SumList<'a> {
 }
 
 impl<'a> SumList<'a> {
-    /// The sets of these sums and masks.
+    /// The list that has at each place the set of the sum and the mask there.
     pub fn over(sums: &'a [u64], masks: &'a [u16]) -> SumList<'a>
         requires same { length sums.now ≡ length masks.now }
         requires few { length sums.now ≤ ROOM }
@@ -38,9 +38,10 @@ impl<'a> SumList<'a> {
         SumList { sums, masks }
     }
 
-    /// The same list. A loop that holds it in its own frame doesn't look in each step where the slices lie.
+    /// A copy of the two references, not of the sets. A loop over a copy in its own frame doesn't load the addresses of
+    /// the slices in each step.
     #[inline(always)]
-    pub fn again(&self) -> SumList<'a>
+    pub fn copy(&self) -> SumList<'a>
         ensures same { result ≡ self.now }
     {
         SumList {
@@ -82,11 +83,11 @@ pub(crate) fn put(sums: &mut [u64], masks: &mut [u16], place: usize, entry: Entr
     masks[place] = entry.mask;
 }
 
-// What a set leaves of all chairs.
-pub(crate) fn rest(all: Entry, set: Entry) -> Entry
+// The complement of a set among all chairs.
+pub(crate) fn complement(all: Entry, set: Entry) -> Entry
     requires sums { set.sum ≤ all.sum }
     requires masks { set.mask ≤ all.mask }
-    ensures rest { result ≡ rest_of all set }
+    ensures complement { result ≡ complement_of all set }
 {
     Entry {
         sum: all.sum - set.sum,
@@ -94,30 +95,30 @@ pub(crate) fn rest(all: Entry, set: Entry) -> Entry
     }
 }
 
-// Writes what some sums leave of all, that of the first last.
+// Writes the sums of the complements of some sets, that of the first set last.
 #[inline(never)]
-pub(crate) fn rest_of_sums(all: u64, sums: &[u64], rests: &mut [u64])
-    requires same { length rests.old ≡ length sums.now }
+pub(crate) fn complement_sums(all: u64, sums: &[u64], complements: &mut [u64])
+    requires same { length complements.old ≡ length sums.now }
     requires small { (i : ℕ) → i < length sums.now → slice_index_or sums.now i 0 ≤ all }
-    ensures rests { (i j : ℕ) → i + j + 1 ≡ length sums.now
-        → slice_index_or rests.new j 0 ≡ all - slice_index_or sums.now i 0 }
-    ensures room { length rests.new ≡ length rests.old }
+    ensures complements { (i j : ℕ) → i + j + 1 ≡ length sums.now
+        → slice_index_or complements.new j 0 ≡ all - slice_index_or sums.now i 0 }
+    ensures room { length complements.new ≡ length complements.old }
 {
     for place in 0..sums.len() {
-        rests[sums.len() - 1 - place] = all - sums[place];
+        complements[sums.len() - 1 - place] = all - sums[place];
     }
 }
 
-// Writes what some masks leave of all, that of the first last.
+// Writes the masks of the complements of some sets, that of the first set last.
 #[inline(never)]
-pub(crate) fn rest_of_masks(all: u16, masks: &[u16], rests: &mut [u16])
-    requires same { length rests.old ≡ length masks.now }
+pub(crate) fn complement_masks(all: u16, masks: &[u16], complements: &mut [u16])
+    requires same { length complements.old ≡ length masks.now }
     requires small { (i : ℕ) → i < length masks.now → slice_index_or masks.now i 0 ≤ all }
-    ensures rests { (i j : ℕ) → i + j + 1 ≡ length masks.now
-        → slice_index_or rests.new j 0 ≡ all - slice_index_or masks.now i 0 }
-    ensures room { length rests.new ≡ length rests.old }
+    ensures complements { (i j : ℕ) → i + j + 1 ≡ length masks.now
+        → slice_index_or complements.new j 0 ≡ all - slice_index_or masks.now i 0 }
+    ensures room { length complements.new ≡ length complements.old }
 {
     for place in 0..masks.len() {
-        rests[masks.len() - 1 - place] = all - masks[place];
+        complements[masks.len() - 1 - place] = all - masks[place];
     }
 }

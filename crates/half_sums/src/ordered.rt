@@ -17,11 +17,11 @@ use std::alloc::Global;
 use std::boxed::BoxedSlice;
 use std::marker::Model;
 
-/// The subset sums of a half of up to sixteen chairs, ascending (Horowitz and Sahni 1974), in room of its own, which is
-/// taken once and can't grow: to write the list anew takes no memory.
+/// The subset sums of a half of up to sixteen chairs, ascending (Horowitz and Sahni 1974), in room of its own. The room
+/// is taken once and can't grow, so that a rebuild takes no memory.
 #[derive(Debug, Drop)]
 pub struct OrderedSums {
-    // The list is the first `count` of these. Behind them stand those of earlier lists.
+    // The list is the first `count` of these. Those after them are left from earlier lists.
     sums: BoxedSlice<u64>,
     masks: BoxedSlice<u16>,
     count: usize,
@@ -66,13 +66,14 @@ impl OrderedSums {
         requires small { weight_of chairs.now ≤ 2 ^ 48 }
         ensures subsets { AreSubsets chairs.now self.new }
     {
-        self.count = list(chairs, &mut self.sums, &mut self.masks);
+        self.count = list_subsets(chairs, &mut self.sums, &mut self.masks);
     }
 }
 
-/// Lists the sets of these chairs, ascending by sum, in room that is lent: their sums and masks are the first of these,
-/// and it answers how many. What stands there before is lost.
-pub fn list(chairs: &[(u8, u64)], sums: &mut [u64], masks: &mut [u16]) -> usize
+/// Lists the sets of these chairs, ascending by sum, in slices that are lent, and answers how many sets there are: their
+/// sums and masks are the first of the slices. What the slices had before has no effect, and is lost. A chair is its
+/// slot, 0 to 15, and its weight in votes.
+pub fn list_subsets(chairs: &[(u8, u64)], sums: &mut [u64], masks: &mut [u16]) -> usize
     requires slots { All (λ chair. chair.0 < SLOTS) chairs.now }
     requires distinct { IsDistinct (λ a b. a == b) (map (λ chair. chair.0) chairs.now) }
     requires small { weight_of chairs.now ≤ 2 ^ 48 }

@@ -15,7 +15,7 @@ use std::marker::Model;
 
 /// A sheet, and what its indices are counted from.
 ///
-/// It takes memory once, in `new`: for each half a list of 65,536 sets of ten bytes, and as much scratch. No other
+/// It takes memory once, in `new`: for each half a list of 65,536 sets of ten bytes, 1,310,720 bytes in all. No other
 /// call takes any.
 #[derive(Debug, Drop)]
 pub struct Evaluator {

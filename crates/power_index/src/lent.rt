@@ -1,4 +1,4 @@
-//! Indices in room that a caller lends: no memory is taken.
+//! The indices of a sheet, counted in room that the caller lends. No call here takes memory.
 ghost use Rattle.std.specs.Prelude.{◌≡◌, ◌≤◌, ◌^◌, length, sum_by};
 ghost use Rattle.half_sums.specs.declared.lists.TheConstants.{ROOM};
 ghost use Rattle.half_sums.specs.Entries.{AreSubsets, IsHalf};
@@ -9,22 +9,25 @@ use crate::halves::{chairs_of, on_left, weights_of};
 use crate::indices::Indices;
 use crate::listed::indices_from;
 use council_core::Sheet;
-use half_sums::{ROOM, SLOTS, SumList, list};
+use half_sums::{ROOM, SLOTS, SumList, list_subsets};
 use majority_rule::Majority;
 use std::marker::Model;
 
-/// Room for the lists of both halves of a sheet. What stands in it means nothing before and after a call.
+/// Room for the lists of both halves of a sheet. Its content before a `LentEvaluator` is made over it has no effect, and
+/// its content afterwards has no meaning.
 #[repr(C)]
 pub struct ListRoom {
-    /// Sums of the left half, and of the right one.
+    /// Sums of the left half's sets.
     pub left_sums: [u64; ROOM],
+    /// Sums of the right half's sets.
     pub right_sums: [u64; ROOM],
-    /// Masks of the left half, and of the right one.
+    /// Masks of the left half's sets.
     pub left_masks: [u16; ROOM],
+    /// Masks of the right half's sets.
     pub right_masks: [u16; ROOM],
 }
 
-/// A sheet, and the lists of its halves in room that is lent.
+/// A sheet, and the lists of its halves in room that the caller lends.
 #[derive(Debug, Drop)]
 pub struct LentEvaluator<'a> {
     sheet: Sheet,
@@ -45,11 +48,11 @@ impl<'a> Model for LentEvaluator<'a> {
 }
 
 impl<'a> LentEvaluator<'a> {
-    /// Lists the sets of both halves of a sheet.
+    /// Holds a sheet, and lists the sets of both of its halves in the room.
     pub fn over(sheet: &Sheet, room: &'a mut ListRoom) -> LentEvaluator<'a>
         ensures held { result ≡ sheet.now }
     {
-        // The sums fit, as any sheet's do.
+        // The proof takes from the words that the weights of a sheet add up to at most 2^48.
         let _words = sheet.words();
         let weights = weights_of(sheet);
         let (on_left, on_right) = weights.as_slice().split_at(on_left(weights.len()));
@@ -64,7 +67,8 @@ impl<'a> LentEvaluator<'a> {
         }
     }
 
-    /// The indices of the sheet under a majority.
+    /// The indices of the sheet held, under a majority: by their definition (`exact`), and as a value that computes
+    /// (`same`).
     pub fn evaluate(&self, majority: Majority) -> Indices
         ensures exact { AreIndices majority self.now result }
         ensures same { result ≡ indices_of majority self.now }
@@ -73,7 +77,7 @@ impl<'a> LentEvaluator<'a> {
     }
 }
 
-// Lists the sets of chairs of these weights in room that is lent.
+// Lists the sets of chairs of these weights in slices that are lent.
 fn listed<'a>(weights: &[u64], sums: &'a mut [u64], masks: &'a mut [u16]) -> SumList<'a>
     requires few { length weights.now ≤ SLOTS }
     requires small { sum_by (λ n. n) weights.now ≤ 2 ^ 48 }
@@ -82,6 +86,6 @@ fn listed<'a>(weights: &[u64], sums: &'a mut [u64], masks: &'a mut [u16]) -> Sum
     ensures subsets { AreSubsets (slotted 0 weights.now) result }
     ensures half { IsHalf result }
 {
-    let count = list(chairs_of(weights).as_slice(), sums, masks);
+    let count = list_subsets(chairs_of(weights).as_slice(), sums, masks);
     SumList::over(&sums[..count], &masks[..count])
 }

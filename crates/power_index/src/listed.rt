@@ -1,4 +1,4 @@
-//! The indices of a sheet from the lists of its two halves.
+//! The indices of a sheet, from the lists of its two halves.
 ghost use Rattle.std.specs.Prelude.{◌≡◌, ℕ, ◌≤◌, ◌↔◌, IsTrue};
 ghost use Rattle.half_sums.specs.Entries.{IsHalf};
 ghost use Rattle.majority_rule.specs.Winning.{wins};
@@ -14,7 +14,7 @@ use half_sums::SumList;
 use majority_rule::{Majority, least_size, quota};
 use swing_walk::{count_lists, swings};
 
-// The indices of a sheet under a majority.
+// The indices of a sheet under a majority, from the lists of its two halves.
 pub(crate) fn indices_from(
     sheet: &Sheet,
     left: &SumList,

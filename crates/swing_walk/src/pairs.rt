@@ -34,7 +34,8 @@ pub fn count(left: &HalfSums, right: &HalfSums, quota: u64, least_size: u8) -> C
     count_lists(&left.ascending(), &right.ascending(), quota, least_size)
 }
 
-/// The same as `count`, for two lists that are lent.
+/// As `count`, for two lists that are lent. Each has what every list of a half has: at most 65,536 sets, ascending by
+/// sum, with no sum above 2^48.
 pub fn count_lists(left: &SumList, right: &SumList, quota: u64, least_size: u8) -> Counts
     requires left { IsHalf left.now }
     requires right { IsHalf right.now }

@@ -137,10 +137,10 @@ fn walk_within<P: Partners>(
     ensures front { StandsAt (P.counts front.new.partners) asked result.front left.now right.now front.new.tallies }
     ensures back { StandsAt (P.counts back.new.partners) asked result.back right.now left.now back.new.tallies }
 {
-    steps_within(&left.again(), &right.again(), asked, front, back)
+    steps_within(&left.copy(), &right.copy(), asked, front, back)
 }
 
-// Walks these steps over lists that stand in the caller's frame.
+// As `walk_within`, compiled into it, so that both lists are in its frame.
 #[inline(always)]
 fn steps_within<P: Partners>(
     left: &SumList,

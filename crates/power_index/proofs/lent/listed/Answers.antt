@@ -6,17 +6,17 @@ use Rattle.power_index.proofs.HalfLemmas.{slotted_slots, slotted_distinct, slott
 use Rattle.half_sums.specs.declared.groups.TheConstants.{SLOTS}
 use Rattle.power_index.proofs.lent.listed.Goals as goal
 
-pub list-count-requires-clause-slots : goal.list-count-requires-clause-slots
-list-count-requires-clause-slots c =
+pub list_subsets-count-requires-clause-slots : goal.list_subsets-count-requires-clause-slots
+list_subsets-count-requires-clause-slots c =
     let same : c.as_slice.result.now ≡ slotted 0 c.args.weights.now = cc in
     subst (λ (l : List Chair). All (λ (ch : Chair). ch.0 < SLOTS) l) (sym same) (slotted_slots c.args.weights.now c.requires.few)
 
-pub list-count-requires-clause-distinct : goal.list-count-requires-clause-distinct
-list-count-requires-clause-distinct c =
+pub list_subsets-count-requires-clause-distinct : goal.list_subsets-count-requires-clause-distinct
+list_subsets-count-requires-clause-distinct c =
     let same : c.as_slice.result.now ≡ slotted 0 c.args.weights.now = cc in
     subst (λ (l : List Chair). IsDistinct eqb (map (λ (ch : Chair). ch.0) l)) (sym same) (slotted_distinct 0 c.args.weights.now)
 
-pub list-count-requires-clause-small : goal.list-count-requires-clause-small
-list-count-requires-clause-small c =
+pub list_subsets-count-requires-clause-small : goal.list_subsets-count-requires-clause-small
+list_subsets-count-requires-clause-small c =
     let same : c.as_slice.result.now ≡ slotted 0 c.args.weights.now = cc in
     subst (λ (l : List Chair). weight_of l ≤ 2 ^ 48) (sym same) (omega (arith, slotted_sum 0 c.args.weights.now, c.requires.small))

@@ -2,7 +2,7 @@ use Rattle.std.proofs.Common.{◌≡◌, ◌≤◌, drop, length}
 use Rattle.half_sums.specs.declared.lists.TheConstants.{ROOM}
 use Rattle.half_sums.specs.Entries.{first_entries, AreSubsets, IsHalf}
 use Rattle.half_sums.specs.Merges.{IsMirror}
-use Rattle.half_sums.proofs.ordered.list.Given as goal
+use Rattle.half_sums.proofs.ordered.list_subsets.Given as goal
 
 abbrev pub invariant-loop-at : goal.invariant-loop-at
 invariant-loop-at l = record {

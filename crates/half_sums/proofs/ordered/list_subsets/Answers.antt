@@ -5,7 +5,7 @@ use Rattle.half_sums.proofs.Columns.{first_one, length_first}
 use Rattle.half_sums.proofs.SubsetFacts.{AreSubsets-none, AreSubsets-more, IsHalf-one, IsHalf-more, few, room_left, small_left, drop_back, distinct_left, slot_bit}
 use Rattle.half_sums.proofs.MaskLemmas.{slot_free, bit_free}
 use Rattle.half_sums.proofs.Mirrors.{IsMirror-one}
-use Rattle.half_sums.proofs.ordered.list.Goals as goal
+use Rattle.half_sums.proofs.ordered.list_subsets.Goals as goal
 
 pub loop-at-init : goal.loop-at-init
 loop-at-init c =

@@ -1,8 +1,0 @@
-use Rattle.std.proofs.Common.{◌≡◌, ℕ, ◌+◌, ◌-◌, ◌<◌, length, slice_index_or}
-use Rattle.half_sums.proofs.lists.rest_of_sums.Given as goal
-
-abbrev pub invariant-loop-place : goal.invariant-loop-place
-invariant-loop-place l = record {
-  done : (i j : ℕ) → i < l.place → i + j + 1 ≡ length l.sums → slice_index_or l.rests j 0 ≡ l.all - slice_index_or l.sums i 0;
-  room : length l.rests ≡ length l.sums;
-}
