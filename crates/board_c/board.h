@@ -1,9 +1,13 @@
-/* The counts of a voting board: which weights and sizes win, how many coalitions win, and the swings of each chair.
+/* The counts of a voting board: which weights and sizes win, how many coalitions win, and the swings of each chair; and
+ * the whole replay of a register's script.
  *
- * Each call answers BOARD_DONE once it has written *counts. Any other answer is the number of a refusal, and *counts is
- * then unchanged. A call takes no memory, keeps nothing, starts no thread and takes no lock. It builds its lists in the
- * board_room that the caller lends. The content of the room before a call has no effect, and its content after a call
- * has no meaning. Calls on several threads are independent where each has its own room and its own counts.
+ * Each call that counts answers BOARD_DONE once it has written *counts. Any other answer is the number of a refusal, and
+ * *counts is then unchanged. It takes no memory, and builds its lists in the board_room that the caller lends. The
+ * content of the room before a call has no effect, and its content after a call has no meaning. board_replay stands at
+ * the end, with what it answers.
+ *
+ * A call keeps nothing, starts no thread and takes no lock. Calls on several threads are independent where each has its
+ * own room, counts and other places to write to.
  *
  * The library is proved to do what this header says. Nothing checks its callers, who have to see to this:
  *
@@ -11,10 +15,11 @@
  *   No pointer is null, except that of a list with `len` 0.
  * - A length that no list can have is refused as BOARD_BAD_SHEET, and nothing is read then: of `words` any but 34, of
  *   `weights` any above 32, up to SIZE_MAX. Of `members` all `len` items may be read.
- * - Each pointer is aligned as its type is, to 8 bytes.
- * - What a call reads, the room and the counts don't overlap, and no other thread reads or writes the room or the
- *   counts, or writes what is read, during the call.
- * - The thread has 64 KB of stack. The room is 1.25 MiB, so it belongs in static memory or on the heap.
+ * - Each pointer is aligned as its type is.
+ * - What a call reads and what it writes don't overlap, and during the call no other thread reads or writes what it
+ *   writes, or writes what it reads.
+ * - The thread has 64 KB of stack for a count, and 256 KB for a replay. A board_room is 1.25 MiB, so it belongs in
+ *   static memory or on the heap.
  */
 #ifndef BOARD_H
 #define BOARD_H
@@ -31,8 +36,10 @@ enum { BOARD_CHAIRS = 32, BOARD_SHEET_WORDS = 34, BOARD_ROOM_SETS = 65536 };
 /* Answers. */
 enum {
     BOARD_DONE = 0,
-    BOARD_BAD_RECORD = 17, /* there is no majority of this number */
-    BOARD_BAD_SHEET = 32   /* the words, weights or members are not a board's */
+    BOARD_OUT_OF_MEMORY = 10, /* of board_replay: malloc refused memory */
+    BOARD_BAD_RECORD = 17,    /* there is no majority of this number; of board_replay: a record is not one of a script */
+    BOARD_WRITE_FAULT = 20,   /* of board_replay: its text is longer than the room for it */
+    BOARD_BAD_SHEET = 32      /* the words, weights or members are not a board's */
 };
 
 /* Majorities. */
@@ -108,6 +115,22 @@ uint8_t board_counts_of_weights(const uint64_t *weights, size_t len, uint64_t to
  * above 2^48 are refused as BOARD_BAD_SHEET. Else a number of no majority is refused as BOARD_BAD_RECORD. */
 uint8_t board_counts_of_members(const struct board_member *members, size_t len, uint32_t open_chairs, uint32_t majority,
                                 struct board_room *room, struct board_counts *counts);
+
+/* The replay of an input, as the program `board replay` does it: the records of the `len` bytes at `input` are carried
+ * out by a register that accepts at most `journal` commands, from 1 to 1,000,000, and has `readers` readers, from 1 to
+ * 4. The lines of the run stand at `out` afterwards, as many of their bytes as there is room for in `out_len`; *written
+ * is how many that are, and the bytes after them are unchanged. The records, lines and faults are those of
+ * docs/FORMATS.md, and an input has at most 4,194,304 bytes.
+ *
+ * The answer is BOARD_DONE where no fault ended the run and its whole text is there. Else it is the number of the fault
+ * that ended it, and *record is the number of that fault's record, counted from 1, or 0 where it has none. The last line
+ * of the text is the fault's, except after BOARD_WRITE_FAULT: then the text is longer than `out_len`, and `out` holds
+ * its first `out_len` bytes. After BOARD_OUT_OF_MEMORY the text is some first lines of the run, perhaps none, and the
+ * line of this fault.
+ *
+ * The memory that a call takes from malloc is given back before it answers. */
+uint8_t board_replay(const uint8_t *input, size_t len, uint8_t readers, uint32_t journal, uint8_t *out, size_t out_len,
+                     uint64_t *written, uint32_t *record);
 
 #ifdef __cplusplus
 }

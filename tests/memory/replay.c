@@ -1,0 +1,22 @@
+/* Replays standard input by the library, for tests/memory/run. The text goes to standard output, and the answer is the status. After
+ * OutOfMemory the same call is made again: where it doesn't answer BOARD_DONE, the status is FAILED_AGAIN. The program asks for no
+ * memory of its own. */
+#include <unistd.h>
+
+#include "board.h"
+
+enum { MOST = 1 << 20, JOURNAL = 1000000, FAILED_AGAIN = 99 };
+
+static uint8_t input[MOST], text[MOST], again[MOST];
+
+int main(void) {
+    size_t len = 0;
+    ssize_t more;
+    while ((more = read(STDIN_FILENO, input + len, MOST - len)) > 0) len += (size_t)more;
+    uint64_t written;
+    uint32_t record;
+    uint8_t answer = board_replay(input, len, 1, JOURNAL, text, MOST, &written, &record);
+    if (write(STDOUT_FILENO, text, written) != (ssize_t)written) return FAILED_AGAIN;
+    if (answer != BOARD_OUT_OF_MEMORY) return answer;
+    return board_replay(input, len, 1, JOURNAL, again, MOST, &written, &record) == BOARD_DONE ? answer : FAILED_AGAIN;
+}
