@@ -8,7 +8,7 @@ board_indices <- function(weights, total = sum(weights), majority = "85", librar
   number <- match(majority, c("half", "70", "85", "quorum"), nomatch = 256) - 1
   got <- .C("board_r", as.double(weights), length(weights), as.double(total), as.integer(number),
     refusal = 0L, counts = double(7), swings = double(32), NAOK = TRUE)
-  if (got$refusal != 0) stop(c("10" = "OutOfMemory", "17" = "BadRecord", "32" = "BadSheet")[[as.character(got$refusal)]])
+  if (got$refusal != 0) stop(c("17" = "BadRecord", "32" = "BadSheet")[[as.character(got$refusal)]])
   told <- setNames(as.list(got$counts), c("quota", "least_size", "cast", "total", "chairs", "omega", "coalitions"))
   swings <- got$swings[seq_along(weights)]
   told$chairs <- data.frame(chair = seq_along(weights), weight = weights, swings = swings,

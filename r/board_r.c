@@ -4,7 +4,7 @@
 
 static const double MOST = 281474976710656.0; /* 2^48 */
 
-/* R calls one function at a time. */
+/* R calls one function at a time, so that one room is enough. */
 static struct board_room room;
 
 static int is_count(double number) { return number >= 0 && number <= MOST && number == (double)(uint64_t)number; }

@@ -36,7 +36,6 @@ _NO_MAJORITY = 255
 _CHAIRS = 32
 _BAD_SHEET = 32
 _REFUSALS = {
-    10: ("OutOfMemory", "the memory, about 4 MB, was not granted"),
     17: ("BadRecord", "there is no such majority"),
     _BAD_SHEET: ("BadSheet", "at most 32 weights from 0, and a total of at least their sum and at most 2^48"),
 }
@@ -115,7 +114,7 @@ def indices(weights: Sequence[int], total: int | None = None, majority: str = "8
     weights and at most 2^48; without it, that sum. `majority` is one of `MAJORITIES`.
 
     Raises `Refused` with the name of the refusal: `BadSheet` for other weights or another total, `BadRecord` where there
-    is no such majority, `OutOfMemory`. A weight that isn't a whole number is a TypeError.
+    is no such majority. A weight that isn't a whole number is a TypeError.
     """
     votes = [operator.index(weight) for weight in weights]
     whole = sum(votes) if total is None else operator.index(total)
@@ -141,14 +140,18 @@ class _Counts(ctypes.Structure):
     ]
 
 
-_lent = threading.local()
+# Each thread lends the library a room of its own: a room serves one call at a time, and other threads run during a call. The
+# room is kept, since to make one takes longer than most counts.
+_ROOM_WORDS = 163_840
+_thread = threading.local()
 
 
-def _room() -> ctypes.Array:
-    """The room that this thread lends the library, a board_room."""
-    if not hasattr(_lent, "room"):
-        _lent.room = (ctypes.c_uint64 * 163_840)()
-    return _lent.room
+def _room() -> ctypes.Array[ctypes.c_uint64]:
+    """The board_room of this thread."""
+    if not hasattr(_thread, "room"):
+        _thread.room = (ctypes.c_uint64 * _ROOM_WORDS)()
+    room: ctypes.Array[ctypes.c_uint64] = _thread.room
+    return room
 
 
 @cache

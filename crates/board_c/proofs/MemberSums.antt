@@ -1,4 +1,4 @@
--- Sums over the members up to a place, and what follows for a call by members: the counts that it writes, and its refusals.
+-- Sums over the members up to a place, and the counts that a call has written.
 use Rattle.std.proofs.Common.{◌≡◌, ℕ, ◌+◌, ◌<◌, ◌≤◌, Bool, true, false, cond, List, [], ◌∷◌, length, take, get_or, arith, sym, subst}
 use Rattle.std.specs.Prelude.{Result, Ok, Err, IsOk, IfOk}
 use Rattle.std.specs.List.{All, sum_by}
@@ -13,6 +13,7 @@ use Rattle.board_c.specs.Members.{standing_of, member_total}
 use Rattle.council_core.specs.declared.limits.TheConstants.{CHAIRS}
 use Rattle.std.proofs.lemmas.List.Elements.{All-append, All-cons, All-nil}
 
+-- a member adds at most its counted votes to a chair's weight
 pub votes_within : (c : ℕ) (s : Standing) → votes_in c s ≤ counted s
 votes_within c s = at_most (sits_in c s) (counted s)
   where
@@ -20,15 +21,17 @@ votes_within c s = at_most (sits_in c s) (counted s)
     at_most true n = omega arith
     at_most false n = omega arith
 
+-- the votes of a chair's members are at most all votes
 pub sum_within : (c : ℕ) (ms : List BoardMember) → sum_by (λ m. votes_in c (standing_of m)) ms ≤ member_total ms
 sum_within c [] = omega arith
 sum_within c (m ∷ ms) =
     omega (arith, sum_by-cons (λ (x : BoardMember). votes_in c (standing_of x)) m ms, sum_by-cons (λ (x : BoardMember). counted (standing_of x)) m ms, votes_within c (standing_of m), sum_within c ms)
 
--- the votes of a chair's members up to a place are at most all votes
+-- and so are those of its members up to a place
 pub front_within : (c at : ℕ) (ms : List BoardMember) → sum_by (λ m. votes_in c (standing_of m)) (take at ms) ≤ member_total ms
 front_within c at ms = omega (arith, sum_by-take-le (λ (m : BoardMember). votes_in c (standing_of m)) ms at, sum_within c ms)
 
+-- what is written has what was found to hold of the counts
 pub written_shows : (P : BoardCounts → Type 0) (found : Result BoardCounts Refusal) (new : BoardCounts) → IsOk found → IfOk found (λ c. new ≡ c) → IfOk found P → P new
 written_shows P (Ok c) new ok is shows = subst P (sym is) shows
 written_shows P (Err why) new ok is shows = absurd (cc)

@@ -16,7 +16,7 @@ use Rattle.council_core.specs.Rolls.{Entry, Roll, chair_numbers, chair_word, cou
 use Rattle.board_c.specs.declared.members.BoardMember.{BoardMember}
 use Rattle.board_c.specs.Members.{IsBoard, is_open_by, member_total, member_word, member_words, standing_of}
 use Rattle.board_c.specs.Counts.{IsWhole}
-use Rattle.board_c.specs.Laws.{IsRollOf, MembersLaw}
+use Rattle.board_c.specs.Laws.{IsRollOf, MembersLaw, RollLaw}
 
 -- a sum over what has a standing is the sum over the standings
 sum_of_standings : {X : Type 0} (stand : X → Standing) (f : Standing → ℕ) (xs : List X) → sum_by (λ x. f (stand x)) xs ≡ sum_by f (map stand xs)
@@ -48,7 +48,7 @@ words_of_members members mask roll same = words_same members mask roll same
 abbrev roll_of : List BoardMember → ℕ → Roll
 roll_of members mask = record { members = map (λ m. ([], standing_of m)) members; open_chairs = filter (is_open_by members mask) chair_numbers }
 
--- the sheet of a roll whose total is small enough
+-- the words of a roll are a sheet's where its total is one that a sheet can have
 word_within : (roll : Roll) (c : ℕ) → total roll ≤ MAX_TOTAL → chair_word roll c ≤ MAX_TOTAL + 1
 word_within roll c small = elim (is_open roll c) as (λ b. cond b (weight roll c + 1) 0 ≤ MAX_TOTAL + 1) [ true ↦ omega (arith, small, weight_within roll c) | false ↦ omega arith ]
 
@@ -87,3 +87,6 @@ module _ (members : List BoardMember) (mask : ℕ) where
       let words : words_of roll 0 ≡ member_words members mask = words_of_members members mask roll is_roll_of in
       let sum : total roll ≡ member_total members = sum_same members mask roll is_roll_of counted in
       record { long = refl; sheet = subst IsSheet words (sheet_of_roll roll (omega (arith, sum, board.small))) }
+
+pub members_on_roll : RollLaw
+members_on_roll members mask = (roll_of members mask, is_roll_of members mask)

@@ -7,6 +7,8 @@ mod indices;
 #[cfg(test)]
 mod lent;
 #[cfg(test)]
+mod lent_rooms;
+#[cfg(test)]
 mod plain;
 #[cfg(test)]
 mod registers;

@@ -16,6 +16,7 @@ use std::marker::Model;
 /// Room for the lists of both halves of a sheet. Its content before a `LentEvaluator` is made over it has no effect, and
 /// its content afterwards has no meaning.
 #[repr(C)]
+#[derive(Drop)]
 pub struct ListRoom {
     /// Sums of the left half's sets.
     pub left_sums: [u64; ROOM],
