@@ -77,7 +77,7 @@ def cases(place: Place) -> list[Case]:
     """Each case by a name; none where Chromium isn't there, or what drives it."""
     drivers = all(Path("/usr/bin", name).exists() for name in ["chromium", "chromedriver"])
     if not drivers or not has(place.python, "selenium"):
-        print("figures/check: Chromium, its driver or selenium is not there, so no page was opened (figures/install)")
+        print("figures/check: Chromium, its driver or selenium is not there, so no page was opened (tools/install)")
         return []
     return [
         ("Chromium: the page of board_figures", lambda: check_figures(place)),

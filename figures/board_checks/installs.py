@@ -1,9 +1,9 @@
-"""figures/install: what it does where packages are there, and where it can't install them."""
+"""tools/install: what it does where packages are there, and where it can't install them."""
 from __future__ import annotations
 
 from pathlib import Path
 
-from .place import Case, Place, expect
+from .place import TOP, Case, Place, expect
 
 
 def pretended(place: Place, **programs: str) -> tuple[int, str]:
@@ -12,7 +12,7 @@ def pretended(place: Place, **programs: str) -> tuple[int, str]:
         for name, line in programs.items():
             Path(folder, name.replace("_", "-")).write_text(f"#!/bin/bash\n{line}\n")
             Path(folder, name.replace("_", "-")).chmod(0o755)
-        done = place.run("env", f"PATH={folder}", "/bin/bash", "figures/install")
+        done = place.run("env", f"PATH={folder}", "/bin/bash", str(TOP / "tools" / "install"))
         expect(not done.stderr, f"standard error: {done.stderr.decode()}")
         return done.returncode, done.stdout.decode()
 
@@ -30,7 +30,7 @@ def check_install(place: Place) -> None:
         (silent, "installed chromium"),
     ]:
         status, said = pretended(place, dpkg_query=missing, **programs)
-        is_said = said.count("\n") == 1 and said.startswith(f"figures/install: {line}")
+        is_said = said.count("\n") == 1 and said.startswith(f"tools/install: {line}")
         expect(status == 0 and is_said, f"status {status}: {said}")
 
 
