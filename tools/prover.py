@@ -4,6 +4,8 @@ A library that is built has its statements alone, as in rt ci. rt's own commands
 reads these, too."""
 import signal
 import subprocess
+import tempfile
+from contextlib import contextmanager
 from dataclasses import dataclass
 from functools import cache
 from pathlib import Path
@@ -22,6 +24,20 @@ def kit():
 
 def text_of(file):
     return file.read_text() if file.exists() else ""
+
+
+@contextmanager
+def keeping_toolchain(kept):
+    """A toolchain like the kit's, whose clang also keeps, as the file `kept`, the LLVM module that the prover hands to
+    it. The prover starts it without an environment, so the name of that file is written into it."""
+    with tempfile.TemporaryDirectory(dir=kept.parent) as folder:
+        for part in ["lib", "bin/ld.lld", "bin/llvm-ar", "bin/rattle-x64"]:
+            (made := Path(folder, part)).parent.mkdir(exist_ok=True)
+            made.symlink_to(kit() / "toolchain" / part)
+        clang = Path(folder, "bin", "clang")
+        clang.write_text(f'#!/bin/sh -eu\ncp module.bc "{kept}"\nexec "{kit()}/toolchain/bin/clang" "$@"\n')
+        clang.chmod(0o755)
+        yield Path(folder)
 
 
 @dataclass
@@ -73,13 +89,22 @@ class Crate:
 
     def build(self, jobs, *more):
         """Proves the crate and builds it: whether that went well, and what was said."""
-        how, made = ["--toolchain", kit() / "toolchain", "--backend", "llvm"], f"lib{self.name}.a"
+        if self.is_static:
+            return self.build_static(jobs, *more)
+        how, made = ["--statements"], f"{self.name}.rlib"
         if self.is_linked():
-            how, made = [*how, *["--test"] * self.is_of_tests()], f"{self.built()}.o"
-        elif not self.is_static:
-            how, made = ["--statements"], f"{self.name}.rlib"
+            how = ["--toolchain", kit() / "toolchain", "--backend", "llvm", *["--test"] * self.is_of_tests()]
+            made = f"{self.built()}.o"
         status, said = self.rattle("build", jobs, *how, *more, "-o", self.room / made)
         return self.link_and_run() if self.is_linked() and status == 0 else (status == 0, said)
+
+    def build_static(self, jobs, *more):
+        """Proves the crate and builds its static library, and keeps beside it, as NAME.bc, the LLVM module that it is
+        compiled from: whether that went well, and what was said."""
+        with keeping_toolchain(self.room / f"{self.name}.bc") as toolchain:
+            how = ["--toolchain", toolchain, "--backend", "llvm", "-o", self.room / f"lib{self.name}.a"]
+            status, said = self.rattle("build", jobs, *how, *more)
+        return status == 0, said
 
     def is_linked(self):
         return self.is_program() or self.is_of_tests()
