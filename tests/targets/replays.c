@@ -7,9 +7,6 @@
 
 #include "board.h"
 
-uint8_t board_replay(const uint8_t *input, size_t len, uint8_t readers, uint32_t journal, uint8_t *out, size_t out_len,
-                     uint64_t *written, uint32_t *place);
-
 enum { MARGIN = 64, UNTOUCHED = 0xAA };
 
 static uint8_t *block_of(size_t bytes) {
@@ -30,13 +27,13 @@ int main(void) {
         size_t len = given[0], room = given[3];
         uint8_t *input = block_of(len + 1), *around = block_of(MARGIN + room + MARGIN), *out = around + MARGIN;
         uint64_t written;
-        uint32_t place;
+        uint32_t record;
         if (fread(input, 1, len, stdin) != len) exit(1);
         memset(around, UNTOUCHED, MARGIN + room + MARGIN);
-        uint8_t fault = board_replay(input, len, (uint8_t)given[1], (uint32_t)given[2], out, room, &written, &place);
+        uint8_t fault = board_replay(input, len, (uint8_t)given[1], (uint32_t)given[2], out, room, &written, &record);
         if (!are_untouched(around, MARGIN) || !are_untouched(out + written, room - written + MARGIN)) exit(1);
         putchar(fault);
-        fwrite(&place, sizeof place, 1, stdout);
+        fwrite(&record, sizeof record, 1, stdout);
         fwrite(&written, sizeof written, 1, stdout);
         fwrite(out, 1, written, stdout);
         free(input);
