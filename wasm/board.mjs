@@ -76,11 +76,10 @@ function word(value) {
 }
 
 /**
- * A limit that a parameter of so many bits can hold; in the place of another 0, which is outside each limit's range.
+ * A limit as a parameter of 32 bits can hold it. Any other value becomes 0, which is out of the range of each limit.
  * @param {number} value
- * @param {number} bits
  */
-const limit = (value, bits) => (Number.isInteger(value) && value >= 0 && value < 2 ** bits ? value : 0);
+const limit = (value) => (Number.isInteger(value) && value >= 0 && value < 2 ** 32 ? value : 0);
 
 /**
  * The number of a majority, or one of none where there is no such majority.
@@ -151,7 +150,7 @@ class Call {
   }
 
   /**
-   * Calls an export that writes so many counts.
+   * Calls an export that writes `many` counts.
    * @param {string} name
    * @param {(bigint | number)[]} given its first arguments
    * @param {number} many
@@ -197,7 +196,7 @@ export class Board {
     const call = new Call(this.#module);
     const room = longestText(input);
     const [from, out, numbers] = [call.put(input), call.reserve(room), call.reserve(2 * WORD)];
-    const limits = [limit(readers, 8), limit(journal, 32)];
+    const limits = [limit(readers), limit(journal)];
     const ends = [numbers, numbers + BigInt(WORD)];
     const fault = call.calls.board_replay(from, BigInt(input.length), ...limits, out, BigInt(room), ...ends);
     const view = new DataView(call.memory.buffer, Number(numbers));

@@ -1,8 +1,8 @@
 /* The counts of a voting board: which weights and sizes win, how many coalitions win, and the swings of each chair; and
  * the whole replay of a register's script.
  *
- * Each call that counts answers BOARD_DONE once it has written *counts. Any other answer is the number of a refusal, and
- * *counts is then unchanged. It takes no memory, and builds its lists in the board_room that the caller lends. The
+ * Each call that counts answers BOARD_DONE once it has written *counts. Any other answer is the number of a refusal,
+ * and *counts is then unchanged. It takes no memory, and builds its lists in the board_room that the caller lends. The
  * content of the room before a call has no effect, and its content after a call has no meaning. board_replay stands at
  * the end, with what it answers.
  *
@@ -37,7 +37,7 @@ enum { BOARD_CHAIRS = 32, BOARD_SHEET_WORDS = 34, BOARD_ROOM_SETS = 65536 };
 enum {
     BOARD_DONE = 0,
     BOARD_OUT_OF_MEMORY = 10, /* of board_replay: malloc refused memory */
-    BOARD_BAD_RECORD = 17,    /* there is no majority of this number; of board_replay: a record is not one of a script */
+    BOARD_BAD_RECORD = 17,    /* there is no majority of this number; of board_replay: a bad record */
     BOARD_WRITE_FAULT = 20,   /* of board_replay: its text is longer than the room for it */
     BOARD_BAD_SHEET = 32      /* the words, weights or members are not a board's */
 };
@@ -123,13 +123,13 @@ uint8_t board_counts_of_members(const struct board_member *members, size_t len, 
  * docs/FORMATS.md, and an input has at most 4,194,304 bytes.
  *
  * The answer is BOARD_DONE where no fault ended the run and its whole text is there. Else it is the number of the fault
- * that ended it, and *record is the number of that fault's record, counted from 1, or 0 where it has none. The last line
- * of the text is the fault's, except after BOARD_WRITE_FAULT: then the text is longer than `out_len`, and `out` holds
- * its first `out_len` bytes. After BOARD_OUT_OF_MEMORY the text is some first lines of the run, perhaps none, and the
- * line of this fault.
+ * that ended it, and *record is the number of that fault's record, counted from 1, or 0 where it has none. The last
+ * line of the text is the fault's, except after BOARD_WRITE_FAULT: then the text is longer than `out_len`, and `out`
+ * holds its first `out_len` bytes. After BOARD_OUT_OF_MEMORY the text is some first lines of the run, perhaps none, and
+ * the line of this fault.
  *
  * The memory that a call takes from malloc is given back before it answers. */
-uint8_t board_replay(const uint8_t *input, size_t len, uint8_t readers, uint32_t journal, uint8_t *out, size_t out_len,
+uint8_t board_replay(const uint8_t *input, size_t len, uint32_t readers, uint32_t journal, uint8_t *out, size_t out_len,
                      uint64_t *written, uint32_t *record);
 
 #ifdef __cplusplus

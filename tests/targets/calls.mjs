@@ -100,12 +100,12 @@ function limitsOfRoom(text) {
 
 /** Limits out of their ranges, and such as their parameters can't hold. */
 function limitsOfLimits(text) {
-  const [readers, journals] = [[0, 5, 255], [0, 1000001, 2 ** 32 - 1]];
+  const [readers, journals] = [[0, 5, 255, 256, 257], [0, 1000001, 2 ** 32 - 1]];
   for (const bad of [...readers.map((readers) => ({ readers })), ...journals.map((journal) => ({ journal }))]) {
     assert.deepEqual(replayed(text, bad), BAD_LIMIT);
     assert.deepEqual(board.replay(text, bad), BAD_LIMIT);
   }
-  for (const bad of [{ readers: 257 }, { readers: 1.5 }, { journal: -1 }, { journal: 2 ** 32 + 1 }]) {
+  for (const bad of [{ readers: 2 ** 32 + 1 }, { readers: 1.5 }, { journal: -1 }, { journal: 2 ** 32 + 1 }]) {
     assert.deepEqual(board.replay(text, bad), BAD_LIMIT);
   }
 }

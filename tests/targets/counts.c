@@ -12,7 +12,7 @@ enum { MOST_WEIGHTS = 64, MOST_MEMBERS = 256, MAJORITIES = 5, UNTOUCHED = 0xAA }
 
 static struct board_room room;
 
-/* Reads so many words; ends the program where there are no more. */
+/* Reads `many` words, and ends the program where there are no more. */
 static void read_words(void *to, size_t many) {
     if (fread(to, sizeof(uint64_t), many, stdin) != many) exit(0);
 }

@@ -30,7 +30,7 @@ int main(void) {
         uint32_t record;
         if (fread(input, 1, len, stdin) != len) exit(1);
         memset(around, UNTOUCHED, MARGIN + room + MARGIN);
-        uint8_t fault = board_replay(input, len, (uint8_t)given[1], (uint32_t)given[2], out, room, &written, &record);
+        uint8_t fault = board_replay(input, len, (uint32_t)given[1], (uint32_t)given[2], out, room, &written, &record);
         if (!are_untouched(around, MARGIN) || !are_untouched(out + written, room - written + MARGIN)) exit(1);
         putchar(fault);
         fwrite(&record, sizeof record, 1, stdout);

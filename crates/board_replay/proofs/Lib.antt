@@ -1,2 +1,3 @@
+mod LimitFacts
 mod TextFacts
 mod WorkedCases

@@ -3,7 +3,7 @@
 //! A static library with one export. Its contract ends at the call: nothing checks the program that makes it.
 #![tactic(auto)]
 
-ghost use Rattle.std.specs.Prelude.{◌≡◌, ◌≢◌, ◌≤◌, true, length, take, drop, min};
+ghost use Rattle.std.specs.Prelude.{◌≡◌, ◌≢◌, ◌≤◌, ℕ, List, true, length, take, drop, min};
 ghost use Rattle.board_replay.specs.Shown.{IsLonger, IsWhole, Shows, end_in, limits, number_of, record_of};
 ghost use Rattle.board_runs.specs.Replays.{run_of};
 ghost use Rattle.board_text.specs.Text.{Run};
@@ -114,6 +114,18 @@ fn replay_into(alloc: Global, input: &[u8], limits: Limits, out: &mut [u8]) -> S
     }
 }
 
+// The limits of these numbers. A number of readers that a `u8` can't hold is out of range, as 0 is.
+fn limits_of(readers: u32, journal: u32) -> Limits
+    ensures same { (bytes : List ℕ) → run_of result bytes ≡ run_of (limits readers journal) bytes }
+{
+    let readers = if readers <= u32::from(u8::MAX) {
+        readers as u8
+    } else {
+        0
+    };
+    Limits { readers, journal }
+}
+
 /// Replays an input: carries out its script, and writes the lines of the run to the front of `out`, as many bytes as
 /// there is room for. `written` is how many bytes that are; those after them stay as they were.
 ///
@@ -130,7 +142,7 @@ fn replay_into(alloc: Global, input: &[u8], limits: Limits, out: &mut [u8]) -> S
 pub extern "C" fn board_replay(
     alloc: Global,
     input: &[u8],
-    readers: u8,
+    readers: u32,
     journal: u32,
     out: &mut [u8],
     written: &mut u64,
@@ -144,7 +156,7 @@ pub extern "C" fn board_replay(
     ensures reads { result ≢ code_of ReadFault }
     ensures writes { result ≡ code_of WriteFault → IsLonger (run_of (limits readers journal) input.now) (length out.old) }
 {
-    let shown = replay_into(alloc, input, Limits { readers, journal }, out);
+    let shown = replay_into(alloc, input, limits_of(readers, journal), out);
     *written = shown.count as u64;
     *place = shown.place();
     shown.answer()
