@@ -11,6 +11,9 @@ from functools import cache
 from pathlib import Path
 
 TARGET = "x86_64-unknown-linux-gnu"
+# The static libraries that need no heap. The kit builds them for WebAssembly, too, with a 64-bit memory.
+HEAPLESS = ["board_c"]
+WASM = "wasm64-unknown-unknown"
 # How many seconds a test may take.
 SECONDS = 60
 
@@ -99,12 +102,24 @@ class Crate:
         return self.link_and_run() if self.is_linked() and status == 0 else (status == 0, said)
 
     def build_static(self, jobs, *more):
-        """Proves the crate and builds its static library, and keeps beside it, as NAME.bc, the LLVM module that it is
-        compiled from: whether that went well, and what was said."""
-        with keeping_toolchain(self.room / f"{self.name}.bc") as toolchain:
-            how = ["--toolchain", toolchain, "--backend", "llvm", "-o", self.room / f"lib{self.name}.a"]
-            status, said = self.rattle("build", jobs, *how, *more)
+        """Proves the crate and builds its static library, and keeps beside it, as NAME.bc, the LLVM module that it is compiled from; of
+        a library without a heap also NAME.wasm, the kit's own WebAssembly module: whether that went well, and what was said."""
+        bc, archive = (self.room / f"{it}" for it in (f"{self.name}.bc", f"lib{self.name}.a"))
+        with tempfile.TemporaryDirectory(dir=self.room) as folder, keeping_toolchain(bc) as toolchain:
+            kept = more or ["--incremental", Path(folder, "kept")]
+            how = ["--backend", "llvm", *kept, "--toolchain"]
+            status, said = self.rattle("build", jobs, *how, toolchain, "-o", archive)
+            if status == 0 and self.name in HEAPLESS:
+                made, how = Path(folder, archive.name), [*how, kit() / "toolchain", "--target", WASM]
+                status, said = self.rattle("build", jobs, *how, "-o", made)
+                linked, _, why = self.link(WASM, f"{self.name}.wasm", made) if status == 0 else (0, "", "")
+                status, said = status or linked, said + why
         return status == 0, said
+
+    def link(self, target, program, *files):
+        """Links files into a program in the crate's room: the linker's status, and what it said."""
+        words = ["--target", target, "--toolchain", kit() / "toolchain", "-o", self.room / program]
+        return self.call(kit() / "bin" / "rattle-link", *words, *files)
 
     def is_linked(self):
         return self.is_program() or self.is_of_tests()
@@ -117,8 +132,8 @@ class Crate:
         """Links a program, and runs it: one of tests by the kit's runner, another with what its files args and stdin have, and it must
         write what the file stdout has."""
         program, given = self.room / self.built(), text_of(self.folder / "stdin")
-        words = ["--target", TARGET, "--toolchain", kit() / "toolchain", "-o", program, f"{program}.o"]
-        status, out, err = self.call(kit() / "bin" / "rattle-link", *words, kit() / "c/libos_c.a", kit() / "c/liblibc_c.a")
+        libraries = [kit() / "c/libos_c.a", kit() / "c/liblibc_c.a"]
+        status, out, err = self.link(TARGET, program, f"{program}.o", *libraries)
         if status:
             return False, err + out
         words = [kit() / "bin" / "rattle-test", "--seconds", SECONDS, program] if self.is_of_tests() else [program]
