@@ -14,7 +14,8 @@
  * - `words`, `weights` and `members` point to `len` items, `room` to a board_room and `counts` to what the call writes.
  *   No pointer is null, except that of a list with `len` 0.
  * - A length that no list can have is refused as BOARD_BAD_SHEET, and nothing is read then: of `words` any but 34, of
- *   `weights` any above 32, up to SIZE_MAX. Of `members` all `len` items may be read.
+ *   `weights` any above 32, up to SIZE_MAX. Of `members` all `len` items may be read. (Lengths that no memory can hold,
+ *   and null pointers, are tested, and not proved.)
  * - Each pointer is aligned as its type is.
  * - What a call reads and what it writes don't overlap, and during the call no other thread reads or writes what it
  *   writes, or writes what it reads.

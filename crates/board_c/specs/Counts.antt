@@ -38,8 +38,8 @@ counted rule board c = record { chair = c.0; weight = c.1; swings = eta_of rule 
 abbrev pub no_chair : BoardChair
 no_chair = record { chair = 0; weight = 0; swings = 0 }
 
--- the counts of a sheet by a majority: a weight and a size win where they reach the quota and the least size, and there is
--- a row for each open chair, by number, then zeros
+-- the counts of a sheet by a majority: a weight and a size win where they reach the quota and the least size, and there
+-- is a row for each open chair, by number, then zeros
 pub record AreCountsOf (majority : Majority) (words : List ℕ) (counts : BoardCounts) : Type 0 where
   pub least_winning : (w k : ℕ)
       → ((counts.quota ≤ w) × (counts.least_size ≤ k)) ↔ IsTrue (wins majority words w k)

@@ -36,7 +36,7 @@ append_from (s ∷ sums) high_sums (m ∷ masks) high_masks same =
     let rest : length sums ≡ length masks = omega (arith, same) in
     ap (λ es. both s m ∷ es) (append_from sums high_sums masks high_masks rest)
 
--- what stands in front of the rest of the room
+-- of the whole room, both halves come first
 pub front_is : {X : Type 0} (n : ℕ) (low high tail : List X) → length low ≡ n → length high ≡ n → take (2 * n) (low ++ (high ++ tail)) ≡ low ++ high
 front_is n low high tail in_low in_high =
     let long : length (low ++ high) ≡ 2 * n = omega (arith, length-append low high, in_low, in_high) in

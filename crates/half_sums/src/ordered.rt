@@ -37,7 +37,7 @@ impl Model for OrderedSums {
 }
 
 impl OrderedSums {
-    /// The half with no chair, whose one set is the empty one. It reserves here, once, the room of 65,536 sets of ten
+    /// The half with no chair, whose one set is the empty one. It reserves here, once, room for 65,536 sets of ten
     /// bytes, the memory for every half after it; `OutOfMemory` where there is less.
     pub fn new(alloc: Global) -> Result<OrderedSums, Refusal>
         ensures empty { IfOk result (λ sums. sums ≡ record { sum = 0; mask = 0 } ∷ []) }
@@ -70,9 +70,9 @@ impl OrderedSums {
     }
 }
 
-/// Lists the sets of these chairs, ascending by sum, in slices that are lent, and answers how many sets there are: their
-/// sums and masks are the first of the slices. What the slices had before has no effect, and is lost. A chair is its
-/// slot, 0 to 15, and its weight in votes.
+/// Lists the sets of these chairs, ascending by sum, in slices that are lent, and answers how many sets there are:
+/// their sums and masks are the first of the slices. What the slices had before has no effect, and is lost. A chair is
+/// its slot, 0 to 15, and its weight in votes.
 pub fn list_subsets(chairs: &[(u8, u64)], sums: &mut [u64], masks: &mut [u16]) -> usize
     requires slots { All (λ chair. chair.0 < SLOTS) chairs.now }
     requires distinct { IsDistinct (λ a b. a == b) (map (λ chair. chair.0) chairs.now) }

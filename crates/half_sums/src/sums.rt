@@ -43,8 +43,9 @@ impl Model for HalfSums {
 }
 
 impl HalfSums {
-    /// The half with no chair, whose one set is the empty one. It reserves here, once, two lists of 65,536 sets of ten
-    /// bytes and one of 16 bytes, the memory for every half after it; `OutOfMemory` where there is less.
+    /// The half with no chair, whose one set is the empty one. It reserves here, once, room for two lists of 65,536
+    /// sets, one of ten bytes a set and one of sixteen, the memory for every half after it; `OutOfMemory` where there
+    /// is less.
     pub fn new(alloc: Global) -> Result<HalfSums, Refusal>
         ensures empty { IfOk result (λ h. h ≡ record { sum = 0; mask = 0 } ∷ []) }
         ensures memory { IsOkUnless result OutOfMemory }

@@ -13,8 +13,8 @@ use half_sums::{ROOM, SLOTS, SumList, list_subsets};
 use majority_rule::Majority;
 use std::marker::Model;
 
-/// Room for the lists of both halves of a sheet. Its content before a `LentEvaluator` is made over it has no effect, and
-/// its content afterwards has no meaning.
+/// Room for the lists of both halves of a sheet. Its content before a `LentEvaluator` is made over it has no effect,
+/// and its content afterwards has no meaning.
 #[repr(C)]
 #[derive(Drop)]
 pub struct ListRoom {
