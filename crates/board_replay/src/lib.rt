@@ -129,8 +129,8 @@ fn limits_of(readers: u32, journal: u32) -> Limits
 /// Replays an input: carries out its script, and writes the lines of the run to the front of `out`, as many bytes as
 /// there is room for. `written` is how many bytes that are; those after them stay as they were.
 ///
-/// `readers` is how many readers there are, from 1 to `READERS`, and `journal` how many commands the register accepts at
-/// most, from 1 to `MAX_COMMANDS`. The answer is `DONE`, or the number of the fault that ended the run, whose line is
+/// `readers` is how many readers there are, from 1 to `READERS`, and `journal` how many commands the register accepts
+/// at most, from 1 to `MAX_COMMANDS`. The answer is `DONE`, or the number of the fault that ended the run, whose line is
 /// the last of the text; `place` is the number of the fault's record, counted from 1, or 0 where it has none.
 ///
 /// The faults of the input are those of `board_runs::replay`, in the same order. `WriteFault` (20): the text is longer
