@@ -6,4 +6,5 @@ pub mod OpeningFacts
 pub mod PlayFacts
 pub mod InputFacts
 pub mod BeginningFacts
+pub mod ReadingFacts
 pub mod WorkedCases

@@ -1,12 +1,20 @@
 -- Records and lines of the three chairs' input, computed; and what definitions of writing take and refuse.
-use Rattle.std.proofs.Common.{◌≡◌, ℕ, [], ◌∷◌, Some, None, Ok, Err, refl, arith}
+use Rattle.std.proofs.Common.{◌≡◌, ℕ, inl, inr, false, [], ◌∷◌, Some, None, Result, Ok, Err, refl, ap, arith}
 use Rattle.std.specs.Prelude.{codes}
 use Rattle.std.specs.Fmt.{digits}
 use Rattle.council_core.specs.declared.commands.Command.TheVariants.{Open, Move}
-use Rattle.council_core.specs.declared.refusals.Refusal.TheVariants.{ChairOpen}
+use Rattle.council_core.specs.Rolls.{Opening}
+use Rattle.council_core.specs.declared.refusals.Refusal.TheVariants.{BadHeader, BadLimit, BadRecord, ChairOpen, OutOfMemory, ReadFault, TooLong, WriteFault}
+use Rattle.told_streams.specs.Tapes.{Giving}
+use Rattle.board_text.specs.Inputs.{IsOfDevice, NoReadInVain, RetriesAtMost, RunRetriesAtMost}
+use Rattle.board_text.specs.Output.{Fails, IsBadLimit, IsBroken, Plays, Starts}
+use Rattle.board_text.specs.Text.{fault_at, prints, stops}
+use Rattle.board_text.specs.declared.bounds.Limits.{Limits}
+use Rattle.board_text.specs.declared.faults.Fault.{Fault}
+use Rattle.board_text.specs.declared.stops.Stop.TheVariants as stop
 use Rattle.board_text.specs.Requests.{member_of, request_of}
 use Rattle.board_text.specs.Lines.{accepted_line, refused_line, published_line, chair_line}
-use Rattle.board_text.specs.Sinks.{AsksAtMost, GoesOn, NoWriteInVain, Sink}
+use Rattle.board_text.specs.Sinks.{AsksAtMost, GoesOn, HasFailed, NoWriteInVain, Sink}
 use Rattle.board_text.specs.declared.requests.Request.TheVariants as ask
 
 pub member : member_of (codes "BBB" ∷ codes "49" ∷ []) ≡ Some (66 ∷ 66 ∷ 66 ∷ [], 49)
@@ -74,8 +82,150 @@ one_write = omega arith
 write_in_vain : NoWriteInVain {A = Unit {0}} {E = Unit {0}} (sink 0 0 0) (sink 0 2 1) (Ok tt) → ⊥
 write_in_vain h = absurd (omega (arith, h))
 
+uncounted_retry : NoWriteInVain {A = Unit {0}} {E = Unit {0}} (sink 0 0 0) (sink 1 1 0) (Ok tt) → ⊥
+uncounted_retry h = absurd (omega (arith, h))
+
 failed_write : NoWriteInVain {A = Unit {0}} {E = Unit {0}} (sink 0 0 0) (sink 0 1 1) (Err tt)
 failed_write = omega arith
 
+-- an error without a failure: no write, one that took a byte, or an interruption that was retried
+error_without_a_write : NoWriteInVain {A = Unit {0}} {E = Unit {0}} (sink 0 0 0) (sink 0 0 0) (Err tt) → ⊥
+error_without_a_write h = absurd (omega (arith, h))
+
+no_failure : HasFailed (sink 0 0 0) (sink 0 1 0) → ⊥
+no_failure h = absurd (omega (arith, h))
+
+retried_and_no_failure : HasFailed (sink 0 0 0) (sink 1 1 1) → ⊥
+retried_and_no_failure h = absurd (omega (arith, h))
+
 written_after_a_failure : NoWriteInVain {A = Unit {0}} {E = Unit {0}} (sink 0 0 0) (sink 0 2 2) (Err tt) → ⊥
 written_after_a_failure h = absurd (omega (arith, h))
+
+-- a reader after this many reads that gave no byte, and of these this many interrupted ones
+abbrev reader : ℕ → ℕ → Giving
+reader vain interruptions = record { left = None; gave = []; ended = false; asks = vain; vain = vain; interruptions = interruptions }
+
+-- one read told the end, or failed, behind an interruption
+end_told : NoReadInVain {A = Unit {0}} (reader 0 0) (reader 2 1) (Ok tt)
+end_told = omega arith
+
+read_behind_the_end : NoReadInVain {A = Unit {0}} (reader 0 0) (reader 2 0) (Ok tt) → ⊥
+read_behind_the_end h = absurd (omega (arith, h))
+
+one_failed_read : NoReadInVain {A = Unit {0}} (reader 0 0) (reader 1 0) (Err stop.ReadFault)
+one_failed_read = omega arith
+
+read_after_a_failure : NoReadInVain {A = Unit {0}} (reader 0 0) (reader 2 0) (Err stop.ReadFault) → ⊥
+read_after_a_failure h = absurd (omega (arith, h))
+
+-- where memory was refused, or the input is too long, each read gave a byte
+read_without_memory : NoReadInVain {A = Unit {0}} (reader 0 0) (reader 1 0) (Err stop.OutOfMemory) → ⊥
+read_without_memory h = absurd (omega (arith, h))
+
+read_for_a_failed_write : NoReadInVain {A = Unit {0}} (reader 0 0) (reader 1 0) (Err stop.WriteFault) → ⊥
+read_for_a_failed_write h = absurd (omega (arith, h))
+
+read_behind_too_long : NoReadInVain {A = Unit {0}} (reader 0 0) (reader 1 0) (Err (stop.Told (fault_at TooLong 0))) → ⊥
+read_behind_too_long h = absurd (omega (arith, h))
+
+-- of at most two retries the third interruption is a failed read, and there is no fourth
+retried_twice : RetriesAtMost {A = Unit {0}} 2 (reader 0 0) (reader 3 2) (Ok tt)
+retried_twice = omega arith
+
+retried_thrice : RetriesAtMost {A = Unit {0}} 2 (reader 0 0) (reader 4 3) (Ok tt) → ⊥
+retried_thrice h = absurd (omega (arith, h))
+
+third_interruption : RetriesAtMost {A = Unit {0}} 2 (reader 0 0) (reader 3 3) (Err stop.ReadFault)
+third_interruption = omega arith
+
+fourth_interruption : RetriesAtMost {A = Unit {0}} 2 (reader 0 0) (reader 4 4) (Err stop.ReadFault) → ⊥
+fourth_interruption h = absurd (omega (arith, h))
+
+retried_thrice_without_memory : RetriesAtMost {A = Unit {0}} 2 (reader 0 0) (reader 3 3) (Err stop.OutOfMemory) → ⊥
+retried_thrice_without_memory h = absurd (omega (arith, h))
+
+retried_thrice_for_a_failed_write : RetriesAtMost {A = Unit {0}} 2 (reader 0 0) (reader 3 3) (Err stop.WriteFault) → ⊥
+retried_thrice_for_a_failed_write h = absurd (omega (arith, h))
+
+retried_thrice_and_too_long : RetriesAtMost {A = Unit {0}} 2 (reader 0 0) (reader 3 3) (Err (stop.Told (fault_at TooLong 0))) → ⊥
+retried_thrice_and_too_long h = absurd (omega (arith, h))
+
+-- the number of a fault's refusal, and of its record
+code : {f g : Fault} → f ≡ g → f.code ≡ g.code
+code e = ap (λ (f : Fault). f.code) e
+
+place : {f g : Fault} → f ≡ g → f.place ≡ g.place
+place e = ap (λ (f : Fault). f.place) e
+
+abbrev fails : Fault → Result (Unit {0}) Fault
+fails f = Err f
+
+told : {f g : Fault} → fails f ≡ fails g → f ≡ g
+told e = cc e
+
+-- the same of whole runs
+run_retried_thrice : RunRetriesAtMost {A = Unit {0}} 2 (reader 0 0) (reader 4 3) (Ok tt) → ⊥
+run_retried_thrice h = absurd (omega (arith, h))
+
+bad_record_behind_three : RunRetriesAtMost {A = Unit {0}} 2 (reader 0 0) (reader 4 3) (Err (fault_at BadRecord 5)) → ⊥
+bad_record_behind_three (inl few) = absurd (omega (arith, few))
+bad_record_behind_three (inr (inl e, more)) = absurd (omega (arith, code e))
+bad_record_behind_three (inr (inr e, more)) = absurd (omega (arith, code e))
+
+failed_run_behind_four : RunRetriesAtMost {A = Unit {0}} 2 (reader 0 0) (reader 4 4) (Err (fault_at ReadFault 0)) → ⊥
+failed_run_behind_four (inl few) = absurd (omega (arith, few))
+failed_run_behind_four (inr more) = absurd (omega (arith, more.1))
+
+-- a fault of a record is no device's, and a device's has no record
+record_of_a_device : IsOfDevice (fault_at ReadFault 5) → ⊥
+record_of_a_device (inl e) = absurd (omega (arith, place e))
+record_of_a_device (inr e) = absurd (omega (arith, place e))
+
+-- limits out of range are told as such
+another_limit : IsBadLimit {A = Unit {0}} (Err (fault_at BadHeader 0)) → ⊥
+another_limit (inl e) = absurd (omega (arith, code (told e)))
+another_limit (inr e) = absurd (omega (arith, code (told e)))
+
+limit_of_a_record : IsBadLimit {A = Unit {0}} (Err (fault_at BadLimit 1)) → ⊥
+limit_of_a_record (inl e) = absurd (omega (arith, place (told e)))
+limit_of_a_record (inr e) = absurd (omega (arith, place (told e)))
+
+limit_taken : IsBadLimit {A = Unit {0}} (Ok tt) → ⊥
+limit_taken (inl e) = cc e
+limit_taken (inr e) = cc e
+
+-- a run breaks off without memory or at a failed read, at no record
+broken_by_a_record : IsBroken (fault_at BadRecord 0) → ⊥
+broken_by_a_record (inl e) = absurd (omega (arith, code e))
+broken_by_a_record (inr e) = absurd (omega (arith, code e))
+
+broken_by_a_write : IsBroken (fault_at WriteFault 0) → ⊥
+broken_by_a_write (inl e) = absurd (omega (arith, code e))
+broken_by_a_write (inr e) = absurd (omega (arith, code e))
+
+broken_at_a_record : IsBroken (fault_at OutOfMemory 5) → ⊥
+broken_at_a_record (inl e) = absurd (omega (arith, place e))
+broken_at_a_record (inr e) = absurd (omega (arith, place e))
+
+-- reading an input writes nothing, and starting a register reads nothing
+input_not_written : Fails {A = Unit {0}} stop.WriteFault (Ok tt) → ⊥
+input_not_written h = h
+
+another_fault_told : Fails {A = Unit {0}} (stop.Told (fault_at BadRecord 2)) (Err (fault_at BadRecord 3)) → ⊥
+another_fault_told e = absurd (omega (arith, place (told e)))
+
+start_reads_nothing : (lim : Limits) (members : Opening) → Starts lim members (Err stop.ReadFault) → ⊥
+start_reads_nothing lim members h = h
+
+start_writes_nothing : (lim : Limits) (members : Opening) → Starts lim members (Err stop.WriteFault) → ⊥
+start_writes_nothing lim members h = h
+
+-- a run that stops is not played to its end, nor does another fault stop it
+stopped_run_played : Plays (Some []) (Some []) (Ok tt) (stops (fault_at BadRecord 5)) → ⊥
+stopped_run_played h = let e = h.0 in cc e
+
+stopped_by_another : Plays (Some []) (Some []) (Err (stop.Told (fault_at BadRecord 6))) (stops (fault_at BadRecord 5)) → ⊥
+stopped_by_another h = let e : fault_at BadRecord 5 ≡ fault_at BadRecord 6 = let d = h.0 in cc d in absurd (omega (arith, place e))
+
+line_left_out : Plays (Some []) (Some []) (Ok tt) (prints (codes "began" ∷ [])) → ⊥
+line_left_out h = let e = h.1 in cc e

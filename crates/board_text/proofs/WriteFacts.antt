@@ -1,10 +1,11 @@
 -- Writes that go on where the last one ended.
-use Rattle.std.proofs.Common.{◌≡◌, ℕ, ◌+◌, ◌-◌, List, [], Option, Result, Ok, Err, length, take, drop, ◌++◌, subst, sym, ap, ◌∙◌, arith, append_assoc}
+use Rattle.std.proofs.Common.{◌≡◌, ◌⊎◌, inl, inr, ℕ, ◌+◌, ◌-◌, List, [], Option, Result, Ok, Err, length, take, drop, ◌++◌, subst, sym, ap, ◌∙◌, arith, append_assoc}
 use Rattle.std.proofs.Math.Seq.{take-add}
 use Rattle.std.proofs.lemmas.List.{append-nil, length-drop, take_all, take-append-drop}
 use Rattle.std.proofs.KnownBytes.{Appends-trans}
 use Rattle.std.specs.Io.KnownBytes.{Appends}
 use Rattle.board_text.specs.Output.{AppendsFront, Writes}
+use Rattle.board_text.specs.Sinks.{HasFailed, NoWriteInVain, Sink}
 use Rattle.board_text.specs.declared.stops.Stop.{Stop}
 
 -- the rest of a slice, as a range of it
@@ -28,3 +29,9 @@ front-and-front a b c i text p q =
 pub front-written_by : (a b : Option (List ℕ)) (r : Result (Unit {0}) Stop) (text : List ℕ) → Writes a b r text → AppendsFront a b text
 front-written_by a b (Ok u) text p = (text, ([], sym (append-nil text)), p)
 front-written_by a b (Err e) text p = p.1
+
+-- a text was written whole, or the writer failed
+pub whole-or-failed : (before after : Sink) (r : Result (Unit {0}) Stop) (text : List ℕ) → Writes before.held after.held r text → NoWriteInVain before after r
+    → Appends before.held after.held text ⊎ HasFailed before after
+whole-or-failed before after (Ok u) text p q = inl p
+whole-or-failed before after (Err e) text p q = inr q

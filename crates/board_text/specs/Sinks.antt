@@ -18,7 +18,11 @@ GoesOn before after = (after.lender ≡ before.lender) × (before.interrupted �
 abbrev pub AsksAtMost : Sink → Sink → ℕ → Type 0
 AsksAtMost before after count = after.asks + before.interrupted ≤ before.asks + count + after.interrupted
 
--- each write took a byte, but for the interruptions that were retried, and for the one that failed
+-- one write took no byte and was not retried: the writer failed, or took nothing, or was interrupted once too often
+abbrev pub HasFailed : Sink → Sink → Type 0
+HasFailed before after = after.vain + before.interrupted ≡ before.vain + 1 + after.interrupted
+
+-- each write took a byte, but for the interruptions that were retried, and, after an error, for the one that failed
 abbrev pub NoWriteInVain : {A E : Type 0} → Sink → Sink → Result A E → Type 0
-NoWriteInVain before after (Ok _) = after.vain + before.interrupted ≤ before.vain + after.interrupted
-NoWriteInVain before after (Err _) = after.vain + before.interrupted ≤ before.vain + 1 + after.interrupted
+NoWriteInVain before after (Ok _) = after.vain + before.interrupted ≡ before.vain + after.interrupted
+NoWriteInVain before after (Err _) = HasFailed before after

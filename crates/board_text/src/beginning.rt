@@ -4,11 +4,12 @@ ghost use Rattle.std.specs.Prelude.{IfOk, IfErr, IsErrOf, OnOk};
 ghost use Rattle.told_streams.specs.Tapes.{OfInput};
 ghost use Rattle.council_core.specs.declared.refusals.Refusal.TheVariants as why;
 ghost use Rattle.council_core.specs.Ledgers.{start_verdict};
+ghost use Rattle.board_text.specs.Inputs.{NoReadInVain, RetriesAtMost};
 ghost use Rattle.board_text.specs.Output.{Fails, Starts};
 ghost use Rattle.board_text.specs.Text.{begun_of, begun_with, fault_at, in_range, opened_of};
 
 use crate::bounds::Limits;
-use crate::input::{INPUT_LIMIT, read_input};
+use crate::input::{INPUT_LIMIT, INTERRUPTIONS, READS, read_input};
 use crate::opening::read_opening;
 use crate::requests::is_header_row;
 use crate::script::Script;
@@ -36,6 +37,9 @@ pub fn read_within<R: Read + Drop>(
     ensures whole { IfOk result (λ text. OfInput input.old input.new (λ bytes. text.items ≡ bytes)) }
     ensures fits { IfOk result (λ text. length text.items ≤ INPUT_LIMIT) }
     ensures in_range { OnOk result (in_range limits ≡ true) }
+    ensures asks { input.new.asks ≤ input.old.asks + READS }
+    ensures vain { NoReadInVain input.old input.new result }
+    ensures retried { RetriesAtMost INTERRUPTIONS input.old input.new result }
     ensures fault { IfErr result (λ e. OfInput input.old input.new (λ bytes. Fails e (begun_of limits bytes))) }
     ensures limits_first { in_range limits ≡ false
         → IsErrOf result (Stop.Told (fault_at why.BadLimit 0)) × (input.new ≡ input.old) }

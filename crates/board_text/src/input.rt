@@ -2,7 +2,7 @@
 ghost use Rattle.std.specs.Prelude.{◌≡◌, ◌≤◌, ◌<◌, ◌+◌, length, IfOk, IfErr, ◌⊎◌, IsErrOf, IsOkUnless};
 ghost use Rattle.told_streams.specs.Tapes.{OfInput};
 ghost use Rattle.council_core.specs.declared.refusals.Refusal.TheVariants as why;
-ghost use Rattle.board_text.specs.Inputs.{NoReadInVain, Reads, WastesAtMost};
+ghost use Rattle.board_text.specs.Inputs.{InterruptedAtMost, NoReadInVain, Reads, RetriesAtMost, WastesAtMost};
 ghost use Rattle.board_text.specs.Text.{fault_at};
 ghost use Rattle.board_text.specs.declared.stops.Stop.TheVariants as stop;
 
@@ -18,11 +18,11 @@ const PIECE: usize = 4096;
 /// The most bytes that an input may have.
 pub const INPUT_LIMIT: usize = 4_194_304;
 
-// The most interrupted reads, and the most interrupted writes, that are retried in one run.
-pub(crate) const INTERRUPTIONS: u32 = 1000;
+/// The most interrupted reads, and the most interrupted writes, that are retried in one run.
+pub const INTERRUPTIONS: u32 = 1000;
 
-// The most reads: each but the last gives a byte or is an interruption, and none is asked for after one that failed.
-const READS: u32 = INPUT_LIMIT as u32 + INTERRUPTIONS + 1;
+/// The most reads of a run: each but the last gives a byte or is an interruption, and no read follows one that failed.
+pub const READS: u32 = INPUT_LIMIT as u32 + INTERRUPTIONS + 1;
 
 // One read: how many bytes it gave, or nothing where it was interrupted and may be retried. After an error nothing is
 // promised of the reader.
@@ -36,6 +36,7 @@ fn read_some<R: Read + Drop>(
     ensures read { IfOk result (Reads input.old input.new interrupted.old interrupted.new piece.new) }
     ensures few { interrupted.new ≤ INTERRUPTIONS }
     ensures vain { WastesAtMost 1 input.old input.new }
+    ensures interrupted { InterruptedAtMost 1 input.old input.new }
     ensures only { IsOkUnless result stop.ReadFault }
 {
     match input.read(piece) {
@@ -58,6 +59,7 @@ pub(crate) fn read_input<R: Read + Drop>(
         (λ e. (e ≡ Stop.OutOfMemory) ⊎ (e ≡ Stop.ReadFault) ⊎ (e ≡ Stop.Told (fault_at why.TooLong 0))) }
     ensures asks { input.new.asks ≤ input.old.asks + READS }
     ensures vain { NoReadInVain input.old input.new result }
+    ensures retried { RetriesAtMost INTERRUPTIONS input.old input.new result }
     ensures fits { IfOk result (λ text. length text.items ≤ INPUT_LIMIT) }
     ensures too_long { IsErrOf result (Stop.Told (fault_at why.TooLong 0))
         → OfInput input.old input.new (λ bytes. INPUT_LIMIT < length bytes) }

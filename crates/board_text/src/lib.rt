@@ -24,7 +24,7 @@ pub use beginning::{Beginning, begin, read_within};
 pub use bounds::Limits;
 pub use endings::end_with;
 pub use faults::Fault;
-pub use input::INPUT_LIMIT;
+pub use input::{INPUT_LIMIT, INTERRUPTIONS, READS};
 pub use line::{LINE, Line};
 pub use lines::{
     line_of_answer, line_of_audit, line_of_chair, line_of_count, line_of_fault, line_of_note,

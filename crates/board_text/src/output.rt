@@ -1,7 +1,8 @@
 //! Writing a text whole.
-ghost use Rattle.std.specs.Prelude.{◌≡◌, ◌≤◌, ◌+◌, length, IfOk};
+ghost use Rattle.std.specs.Prelude.{◌≡◌, ◌⊎◌, ◌≤◌, ◌+◌, length, IfOk};
+ghost use Rattle.std.specs.Io.KnownBytes.{Appends};
 ghost use Rattle.board_text.specs.Output.{AppendsFront, Writes, WritesSome};
-ghost use Rattle.board_text.specs.Sinks.{AsksAtMost, GoesOn, NoWriteInVain};
+ghost use Rattle.board_text.specs.Sinks.{AsksAtMost, GoesOn, HasFailed, NoWriteInVain};
 ghost use Rattle.board_text.specs.Text.{line_text};
 
 use crate::input::INTERRUPTIONS;
@@ -97,6 +98,7 @@ impl<'a, W: Write> Output<'a, W> {
     // Writes a text, or a front of it where the writer fails.
     fn write_front(&mut self, text: &[u8])
         ensures front { AppendsFront self.old.held self.new.held text.now }
+        ensures whole_or_failed { Appends self.old.held self.new.held text.now ⊎ HasFailed self.old self.new }
         ensures asks { AsksAtMost self.old self.new (length text.now) }
         ensures on { GoesOn self.old self.new }
     {

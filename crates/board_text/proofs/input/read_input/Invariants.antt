@@ -12,5 +12,6 @@ invariant-loop-turn g l = record {
   asked : l.interrupted ≤ 1000;
   reads : l.input.asks ≡ l.fn.input.asks + l._turn;
   vain : WastesAtMost 0 l.fn.input l.input;
+  retried : l.input.interruptions ≡ l.fn.input.interruptions + l.interrupted;
   turns : l._turn ≤ length l.text.items + l.interrupted;
 }

@@ -12,5 +12,5 @@ invariant-loop-turn g l = record {
   on : GoesOn l.fn.self l.self;
   turns : l._turn + l.fn.self.interrupted ≤ l.at + l.self.interrupted;
   asked : l.self.asks ≡ l.fn.self.asks + l._turn;
-  vain : l.self.vain + l.fn.self.interrupted ≤ l.fn.self.vain + l.self.interrupted;
+  vain : l.self.vain + l.fn.self.interrupted ≡ l.fn.self.vain + l.self.interrupted;
 }
