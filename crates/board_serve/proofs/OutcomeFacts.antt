@@ -5,12 +5,12 @@ use Rattle.std.proofs.lemmas.List.Elements.{All-cons, All-nil}
 use Rattle.council_core.specs.Ledgers.{Ledger}
 use Rattle.council_core.specs.Rolls.{IsLegal, Opening}
 use Rattle.council_core.specs.declared.commands.Command.{Command}
-use Rattle.atomic_table.specs.Seated.{TableId}
 use Rattle.council_core.specs.Sequential.{AreCuts, Call, Sequential, replies_of, state_after}
 use Rattle.majority_rule.specs.declared.majorities.Majority.{Majority}
 use Rattle.two_copy_steps.specs.Lawful.{last_front}
 use Rattle.board_share.specs.Openings.{new_publisher}
 use Rattle.board_share.specs.Readers.{IsLegalSheet, ReaderSeen}
+use Rattle.board_share.specs.Writers.{Publisher}
 use Rattle.board_text.specs.Replies.{reply_of}
 use Rattle.board_serve.specs.Outcomes.{IsBrought, IsOutcome, IsServed, omegas_by}
 use Rattle.board_serve.specs.Parts.{call_of_order}
@@ -28,8 +28,8 @@ use Rattle.board_serve.proofs.CutFacts.{cuts-in_order}
 use Rattle.board_serve.proofs.WorkFacts.{opening-kept}
 
 -- a new writer of a register with no command is the register with none published
-pub new-register : (table : TableId) (ledger : Ledger) → ledger.journal ≡ [] → register_of (new_publisher table ledger 2) ≡ fresh ledger
-new-register table ledger none = ap (λ (n : ℕ). let s : Sequential = record { ledger = ledger; published = n } in s) (ap length none)
+pub new-register : (writer : Publisher) (ledger : Ledger) → writer ≡ new_publisher writer.table ledger 2 → ledger.journal ≡ [] → register_of writer ≡ fresh ledger
+new-register writer ledger new none = ap register_of new ∙ ap (λ (n : ℕ). let s : Sequential = record { ledger = ledger; published = n } in s) (ap length none)
 
 -- the reader is of this opening, and has read nothing
 abbrev pub IsNew : Opening → ReaderSeen → Type 0

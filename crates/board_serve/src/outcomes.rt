@@ -10,7 +10,7 @@ use crate::jobs::{Jobs, WriterJob};
 use crate::parts::Parts;
 use crate::seats::seat_all;
 use crate::served::Served;
-use crate::threads::run_all;
+use crate::threads::{apart, run_all};
 use board_text::{Answer, Stop};
 use council_core::Register;
 use std::alloc::{AllocError, Global};
@@ -30,13 +30,14 @@ fn put_together(alloc: Global, done: Jobs) -> Result<Outcome, AllocError>
 {
     let Jobs {
         writer: job,
-        readers: [first, second],
+        readers,
     } = done;
     let WriterJob {
         writer,
         room: written,
         ..
     } = job;
+    let (first, second) = apart(readers);
     let first = first.into_room();
     let second = second.into_room();
     let mut journal = Vec::new(alloc);

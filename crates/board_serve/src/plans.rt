@@ -1,14 +1,17 @@
 //! What a run of the threads is asked.
-ghost use Rattle.std.specs.Prelude.{◌≡◌, ◌≤◌, Ok, false, length, IfOk, IfErr, IsErrOf};
+ghost use Rattle.std.specs.Prelude.{◌≡◌, ◌≤◌, ◌+◌, Ok, false, length, IfOk, IfErr, IsErrOf};
 ghost use Rattle.council_core.specs.declared.refusals.Refusal.TheVariants as why;
 ghost use Rattle.told_streams.specs.Tapes.{OfInput};
 ghost use Rattle.csv.specs.Reading.{default_config, records, strip_bom};
+ghost use Rattle.board_text.specs.Inputs.{RetriesAtMost, WastesAtMost};
 ghost use Rattle.board_text.specs.Output.{Fails};
 ghost use Rattle.board_serve.specs.Plans.{Finds, IsSound, plan_from, plan_of, plan_shown, two_readers};
 ghost use Rattle.board_text.specs.Text.{begun_with, fault_at, in_range, opened_of};
 
 use crate::parts::{Parts, READERS, read_parts};
-use board_text::{Beginning, INPUT_LIMIT, Limits, Script, Stop, begin, read_within};
+use board_text::{
+    Beginning, INPUT_LIMIT, INTERRUPTIONS, Limits, READS, Script, Stop, begin, read_within,
+};
 use csv::ByteRecord;
 use std::alloc::Global;
 use std::io::Read;
@@ -49,6 +52,9 @@ pub(crate) fn read_plan<R: Read + Drop>(
     ensures found { OfInput input.old input.new (λ bytes. Finds result (plan_of journal_limit bytes)) }
     ensures limits_first { in_range (two_readers journal_limit) ≡ false
         → IsErrOf result (Stop.Told (fault_at why.BadLimit 0)) × (input.new ≡ input.old) }
+    ensures asks { input.new.asks ≤ input.old.asks + READS }
+    ensures vain { WastesAtMost 1 input.old input.new }
+    ensures retried { RetriesAtMost INTERRUPTIONS input.old input.new result }
     ensures sound { IfOk result IsSound }
 {
     let limits = Limits {

@@ -66,6 +66,12 @@ pub(crate) fn ask_all<G: Gate>(gate: &G, job: ReaderJob) -> Result<ReaderJob, St
     ensures asked { HasAsked job result }
 {
     let mut job = job;
-    ask_in_order(gate, job.number, job.asked.as_slice(), &mut job.analyst, &mut job.room)?;
+    ask_in_order(
+        gate,
+        job.number,
+        job.asked.as_slice(),
+        &mut job.analyst,
+        &mut job.room,
+    )?;
     Ok(job)
 }

@@ -1,6 +1,7 @@
 //! A run of one writer thread and two reader threads.
-ghost use Rattle.std.specs.Prelude.{◌≡◌, true, false, IfOk, IfErr, IsErrOf};
+ghost use Rattle.std.specs.Prelude.{◌≡◌, ◌≤◌, ◌+◌, true, false, IfOk, IfErr, IsErrOf};
 ghost use Rattle.council_core.specs.declared.refusals.Refusal.TheVariants as why;
+ghost use Rattle.board_text.specs.Inputs.{RetriesAtMost, RunRetriesAtMost, WastesAtMost};
 ghost use Rattle.board_text.specs.Output.{IsBadLimit};
 ghost use Rattle.board_text.specs.Text.{fault_at, in_range};
 ghost use Rattle.told_streams.specs.Tapes.{OfInput};
@@ -16,7 +17,7 @@ use crate::outcomes::{Outcome, carry_out};
 use crate::plans::{Plan, read_plan};
 use crate::served::Served;
 use crate::telling::tell;
-use board_text::{Beginning, Fault, Output, Stop, end_with};
+use board_text::{Beginning, Fault, INTERRUPTIONS, Output, READS, Stop, end_with};
 use council_core::Refusal;
 use std::alloc::Global;
 use std::io::{Read, Write};
@@ -61,6 +62,9 @@ fn serve_to<G: Gate, T: Threads + Wait + Sync, R: Read + Drop, W: Write>(
         (λ bytes. ServesTo out.old.held out.new.held result (plan_of journal_limit bytes)) }
     ensures limits_first { in_range (two_readers journal_limit) ≡ false
         → IsErrOf result (Stop.Told (fault_at why.BadLimit 0)) × (input.new ≡ input.old) }
+    ensures asks { input.new.asks ≤ input.old.asks + READS }
+    ensures vain { WastesAtMost 1 input.old input.new }
+    ensures retried { RetriesAtMost INTERRUPTIONS input.old input.new result }
     ensures on { GoesOn out.old out.new }
 {
     let plan = read_plan(alloc, input, journal_limit)?;
@@ -83,6 +87,9 @@ fn serve_all<G: Gate, T: Threads + Wait + Sync, R: Read + Drop, W: Write>(
         (λ bytes. Serves out.old.held out.new.held result (plan_of journal_limit bytes)) }
     ensures limits_first { in_range (two_readers journal_limit) ≡ false
         → IsBadLimit result × (input.new ≡ input.old) }
+    ensures asks { input.new.asks ≤ input.old.asks + READS }
+    ensures vain { WastesAtMost 1 input.old input.new }
+    ensures retried { RunRetriesAtMost INTERRUPTIONS input.old input.new result }
     ensures on { GoesOn out.old out.new }
 {
     let stop = match serve_to(rt, alloc, gate, input, out, journal_limit) {
@@ -103,6 +110,9 @@ fn serve_all<G: Gate, T: Threads + Wait + Sync, R: Read + Drop, W: Write>(
 /// A fault's number is its refusal's, in this order: those of `replay` with limits of two readers,
 /// all before a thread is started; once all threads have ended `OutOfMemory`, `GateClosed`, and what
 /// the audit finds. `OutOfMemory` may come at any time, `WriteFault` at any write.
+///
+/// The input is asked for at most `READS` reads, and for none after the one that found its end or
+/// failed. At most `INTERRUPTIONS` interrupted reads are retried: the next one is a failed read.
 pub fn serve<G: Gate, T: Threads + Wait + Sync, R: Read + Drop, W: Write>(
     rt: &T,
     alloc: Global,
@@ -115,6 +125,9 @@ pub fn serve<G: Gate, T: Threads + Wait + Sync, R: Read + Drop, W: Write>(
         (λ bytes. Serves (W.contents out.old) (W.contents out.new) result (plan_of journal_limit bytes)) }
     ensures limits_first { in_range (two_readers journal_limit) ≡ false
         → IsBadLimit result × (input.new ≡ input.old) }
+    ensures asks { input.new.asks ≤ input.old.asks + READS }
+    ensures vain { WastesAtMost 1 input.old input.new }
+    ensures retried { RunRetriesAtMost INTERRUPTIONS input.old input.new result }
     ensures served { IfOk result
         (λ s. OfInput input.old input.new (λ bytes. IfOk (plan_of journal_limit bytes) (λ p. IsServed p s))) }
     ensures records { IfOk result

@@ -1,5 +1,5 @@
 //! One writer thread and its reader threads.
-ghost use Rattle.std.specs.Prelude.{◌≡◌, ◌∷◌, [], Ok, Err, map, All, IfOk, IfErr, IsOkUnless};
+ghost use Rattle.std.specs.Prelude.{◌≡◌, ◌∷◌, [], Ok, Err, map, IfOk, IfErr, IsOkUnless};
 ghost use Rattle.board_serve.specs.Jobs.{AreDone, AreReady, CanAsk, CanWrite, HasAsked, HasWritten};
 ghost use Rattle.board_serve.specs.Work.{IsClosed, IsHeldUp};
 ghost use Rattle.board_text.specs.declared.stops.Stop.TheVariants as stop;
@@ -77,27 +77,28 @@ fn start_reader<'s, E, G: Gate>(
 // The jobs of all, where none was held up; else why the first in this order was.
 fn all_done(
     writer: Result<WriterJob, Stop>,
-    readers: [Result<ReaderJob, Stop>; READERS],
+    first: Result<ReaderJob, Stop>,
+    second: Result<ReaderJob, Stop>,
 ) -> Result<Jobs, Stop>
     requires writer { IfErr writer IsHeldUp }
-    requires readers { All (λ r. IfErr r IsClosed) readers }
+    requires first { IfErr first IsClosed }
+    requires second { IfErr second IsClosed }
     ensures writer { IfOk result (λ d. writer ≡ Ok d.writer) }
-    ensures readers { IfOk result (λ d. readers ≡ map Ok d.readers) }
+    ensures readers { IfOk result (λ d. first ∷ second ∷ [] ≡ map Ok d.readers) }
     ensures causes { IfErr result IsHeldUp }
     ensures memory_first { writer ≡ Err stop.OutOfMemory → result ≡ Err stop.OutOfMemory }
 {
-    let [one, two] = readers;
     let writer = writer?;
-    let one = one?;
-    let two = two?;
+    let first = first?;
+    let second = second?;
     Ok(Jobs {
         writer,
-        readers: [one, two],
+        readers: [first, second],
     })
 }
 
 // The jobs of the two readers.
-fn apart(readers: [ReaderJob; READERS]) -> (ReaderJob, ReaderJob)
+pub(crate) fn apart(readers: [ReaderJob; READERS]) -> (ReaderJob, ReaderJob)
     ensures both { readers ≡ result.0 ∷ result.1 ∷ [] }
 {
     let [first, second] = readers;
@@ -119,7 +120,7 @@ fn run_in<'s, E, G: Gate, R: Threads + Wait + Sync>(
     let (first, second) = apart(jobs.readers);
     let first = start_reader(scope, gate, first);
     let second = start_reader(scope, gate, second);
-    all_done(writer?.join(rt), [first?.join(rt), second?.join(rt)])
+    all_done(writer?.join(rt), first?.join(rt), second?.join(rt))
 }
 
 // Runs all threads at once, and answers once all that were started have ended: out of memory where one can't be

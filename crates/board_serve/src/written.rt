@@ -159,6 +159,12 @@ pub(crate) fn write_all<G: Gate, R: Wait>(
     ensures written { HasWritten job result }
 {
     let mut job = job;
-    write_orders(rt, gate, job.orders.as_slice(), &mut job.writer, &mut job.room)?;
+    write_orders(
+        rt,
+        gate,
+        job.orders.as_slice(),
+        &mut job.writer,
+        &mut job.room,
+    )?;
     Ok(job)
 }

@@ -131,7 +131,7 @@ fn read_in_order(served: &Served) -> bool {
             return false;
         }
     }
-    served.readings.len() == 2 && served.cuts.as_slice() == [1, 2, 3, 4, 5]
+    served.readings.len() == 2 && served.cuts.as_slice() == [1, 2, 3, 4, 5].as_slice()
 }
 
 fn runs_in_order<G: Gate, R: Threads + Wait + Sync>(rt: &R, alloc: Global, gate: &G) -> bool {

@@ -4,6 +4,8 @@ use Rattle.council_core.specs.Sequential.{Reply}
 use Rattle.board_text.specs.Replies.{reply_of}
 use Rattle.board_serve.specs.Plans.{lines_of_work, plan_of, plan_shown, told_by, work_lines}
 use Rattle.board_serve.proofs.ServeFacts.{WorkAsked, WorkAudited, fails-serve, held-input, serves-passed, told-input, whole-input}
+use Rattle.board_text.specs.declared.input.TheConstants.{INTERRUPTIONS}
+use Rattle.board_text.proofs.ReadingFacts.{retries-on, retries-passed}
 use Rattle.board_serve.proofs.serving.serve_to.Goals as goal
 
 pub returns-in_err-plan-clause-wrote : goal.returns-in_err-plan-clause-wrote
@@ -54,3 +56,16 @@ returns-clause-wrote g c = λ bytes is.
     let audited : WorkAudited (plan_shown plan) served c.in_ok-outcome.legal =
     record { served = done.served; records = c.in_ok-outcome.ensures.records; differs = c.in_ok-outcome.ensures.differs } in
     whole-input c.args.out.now.held c.tell.new.out.held c.in_ok-outcome.legal tt served spec _ asked audited c.in_ok-tell.ensures.wrote
+
+pub returns-in_err-plan-clause-retried : goal.returns-in_err-plan-clause-retried
+returns-in_err-plan-clause-retried g c =
+    let p = err_from_is_err_and c.from_residual.result c.from_residual.ensures.1 in
+    rw p.1 (retries-passed c.args.input.now c.read_plan.new.input INTERRUPTIONS (Unit {0}) (Unit {0}) c.in_err-plan.field-0.0 p.0 p.2 c.in_err-plan.ensures.retried)
+
+pub returns-in_err-outcome-clause-retried : goal.returns-in_err-outcome-clause-retried
+returns-in_err-outcome-clause-retried g c =
+    retries-on c.args.input.now c.read_plan.new.input INTERRUPTIONS c.from_residual-in_err-outcome.result c.in_ok-plan.ensures.retried
+
+pub returns-in_err-tell-clause-retried : goal.returns-in_err-tell-clause-retried
+returns-in_err-tell-clause-retried g c =
+    retries-on c.args.input.now c.read_plan.new.input INTERRUPTIONS c.from_residual-in_err-tell.result c.in_ok-plan.ensures.retried

@@ -1,9 +1,5 @@
-use Rattle.std.proofs.Common.{rules, ◌≡◌, List, length, take, arith, refl, ◌∙◌, subst}
-use Rattle.board_serve.proofs.WorkFacts.{all-written, written-more}
-use Rattle.std.proofs.Math.Seq.{take-length}
-use Rattle.board_serve.specs.Work.{IsWritten}
-use Rattle.board_serve.specs.declared.orders.Order.{Order}
-use Rattle.board_serve.specs.declared.written.Written.{Written}
+use Rattle.std.proofs.Common.{rules, arith}
+use Rattle.board_serve.proofs.WorkFacts.{written-more}
 use Rattle.board_serve.proofs.written.write_orders.Goals as goal
 
 pub loop-order-preserved : goal.loop-order-preserved
