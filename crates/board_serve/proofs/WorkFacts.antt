@@ -1,6 +1,6 @@
 -- The work of the threads, one record more at a time.
-use Rattle.std.proofs.Common.{◌≡◌, ◌+◌, ◌≤◌, ℕ, List, [], ◌∷◌, ◌++◌, length, map, take, Ok, Err, Result, refl, sym, ap, subst, ◌∙◌, arith, append_assoc}
-use Rattle.std.proofs.lemmas.List.{append-nil, length-append, map-append, take_more}
+use Rattle.std.proofs.Common.{◌≡◌, ◌+◌, ◌*◌, ◌≤◌, ℕ, List, [], ◌∷◌, ◌++◌, length, map, replicate, take, Ok, Err, Result, refl, sym, ap, subst, ◌∙◌, arith, append_assoc}
+use Rattle.std.proofs.lemmas.List.{append-nil, length-append, map-append, replicate-append-replicate, take_more}
 use Rattle.std.proofs.lemmas.List.Elements.{All-append, All-cons, All-nil}
 use Rattle.std.proofs.lemmas.Grind.{flat_map-append}
 use Rattle.std.specs.Prelude.{⊤}
@@ -12,15 +12,19 @@ use Rattle.council_core.specs.declared.refusals.Refusal.{Refusal}
 use Rattle.council_core.specs.Sheets.{front_of}
 use Rattle.majority_rule.specs.declared.majorities.Majority.{Majority}
 use Rattle.two_copy_steps.specs.Lawful.{last_front}
+use Rattle.two_copy_steps.specs.Stages.{reading_steps}
+use Rattle.two_copy_steps.specs.declared.events.Event.{Event}
+use Rattle.two_copy_steps.specs.declared.events.Event.TheVariants.{Reader}
 use Rattle.board_share.specs.Analysts.{AnalystSeen}
-use Rattle.board_share.specs.Readers.{IsLegalSheet, last_front_of}
+use Rattle.board_share.specs.Histories.{Adds, is_readers}
+use Rattle.board_share.specs.Readers.{IsLegalSheet, TookSteps, last_front_of, number_of}
+use Rattle.board_share.proofs.Histories.{longer_none}
+use Rattle.board_share.proofs.Prefixes.{adds_then}
 use Rattle.board_share.proofs.WholeReadings.{front_is}
 use Rattle.board_share.specs.Writers.{Publisher}
 use Rattle.board_text.specs.Replies.{reply_of}
-use Rattle.board_serve.specs.Jobs.{AreWritten}
 use Rattle.board_serve.specs.Parts.{call_of_order}
-use Rattle.board_serve.specs.Work.{IsRead, IsReadFrom, IsRising, IsWritten, cuts_of, cuts_of_reply, omega_at, omegas, register_of}
-use Rattle.board_serve.specs.declared.jobs.WriterJob.{WriterJob}
+use Rattle.board_serve.specs.Work.{HasNoneRead, IsRead, IsReadFrom, IsRising, IsWritten, cuts_of, cuts_of_reply, omega_at, omegas, register_of}
 use Rattle.board_serve.specs.declared.orders.Order.{Order}
 use Rattle.board_serve.specs.declared.readings.Readings.{Readings}
 use Rattle.board_text.specs.declared.replies.Answer.{Answer}
@@ -42,6 +46,7 @@ pub record CarriedOut (orders : List Order) (i : ℕ) (order : Order) (after nex
   pub stands : StandsAt orders i order
   pub replied : reply_of answer ≡ (respond (register_of after) (call_of_order order)).1
   pub register : register_of next ≡ (respond (register_of after) (call_of_order order)).0
+  pub table : next.table ≡ after.table
   pub answers : v.answers.items ≡ w.answers.items ++ answer ∷ []
   pub cuts : v.cuts.items ≡ w.cuts.items ++ cuts_of_reply (reply_of answer)
 
@@ -61,6 +66,7 @@ written-more before after next orders i o w v done one =
     record {
       answers = kept ∙ ap (λ (rs : List Reply). rs ++ reply_of a ∷ []) done.answers ∙ sym all;
       register = one.register ∙ ap (λ (t : Sequential). (respond t call).0) done.register ∙ sym (state-more s calls call) ∙ ap (state_after s) (sym more);
+      table = one.table ∙ done.table;
       cuts = one.cuts ∙ ap (λ (ns : List ℕ). ns ++ cuts_of_reply (reply_of a)) done.cuts ∙ sym (ap cuts_of all ∙ flat_map-append cuts_of_reply (replies_of s calls) (reply_of a ∷ []) ∙ ap (λ (ns : List ℕ). cuts_of (replies_of s calls) ++ ns) (append-nil (cuts_of_reply (reply_of a))));
     }
 
@@ -74,21 +80,9 @@ kept-one s publish = refl
 kept-one s read = refl
 
 -- no call changes the opening
-opening-kept : (s : Sequential) (calls : List Call) → (state_after s calls).ledger.opening ≡ s.ledger.opening
+pub opening-kept : (s : Sequential) (calls : List Call) → (state_after s calls).ledger.opening ≡ s.ledger.opening
 opening-kept s [] = refl
 opening-kept s (call ∷ calls) = opening-kept (respond s call).0 calls ∙ kept-one s call
-
--- all orders are carried out, and the journal is the writer's
-pub all-written : (job : WriterJob) (after : Publisher) (w v : Written) → IsWritten job.writer job.orders.items after w → v.answers.items ≡ w.answers.items → v.cuts.items ≡ w.cuts.items
-    → v.journal.items ≡ after.ledger.journal → IsLegal after.ledger.opening v.journal.items → AreWritten job v
-all-written job after w v done answers cuts journal legal =
-    let calls = map call_of_order job.orders.items in
-    record {
-      answers = ap (map reply_of) answers ∙ done.answers;
-      cuts = cuts ∙ done.cuts;
-      journal = journal ∙ ap (λ (s : Sequential). s.ledger.journal) done.register;
-      legal = subst (λ (l : Opening). IsLegal l v.journal.items) (ap (λ (s : Sequential). s.ledger.opening) done.register ∙ opening-kept (register_of job.writer) calls) legal;
-    }
 
 pub last-more : (low : ℕ) (xs ys : List (List ℕ)) → last_front low (xs ++ ys) ≡ last_front (last_front low xs) ys
 last-more low [] ys = refl
@@ -100,10 +94,33 @@ rising-more low (x ∷ xs) w r above = (r.0, rising-more (front_of x) xs w r.1 a
 
 -- one sheet more was read: it is of some legal list, and not older than the one before
 pub record SheetRead (after next : AnalystSeen) : Type 0 where
+  pub table : next.reader.table ≡ after.reader.table
+  pub number : number_of next.reader ≡ number_of after.reader
+  pub steps : TookSteps reading_steps after.reader next.reader
   pub opening : next.reader.opening ≡ after.reader.opening
   pub grown : next.reader.readings ≡ after.reader.readings ++ next.sheet ∷ []
   pub legal : IsLegalSheet after.reader.opening next.sheet
   pub not_older : last_front_of after.reader ≤ front_of next.sheet
+
+-- the steps of the readings of some sheets, and of one sheet more
+steps-more : (n : ℕ) (sheets more : List (List ℕ)) (words : List ℕ) → more ≡ sheets ++ words ∷ []
+    → replicate (length sheets * reading_steps) (Reader n) ++ replicate reading_steps (Reader n) ≡ replicate (length more * reading_steps) (Reader n)
+steps-more n sheets more words is =
+    let long : length more ≡ length sheets + 1 = ap length is ∙ length-append sheets (words ∷ []) in
+    replicate-append-replicate (length sheets * reading_steps) reading_steps (Reader n) ∙ ap (λ (k : ℕ). replicate k (Reader n)) (omega arith)
+
+-- no reading was asked for yet
+pub none-read : (before : AnalystSeen) (readings : Readings) → HasNoneRead readings → IsReadFrom before before readings
+none-read before readings empty =
+    record {
+      table = refl;
+      number = refl;
+      steps = rw empty.0 record { events = []; longer_by = sym (longer_none before.reader.history); own_are = refl };
+      opening = refl;
+      grown = rw empty.0 (sym (append-nil before.reader.readings));
+      legal = rw empty.0 (All-nil (IsLegalSheet before.reader.opening));
+      rising = rw empty.0 tt;
+    }
 
 -- one sheet more was read and kept
 pub read-more : (before after next : AnalystSeen) (r v : Readings) → IsReadFrom before after r → SheetRead after next → v.sheets.items ≡ r.sheets.items ++ next.sheet ∷ [] → IsReadFrom before next v
@@ -111,7 +128,14 @@ read-more before after next r v done one sheets =
     let above : last_front 0 after.reader.readings ≤ front_of next.sheet = subst (λ (n : ℕ). n ≤ front_of next.sheet) (sym (front_is 0 after.reader.readings)) one.not_older in
     let low : last_front (last_front 0 before.reader.readings) r.sheets.items ≡ last_front 0 after.reader.readings =
     sym (last-more 0 before.reader.readings r.sheets.items) ∙ ap (last_front 0) (sym done.grown) in
+    let n : ℕ = number_of before.reader in
+    let own : Adds (is_readers n) (replicate reading_steps (Reader n)) after.reader.history next.reader.history =
+    subst (λ (m : ℕ). Adds (is_readers m) (replicate reading_steps (Reader m)) after.reader.history next.reader.history) done.number one.steps.adds in
     record {
+      table = one.table ∙ done.table;
+      number = one.number ∙ done.number;
+      steps = subst (λ (l : List Event). Adds (is_readers n) l before.reader.history next.reader.history) (steps-more n r.sheets.items v.sheets.items next.sheet sheets)
+          (adds_then (is_readers n) before.reader.history after.reader.history next.reader.history _ _ done.steps own);
       opening = one.opening ∙ done.opening;
       grown = one.grown ∙ ap (λ (l : List (List ℕ)). l ++ next.sheet ∷ []) done.grown ∙ append_assoc before.reader.readings r.sheets.items (next.sheet ∷ []) ∙ ap (λ (l : List (List ℕ)). before.reader.readings ++ l) (sym sheets);
       legal = rw sheets (All-append (IsLegalSheet before.reader.opening) r.sheets.items (next.sheet ∷ []) done.legal (All-cons (IsLegalSheet before.reader.opening) next.sheet [] (rw done.opening at one.legal) (All-nil (IsLegalSheet before.reader.opening))));

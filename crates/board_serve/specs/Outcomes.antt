@@ -7,7 +7,7 @@ use Rattle.board_share.specs.Readers.{IsLegalSheet}
 use Rattle.board_text.specs.Replies.{reply_of}
 use Rattle.board_serve.specs.Plans.{Planned, calls_of, told_by}
 use Rattle.board_serve.specs.Work.{IsRising, cuts_of, omegas}
-use Rattle.board_serve.specs.declared.jobs.Done.{Done}
+use Rattle.board_serve.specs.declared.jobs.Jobs.{Jobs}
 use Rattle.board_serve.specs.declared.outcomes.Outcome.{Outcome}
 use Rattle.board_serve.specs.declared.served.Served.{Served}
 
@@ -19,13 +19,14 @@ sheets_of s = map (λ v. v.items) s.readings.items
 abbrev pub winning_of : Served → List (List ℕ)
 winning_of s = map (λ v. v.items) s.winning.items
 
--- what the threads brought back, put together
-pub record IsBrought (done : Done) (o : Outcome) : Type 0 where
-  pub answers : o.answers.items ≡ done.written.answers.items
-  pub journal : o.served.journal.items ≡ done.written.journal.items
-  pub cuts : o.served.cuts.items ≡ done.written.cuts.items
-  pub readings : sheets_of o.served ≡ map (λ r. r.sheets.items) done.read
-  pub winning : winning_of o.served ≡ map (λ r. r.winning.items) done.read
+-- what the threads brought back, put together: the journal is the writer's own
+pub record IsBrought (done : Jobs) (o : Outcome) : Type 0 where
+  pub answers : o.answers.items ≡ done.writer.room.answers.items
+  pub journal : o.served.journal.items ≡ done.writer.writer.ledger.journal
+  pub legal : IsLegal done.writer.writer.ledger.opening o.served.journal.items
+  pub cuts : o.served.cuts.items ≡ done.writer.room.cuts.items
+  pub readings : sheets_of o.served ≡ map (λ j. j.room.sheets.items) done.readers
+  pub winning : winning_of o.served ≡ map (λ j. j.room.winning.items) done.readers
 
 -- by reader, omega of each sheet at its record's majority
 abbrev pub omegas_by : List (List Majority) → List (List (List ℕ)) → List (List ℕ)

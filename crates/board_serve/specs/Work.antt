@@ -1,5 +1,5 @@
 -- What the threads of a run do.
-use Rattle.std.specs.Prelude.{◌≡◌, ℕ, ◌≤◌, ◌⊎◌, ◌++◌, List, [], ◌∷◌, length, map, All}
+use Rattle.std.specs.Prelude.{◌≡◌, ℕ, ◌≤◌, ◌*◌, ◌⊎◌, ◌++◌, List, [], ◌∷◌, length, map, replicate, All}
 use Rattle.std.specs.List.{flat_map}
 use Rattle.std.specs.Vec.{vec_capacity}
 use Rattle.council_core.specs.Coalitions.{omega_of}
@@ -10,8 +10,11 @@ use Rattle.council_core.specs.declared.refusals.Refusal.TheVariants as why
 use Rattle.majority_rule.specs.Winning.{rule_of}
 use Rattle.majority_rule.specs.declared.majorities.Majority.{Majority}
 use Rattle.two_copy_steps.specs.Lawful.{last_front}
+use Rattle.two_copy_steps.specs.Stages.{reading_steps}
+use Rattle.two_copy_steps.specs.declared.events.Event.TheVariants.{Reader}
 use Rattle.board_share.specs.Analysts.{AnalystSeen}
-use Rattle.board_share.specs.Readers.{IsLegalSheet}
+use Rattle.board_share.specs.Histories.{Adds, is_readers}
+use Rattle.board_share.specs.Readers.{IsLegalSheet, number_of}
 use Rattle.board_share.specs.Writers.{Publisher}
 use Rattle.board_text.specs.Replies.{reply_of}
 use Rattle.board_serve.specs.Parts.{call_of_order}
@@ -45,17 +48,28 @@ IsClosed e = e ≡ stop.Told (fault_at why.GateClosed 0)
 abbrev pub IsHeldUp : Stop → Type 0
 IsHeldUp e = (e ≡ stop.OutOfMemory) ⊎ IsClosed e
 
--- room for so many answers and cuts
+-- no answer is kept yet
+abbrev pub HasNoneWritten : Written → Type 0
+HasNoneWritten w = (w.answers.items ≡ []) × (w.cuts.items ≡ [])
+
+-- room for n answers and cuts
 abbrev pub HasRoomToWrite : Written → ℕ → Type 0
 HasRoomToWrite w n = (n ≤ vec_capacity w.answers) × (n ≤ vec_capacity w.cuts)
 
--- what the sequential register replies to these orders, how it stands after them, and what its publications answered
+-- a writer carried out these orders: its answers are what the sequential register replies to them, the writer's own
+-- register and published commands are those after them, the cuts are what its publications answered, and it writes to
+-- the table of before
 pub record IsWritten (before : Publisher) (orders : List Order) (after : Publisher) (written : Written) : Type 0 where
   pub answers : map reply_of written.answers.items ≡ replies_of (register_of before) (map call_of_order orders)
   pub register : register_of after ≡ state_after (register_of before) (map call_of_order orders)
   pub cuts : written.cuts.items ≡ cuts_of (replies_of (register_of before) (map call_of_order orders))
+  pub table : after.table ≡ before.table
 
--- room for so many sheets and numbers
+-- no sheet is kept yet
+abbrev pub HasNoneRead : Readings → Type 0
+HasNoneRead r = (r.sheets.items ≡ []) × (r.winning.items ≡ [])
+
+-- room for n sheets and numbers
 abbrev pub HasRoomToRead : Readings → ℕ → Type 0
 HasRoomToRead r n = (n ≤ vec_capacity r.sheets) × (n ≤ vec_capacity r.winning)
 
@@ -74,8 +88,14 @@ abbrev pub IsRising : ℕ → List (List ℕ) → Type 0
 IsRising low [] = Unit {0}
 IsRising low (words ∷ sheets) = (low ≤ front_of words) × IsRising (front_of words) sheets
 
--- the sheets are those by which the reader's record grew: each of some legal list, with fronts that don't fall
+-- a reader of one table took one whole reading for each sheet and no other step: the sheets are those by which its
+-- record grew, each of some legal list, with fronts that don't fall
 pub record IsReadFrom (before after : AnalystSeen) (readings : Readings) : Type 0 where
+  pub table : after.reader.table ≡ before.reader.table
+  pub number : number_of after.reader ≡ number_of before.reader
+  pub steps : Adds (is_readers (number_of before.reader))
+      (replicate (length readings.sheets.items * reading_steps) (Reader (number_of before.reader)))
+      before.reader.history after.reader.history
   pub opening : after.reader.opening ≡ before.reader.opening
   pub grown : after.reader.readings ≡ before.reader.readings ++ readings.sheets.items
   pub legal : All (IsLegalSheet before.reader.opening) readings.sheets.items

@@ -1,4 +1,4 @@
-//! What each thread is asked, and what it brings back.
+//! The job of each thread. A thread gives its job back once it is done, with what results from it.
 ghost use Rattle.std.specs.Prelude.{◌≡◌, ◌<◌, ◌^◌, vec_len, IfOk, IsOkUnless};
 ghost use Rattle.two_copy_steps.specs.declared.views.Stage.TheVariants.{AtRest};
 ghost use Rattle.board_serve.specs.Jobs.{CanAsk, CanWrite};
@@ -13,7 +13,7 @@ use board_text::Stop;
 use majority_rule::Majority;
 use std::alloc::Global;
 
-// The job of the writer's thread: its records, and the room for what comes of them.
+// The job of the writer's thread: its records, and the room for its answers.
 #[derive(Drop)]
 pub(crate) struct WriterJob {
     pub(crate) writer: Writer,
@@ -37,15 +37,8 @@ pub(crate) struct Jobs {
     pub(crate) readers: [ReaderJob; READERS],
 }
 
-// What all threads bring back.
-#[derive(Drop)]
-pub(crate) struct Done {
-    pub(crate) written: Written,
-    pub(crate) read: [Readings; READERS],
-}
-
 impl WriterJob {
-    // The job of a writer, with room for what comes of it.
+    // The job of a writer, with room for its answers.
     pub(crate) fn new(alloc: Global, writer: Writer, orders: Vec<Order>) -> Result<WriterJob, Stop>
         requires few { vec_len orders < 2 ^ 32 }
         ensures ready { IfOk result CanWrite }
@@ -65,7 +58,7 @@ impl WriterJob {
 }
 
 impl ReaderJob {
-    // The job of a reader, with room to count indices, and for what comes of it.
+    // The job of a reader, with room to count indices, and for what it reads.
     pub(crate) fn new(
         alloc: Global,
         reader: Reader,
@@ -91,5 +84,13 @@ impl ReaderJob {
             asked,
             room,
         })
+    }
+
+    // What the reader read.
+    pub(crate) fn into_room(self) -> Readings
+        ensures same { result ≡ self.room }
+    {
+        let ReaderJob { room, .. } = self;
+        room
     }
 }

@@ -6,7 +6,7 @@ ghost use Rattle.board_serve.specs.Parts.{shares_of, size_of};
 ghost use Rattle.board_serve.specs.Work.{IsHeldUp};
 
 use crate::gates::Gate;
-use crate::jobs::Done;
+use crate::jobs::{Jobs, WriterJob};
 use crate::parts::Parts;
 use crate::seats::seat_all;
 use crate::served::Served;
@@ -24,23 +24,30 @@ pub(crate) struct Outcome {
     pub(crate) served: Served,
 }
 
-// Puts together what the threads brought back.
-fn put_together(alloc: Global, done: Done) -> Result<Outcome, AllocError>
+// Puts together what the threads brought back: the writer's journal, its answers, and what each reader read.
+fn put_together(alloc: Global, done: Jobs) -> Result<Outcome, AllocError>
     ensures brought { IfOk result (IsBrought done) }
 {
-    let Done {
-        written,
-        read: [first, second],
+    let Jobs {
+        writer: job,
+        readers: [first, second],
     } = done;
-    let readings = Vec::from_array(alloc, [first.sheets, second.sheets])?;
-    let winning = Vec::from_array(alloc, [first.winning, second.winning])?;
+    let WriterJob {
+        writer,
+        room: written,
+        ..
+    } = job;
+    let first = first.into_room();
+    let second = second.into_room();
+    let mut journal = Vec::new(alloc);
+    journal.extend_from_slice(writer.journal())?;
     Ok(Outcome {
         answers: written.answers,
         served: Served {
-            journal: written.journal,
+            journal,
             cuts: written.cuts,
-            readings,
-            winning,
+            readings: Vec::from_array(alloc, [first.sheets, second.sheets])?,
+            winning: Vec::from_array(alloc, [first.winning, second.winning])?,
         },
     })
 }

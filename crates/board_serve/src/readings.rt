@@ -1,13 +1,15 @@
 //! The work of a reader's thread.
 ghost use Rattle.std.specs.Prelude.{◌≡◌, ◌<◌, ◌+◌, ◌^◌, [], length, IfOk, IfErr, OnOk};
 ghost use Rattle.board_serve.specs.Jobs.{CanAsk, HasAsked};
-ghost use Rattle.board_serve.specs.Work.{HasRoomToRead};
+ghost use Rattle.board_serve.specs.Work.{HasNoneRead, HasRoomToRead, IsClosed, IsRead, IsReadFrom};
 
 use crate::gates::{Gate, Place};
 use crate::jobs::ReaderJob;
 use crate::written::pass;
+use board_share::Analyst;
 use board_text::Stop;
 use council_core::Sheet;
+use majority_rule::Majority;
 use std::alloc::{AllocError, Global};
 
 // The sheets that a reader read, and the number of winning coalitions that it answered for each.
@@ -18,32 +20,36 @@ pub(crate) struct Readings {
 }
 
 impl Readings {
-    // Room for so many records.
-    pub(crate) fn with_room(alloc: Global, asked: usize) -> Result<Readings, AllocError>
+    // Room for n records.
+    pub(crate) fn with_room(alloc: Global, n: usize) -> Result<Readings, AllocError>
         ensures sheets { IfOk result (λ r. r.sheets.items ≡ []) }
         ensures winning { IfOk result (λ r. r.winning.items ≡ []) }
-        ensures room { IfOk result (λ r. HasRoomToRead r asked) }
+        ensures room { IfOk result (λ r. HasRoomToRead r n) }
     {
         Ok(Readings {
-            sheets: Vec::with_capacity(alloc, asked)?,
-            winning: Vec::with_capacity(alloc, asked)?,
+            sheets: Vec::with_capacity(alloc, n)?,
+            winning: Vec::with_capacity(alloc, n)?,
         })
     }
 }
 
-// Does a reader's job: asks at its majorities in order.
-pub(crate) fn ask_all<G: Gate>(gate: &G, job: ReaderJob) -> Result<Readings, Stop>
-    requires ready { CanAsk job }
-    ensures asked { HasAsked job result }
+// Asks at these majorities in order, one reading each.
+fn ask_in_order<G: Gate>(
+    gate: &G,
+    number: u8,
+    asked: &[Majority],
+    analyst: &mut Analyst,
+    readings: &mut Readings,
+) -> Result<(), Stop>
+    requires few { length asked.now < 2 ^ 32 }
+    requires empty { HasNoneRead readings.old }
+    requires room { HasRoomToRead readings.old (length asked.now) }
+    ensures grown { OnOk result (IsReadFrom analyst.old analyst.new readings.new) }
+    ensures read { OnOk result (IsRead asked.now readings.new) }
+    ensures closed { IfErr result IsClosed }
 {
-    let ReaderJob {
-        mut analyst,
-        number,
-        asked,
-        room: mut readings,
-    } = job;
     let mut count: u32 = 0;
-    for majority in asked.as_slice() {
+    for majority in asked {
         count += 1;
         pass(gate, Place::BeforeReading(number, count))?;
         let indices = analyst.ask(*majority);
@@ -51,5 +57,15 @@ pub(crate) fn ask_all<G: Gate>(gate: &G, job: ReaderJob) -> Result<Readings, Sto
         readings.winning.push_reserved(indices.winning);
         pass(gate, Place::AfterReading(number, count))?;
     }
-    Ok(readings)
+    Ok(())
+}
+
+// Does a reader's job, and gives it back.
+pub(crate) fn ask_all<G: Gate>(gate: &G, job: ReaderJob) -> Result<ReaderJob, Stop>
+    requires ready { CanAsk job }
+    ensures asked { HasAsked job result }
+{
+    let mut job = job;
+    ask_in_order(gate, job.number, job.asked.as_slice(), &mut job.analyst, &mut job.room)?;
+    Ok(job)
 }

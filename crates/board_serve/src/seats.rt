@@ -33,10 +33,11 @@ pub(crate) fn seat_all(alloc: Global, register: Register, parts: Parts) -> Resul
     ensures memory { IsOkUnless result stop.OutOfMemory }
 
     // The writer and each reader are those of the board's start, with their records.
-    ensures writer { IfOk result (λ j. j.writer.writer ≡ new_publisher register READERS) }
+    ensures writer { IfOk result (λ j. j.writer.writer ≡ new_publisher j.writer.writer.table register READERS) }
     ensures orders { IfOk result (λ j. j.writer.orders ≡ parts.writer) }
     ensures readers { IfOk result
-        (λ j. map (λ r. r.analyst.reader) j.readers ≡ new_readers (beginning_of register READERS) READERS) }
+        (λ j. map (λ r. r.analyst.reader) j.readers
+        ≡ new_readers j.writer.writer.table (beginning_of register READERS) READERS) }
     ensures asked { IfOk result (λ j. map (λ r. r.asked) j.readers ≡ parts.asked) }
 {
     let Ok((writer, readers)) = start(alloc, register, READERS as u8) else {

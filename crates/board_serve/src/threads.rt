@@ -5,29 +5,29 @@ ghost use Rattle.board_serve.specs.Work.{IsClosed, IsHeldUp};
 ghost use Rattle.board_text.specs.declared.stops.Stop.TheVariants as stop;
 
 use crate::gates::Gate;
-use crate::jobs::{Done, Jobs, ReaderJob, WriterJob};
+use crate::jobs::{Jobs, ReaderJob, WriterJob};
 use crate::parts::READERS;
-use crate::readings::{Readings, ask_all};
-use crate::written::{Written, write_all};
+use crate::readings::ask_all;
+use crate::written::write_all;
 use board_text::Stop;
 use std::snapshot::Snapshot;
 use std::sync::Wait;
 use std::thread;
 use std::thread::{Promise, PromisedHandle, Scope, Threads};
 
-// The writer's thread brings back what its job asks.
+// The writer's thread gives its job back, done.
 #[derive(Drop)]
 struct WillWrite(Snapshot<WriterJob>);
 
-impl Promise<Result<Written, Stop>> for WillWrite {
+impl Promise<Result<WriterJob, Stop>> for WillWrite {
     ghost kept_by = { λ p r. HasWritten p.0.value r };
 }
 
-// A reader's thread brings back what its job asks.
+// A reader's thread gives its job back, done.
 #[derive(Drop)]
 struct WillAsk(Snapshot<ReaderJob>);
 
-impl Promise<Result<Readings, Stop>> for WillAsk {
+impl Promise<Result<ReaderJob, Stop>> for WillAsk {
     ghost kept_by = { λ p r. HasAsked p.0.value r };
 }
 
@@ -37,13 +37,13 @@ fn start_writer<'s, E, G: Gate, R: Wait + Sync>(
     rt: &'s R,
     gate: &'s G,
     job: WriterJob,
-) -> Result<PromisedHandle<Result<Written, Stop>, WillWrite>, Stop>
+) -> Result<PromisedHandle<Result<WriterJob, Stop>, WillWrite>, Stop>
     requires ready { CanWrite job }
     ensures promise { IfOk result (λ h. h.promise.0.value ≡ job) }
     ensures memory { IsOkUnless result stop.OutOfMemory }
 {
     let promise = WillWrite(Snapshot::of(&job));
-    let work = move || -> Result<Written, Stop>
+    let work = move || -> Result<WriterJob, Stop>
         requires ready { CanWrite job }
         ensures written { HasWritten job result }
     { write_all(rt, gate, job) };
@@ -58,13 +58,13 @@ fn start_reader<'s, E, G: Gate>(
     scope: &Scope<'s, E>,
     gate: &'s G,
     job: ReaderJob,
-) -> Result<PromisedHandle<Result<Readings, Stop>, WillAsk>, Stop>
+) -> Result<PromisedHandle<Result<ReaderJob, Stop>, WillAsk>, Stop>
     requires ready { CanAsk job }
     ensures promise { IfOk result (λ h. h.promise.0.value ≡ job) }
     ensures memory { IsOkUnless result stop.OutOfMemory }
 {
     let promise = WillAsk(Snapshot::of(&job));
-    let work = move || -> Result<Readings, Stop>
+    let work = move || -> Result<ReaderJob, Stop>
         requires ready { CanAsk job }
         ensures asked { HasAsked job result }
     { ask_all(gate, job) };
@@ -74,22 +74,25 @@ fn start_reader<'s, E, G: Gate>(
     }
 }
 
-// What all brought back, where none was held up; else why the first in this order was.
+// The jobs of all, where none was held up; else why the first in this order was.
 fn all_done(
-    written: Result<Written, Stop>,
-    read: [Result<Readings, Stop>; READERS],
-) -> Result<Done, Stop>
-    requires writer { IfErr written IsHeldUp }
-    requires readers { All (λ r. IfErr r IsClosed) read }
-    ensures written { IfOk result (λ d. written ≡ Ok d.written) }
-    ensures read { IfOk result (λ d. read ≡ map Ok d.read) }
+    writer: Result<WriterJob, Stop>,
+    readers: [Result<ReaderJob, Stop>; READERS],
+) -> Result<Jobs, Stop>
+    requires writer { IfErr writer IsHeldUp }
+    requires readers { All (λ r. IfErr r IsClosed) readers }
+    ensures writer { IfOk result (λ d. writer ≡ Ok d.writer) }
+    ensures readers { IfOk result (λ d. readers ≡ map Ok d.readers) }
     ensures causes { IfErr result IsHeldUp }
-    ensures memory_first { written ≡ Err stop.OutOfMemory → result ≡ Err stop.OutOfMemory }
+    ensures memory_first { writer ≡ Err stop.OutOfMemory → result ≡ Err stop.OutOfMemory }
 {
-    let [first, second] = read;
-    Ok(Done {
-        written: written?,
-        read: [first?, second?],
+    let [one, two] = readers;
+    let writer = writer?;
+    let one = one?;
+    let two = two?;
+    Ok(Jobs {
+        writer,
+        readers: [one, two],
     })
 }
 
@@ -107,7 +110,7 @@ fn run_in<'s, E, G: Gate, R: Threads + Wait + Sync>(
     rt: &'s R,
     gate: &'s G,
     jobs: Jobs,
-) -> Result<Done, Stop>
+) -> Result<Jobs, Stop>
     requires ready { AreReady jobs }
     ensures done { IfOk result (AreDone jobs) }
     ensures causes { IfErr result IsHeldUp }
@@ -125,7 +128,7 @@ pub(crate) fn run_all<G: Gate, R: Threads + Wait + Sync>(
     rt: &R,
     gate: &G,
     jobs: Jobs,
-) -> Result<Done, Stop>
+) -> Result<Jobs, Stop>
     requires ready { AreReady jobs }
     ensures done { IfOk result (AreDone jobs) }
     ensures causes { IfErr result IsHeldUp }
@@ -133,7 +136,7 @@ pub(crate) fn run_all<G: Gate, R: Threads + Wait + Sync>(
     thread::scope(
         thread::scope_env(),
         rt,
-        |scope| -> Result<Done, Stop>
+        |scope| -> Result<Jobs, Stop>
             requires ready { AreReady jobs }
             ensures done { IfOk result (AreDone jobs) }
             ensures causes { IfErr result IsHeldUp }

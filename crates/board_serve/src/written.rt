@@ -6,7 +6,8 @@ ghost use Rattle.council_core.specs.Sequential.{respond, submit};
 ghost use Rattle.board_text.specs.Replies.{reply_of};
 ghost use Rattle.board_serve.specs.Jobs.{CanWrite, HasWritten};
 ghost use Rattle.board_serve.specs.Parts.{call_of_order};
-ghost use Rattle.board_serve.specs.Work.{HasRoomToWrite, IsClosed, IsHeldUp, cuts_of_reply, register_of};
+ghost use Rattle.board_serve.specs.Work.{HasNoneWritten, HasRoomToWrite, IsClosed, IsHeldUp, IsWritten, cuts_of_reply};
+ghost use Rattle.board_serve.specs.Work.{register_of};
 ghost use Rattle.board_text.specs.declared.stops.Stop.TheVariants as stop;
 
 use crate::gates::{Gate, Place};
@@ -18,27 +19,23 @@ use council_core::{Command, Refusal};
 use std::alloc::{AllocError, Global};
 use std::sync::Wait;
 
-// The answers to the writer's records, the numbers that its publications answered, and, once all are carried out, the
-// journal.
+// The answers to the writer's records, and the numbers that its publications answered.
 #[derive(Drop)]
 pub(crate) struct Written {
-    pub(crate) journal: Vec<Command>,
     pub(crate) answers: Vec<Answer>,
     pub(crate) cuts: Vec<u32>,
 }
 
 impl Written {
-    // Room for so many records.
-    pub(crate) fn with_room(alloc: Global, orders: usize) -> Result<Written, AllocError>
-        ensures journal { IfOk result (λ w. w.journal.items ≡ []) }
+    // Room for n records.
+    pub(crate) fn with_room(alloc: Global, n: usize) -> Result<Written, AllocError>
         ensures answers { IfOk result (λ w. w.answers.items ≡ []) }
         ensures cuts { IfOk result (λ w. w.cuts.items ≡ []) }
-        ensures room { IfOk result (λ w. HasRoomToWrite w orders) }
+        ensures room { IfOk result (λ w. HasRoomToWrite w n) }
     {
         Ok(Written {
-            journal: Vec::new(alloc),
-            answers: Vec::with_capacity(alloc, orders)?,
-            cuts: Vec::with_capacity(alloc, orders)?,
+            answers: Vec::with_capacity(alloc, n)?,
+            cuts: Vec::with_capacity(alloc, n)?,
         })
     }
 
@@ -48,7 +45,6 @@ impl Written {
         requires cuts_fit { vec_len self.old.cuts < vec_capacity self.old.cuts }
 
         // The answer, and what it says of a publication.
-        ensures journal { self.new.journal ≡ self.old.journal }
         ensures answers { self.new.answers.items ≡ self.old.answers.items ++ answer ∷ [] }
         ensures cuts { self.new.cuts.items ≡ self.old.cuts.items ++ cuts_of_reply (reply_of answer) }
 
@@ -69,6 +65,7 @@ impl Written {
 fn submit(writer: &mut Writer, command: Command) -> Result<Answer, Stop>
     ensures replied { IfOk result (λ a. reply_of a ≡ (respond (register_of writer.old) (submit command)).1) }
     ensures after { OnOk result (register_of writer.new ≡ (respond (register_of writer.old) (submit command)).0) }
+    ensures table { writer.new.table ≡ writer.old.table }
     ensures memory { IsOkUnless result stop.OutOfMemory }
 {
     match writer.submit(command) {
@@ -83,6 +80,7 @@ fn obey<R: Wait>(rt: &R, writer: &mut Writer, order: Order) -> Result<Answer, St
     ensures replied { IfOk result (λ a. reply_of a ≡ (respond (register_of writer.old) (call_of_order order)).1) }
     ensures after { OnOk result
         (register_of writer.new ≡ (respond (register_of writer.old) (call_of_order order)).0) }
+    ensures table { writer.new.table ≡ writer.old.table }
     ensures memory { IsOkUnless result stop.OutOfMemory }
 {
     match order {
@@ -103,6 +101,7 @@ fn obey_past<G: Gate, R: Wait>(
     ensures replied { IfOk result (λ a. reply_of a ≡ (respond (register_of writer.old) (call_of_order order)).1) }
     ensures after { OnOk result
         (register_of writer.new ≡ (respond (register_of writer.old) (call_of_order order)).0) }
+    ensures table { writer.new.table ≡ writer.old.table }
     ensures causes { IfErr result IsHeldUp }
     ensures counted { publications.new ≤ publications.old + 1 }
 {
@@ -128,23 +127,38 @@ pub(crate) fn pass<G: Gate>(gate: &G, at: Place) -> Result<(), Stop>
     }
 }
 
-// Does the writer's job: carries out its records in order.
-pub(crate) fn write_all<G: Gate, R: Wait>(rt: &R, gate: &G, job: WriterJob) -> Result<Written, Stop>
+// Carries out the writer's records in order.
+fn write_orders<G: Gate, R: Wait>(
+    rt: &R,
+    gate: &G,
+    orders: &[Order],
+    writer: &mut Writer,
+    written: &mut Written,
+) -> Result<(), Stop>
+    requires few { length orders.now < 2 ^ 32 }
+    requires empty { HasNoneWritten written.old }
+    requires room { HasRoomToWrite written.old (length orders.now) }
+    ensures written { OnOk result (IsWritten writer.old orders.now writer.new written.new) }
+    ensures causes { IfErr result IsHeldUp }
+{
+    let mut publications: u32 = 0;
+    for order in orders {
+        let answer = obey_past(rt, gate, writer, *order, &mut publications)?;
+        written.add(answer);
+    }
+    Ok(())
+}
+
+// Does the writer's job, and gives it back.
+pub(crate) fn write_all<G: Gate, R: Wait>(
+    rt: &R,
+    gate: &G,
+    job: WriterJob,
+) -> Result<WriterJob, Stop>
     requires ready { CanWrite job }
     ensures written { HasWritten job result }
 {
-    let WriterJob {
-        mut writer,
-        orders,
-        room: mut written,
-    } = job;
-    let mut publications: u32 = 0;
-    for order in orders.as_slice() {
-        let answer = obey_past(rt, gate, &mut writer, *order, &mut publications)?;
-        written.add(answer);
-    }
-    match written.journal.extend_from_slice(writer.journal()) {
-        Ok(()) => Ok(written),
-        Err(_) => Err(Stop::OutOfMemory),
-    }
+    let mut job = job;
+    write_orders(rt, gate, job.orders.as_slice(), &mut job.writer, &mut job.room)?;
+    Ok(job)
 }

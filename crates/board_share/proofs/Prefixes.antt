@@ -12,7 +12,11 @@ use Rattle.board_share.specs.declared.views.History.{History}
 use Rattle.board_share.specs.declared.views.View.{View}
 use Rattle.board_share.specs.Histories.{longer, is_writers, is_readers, Adds}
 use Rattle.board_share.specs.Seats.{Part, as_reader}
-use Rattle.board_share.specs.Rule.{KnowsPrefix}
+use Rattle.atomic_table.specs.Table as table
+use Rattle.board_share.specs.Laws.{IsKnownIn, SeatsReader, SeatsWriter}
+use Rattle.board_share.specs.Readers.{ReaderSeen, seat_view}
+use Rattle.board_share.specs.Rule.{IsAfter, KnowsPrefix}
+use Rattle.board_share.specs.Writers.{Publisher}
 use Rattle.board_share.proofs.Histories.{longer_none, longer_twice}
 
 -- of some events none is of those for whom a seat stands
@@ -90,3 +94,13 @@ prefix_or_prefix v w whole f g =
     (λ (t : (more : List Event) × (w.history.events ≡ v.history.events ++ more)). inl (t.0, (λ i. record { begun = sym begun i; events = t.1 i })))
     (λ (t : (more : List Event) × (v.history.events ≡ w.history.events ++ more)). inr (t.0, (λ i. record { begun = begun i; events = t.1 i })))
     (one_is_prefix v.history.events w.history.events f.rest g.rest (ap (λ (h : History). h.events) same))
+
+-- the history that a reader or the writer knows is a prefix of the whole one
+pub known_prefix : (s : table.State Unit View) (whole : History) → IsAfter whole s → (h : History) → IsKnownIn s h → (rest : List Event) × (whole ≡ longer h rest)
+known_prefix s whole after h known =
+    let begins : (v : View) → KnowsPrefix v whole → v.history ≡ h → (rest : List Event) × (whole ≡ longer h rest) =
+    λ v k same. (k.rest, k.whole_is ∙ ap (λ (x : History). longer x k.rest) same) in
+    ⊎_elim
+    (λ (t : (p : ReaderSeen) × SeatsReader s p × (p.history ≡ h)). begins (seat_view t.0) (after.prefixes t.1.0 (seat_view t.0) t.1.1) t.2)
+    (λ (t : (b : Publisher) × SeatsWriter s b × (b.history ≡ h)). begins t.1.1 (after.prefixes t.1.0 t.1.1 t.1.2) (t.1.3.history ∙ t.2))
+    known

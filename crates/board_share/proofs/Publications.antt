@@ -51,13 +51,14 @@ pub knows_after : (d d' : WriterSeen) (found : ℕ) (p : Phase) → Wrote d d' f
 knows_after d d' found p w e = w.knows ∙ ap (λ (q : Phase). (action_in d.ledger.opening (known_at d) q).after found) e
 
 pub way_on : (a b c : WriterSeen) → Underway a b → Underway b c → Underway a c
-way_on a b c x y = record { ledger = y.ledger ∙ x.ledger; side = y.side ∙ x.side; published = y.published ∙ x.published; taken = y.taken ∙ x.taken; cuts = y.cuts ∙ x.cuts }
+way_on a b c x y = record { table = y.table ∙ x.table; ledger = y.ledger ∙ x.ledger; side = y.side ∙ x.side; published = y.published ∙ x.published; taken = y.taken ∙ x.taken; cuts = y.cuts ∙ x.cuts }
 
 -- a step that leaves side, lists and cuts
 way : (d d' : WriterSeen) (found : ℕ) (v : WriterView) → Wrote d d' found → known_at d' ≡ v → v.state.side ≡ (known_at d).state.side → v.state.published ≡ (known_at d).state.published → v.state.taken ≡ (known_at d).state.taken
     → v.cuts ≡ (known_at d).cuts → Underway d d'
 way d d' found v w e a b c k =
     record {
+      table = w.table;
       ledger = w.ledger;
       side = ap (λ (x : WriterView). x.state.side) e ∙ a;
       published = ap (λ (x : WriterView). x.state.published) e ∙ b;

@@ -52,7 +52,7 @@ left table seat seat' me me' p h found stage moved =
     let F : Me Unit View → Type 0 = λ m. Stepped table p seat' m stage in
     let m : Me Unit View = bare (reads t.0 p.index (p.opening, w)) in
     let s : sole m.0.readers ≡ (p.opening, w) = sole_only p.index (p.opening, w) in
-    let know : known_by (reader_at m.0 p.index stage) ≡ w = (λ i. let v : ReaderView = record { stage = moved.stage_is i; readings = (s i).1.readings } in v) in
+    let know : known_by (reader_at table m.0 p.index stage) ≡ w = (λ i. let v : ReaderView = record { stage = moved.stage_is i; readings = (s i).1.readings } in v) in
     subst F (sym t.1) record {
       seat_is = record {
         same = moved.same ∙ h.same;
@@ -76,5 +76,5 @@ loaded_some side n ws e few =
     ap (λ (b : Bool). cond b (Leaving side (take n ws)) (Reading side (take n ws)))
     (ne_eqb (length (take n ws)) COPY_WORDS (let short : length (take n ws) ≡ n = length-take-le n ws (omega arith) in (λ f. omega arith)))
 
-pub took_from : (table seat : TableId) (me : Me Unit View) (next : Stage) (p q : ReaderSeen) → p ≡ q → Stepped table p seat me next → TookStep q (reader_at me.0 p.index next)
-took_from table seat me next p q e h = subst (λ (z : ReaderSeen). TookStep z (reader_at me.0 p.index next)) e h.took
+pub took_from : (table seat : TableId) (me : Me Unit View) (next : Stage) (p q : ReaderSeen) → p ≡ q → Stepped table p seat me next → TookStep q (reader_at table me.0 p.index next)
+took_from table seat me next p q e h = subst (λ (z : ReaderSeen). TookStep z (reader_at table me.0 p.index next)) e h.took

@@ -1,6 +1,7 @@
 -- Histories of a board over a register of one member, computed; and what definitions must not hold of.
 use Rattle.std.proofs.Common.{◌≡◌, ℕ, true, false, List, [], ◌∷◌, ◌++◌, replicate, Some, refl, ap, ◌∙◌}
 use Rattle.std.specs.List.{filter}
+use Rattle.atomic_table.specs.Seated.{TableId}
 use Rattle.council_core.specs.Rolls.{Opening}
 use Rattle.council_core.specs.declared.commands.Command.{Command}
 use Rattle.council_core.specs.declared.commands.Command.TheVariants.{Open, Move}
@@ -67,9 +68,13 @@ uncounted h = none (ap (filter is_writers) (ap (λ (x : History). x.events) h.lo
     none : Writer ∷ [] ≡ [] → ⊥
     none e = cc
 
+-- a table of the words that one reader needs
+abbrev table : TableId
+table = record { words = 70; slots = 0; views_name = 0; atom = 0; block = 0; offset = 0; slot_names = [] }
+
 -- the front of the last reading, and 0 before the first
 abbrev having_read : List (List ℕ) → ReaderSeen
-having_read readings = record (new_reader begun 0) { readings = readings }
+having_read readings = record (new_reader table begun 0) { readings = readings }
 
 pub front_of_last : last_front_of (having_read (none_done ∷ both_done ∷ [])) ≡ 2
 front_of_last = refl

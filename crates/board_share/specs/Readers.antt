@@ -26,9 +26,10 @@ use Rattle.board_share.specs.Seats.{Part, reads}
 use Rattle.board_share.specs.Rule.{first_reader}
 use Rattle.board_share.specs.Steps.{bare}
 
--- the members and votes of the opening, which reader it is, counted from 0, how far it is in its reading, its readings
--- so far, and what happened on the board up to its last step
+-- the table of shared words that it reads, the members and votes of the opening, which reader it is, counted from 0,
+-- how far it is in its reading, its readings so far, and what happened on the board up to its last step
 pub record ReaderSeen : Type 0 where
+  pub table : TableId
   pub opening : Opening
   pub index : ℕ
   pub stage : Stage
@@ -38,9 +39,10 @@ pub record ReaderSeen : Type 0 where
 abbrev pub known_by : ReaderSeen → ReaderView
 known_by p = record { stage = p.stage; readings = p.readings }
 
--- a reader that has read nothing
-abbrev pub new_reader : Beginning → ℕ → ReaderSeen
-new_reader begun r = record {
+-- a reader of a table that has read nothing
+abbrev pub new_reader : TableId → Beginning → ℕ → ReaderSeen
+new_reader table begun r = record {
+  table = table;
   opening = begun.register.opening;
   index = r;
   stage = AtRest;
@@ -95,9 +97,10 @@ sole [] = ([], first_reader)
 sole (None ∷ xs) = sole xs
 sole (Some x ∷ xs) = x
 
--- by what the reader keeps beside its seat: which one it is, and its stage
-abbrev pub reader_at : View → ℕ → Stage → ReaderSeen
-reader_at v r stage = record {
+-- by what the reader keeps beside its seat: its table, which one it is, and its stage
+abbrev pub reader_at : TableId → View → ℕ → Stage → ReaderSeen
+reader_at table v r stage = record {
+  table = table;
   opening = (sole v.readers).0;
   index = r;
   stage = stage;
@@ -105,28 +108,32 @@ reader_at v r stage = record {
   history = v.history;
 }
 
+-- what the seat of a reader knows
+abbrev pub seat_view : ReaderSeen → View
+seat_view p = reads p.history p.index (p.opening, known_by p)
+
 -- a seat of the table is that of this reader alone
 pub record IsReader (table seat : TableId) (me : Me Unit View) (p : ReaderSeen) : Type 0 where
   pub same : seat ≡ table
   pub within : pin p.index < table.words
   pub few : p.index < READERS
-  pub alone : me ≡ bare (reads p.history p.index (p.opening, known_by p))
+  pub alone : me ≡ bare (seat_view p)
   pub known : IsKnown p.opening (known_by p)
 
 -- after a step the seat is that of the same reader, at this stage
 pub record Stepped (table : TableId) (p : ReaderSeen) (seat : TableId) (me : Me Unit View) (stage : Stage)
     : Type 0 where
-  pub seat_is : IsReader table seat me (reader_at me.0 p.index stage)
-  pub opening_is : (reader_at me.0 p.index stage).opening ≡ p.opening
-  pub took : TookStep p (reader_at me.0 p.index stage)
-  pub steps : TookSteps 1 p (reader_at me.0 p.index stage)
+  pub seat_is : IsReader table seat me (reader_at table me.0 p.index stage)
+  pub opening_is : (reader_at table me.0 p.index stage).opening ≡ p.opening
+  pub took : TookStep p (reader_at table me.0 p.index stage)
+  pub steps : TookSteps 1 p (reader_at table me.0 p.index stage)
   pub told : last_told me.0.history ≡ Some (stage_note (number_of p) p.stage)
 
 -- after a whole reading the seat is that of the same reader at the same stage, and its record has one sheet more
 pub record HasRead (table : TableId) (p : ReaderSeen) (seat : TableId) (me : Me Unit View) (words : List ℕ)
     : Type 0 where
-  pub seat_is : IsReader table seat me (reader_at me.0 p.index p.stage)
-  pub opening_is : (reader_at me.0 p.index p.stage).opening ≡ p.opening
-  pub reading_is : (reader_at me.0 p.index p.stage).readings ≡ p.readings ++ words ∷ []
-  pub steps : TookSteps reading_steps p (reader_at me.0 p.index p.stage)
-  pub told : WasTold (reader_at me.0 p.index p.stage) words
+  pub seat_is : IsReader table seat me (reader_at table me.0 p.index p.stage)
+  pub opening_is : (reader_at table me.0 p.index p.stage).opening ≡ p.opening
+  pub reading_is : (reader_at table me.0 p.index p.stage).readings ≡ p.readings ++ words ∷ []
+  pub steps : TookSteps reading_steps p (reader_at table me.0 p.index p.stage)
+  pub told : WasTold (reader_at table me.0 p.index p.stage) words

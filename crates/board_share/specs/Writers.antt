@@ -21,9 +21,11 @@ use Rattle.board_share.specs.declared.views.History.{History}
 use Rattle.board_share.specs.Histories.{Adds, KnowsAfter, handed_over, is_writers, known_after, last_told, machine_of}
 use Rattle.board_share.specs.Steps.{WriterActed, begin_events, begun_with, step_note, with_writer}
 
--- what contracts see of a `WordWriter`, step by step: the register, what its seat knows, the commands of a publication
--- that has begun and has not taken a step yet, and what happened on the board up to the writer's last step
+-- what contracts see of a `WordWriter`, step by step: the table of shared words, the register, what its seat knows, the
+-- commands of a publication that has begun and has not taken a step yet, and what happened on the board up to the
+-- writer's last step
 pub record WriterSeen : Type 0 where
+  pub table : TableId
   pub ledger : Ledger
   pub held : WriterView
   pub due : Option (List Command)
@@ -52,10 +54,11 @@ writer_or None = (
 abbrev pub held_by : View → WriterView
 held_by v = (writer_or v.writer).1
 
--- by what the writer keeps: its register, its seat, and whether a publication has begun and has taken no step yet
-abbrev pub writer_at : Ledger → View → Bool → WriterSeen
-writer_at ledger v begun = record
-    { ledger = ledger; held = held_by v; due = due_of begun ledger.journal; history = v.history }
+-- by what the writer keeps: its table, its register, its seat, and whether a publication has begun and has taken no
+-- step yet
+abbrev pub writer_at : TableId → Ledger → View → Bool → WriterSeen
+writer_at table ledger v begun = record
+    { table = table; ledger = ledger; held = held_by v; due = due_of begun ledger.journal; history = v.history }
 
 -- a publication of these commands may begin: none is under way, and they are a publishable list within the register's
 -- limit that extends the one last taken and has more commands than are published
@@ -95,6 +98,7 @@ pub record IsWriter (table seat : TableId) (me : Me Unit View) (d : WriterSeen) 
 
 -- the writer took one step of the machine, on the word found
 pub record Wrote (before after : WriterSeen) (found : ℕ) : Type 0 where
+  pub table : after.table ≡ before.table
   pub adds : Adds is_writers (begin_events before.due before.held ++ Writer ∷ []) before.history after.history
   pub told : last_told after.history ≡ Some (step_note (known_at before).state (known_at before).state.phase found)
   pub ledger : after.ledger ≡ before.ledger
@@ -158,9 +162,10 @@ pub record WroteSteps (steps : ℕ) (before after : WriterSeen) : Type 0 where
   pub whole : own ++ begin_events after.due after.held
       ≡ begin_events before.due before.held ++ replicate steps Writer
 
--- from one moment to a later one of the same publication: the register, the side, what is published and taken, and
--- the cuts are the same
+-- from one moment to a later one of the same publication: the table, the register, the side, what is published and
+-- taken, and the cuts are the same
 pub record Underway (before after : WriterSeen) : Type 0 where
+  pub table : after.table ≡ before.table
   pub ledger : after.ledger ≡ before.ledger
   pub side : (known_at after).state.side ≡ (known_at before).state.side
   pub published : (known_at after).state.published ≡ (known_at before).state.published
@@ -190,9 +195,11 @@ pub record Filled (from to : ℕ) (before after : WriterSeen) : Type 0 where
   pub stored : IsFilling after to
   pub steps : WroteSteps (to - from) before after
 
--- what contracts see of a `Writer`, whose calls are whole: its register, the commands published, the lengths of the
--- lists published so far, who is seen out, and what happened on the board up to its last step
+-- what contracts see of a `Writer`, whose calls are whole: the table of shared words that it writes, its register, the
+-- commands published, the lengths of the lists published so far, who is seen out, and what happened on the board up to
+-- its last step
 pub record Publisher : Type 0 where
+  pub table : TableId
   pub ledger : Ledger
   pub published : List Command
   pub cuts : List ℕ
@@ -201,12 +208,19 @@ pub record Publisher : Type 0 where
 
 abbrev pub publisher_of : WriterSeen → Publisher
 publisher_of d = record {
+  table = d.table;
   ledger = d.ledger;
   published = (known_at d).state.published;
   cuts = (known_at d).cuts;
   seen_out = (known_at d).state.seen_out;
   history = d.history;
 }
+
+-- a view is that of the seat of this writer
+pub record IsViewOf (b : Publisher) (v : View) : Type 0 where
+  pub held : WriterView
+  pub writes : v.writer ≡ Some (b.ledger.opening, held)
+  pub history : v.history ≡ b.history
 
 -- more commands are accepted than published
 abbrev pub is_pending : Publisher → Bool

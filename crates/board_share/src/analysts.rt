@@ -51,6 +51,7 @@ impl Analyst {
 
     /// The indices of the sheet of one reading.
     pub fn ask(&mut self, majority: Majority) -> Indices
+        ensures table { self.new.reader.table ≡ self.old.reader.table }
         ensures opening { self.new.reader.opening ≡ self.old.reader.opening }
         ensures number { number_of self.new.reader ≡ number_of self.old.reader }
 

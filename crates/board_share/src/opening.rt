@@ -25,8 +25,8 @@ pub fn start(
     readers: u8,
 ) -> Result<(Writer, Vec<Reader>), (Register, Refusal)>
     ensures in_range { OnOk result (IsFew readers) }
-    ensures writer { IfOk result (λ b. b.0 ≡ new_publisher register readers) }
-    ensures readers { IfOk result (λ b. b.1.items ≡ new_readers (beginning_of register readers) readers) }
+    ensures writer { IfOk result (λ b. b.0 ≡ new_publisher b.0.table register readers) }
+    ensures readers { IfOk result (λ b. b.1.items ≡ new_readers b.0.table (beginning_of register readers) readers) }
     ensures returned { IfErr result (λ e. e.0 ≡ register) }
     ensures limit { IfErr result (λ e. (IsFew readers → ⊥) → e.1 ≡ BadLimit) }
     ensures memory { IfErr result (λ e. IsFew readers → e.1 ≡ OutOfMemory) }
@@ -56,7 +56,8 @@ fn seat_all(
     requires few { begun.now.readers ≤ READERS }
     ensures writer { IfOk result
         (λ b. IsSplitting begun.now (arc_value b.0).shared.table_id b.1.table_id b.1.me begun.now.readers 0) }
-    ensures readers { IfOk result (λ b. b.2.items ≡ new_readers begun.now begun.now.readers) }
+    ensures readers { IfOk result
+        (λ b. b.2.items ≡ new_readers (arc_value b.0).shared.table_id begun.now begun.now.readers) }
 {
     let (board, mut seat) = lay(alloc, begun)?;
     let readers = seat_readers(alloc, &board, &mut seat, begun)?;
@@ -88,7 +89,8 @@ fn seat_readers(
     ensures writer { OnOk result
         (IsSplitting begun.now (arc_value board.now).shared.table_id seat.new.table_id seat.new.me begun.now.readers
         0) }
-    ensures readers { IfOk result (λ all. all.items ≡ new_readers begun.now begun.now.readers) }
+    ensures readers { IfOk result
+        (λ all. all.items ≡ new_readers (arc_value board.now).shared.table_id begun.now begun.now.readers) }
 {
     let mut all = Vec::with_capacity(alloc, begun.readers as usize)?;
     for r in 0..begun.readers {

@@ -17,6 +17,7 @@ use two_copy_steps::COPY_WORDS;
 pub(crate) fn publish_all(words: &mut WordWriter) -> Result<u32, Busy>
     requires idle { IsIdle words.old }
     requires pending { length (known_at words.old).state.published < length words.old.ledger.journal }
+    ensures table { words.new.table ≡ words.old.table }
     ensures ledger { words.new.ledger ≡ words.old.ledger }
     ensures idle { IsIdle words.new }
     ensures knows { KnowsAfter words.new.history words.new.held }

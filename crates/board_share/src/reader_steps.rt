@@ -22,8 +22,8 @@ pub(crate) fn advance(
     stage: &mut ReaderStage,
 ) -> Option<Reading>
     requires reader { IsReader board.now.shared.table_id seat.old.table_id seat.old.me
-        (reader_at seat.old.me.0 r stage.old) }
-    ensures seat { Stepped board.now.shared.table_id (reader_at seat.old.me.0 r stage.old) seat.new.table_id seat.new.me
+        (reader_at board.now.shared.table_id seat.old.me.0 r stage.old) }
+    ensures seat { Stepped board.now.shared.table_id (reader_at board.now.shared.table_id seat.old.me.0 r stage.old) seat.new.table_id seat.new.me
         stage.new }
     ensures sheet { option_map (λ x. x.sheet) result ≡ sheet_read stage.old }
 {
@@ -35,7 +35,7 @@ pub(crate) fn advance(
 // Does to its word what the next step of the reader at r does, and answers the number left there.
 fn touch(board: &Board, seat: &mut Seat<(), View>, r: u8, stage: &ReaderStage) -> u64
     requires reader { IsReader board.now.shared.table_id seat.old.table_id seat.old.me
-        (reader_at seat.old.me.0 r stage.now) }
+        (reader_at board.now.shared.table_id seat.old.me.0 r stage.now) }
     ensures table { seat.new.table_id ≡ seat.old.table_id }
     ensures step { IsStepOn seat.old.me result seat.new.me }
 {
@@ -52,8 +52,8 @@ fn touch(board: &Board, seat: &mut Seat<(), View>, r: u8, stage: &ReaderStage) -
 // each of them.
 pub(crate) fn read_all(board: &Board, seat: &mut Seat<(), View>, r: u8) -> Reading
     requires rest { IsReader board.now.shared.table_id seat.old.table_id seat.old.me
-        (reader_at seat.old.me.0 r AtRest) }
-    ensures read { HasRead board.now.shared.table_id (reader_at seat.old.me.0 r AtRest) seat.new.table_id seat.new.me
+        (reader_at board.now.shared.table_id seat.old.me.0 r AtRest) }
+    ensures read { HasRead board.now.shared.table_id (reader_at board.now.shared.table_id seat.old.me.0 r AtRest) seat.new.table_id seat.new.me
         result.sheet }
 {
     let mut words = [0; COPY_WORDS];
@@ -70,8 +70,8 @@ pub(crate) fn read_all(board: &Board, seat: &mut Seat<(), View>, r: u8) -> Readi
 
 // The first step: its pin goes to 1.
 fn arrive(board: &Board, seat: &mut Seat<(), View>, r: u8)
-    requires { IsReader board.now.shared.table_id seat.old.table_id seat.old.me (reader_at seat.old.me.0 r AtRest) }
-    ensures { Stepped board.now.shared.table_id (reader_at seat.old.me.0 r AtRest) seat.new.table_id seat.new.me
+    requires { IsReader board.now.shared.table_id seat.old.table_id seat.old.me (reader_at board.now.shared.table_id seat.old.me.0 r AtRest) }
+    ensures { Stepped board.now.shared.table_id (reader_at board.now.shared.table_id seat.old.me.0 r AtRest) seat.new.table_id seat.new.me
         Arrived }
 {
     board.shared.store::<Reads>(seat, pin(r as usize), 1);
@@ -79,8 +79,8 @@ fn arrive(board: &Board, seat: &mut Seat<(), View>, r: u8)
 
 // The second step: the side that is published.
 fn load_side(board: &Board, seat: &mut Seat<(), View>, r: u8) -> u64
-    requires { IsReader board.now.shared.table_id seat.old.table_id seat.old.me (reader_at seat.old.me.0 r Arrived) }
-    ensures { Stepped board.now.shared.table_id (reader_at seat.old.me.0 r Arrived) seat.new.table_id seat.new.me
+    requires { IsReader board.now.shared.table_id seat.old.table_id seat.old.me (reader_at board.now.shared.table_id seat.old.me.0 r Arrived) }
+    ensures { Stepped board.now.shared.table_id (reader_at board.now.shared.table_id seat.old.me.0 r Arrived) seat.new.table_id seat.new.me
         (Stage.Reading result []) }
 {
     board.shared.load::<Reads>(seat, SIDE)
@@ -96,9 +96,9 @@ fn load_word(
     words: &mut [u64; COPY_WORDS],
 )
     requires reader { IsReader board.now.shared.table_id seat.old.table_id seat.old.me
-        (reader_at seat.old.me.0 r (Stage.Reading side (take k words.old))) }
+        (reader_at board.now.shared.table_id seat.old.me.0 r (Stage.Reading side (take k words.old))) }
     requires few { k < COPY_WORDS }
-    ensures { Stepped board.now.shared.table_id (reader_at seat.old.me.0 r (Stage.Reading side (take k words.old)))
+    ensures { Stepped board.now.shared.table_id (reader_at board.now.shared.table_id seat.old.me.0 r (Stage.Reading side (take k words.old)))
         seat.new.table_id seat.new.me (loaded side (take (k + 1) words.new)) }
 {
     words[k] = board.shared.load::<Reads>(seat, place(side, k));
@@ -107,8 +107,8 @@ fn load_word(
 // The last step: its pin goes to 0.
 fn leave(board: &Board, seat: &mut Seat<(), View>, r: u8, side: u64, words: &[u64; COPY_WORDS])
     requires { IsReader board.now.shared.table_id seat.old.table_id seat.old.me
-        (reader_at seat.old.me.0 r (Leaving side words.now)) }
-    ensures { Stepped board.now.shared.table_id (reader_at seat.old.me.0 r (Leaving side words.now)) seat.new.table_id
+        (reader_at board.now.shared.table_id seat.old.me.0 r (Leaving side words.now)) }
+    ensures { Stepped board.now.shared.table_id (reader_at board.now.shared.table_id seat.old.me.0 r (Leaving side words.now)) seat.new.table_id
         seat.new.me AtRest }
 {
     board.shared.store::<Reads>(seat, pin(r as usize), 0);

@@ -34,17 +34,18 @@ impl Model for Reader {
 
     ghost Value = { ReaderSeen };
 
-    ghost view = { λ r. reader_at r.seat.me.0 r.index r.stage };
+    ghost view = { λ r. reader_at (arc_value r.board).shared.table_id r.seat.me.0 r.index r.stage };
 
     ghost invariant = { λ r. IsReader (arc_value r.board).shared.table_id r.seat.table_id r.seat.me
-        (reader_at r.seat.me.0 r.index r.stage) };
+        (reader_at (arc_value r.board).shared.table_id r.seat.me.0 r.index r.stage) };
 }
 
 impl Reader {
     // The reader of a seat, which has read nothing.
     pub(crate) fn new(board: Arc<Board>, seat: Seat<(), View>, index: u8) -> Reader
-        requires { IsReader (arc_value board).shared.table_id seat.table_id seat.me (reader_at seat.me.0 index AtRest) }
-        ensures { result ≡ reader_at seat.me.0 index AtRest }
+        requires { IsReader (arc_value board).shared.table_id seat.table_id seat.me
+            (reader_at (arc_value board).shared.table_id seat.me.0 index AtRest) }
+        ensures { result ≡ reader_at (arc_value board).shared.table_id seat.me.0 index AtRest }
     {
         Reader {
             board,
@@ -72,6 +73,7 @@ impl Reader {
     /// The next of the 37 steps of a reading: one load or one store of one word. The last step
     /// answers the reading.
     pub fn step(&mut self) -> Option<Reading>
+        ensures table { self.new.table ≡ self.old.table }
         ensures opening { self.new.opening ≡ self.old.opening }
         ensures number { number_of self.new ≡ number_of self.old }
         ensures step { TookStep self.old self.new }
@@ -95,6 +97,7 @@ impl Reader {
     /// the middle of a reading, where no proved caller comes, that one is given up, and a new one begins.
     pub fn read(&mut self) -> Reading
         requires rest { self.old.stage ≡ AtRest }
+        ensures table { self.new.table ≡ self.old.table }
         ensures opening { self.new.opening ≡ self.old.opening }
         ensures number { number_of self.new ≡ number_of self.old }
         ensures rest { self.new.stage ≡ AtRest }

@@ -53,6 +53,7 @@ impl Writer {
         ensures accepted { IfOk result
             (λ n. (self.new.ledger ≡ appended self.old.ledger command) × (n ≡ length self.new.ledger.journal)) }
         ensures refused { OnErr result (self.new ≡ self.old) }
+        ensures table { self.new.table ≡ self.old.table }
         ensures published { self.new.published ≡ self.old.published }
         ensures cuts { self.new.cuts ≡ self.old.cuts }
         ensures seen_out { self.new.seen_out ≡ self.old.seen_out }
@@ -64,6 +65,7 @@ impl Writer {
     /// Publishes all commands, and answers how many there are. It is `Busy`, and publishes nothing,
     /// where a reader is found in the middle of a reading; those that were seen out stay so.
     pub fn try_publish(&mut self) -> Result<u32, Busy>
+        ensures table { self.new.table ≡ self.old.table }
         ensures ledger { self.new.ledger ≡ self.old.ledger }
         ensures readers { length self.new.seen_out ≡ length self.old.seen_out }
 
@@ -102,6 +104,7 @@ impl Writer {
     /// Publishes all commands, and answers how many there are. It waits for readers, for good where
     /// one was dropped in the middle of a reading.
     pub fn publish<R: Wait>(&mut self, rt: &R) -> u32
+        ensures table { self.new.table ≡ self.old.table }
         ensures ledger { self.new.ledger ≡ self.old.ledger }
         ensures front { result ≡ length self.old.ledger.journal }
         ensures published { self.new.published ≡ self.old.ledger.journal }

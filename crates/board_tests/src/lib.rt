@@ -6,6 +6,8 @@ mod calls;
 #[cfg(test)]
 mod inputs;
 #[cfg(test)]
+mod places;
+#[cfg(test)]
 mod programs;
 #[cfg(test)]
 mod serving;

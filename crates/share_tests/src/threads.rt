@@ -259,7 +259,7 @@ fn follow(reader: &mut Reader, by_steps: bool) -> bool {
             return true;
         }
     }
-    true
+    false
 }
 
 // Whether each of four readers, in a thread of its own, follows the publications: two at once, and two by steps.
@@ -288,5 +288,42 @@ fn four_readers_beside_publications_at_full_speed(rt: HostRuntime) -> Result<(),
     })?;
     assert_eq!(rt; front, Ok(LAST));
     assert_eq!(rt; fine, Ok([true; 4]));
+    Ok(())
+}
+
+// Whether each reader reads back this publication.
+fn all_read(readers: &mut [Reader], front: u32) -> bool {
+    for reader in readers {
+        if read_front(reader) != Some(front) {
+            return false;
+        }
+    }
+    true
+}
+
+// Whether each of three publications is read back by all readers.
+fn three_read_back<R: Wait>(
+    rt: &R,
+    writer: &mut Writer,
+    readers: &mut [Reader],
+) -> Result<bool, Refusal> {
+    for chair in 1..4u8 {
+        submit_open(writer, chair)?;
+        if !all_read(readers, writer.publish(rt)) {
+            return Ok(false);
+        }
+    }
+    Ok(true)
+}
+
+// A publication that reaches only some of the readers.
+#[test]
+fn each_of_four_reads_back(rt: HostRuntime) -> Result<(), Fail> {
+    let fine = with_readers(
+        rt.alloc(),
+        4,
+        |writer, readers| three_read_back(&rt, writer, readers.as_mut_slice()),
+    )?;
+    assert!(rt; fine);
     Ok(())
 }

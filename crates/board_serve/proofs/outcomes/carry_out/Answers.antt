@@ -11,6 +11,6 @@ pub returns-in-Ok-clause-done : goal.returns-in-Ok-clause-done
 returns-in-Ok-clause-done g c =
     let p : Planned = (fresh c.args.register, shares_of c.args.parts) in
     let seated = c.in_ok-jobs.ensures in
-    outcome-of p c.in-Ok.outcome c.in_ok-done.done c.in-Ok.ensures.brought c.in_ok-jobs.jobs (ap register_of seated.writer ∙ new-register c.args.register c.requires.none)
+    outcome-of p c.in-Ok.outcome c.in_ok-done.done c.in-Ok.ensures.brought c.in_ok-jobs.jobs (ap register_of seated.writer ∙ new-register c.in_ok-jobs.jobs.writer.writer.table c.args.register c.requires.none)
     (ap (λ v. v.items) seated.orders) (subst (AllByRecursion (IsNew c.args.register.opening)) (sym seated.readers) ((refl, refl), ((refl, refl), tt)))
     (ap (map (λ v. v.items)) seated.asked) c.in_ok-done.ensures.done

@@ -11,7 +11,7 @@ returns-clause-done g c =
     (subst (λ (j : WriterJob). HasWritten j c.join.result) c.in_ok-writer.ensures.promise c.join.ensures)
     (subst (λ (j : ReaderJob). HasAsked j c.join-2.result) c.in_ok-first.ensures.promise c.join-2.ensures)
     (subst (λ (j : ReaderJob). HasAsked j c.join-3.result) c.in_ok-second.ensures.promise c.join-3.ensures)
-    c.all_done.ensures.written c.all_done.ensures.read
+    c.all_done.ensures.writer c.all_done.ensures.readers
 
 pub start_reader-first-requires-clause-ready : goal.start_reader-first-requires-clause-ready
 start_reader-first-requires-clause-ready g c = λ regions outlive. subst (All CanAsk) c.apart-first.ensures.both c.requires.ready.readers 0 c.apart-first.result.0 (omega arith)

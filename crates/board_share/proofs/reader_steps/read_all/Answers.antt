@@ -13,7 +13,7 @@ leave-requires c =
     let i = c.loop-k.invariant in
     let side = c.load_side-side.result in
     let all : c.loop-k.k ≡ COPY_WORDS = let end = c.loop-k.auto.k-end in let past = c.loop-k-test.false in omega arith in
-    subst (λ (st : Stage). IsReader c.args.board.now.shared.table_id c.loop-k.seat.table_id c.loop-k.seat.me (reader_at c.loop-k.seat.me.0 c.args.r st))
+    subst (λ (st : Stage). IsReader c.args.board.now.shared.table_id c.loop-k.seat.table_id c.loop-k.seat.me (reader_at c.args.board.now.shared.table_id c.loop-k.seat.me.0 c.args.r st))
     (ap (λ (n : ℕ). loaded side (take n c.loop-k.words)) all ∙ loaded_all side c.loop-k.words i.long)
     i.reading.seat_is
 
@@ -28,7 +28,7 @@ returns c =
     let i = c.loop-k.invariant in
     let side = c.load_side-side.result in
     let board = c.args.board.now.shared.table_id in
-    let start = reader_at c.args.seat.now.me.0 c.args.r AtRest in
+    let start = reader_at board c.args.seat.now.me.0 c.args.r AtRest in
     let all : c.loop-k.k ≡ COPY_WORDS = let end = c.loop-k.auto.k-end in let past = c.loop-k-test.false in omega arith in
     let way : HasReadPart board start c.loop-k.seat.table_id c.loop-k.seat.me (Leaving side c.loop-k.words) = subst (HasReadPart board start c.loop-k.seat.table_id c.loop-k.seat.me)
     (ap (λ (n : ℕ). loaded side (take n c.loop-k.words)) all ∙ loaded_all side c.loop-k.words i.long) i.reading in

@@ -10,5 +10,5 @@ abbrev pub invariant-loop-k : goal.invariant-loop-k
 invariant-loop-k l =
     record {
       long : length l.words ≡ COPY_WORDS;
-      reading : HasReadPart l.board.shared.table_id (reader_at l.fn.seat.me.0 l.r AtRest) l.seat.table_id l.seat.me (loaded l.side (take l.k l.words));
+      reading : HasReadPart l.board.shared.table_id (reader_at l.board.shared.table_id l.fn.seat.me.0 l.r AtRest) l.seat.table_id l.seat.me (loaded l.side (take l.k l.words));
     }

@@ -18,7 +18,7 @@ store-requires c =
     let h = c.requires.reader in
     let low = c.in-Store.ensures.low in
     let wide = h.within in
-    let readings = (known_by (reader_at c.args.seat.now.me.0 c.args.r c.args.stage.now)).readings in (
+    let readings = (known_by (reader_at c.args.board.now.shared.table_id c.args.seat.now.me.0 c.args.r c.args.stage.now)).readings in (
       h.same,
       omega arith,
       stores _ _ _ _ _ h _ _ _ _ c.in-Store.ensures.word (λ n. c.in-Store.ensures.becomes n)

@@ -1,4 +1,5 @@
 use Rattle.std.proofs.Common.{◌∙◌, ◌++◌, ◌∷◌, [], ap, subst}
+use Rattle.std.specs.Arc.{arc_value}
 use Rattle.council_core.specs.Rolls.{Opening}
 use Rattle.two_copy_steps.specs.declared.views.Stage.TheVariants.{AtRest}
 use Rattle.board_share.specs.Readers.{ReaderSeen, reader_at, IsLegalSheet}
@@ -10,15 +11,15 @@ returns-clause-sheet c =
     let e = c.read_all.ensures.read in
     let known = e.seat_is.known in
     subst (λ (o : Opening). IsLegalSheet o c.read_all.result.sheet) (e.opening_is ∙ ap (λ (p : ReaderSeen). p.opening) c.self.view_is)
-    (last_legal (reader_at c.read_all.new.seat.me.0 c.self.inside.index AtRest) _ _ (known.list, known.cuts, known.records) e.reading_is)
+    (last_legal (reader_at (arc_value c.self.inside.board).shared.table_id c.read_all.new.seat.me.0 c.self.inside.index AtRest) _ _ (known.list, known.cuts, known.records) e.reading_is)
 
 pub returns-clause-not_older : goal.returns-clause-not_older
 returns-clause-not_older c =
     let e = c.read_all.ensures.read in
     let known = e.seat_is.known in
-    above (reader_at c.read_all.new.seat.me.0 c.self.inside.index AtRest) _ _ (known.list, known.cuts, known.records)
+    above (reader_at (arc_value c.self.inside.board).shared.table_id c.read_all.new.seat.me.0 c.self.inside.index AtRest) _ _ (known.list, known.cuts, known.records)
     (e.reading_is ∙ ap (λ (p : ReaderSeen). p.readings ++ c.read_all.result.sheet ∷ []) c.self.view_is)
 
 pub returns-clause-last : goal.returns-clause-last
 returns-clause-last c =
-    last_is (reader_at c.read_all.new.seat.me.0 c.self.inside.index AtRest).readings _ _ c.read_all.ensures.read.reading_is
+    last_is (reader_at (arc_value c.self.inside.board).shared.table_id c.read_all.new.seat.me.0 c.self.inside.index AtRest).readings _ _ c.read_all.ensures.read.reading_is

@@ -7,14 +7,14 @@ use Rattle.board_share.proofs.WholeReadings.{counted, ended}
 use Rattle.board_share.proofs.readers.Reader.step.Goals as goal
 
 pub returns-clause-step : goal.returns-clause-step
-returns-clause-step c = took_from _ _ _ _ _ _ c.self.view_is c.advance.ensures.seat
+returns-clause-step c = took_from _ _ _ _ _ _ c.self.view_is (rw c.deref.ensures at c.advance.ensures.seat)
 
 pub returns-clause-count : goal.returns-clause-count
 returns-clause-count c =
-    counted _ _ (took_from _ _ _ _ _ _ c.self.view_is c.advance.ensures.seat) (subst (λ (p : ReaderSeen). IsReadable p.stage) c.self.view_is c.self.invariant.known.readable)
+    counted _ _ (took_from _ _ _ _ _ _ c.self.view_is (rw c.deref.ensures at c.advance.ensures.seat)) (subst (λ (p : ReaderSeen). IsReadable p.stage) c.self.view_is c.self.invariant.known.readable)
 
 pub returns-clause-last : goal.returns-clause-last
 returns-clause-last c =
-    ended _ _ _ (took_from _ _ _ _ _ _ c.self.view_is c.advance.ensures.seat)
+    ended _ _ _ (took_from _ _ _ _ _ _ c.self.view_is (rw c.deref.ensures at c.advance.ensures.seat))
     (c.advance.ensures.sheet ∙ ap (λ (p : ReaderSeen). sheet_read p.stage) c.self.view_is)
     (subst (λ (p : ReaderSeen). EndsWith p.readings p.stage) c.self.view_is c.self.invariant.known.ends)

@@ -12,6 +12,7 @@ loop-preserved g c =
     let e = c.in_default.ensures in
     record {
       next = (tt, tt);
+      table = c.try_publish.ensures.table ∙ i.table;
       ledger = c.try_publish.ensures.ledger ∙ i.ledger;
       published = e.unchanged.0 ∙ i.published;
       readers = c.try_publish.ensures.readers ∙ i.readers;
