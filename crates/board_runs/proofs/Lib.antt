@@ -3,3 +3,4 @@ pub mod DeskFacts
 pub mod RecordFacts
 pub mod ReplayFacts
 pub mod TraceFacts
+mod WorkedCases

@@ -6,6 +6,7 @@ ghost use Rattle.council_core.specs.declared.refusals.Refusal.TheVariants as why
 ghost use Rattle.csv.specs.Reading.{default_config, records, strip_bom};
 ghost use Rattle.csv.specs.Records.{fields_of};
 ghost use Rattle.council_core.specs.Ledgers.{Ledger};
+ghost use Rattle.board_text.specs.Inputs.{RetriesAtMost, RunRetriesAtMost, WastesAtMost};
 ghost use Rattle.board_text.specs.Output.{IsBadLimit, Plays};
 ghost use Rattle.board_runs.specs.Ended.{Replays};
 ghost use Rattle.board_text.specs.Sinks.{GoesOn};
@@ -17,7 +18,8 @@ ghost use Rattle.board_text.specs.declared.bounds.Limits.{Limits};
 ghost use Rattle.board_text.specs.declared.stops.Stop.TheVariants as stop;
 
 use board_text::{
-    Fault, INPUT_LIMIT, Limits, Output, Script, Stop, begin, end_with, line_of_fault, read_within,
+    Fault, INPUT_LIMIT, INTERRUPTIONS, Limits, Output, READS, Script, Stop, begin, end_with,
+    line_of_fault, read_within,
 };
 use council_core::{Refusal, Register};
 use csv::ByteRecord;
@@ -109,6 +111,9 @@ fn interpret_input<I: Interpreter, R: Read + Drop, W: Write>(
         (λ bytes. Plays out.old.held out.new.held result (interpreted_run I.opened I.step limits bytes)) }
     ensures limits_first { in_range limits ≡ false
         → IsErrOf result (stop.Told (fault_at why.BadLimit 0)) × (input.new ≡ input.old) }
+    ensures asks { input.new.asks ≤ input.old.asks + READS }
+    ensures vain { WastesAtMost 1 input.old input.new }
+    ensures retried { RetriesAtMost INTERRUPTIONS input.old input.new result }
     ensures on { GoesOn out.old out.new }
 {
     let text = read_within(alloc, input, limits)?;
@@ -125,6 +130,9 @@ fn interpret_all<I: Interpreter, R: Read + Drop, W: Write>(
     ensures wrote { OfInput input.old input.new
         (λ bytes. Replays out.old.held out.new.held result (interpreted_run I.opened I.step limits bytes)) }
     ensures limits_first { in_range limits ≡ false → IsBadLimit result × (input.new ≡ input.old) }
+    ensures asks { input.new.asks ≤ input.old.asks + READS }
+    ensures vain { WastesAtMost 1 input.old input.new }
+    ensures retried { RunRetriesAtMost INTERRUPTIONS input.old input.new result }
     ensures on { GoesOn out.old out.new }
 {
     let Err(stop) = interpret_input::<I, R, W>(alloc, input, out, limits) else {
@@ -147,6 +155,9 @@ pub(crate) fn interpret<I: Interpreter, R: Read + Drop, W: Write>(
         (λ bytes. Replays (W.contents out.old) (W.contents out.new) result
         (interpreted_run I.opened I.step limits bytes)) }
     ensures limits_first { in_range limits ≡ false → IsBadLimit result × (input.new ≡ input.old) }
+    ensures asks { input.new.asks ≤ input.old.asks + READS }
+    ensures vain { WastesAtMost 1 input.old input.new }
+    ensures retried { RunRetriesAtMost INTERRUPTIONS input.old input.new result }
 {
     let mut output = Output::new(out);
     let result = interpret_all::<I, R, W>(alloc, input, &mut output, limits);

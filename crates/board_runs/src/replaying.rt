@@ -1,7 +1,8 @@
 //! Replaying an input.
-ghost use Rattle.std.specs.Prelude.{◌≡◌, map, false, OnOk};
+ghost use Rattle.std.specs.Prelude.{◌≡◌, ◌≤◌, ◌+◌, map, false, OnOk};
 ghost use Rattle.council_core.specs.Sequential.{respond, shown};
 ghost use Rattle.board_text.specs.Lines.{chair_line, reading_lines, reply_lines};
+ghost use Rattle.board_text.specs.Inputs.{RunRetriesAtMost, WastesAtMost};
 ghost use Rattle.board_text.specs.Output.{IsBadLimit, Plays};
 ghost use Rattle.board_runs.specs.Ended.{Replays};
 ghost use Rattle.board_text.specs.Sinks.{GoesOn};
@@ -13,8 +14,8 @@ ghost use Rattle.board_runs.specs.Replays.{replay_start, replay_step, run_of};
 use crate::desks::Desk;
 use crate::interpreters::{Interpreter, interpret};
 use board_text::{
-    Fault, Limits, Output, Request, Stop, is_served, line_of_answer, line_of_chair,
-    line_of_reading, request_in,
+    Fault, INTERRUPTIONS, Limits, Output, READS, Request, Stop, is_served, line_of_answer,
+    line_of_chair, line_of_reading, request_in,
 };
 use council_core::{Refusal, Register};
 use csv::ByteRecord;
@@ -114,6 +115,9 @@ impl Interpreter for Desk {
 /// `NoScript`; `DuplicateMember`; of the script's records `BadRecord` and `BadReader`, each with
 /// the record's number. `OutOfMemory` may come at any time, `WriteFault` at any write. The lines
 /// written before a fault stay, and its own line is the last, but after a `WriteFault`.
+///
+/// The input is asked for at most `READS` reads, and for none after the one that told its end or failed. At most
+/// `INTERRUPTIONS` interrupted reads are retried: the next one is a failed read.
 pub fn replay<R: Read + Drop, W: Write>(
     alloc: Global,
     input: &mut Given<R>,
@@ -123,6 +127,9 @@ pub fn replay<R: Read + Drop, W: Write>(
     ensures wrote { OfInput input.old input.new
         (λ bytes. Replays (W.contents out.old) (W.contents out.new) result (run_of limits bytes)) }
     ensures limits_first { in_range limits ≡ false → IsBadLimit result × (input.new ≡ input.old) }
+    ensures asks { input.new.asks ≤ input.old.asks + READS }
+    ensures vain { WastesAtMost 1 input.old input.new }
+    ensures retried { RunRetriesAtMost INTERRUPTIONS input.old input.new result }
 {
     interpret::<Desk, R, W>(alloc, input, out, limits)
 }

@@ -1,7 +1,8 @@
 //! Taking the two-copy machine through a schedule.
-ghost use Rattle.std.specs.Prelude.{◌≡◌, true, false, replicate, OnOk};
+ghost use Rattle.std.specs.Prelude.{◌≡◌, ◌≤◌, ◌+◌, true, false, replicate, OnOk};
 ghost use Rattle.two_copy_steps.specs.Transitions.{after, transition};
 ghost use Rattle.board_text.specs.Lines.{note_lines};
+ghost use Rattle.board_text.specs.Inputs.{RunRetriesAtMost, WastesAtMost};
 ghost use Rattle.board_text.specs.Output.{IsBadLimit, Plays};
 ghost use Rattle.board_runs.specs.Ended.{Replays};
 ghost use Rattle.board_text.specs.Sinks.{GoesOn};
@@ -11,7 +12,9 @@ ghost use Rattle.board_runs.specs.Traces.{events_of, told, trace_of, trace_start
 ghost use Rattle.board_text.specs.Schedules.{is_scheduled};
 
 use crate::interpreters::{Interpreter, interpret};
-use board_text::{Act, Fault, Limits, Output, Stop, act_in, is_scheduled, line_of_note};
+use board_text::{
+    Act, Fault, INTERRUPTIONS, Limits, Output, READS, Stop, act_in, is_scheduled, line_of_note,
+};
 use council_core::{Refusal, Register};
 use csv::ByteRecord;
 use std::alloc::Global;
@@ -113,7 +116,7 @@ impl Interpreter for Machine {
 /// event that only moves prints nothing. What is written and answered is what `trace_of` says of the
 /// bytes that the reader gave, whichever way the run ends, as in `replay`.
 ///
-/// The faults are those of `replay`, in the same order. `OutOfMemory` as a command is handed over
+/// The faults are those of `replay`, in the same order, and so are the reads that the input is asked for. `OutOfMemory` as a command is handed over
 /// is `OutOfMemory` and ends the run: it is no line of the machine's.
 pub fn trace<R: Read + Drop, W: Write>(
     alloc: Global,
@@ -124,6 +127,9 @@ pub fn trace<R: Read + Drop, W: Write>(
     ensures wrote { OfInput input.old input.new
         (λ bytes. Replays (W.contents out.old) (W.contents out.new) result (trace_of limits bytes)) }
     ensures limits_first { in_range limits ≡ false → IsBadLimit result × (input.new ≡ input.old) }
+    ensures asks { input.new.asks ≤ input.old.asks + READS }
+    ensures vain { WastesAtMost 1 input.old input.new }
+    ensures retried { RunRetriesAtMost INTERRUPTIONS input.old input.new result }
 {
     interpret::<Machine, R, W>(alloc, input, out, limits)
 }

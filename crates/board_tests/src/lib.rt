@@ -13,3 +13,5 @@ mod programs;
 mod serving;
 #[cfg(test)]
 mod streams;
+#[cfg(test)]
+mod wrappers;

@@ -219,3 +219,17 @@ fn words_that_could_not_be_read(rt: HostRuntime) -> Result<(), Fail> {
     assert!(rt; !err.is_empty());
     Ok(())
 }
+
+// More readings of each reader than a gate might be thought to let pass.
+const READINGS: usize = 3_000;
+
+#[test]
+fn serve_passes_every_gate(rt: HostRuntime) -> Result<(), Fail> {
+    let mut text: Vec<u8> = Vec::new(rt.alloc());
+    text.extend_from_slice(b"member,votes\nAAA,10\nscript\n")?;
+    for _reading in 0..READINGS {
+        text.extend_from_slice(b"read,1,half\npublish\nread,2,half\n")?;
+    }
+    runs(&rt, rt.alloc(), &["serve"], &text, FINE)?;
+    Ok(())
+}

@@ -5,6 +5,7 @@ use std::alloc::Global;
 use std::io;
 use std::io::{ErrorKind, Read, Write};
 use std::sync::Wait;
+use std::sync::atomic::{AtomicU64, Ordering};
 use std::test::Fail;
 use std::thread::Threads;
 use two_copy_steps::READERS;
@@ -223,6 +224,214 @@ fn writers_that_interrupt_or_fail(rt: HostRuntime) -> Result<(), Fail> {
             let wanted = all.get(..taken).unwrap_or(all);
             let seen = writes(&rt, rt.alloc(), call, interruptions, limit, fails, wanted);
             assert!(rt; seen == (code, true), "limit {limit}");
+        }
+    }
+    Ok(())
+}
+
+// Interruptions of a stream: this many where it stands behind this many bytes.
+#[derive(Clone, Copy)]
+struct Halt {
+    behind: usize,
+    count: u64,
+}
+
+impl Halt {
+    // Whether a call behind this many bytes is interrupted.
+    fn interrupts(&mut self, place: usize) -> bool {
+        if self.behind != place || self.count == 0 {
+            return false;
+        }
+        self.count -= 1;
+        true
+    }
+}
+
+// A reader that gives a byte at a time, is interrupted at two places, may fail for good behind some bytes, and counts
+// its calls.
+#[derive(Drop)]
+struct Counted<'a> {
+    bytes: &'a [u8],
+    place: usize,
+    halts: [Halt; 2],
+    fails_behind: usize,
+    calls: &'a AtomicU64,
+}
+
+impl<'a> Read for Counted<'a> {
+    fn read(&mut self, buf: &mut [u8]) -> io::Result<usize> {
+        self.calls.fetch_add(1, Ordering::SeqCst);
+        let [first, second] = &mut self.halts;
+        if first.interrupts(self.place) || second.interrupts(self.place) {
+            return Err(io::Error::from(ErrorKind::Interrupted));
+        }
+        if self.place == self.fails_behind {
+            return Err(io::Error::from(ErrorKind::Other));
+        }
+        let Some(byte) = self.bytes.get(self.place) else {
+            return Ok(0);
+        };
+        if buf.is_empty() {
+            return Ok(0);
+        }
+        buf[0] = *byte;
+        self.place += 1;
+        Ok(1)
+    }
+}
+
+// Reads through a counting reader: the fault's number, whether these bytes were written, and how many reads it got.
+fn reads_counted<T: Threads + Wait + Sync>(
+    rt: &T,
+    alloc: Global,
+    call: Call,
+    halts: [Halt; 2],
+    fails_behind: usize,
+    wanted: &[u8],
+) -> (u8, bool, u64) {
+    let calls = AtomicU64::new(0);
+    let reader = Counted {
+        bytes: input_of(call),
+        place: 0,
+        halts,
+        fails_behind,
+        calls: &calls,
+    };
+    let mut out: Vec<u8> = Vec::new(alloc);
+    let fault = run(rt, alloc, call, LIMITS, reader, &mut out);
+    (
+        number_of(fault),
+        out.as_slice() == wanted,
+        calls.load(Ordering::SeqCst),
+    )
+}
+
+// 600 interruptions at the start, and some behind the first byte.
+fn in_two_parts(count: u64) -> [Halt; 2] {
+    [
+        Halt {
+            behind: 0,
+            count: 600,
+        },
+        Halt { behind: 1, count },
+    ]
+}
+
+#[test]
+fn interrupted_reads_are_counted_over_a_run(rt: HostRuntime) -> Result<(), Fail> {
+    for place in 0..3usize {
+        let call = CALLS[place];
+        let bytes = input_of(call).len() as u64;
+        let good = reads_counted(
+            &rt,
+            rt.alloc(),
+            call,
+            in_two_parts(400),
+            usize::MAX,
+            output_of(call),
+        );
+        assert!(rt; good == (0, true, bytes + 1_001));
+        let cut = reads_counted(
+            &rt,
+            rt.alloc(),
+            call,
+            in_two_parts(401),
+            usize::MAX,
+            READ_FAULT,
+        );
+        assert!(rt; cut == (19, true, 1_002));
+    }
+    Ok(())
+}
+
+#[test]
+fn a_failed_device_is_not_read_again(rt: HostRuntime) -> Result<(), Fail> {
+    for place in 0..3usize {
+        let call = CALLS[place];
+        let seen = reads_counted(&rt, rt.alloc(), call, in_two_parts(0), 10, READ_FAULT);
+        assert!(rt; seen == (19, true, 611));
+    }
+    Ok(())
+}
+
+// A writer that takes whatever it is handed, and is interrupted at two places.
+#[derive(Drop)]
+struct Halting {
+    taken: Vec<u8>,
+    halts: [Halt; 2],
+}
+
+impl Write for Halting {
+    fn write(&mut self, buf: &[u8]) -> io::Result<usize> {
+        let place = self.taken.len();
+        let [first, second] = &mut self.halts;
+        if first.interrupts(place) || second.interrupts(place) {
+            return Err(io::Error::from(ErrorKind::Interrupted));
+        }
+        match self.taken.extend_from_slice(buf) {
+            Ok(()) => Ok(buf.len()),
+            Err(_) => Err(io::Error::from(ErrorKind::OutOfMemory)),
+        }
+    }
+
+    fn flush(&mut self) -> io::Result<()> {
+        Ok(())
+    }
+}
+
+// An input of two lines. Those of `replay` and `trace` end in a fault, whose line is the second.
+fn two_lines_of(call: Call) -> &'static [u8] {
+    match call {
+        Call::Replay => b"member,votes\nscript\nopen,1\nopen\n",
+        Call::Trace => b"member,votes\nscript\nsubmit,open,1\nopen\n",
+        Call::Serve => b"member,votes\nscript\nopen,1\npublish\n",
+    }
+}
+
+// Writes through a writer that is interrupted 600 times before the first line, and so often before the second: the
+// fault's number, and whether these bytes were taken.
+fn writes_two_lines<T: Threads + Wait + Sync>(
+    rt: &T,
+    alloc: Global,
+    call: Call,
+    count: u64,
+    wanted: &[u8],
+) -> (u8, bool) {
+    let first_line = b"accepted,1\n".len();
+    let halts = [
+        Halt {
+            behind: 0,
+            count: 600,
+        },
+        Halt {
+            behind: first_line,
+            count,
+        },
+    ];
+    let mut out = Halting {
+        taken: Vec::new(alloc),
+        halts,
+    };
+    let fault = run(rt, alloc, call, LIMITS, two_lines_of(call), &mut out);
+    (number_of(fault), out.taken.as_slice() == wanted)
+}
+
+#[test]
+fn interrupted_writes_are_counted_over_a_run(rt: HostRuntime) -> Result<(), Fail> {
+    let rows: [(u8, &[u8]); 3] = [
+        (17, b"accepted,1\nfault,4,BadRecord\n"),
+        (17, b"accepted,1\nfault,4,BadRecord\n"),
+        (
+            0,
+            b"accepted,1\npublished,1\nreader,1,0\nreader,2,0\naudit,ok\n",
+        ),
+    ];
+    for place in 0..3usize {
+        let (call, (code, written)) = (CALLS[place], rows[place]);
+        assert!(rt; writes_two_lines(&rt, rt.alloc(), call, 400, written) == (code, true));
+        for count in [401u64, 600] {
+            let cut = writes_two_lines(&rt, rt.alloc(), call, count, b"accepted,1\n");
+            assert!(rt; cut == (20, true));
         }
     }
     Ok(())

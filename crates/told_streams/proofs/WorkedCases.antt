@@ -3,6 +3,7 @@ use Rattle.std.proofs.Common.{◌≡◌, ◌≢◌, ℕ, inl, inr, Bool, true, f
 use Rattle.std.specs.IoError.{error_kind}
 use Rattle.std.specs.declared.io.Error.{Error}
 use Rattle.std.specs.declared.io.ErrorKind.TheVariants.{Interrupted}
+use Rattle.told_streams.specs.Laws.{AreAll, GivenIsInput}
 use Rattle.told_streams.specs.Tapes.{CountsInterruptions, Gives, Giving, HasEnded, IsInput, OfInput, Takes, Taking, WasGiven, is_last}
 
 abbrev one : List ℕ
@@ -109,3 +110,10 @@ told = inl refl
 -- what holds of all inputs holds of one that goes on
 not_of_all : OfInput (giving [] false 0) (giving one false 1) (λ bytes. bytes ≡ one) → ⊥
 not_of_all h = let e = h two goes_on in cc e
+
+-- what the laws say of a reader that gave a byte: it may be the input, and it is where the reader said that this is all
+may_be_the_input : GivenIsInput → IsInput (giving [] false 0) (giving one false 1) one
+may_be_the_input law = law (giving [] false 0) (giving one false 1)
+
+is_the_input : AreAll → (bytes : List ℕ) → IsInput (giving [] false 0) (giving one true 2) bytes → bytes ≡ one
+is_the_input law bytes is = law (giving [] false 0) (giving one true 2) bytes refl refl is

@@ -1,0 +1,98 @@
+//! The wrappers of streams: each call makes one call below, and answers what that one answers.
+use board_report::{Given, Told};
+use std::io;
+use std::io::{ErrorKind, Read, Write};
+use std::sync::atomic::{AtomicU64, Ordering};
+use std::test::Fail;
+
+// What a device answers to a call.
+#[derive(Clone, Copy, Debug, PartialEq, Eq)]
+enum Answer {
+    Moves(usize),
+    Fails(ErrorKind),
+}
+
+impl Answer {
+    fn of(said: io::Result<usize>) -> Answer {
+        match said {
+            Ok(count) => Answer::Moves(count),
+            Err(e) => Answer::Fails(e.kind()),
+        }
+    }
+}
+
+const ANSWERS: [Answer; 6] = [
+    Answer::Moves(0),
+    Answer::Moves(1),
+    Answer::Moves(2),
+    Answer::Fails(ErrorKind::Interrupted),
+    Answer::Fails(ErrorKind::Other),
+    Answer::Fails(ErrorKind::WouldBlock),
+];
+
+// A device that gives one answer to its first call, moves one byte at each later one, and counts its calls.
+#[derive(Drop)]
+struct Device<'a> {
+    first: Answer,
+    calls: &'a AtomicU64,
+}
+
+impl<'a> Device<'a> {
+    // The answer to a call with this much room.
+    fn answer(&self, room: usize) -> io::Result<usize> {
+        let answer = if self.calls.fetch_add(1, Ordering::SeqCst) == 0 {
+            self.first
+        } else {
+            Answer::Moves(1)
+        };
+        match answer {
+            Answer::Moves(count) => Ok(count.min(room)),
+            Answer::Fails(kind) => Err(io::Error::from(kind)),
+        }
+    }
+}
+
+impl<'a> Read for Device<'a> {
+    fn read(&mut self, buf: &mut [u8]) -> io::Result<usize> {
+        self.answer(buf.len())
+    }
+}
+
+impl<'a> Write for Device<'a> {
+    fn write(&mut self, buf: &[u8]) -> io::Result<usize> {
+        self.answer(buf.len())
+    }
+
+    fn flush(&mut self) -> io::Result<()> {
+        Ok(())
+    }
+}
+
+#[test]
+fn a_read_is_one_read_below(rt: HostRuntime) -> Result<(), Fail> {
+    for first in ANSWERS {
+        let calls = AtomicU64::new(0);
+        let device = Device {
+            first,
+            calls: &calls,
+        };
+        let mut piece = [0u8; 3];
+        let seen = Answer::of(Given::new(device).read(&mut piece));
+        assert!(rt; (seen, calls.load(Ordering::SeqCst)) == (first, 1));
+    }
+    Ok(())
+}
+
+#[test]
+fn a_write_is_one_write_below(rt: HostRuntime) -> Result<(), Fail> {
+    for first in ANSWERS {
+        let calls = AtomicU64::new(0);
+        let mut device = Device {
+            first,
+            calls: &calls,
+        };
+        let seen = Answer::of(Told::new(&mut device).write(b"abc"));
+        assert!(rt; (seen, calls.load(Ordering::SeqCst)) == (first, 1));
+    }
+    Ok(())
+}
