@@ -1,10 +1,13 @@
 -- Audits of a register of one member, computed.
-use Rattle.std.proofs.Common.{◌≡◌, ℕ, List, [], ◌∷◌, ◌++◌, replicate, Some, Ok, Err, refl}
+use Rattle.std.proofs.Common.{◌≡◌, ℕ, List, [], ◌∷◌, ◌++◌, replicate, Some, Ok, Err, refl, ⊎_elim}
 use Rattle.council_core.specs.Rolls.{Opening}
 use Rattle.council_core.specs.declared.commands.Command.{Command}
 use Rattle.council_core.specs.declared.commands.Command.TheVariants.{Open, Move}
-use Rattle.board_audits.specs.Audits.{audit_of}
-use Rattle.board_audits.specs.declared.audits.AuditFault.TheVariants.{BadJournal, BadCuts, Mismatch}
+use Rattle.board_audits.specs.Audits.{Answers, Finding, audit_of}
+use Rattle.board_audits.specs.AuditLaws.{AuditLaw}
+use Rattle.council_core.specs.Sequential.{AreLegalRecords}
+use Rattle.council_core.specs.declared.refusals.Refusal.TheVariants.{DuplicateMember}
+use Rattle.board_audits.specs.declared.audits.AuditFault.TheVariants.{Start, BadJournal, BadCuts, Mismatch, OutOfMemory}
 
 abbrev one_member : Opening
 one_member = (65 ∷ 65 ∷ 65 ∷ [], 10) ∷ []
@@ -45,3 +48,49 @@ opened_twice = refl
 
 pub cut_behind : audit_of one_member seated (1 ∷ 3 ∷ []) [] ≡ Err (BadCuts 2)
 cut_behind = refl
+
+-- no register starts with two members of one code; that is found first, then the journal's fault, then that of the cuts
+pub one_code_twice : audit_of (one_member ++ one_member) (Open 1 ∷ Open 1 ∷ []) [] [] ≡ Err (Start DuplicateMember)
+one_code_twice = refl
+
+pub journal_before_cuts : audit_of one_member (Open 1 ∷ Open 1 ∷ []) (3 ∷ []) [] ≡ Err (BadJournal 2)
+journal_before_cuts = refl
+
+pub cuts_before_readings : audit_of one_member seated (1 ∷ 3 ∷ []) (([] ∷ []) ∷ []) ≡ Err (BadCuts 2)
+cuts_before_readings = refl
+
+-- where nothing is found no fault is answered but want of memory, and no fault at another place than the one found
+no_fault_made_up : Answers (Ok tt) (Err (Mismatch 1 1)) → ⊥
+no_fault_made_up h = ⊎_elim is_fault is_memory h
+  where
+    is_fault : ◌≡◌ {A = Finding} (Err (Mismatch 1 1)) (Ok tt) → ⊥
+    is_fault e = absurd (cc)
+
+    is_memory : ◌≡◌ {A = Finding} (Err (Mismatch 1 1)) (Err OutOfMemory) → ⊥
+    is_memory e = absurd (cc)
+
+no_other_place : Answers (Err (Mismatch 1 2)) (Err (Mismatch 2 1)) → ⊥
+no_other_place h = ⊎_elim is_fault is_memory h
+  where
+    is_fault : ◌≡◌ {A = Finding} (Err (Mismatch 2 1)) (Err (Mismatch 1 2)) → ⊥
+    is_fault e = absurd (cc)
+
+    is_memory : ◌≡◌ {A = Finding} (Err (Mismatch 2 1)) (Err OutOfMemory) → ⊥
+    is_memory e = absurd (cc)
+
+-- a fault is not passed over, and members with which no register starts want no memory
+not_passed_over : Answers (Err (BadCuts 2)) (Ok tt) → ⊥
+not_passed_over h = ⊎_elim is_fault is_memory h
+  where
+    is_fault : ◌≡◌ {A = Finding} (Ok tt) (Err (BadCuts 2)) → ⊥
+    is_fault e = absurd (cc)
+
+    is_memory : ◌≡◌ {A = Finding} (Ok tt) (Err OutOfMemory) → ⊥
+    is_memory e = absurd (cc)
+
+start_wants_no_memory : Answers (Err (Start DuplicateMember)) (Err OutOfMemory) → ⊥
+start_wants_no_memory h = absurd (cc)
+
+-- by the law, the readings in which nothing was found are legal records
+pub legal_by_the_law : AuditLaw → AreLegalRecords one_member seated (0 ∷ 1 ∷ 2 ∷ []) ((none_done ∷ one_done ∷ both_done ∷ []) ∷ (both_done ∷ []) ∷ [])
+legal_by_the_law law = ((law one_member seated (1 ∷ 2 ∷ []) ((none_done ∷ one_done ∷ both_done ∷ []) ∷ (both_done ∷ []) ∷ [])).0 refl).1

@@ -1,4 +1,5 @@
 mod RowLemmas
 mod MemberSums
 pub mod RollWords
-mod WorkedCases
+pub mod WorkedCases
+mod CountCases

@@ -6,7 +6,7 @@ use Rattle.council_core.specs.declared.commands.Command.TheVariants.{Open, Move,
 use Rattle.board_c.specs.declared.members.BoardMember.{BoardMember}
 use Rattle.board_c.specs.Members.{member_words}
 
-abbrev member : ℕ → ℕ → ℕ → BoardMember
+abbrev pub member : ℕ → ℕ → ℕ → BoardMember
 member votes chair suspended = record { votes = votes; chair = chair; suspended = suspended }
 
 -- two members in chair 1, one of them suspended; one in chair 2, suspended; one in no chair

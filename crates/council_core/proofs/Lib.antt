@@ -1,4 +1,5 @@
 pub mod WorkedCases
+pub mod LawCases
 pub mod SheetLemmas
 pub mod RollLemmas
 pub mod MirrorLemmas

@@ -13,6 +13,7 @@ use Rattle.council_core.specs.Rolls.{Roll, Entry, same_chair, standing_among, wi
 use Rattle.std.specs.Result.{result_unwrap_or}
 use Rattle.council_core.specs.declared.commands.Command.{Command}
 use Rattle.council_core.specs.Ledgers.{Ledger, roll_of, appended}
+use Rattle.council_core.specs.Laws.{SetsInRange}
 use Rattle.council_core.specs.Registers.{Mirrors, IsKept, seated, sits_as}
 use Rattle.council_core.proofs.RollLemmas.{fold_from-push, all_accepted-push, sum_with_standing, sum_without, part_of_sum, length-with_standing, length-without, all_with_standing, all_without}
 
@@ -271,10 +272,12 @@ Mirrors-withdraw roll kept m code old known unseated after loss =
     }
 
 -- one more command is accepted, and the rest follows the roll
-pub IsKept-appended : (l : Ledger) (kept : Kept) → IsBeside l kept → (command : Command) (next : Roll) → step (roll_of l) command ≡ Ok next → length l.journal < l.limit
+pub IsKept-appended : (l : Ledger) (kept : Kept) → IsBeside l kept → (command : Command) (next : Roll) → step (roll_of l) command ≡ Ok next → length l.journal < l.limit → SetsInRange command
     → (now : Kept) → IsMirror next now → IsBeside (appended l command) now
-IsKept-appended l kept beside command next steps room now m =
+IsKept-appended l kept beside command next steps room votes now m =
     record {
+      begun = beside.begun;
+      votes = All-append SetsInRange l.journal (command ∷ []) beside.votes (All-from_recursion SetsInRange (command ∷ []) (votes, tt));
       legal = all_accepted-push (opening_roll l.opening) l.journal command ∙ ap (λ b. b && is_ok (step (roll_of l) command)) beside.legal ∙ ap is_ok steps;
       within = rw length-append (omega arith);
       small_limit = beside.small_limit;

@@ -14,6 +14,7 @@ use Rattle.council_core.specs.declared.refusals.Refusal.{Refusal}
 use Rattle.council_core.specs.declared.refusals.Refusal.TheVariants.{JournalFull}
 use Rattle.council_core.specs.Rolls.{Roll, Entry, same_code, standing_among, place_among, with_standing, without, entered, fresh, sits_in, counted, votes_in, weight, total, is_open, opened, closed, has_members, admitted, withdrawn, step}
 use Rattle.council_core.specs.Ledgers.{Ledger, roll_of, room_of}
+use Rattle.council_core.specs.Laws.{SetsInRange}
 use Rattle.council_core.specs.Registers.{IsPlanned, IsOpening, IsClosing, IsChange, IsEntry, IsLeaving, seated, sits_as}
 use Rattle.council_core.proofs.RollLemmas.{insert-with_standing, without-removed, part_of_sum}
 use Rattle.council_core.proofs.MirrorLemmas.{Kept, IsMirror, IsBeside, Loss, Gain, Exchange, Mirrors-open, Mirrors-close, Mirrors-update, Mirrors-admit, Mirrors-withdraw, IsKept-appended, seat_is_free}
@@ -114,6 +115,7 @@ pub record Accepts (l : Ledger) (command : Command) : Type 0 where
   pub kept : Kept
   pub beside : IsBeside l kept
   pub room : room_of l ≡ Ok tt
+  pub votes : SetsInRange command
   pub journal : List Command
   pub grown : journal ≡ l.journal ++ command ∷ []
 
@@ -125,7 +127,7 @@ module _ (l : Ledger) (command : Command) (a : Accepts l command) where
   written : (next : Roll) → step (roll_of l) command ≡ Ok next → (now : Kept) → IsMirror next now → IsAfter now
   written next steps now m =
       subst (λ (j : List Command). IsBeside (record { opening = l.opening; journal = j; limit = l.limit }) now) (sym a.grown)
-      (IsKept-appended l a.kept a.beside command next steps (room_is l a.room a.beside.within) now m)
+      (IsKept-appended l a.kept a.beside command next steps (room_is l a.room a.beside.within) a.votes now m)
 
   -- a chair is opened
   pub IsKept-open : (k c : ℕ) → k + 1 ≡ c → k < 32 → k < length a.kept.totals.words → IsOpening (roll_of l) command c

@@ -1,12 +1,17 @@
 -- A register at its start.
 use Rattle.std.proofs.Common.{◌≡◌, ℕ, zero, suc, ◌+◌, ◌^◌, ◌<◌, ◌≤◌, Bool, true, false, cond, ◌||◌, List, [], ◌∷◌, ◌++◌, length, map, take, drop, sum_by, None, Some, sym, ◌∙◌, ap, subst, refl, arith, true≢false, All, get_or, slice_index, replicate}
+use Rattle.std.specs.Prelude.{⊤, ◌==◌, ◌↔◌, nat_lt, Result, Ok, Err}
 use Rattle.std.specs.List.{list_any, AllByRecursion}
+use Rattle.std.proofs.lemmas.Bool.Decides.{nat_tests}
 use Rattle.std.proofs.lemmas.List.{length-map}
 use Rattle.std.proofs.lemmas.List.Elements.{All-from_recursion, recursion_from_All}
 use Rattle.std.proofs.lemmas.List.Sums.{sum_by-cons}
 use Rattle.council_core.specs.Rolls.{Entry, Opening, entered, same_code, standing_among, counted}
-use Rattle.council_core.specs.Ledgers.{has_duplicate}
+use Rattle.council_core.specs.Ledgers.{has_duplicate, start_verdict}
+use Rattle.council_core.specs.declared.refusals.Refusal.{Refusal}
+use Rattle.council_core.specs.declared.refusals.Refusal.TheVariants.{BadLimit, DuplicateMember, TooManyMembers}
 use Rattle.council_core.specs.Registers.{seated, sits_as}
+use Rattle.council_core.specs.Laws.{IsOpening, SetsInRange}
 use Rattle.council_core.proofs.MirrorLemmas.{Kept, IsBeside}
 
 pub zeros : (n k : ℕ) → ◌≡◌ {A = ℕ} (get_or (replicate {A = ℕ} n 0) k 0) 0
@@ -60,6 +65,7 @@ start_small (m ∷ ms) h = (h.0, start_small ms h.1)
 pub record IsStart (opening : Opening) (limit : ℕ) (kept : Kept) : Type 0 where
   pub made : kept.entries ≡ map entered opening
   pub few : length opening ≤ 256
+  pub apart : has_duplicate opening ≡ false
   pub small : limit ≤ 1000000
   pub words : (k : ℕ) → slice_index kept.totals.words k ≡ 0
   pub counts : (k : ℕ) → slice_index kept.totals.counts k ≡ 0
@@ -69,6 +75,8 @@ pub record IsStart (opening : Opening) (limit : ℕ) (kept : Kept) : Type 0 wher
 pub IsKept-start : (opening : Opening) (limit : ℕ) (kept : Kept) → IsStart opening limit kept → IsBeside (record { opening = opening; journal = []; limit = limit }) kept
 IsKept-start opening limit kept start =
     record {
+      begun = record { few = start.few; apart = start.apart; small = start.votes };
+      votes = All-from_recursion SetsInRange [] tt;
       legal = refl;
       within = omega arith;
       small_limit = start.small;
@@ -82,3 +90,36 @@ IsKept-start opening limit kept start =
         small = subst (λ (l : List Entry). All (λ m. m.1.votes ≤ 2 ^ 40) l) (sym start.made) (All-from_recursion _ _ (start_small opening (recursion_from_All _ _ start.votes)));
       };
     }
+
+abbrev refusals : Bool → Bool → Bool → Result ⊤ Refusal
+refusals bad many twice = cond bad (Err BadLimit) (cond many (Err TooManyMembers) (cond twice (Err DuplicateMember) (Ok tt)))
+
+none_refused : (bad many twice : Bool) → refusals bad many twice ≡ Ok tt → (bad ≡ false) × (many ≡ false) × (twice ≡ false)
+none_refused true many twice h = absurd (cc)
+none_refused false true twice h = absurd (cc)
+none_refused false false true h = absurd (cc)
+none_refused false false false h = (refl, refl, refl)
+
+not_above : (limit n : ℕ) → nat_lt limit n ≡ false → n ≤ limit
+not_above limit n h = grind (arith, nat_tests, h)
+
+not_zero : (n : ℕ) → (n == 0) ≡ false → 1 ≤ n
+not_zero n h = grind (arith, nat_tests, h)
+
+is_above : (limit n : ℕ) → n ≤ limit → nat_lt limit n ≡ false
+is_above limit n h = grind (arith, nat_tests, h)
+
+is_some_number : (n : ℕ) → 1 ≤ n → (n == 0) ≡ false
+is_some_number n h = grind (arith, nat_tests, h)
+
+-- a start is refused by no test just where the limit is in range and the members are an opening
+pub starts : (opening : Opening) (limit : ℕ) → All (λ m. m.1 ≤ 2 ^ 40) opening → (start_verdict opening limit ≡ Ok tt) ↔ ((1 ≤ limit) × (limit ≤ 1000000) × IsOpening opening)
+starts opening limit small = (
+  λ h.
+      let none = none_refused _ _ _ h in
+      (not_zero limit (no_left _ _ none.0), not_above 1000000 limit (no_right (limit == 0) _ none.0), record { few = not_above 256 (length opening) none.1; apart = none.2; small = small }),
+  λ is.
+      ap (λ b. refusals b (nat_lt 256 (length opening)) (has_duplicate opening)) (ap (λ b. b || nat_lt 1000000 limit) (is_some_number limit is.0) ∙ is_above 1000000 limit is.1)
+      ∙ ap (λ b. refusals false b (has_duplicate opening)) (is_above 256 (length opening) is.2.few)
+      ∙ ap (λ b. refusals false false b) is.2.apart,
+)

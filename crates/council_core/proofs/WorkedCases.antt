@@ -1,24 +1,27 @@
 -- Worked cases, computed by the definitions.
-use Rattle.std.proofs.Common.{◌≡◌, ◌^◌, ℕ, List, [], ◌∷◌, ◌++◌, map, Some, None, Err, refl, replicate}
+use Rattle.std.proofs.Common.{◌≡◌, ◌^◌, ℕ, List, [], ◌∷◌, ◌++◌, map, Some, None, Ok, Err, refl, replicate}
+use Rattle.std.specs.List.{range_with_len}
+use Rattle.council_core.specs.Refusals.{code_of, every_refusal, refusal_of}
+use Rattle.council_core.specs.Ledgers.{start_verdict}
 use Rattle.council_core.specs.Rolls.{Roll, Opening, entered, admit_member, sheet, cast, roll_after}
 use Rattle.council_core.specs.Coalitions.{eta_of, omega_of, reaching}
 use Rattle.council_core.specs.Sheets.{Chair}
 use Rattle.council_core.specs.Sequential.{Sequential, submit, publish, read, accepted, refused, published, reading, replies_of}
 use Rattle.council_core.specs.declared.limits.TheConstants.{MAX_COMMANDS, MAX_MEMBERS, MAX_TOTAL, MAX_VOTES}
-use Rattle.council_core.specs.declared.refusals.Refusal.TheVariants.{ChairOpen, JournalFull, MemberSuspended, ChairHasMembers, ChairNotOpen, UnknownMember, TooManyMembers, MemberExists, MemberSeated}
+use Rattle.council_core.specs.declared.refusals.Refusal.TheVariants.{ChairOpen, JournalFull, MemberSuspended, ChairHasMembers, ChairNotOpen, UnknownMember, TooManyMembers, MemberExists, MemberSeated, BadLimit, DuplicateMember, NoEntry, TooManyChairs}
 use Rattle.council_core.specs.declared.commands.Command.{Command}
 use Rattle.council_core.specs.declared.commands.Command.TheVariants.{Open, Close, Move, SetVotes, Suspend, Restore, Admit, Withdraw}
 
-abbrev AAA : List ℕ
+abbrev pub AAA : List ℕ
 AAA = 65 ∷ 65 ∷ 65 ∷ []
 
-abbrev BBB : List ℕ
+abbrev pub BBB : List ℕ
 BBB = 66 ∷ 66 ∷ 66 ∷ []
 
-abbrev CCC : List ℕ
+abbrev pub CCC : List ℕ
 CCC = 67 ∷ 67 ∷ 67 ∷ []
 
-abbrev three_members : Opening
+abbrev pub three_members : Opening
 three_members = (AAA, 50) ∷ (BBB, 49) ∷ (CCC, 1) ∷ []
 
 abbrev one_in_each_chair : List Command
@@ -80,7 +83,7 @@ pub no_257th_member : (admit_member full_roll AAA 1 ≡ Err MemberExists) × (ad
 no_257th_member = (refl, refl)
 
 -- of chairs with 50, 49 and 1 votes 51 win: each pair with the first, and all; so it has three swings, the others one each
-abbrev three : List Chair
+abbrev pub three : List Chair
 three = (1, 50) ∷ (2, 49) ∷ (3, 1) ∷ []
 
 pub three_win : omega_of (reaching 51 0) three ≡ 3
@@ -98,3 +101,15 @@ swings_of_third = refl
 -- the limits by number, which definitions name
 pub limits : (MAX_MEMBERS ≡ 256) × (MAX_COMMANDS ≡ 1000000) × (MAX_VOTES ≡ 2 ^ 40) × (MAX_TOTAL ≡ 2 ^ 48)
 limits = (refl, refl, refl, refl)
+
+-- a start looks at the limit first, then at how many members there are, and then at their codes
+pub starts_in_order : (start_verdict (replicate 257 (AAA, 1)) 0 ≡ Err BadLimit) × (start_verdict (replicate 257 (AAA, 1)) 5 ≡ Err TooManyMembers) × (start_verdict ((AAA, 1) ∷ (BBB, 1) ∷ (AAA, 1) ∷ []) 5 ≡ Err DuplicateMember)
+starts_in_order = (refl, refl, refl)
+
+-- the largest limit, and one above it
+pub starts_up_to : (start_verdict three_members 1000000 ≡ Ok tt) × (start_verdict three_members 1000001 ≡ Err BadLimit)
+starts_up_to = (refl, refl)
+
+-- the refusals by number are 1 to 33, and two of them that no run prints have these numbers
+pub numbered : (map code_of every_refusal ≡ range_with_len 1 33) × (refusal_of 18 ≡ Some NoEntry) × (refusal_of 33 ≡ Some TooManyChairs)
+numbered = (refl, refl, refl)

@@ -1,11 +1,11 @@
 -- Laws that tie the definitions to one another.
-use Rattle.std.specs.Prelude.{◌≡◌, ℕ, ◌^◌, ◌≤◌, ◌++◌, ◌∷◌, [], Bool, false, List, length}
+use Rattle.std.specs.Prelude.{◌≡◌, ℕ, ◌^◌, ◌≤◌, ◌↔◌, ◌++◌, ◌∷◌, [], Bool, false, List, length, Ok}
 use Rattle.std.specs.Prelude.{map, filter, take, count_by, All, nat_eq}
 use Rattle.std.specs.List.{IsDistinct}
 use Rattle.std.specs.Cmp.Lexicographic.{pointwise}
-use Rattle.council_core.specs.declared.limits.TheConstants.{MAX_MEMBERS, MAX_VOTES}
+use Rattle.council_core.specs.declared.limits.TheConstants.{MAX_COMMANDS, MAX_MEMBERS, MAX_VOTES}
 use Rattle.council_core.specs.Coalitions.{subsets}
-use Rattle.council_core.specs.Ledgers.{has_duplicate}
+use Rattle.council_core.specs.Ledgers.{has_duplicate, start_verdict}
 use Rattle.council_core.specs.Rolls.{Opening, Roll, IsLegal, cast, sheet, words_of}
 use Rattle.council_core.specs.Sheets.{Chair, IsSheet, cast_of, front_of, open_chairs, weight_of}
 use Rattle.council_core.specs.declared.commands.Command.{Command}
@@ -49,6 +49,11 @@ pub record IsOpening (opening : Opening) : Type 0 where
   pub few : length opening ≤ MAX_MEMBERS
   pub apart : has_duplicate opening ≡ false
   pub small : All (λ m. m.1 ≤ MAX_VOTES) opening
+
+-- of members whose votes are in range: a register starts with just these, under a limit from one to a million
+abbrev pub OpeningLaw : Type 0
+OpeningLaw = (opening : Opening) (limit : ℕ) → All (λ m. m.1 ≤ MAX_VOTES) opening
+    → (start_verdict opening limit ≡ Ok tt) ↔ ((1 ≤ limit) × (limit ≤ MAX_COMMANDS) × IsOpening opening)
 
 -- the votes that a command sets, where it sets any, are in range
 abbrev pub SetsInRange : Command → Type 0

@@ -10,6 +10,8 @@ use Rattle.council_core.specs.declared.changes.Change.TheVariants as change
 use Rattle.council_core.specs.declared.commands.Command.{Command}
 use Rattle.council_core.specs.declared.commands.Standing.{Standing}
 use Rattle.council_core.specs.Ledgers.{Ledger, roll_of}
+use Rattle.council_core.specs.Laws.{SetsInRange}
+use Rattle.council_core.specs.Laws as laws
 
 -- 1 for a member of the chair
 abbrev pub sits_as : ℕ → Standing → ℕ
@@ -29,8 +31,11 @@ pub record Mirrors (roll : Roll) (entries : List Entry) (words counts : List ℕ
   pub few : length entries ≤ max_members
   pub small : All (λ m. m.1.votes ≤ MAX_VOTES) entries
 
--- what holds of every register: a legal journal within its limit, beside which stands what the roll after it says
+-- what holds of every register: members that a register can start with, commands that set votes in range, and a legal
+-- journal within its limit, beside which stands what the roll after it says
 pub record IsKept (ledger : Ledger) (entries : List Entry) (words counts : List ℕ) (sum : ℕ) : Type 0 where
+  pub begun : laws.IsOpening ledger.opening
+  pub votes : All SetsInRange ledger.journal
   pub legal : all_accepted (opening_roll ledger.opening) ledger.journal ≡ true
   pub within : length ledger.journal ≤ ledger.limit
   pub small_limit : ledger.limit ≤ MAX_COMMANDS

@@ -1,6 +1,7 @@
 //! What changes the register, and what it knows of a member.
 ghost use Rattle.std.specs.Prelude.{◌≡◌, ◌≤◌};
 ghost use Rattle.council_core.specs.Rolls.{fresh};
+ghost use Rattle.council_core.specs.Laws.{SetsInRange};
 
 use crate::limits::MAX_VOTES;
 use crate::values::{ChairId, MemberCode, Votes};
@@ -28,6 +29,18 @@ pub enum Command {
     /// Takes out a member that sits in no chair, suspended or not (Article XXVI, Section 1). Those
     /// entered after it move up, and its code may be admitted again.
     Withdraw(MemberCode),
+}
+
+impl Command {
+    // How many votes it gives to a member, and 0 where it gives none.
+    pub(crate) fn votes(&self) -> u64
+        ensures { SetsInRange self.now }
+    {
+        match self {
+            Command::SetVotes(_, votes) | Command::Admit(_, votes) => votes.number(),
+            _ => 0,
+        }
+    }
 }
 
 /// What the register knows of a member beside its code.

@@ -14,7 +14,7 @@ mod totals;
 mod values;
 
 pub use commands::{Command, MemberRow, Standing};
-pub use laws::{cast_law, coalitions_law, prefix_law, sheet_law};
+pub use laws::{cast_law, coalitions_law, opening_law, prefix_law, sheet_law};
 pub use limits::{
     CHAIRS, FRONT, MAX_COMMANDS, MAX_MEMBERS, MAX_TOTAL, MAX_VOTES, SHEET_WORDS, TOTAL,
 };

@@ -1,12 +1,13 @@
 //! The register.
 ghost use Rattle.std.specs.Prelude.{◌≡◌, ◌≤◌, ◌<◌, ◌==◌, [], length, slice_get, None, Some, Ok};
 ghost use Rattle.std.specs.Prelude.{slice_index, Err, true, false, IfOk, IfErr, OnErr};
-ghost use Rattle.std.specs.List.{list_any};
+ghost use Rattle.std.specs.List.{All, list_any};
 ghost use Rattle.std.specs.Option.{option_map};
 ghost use Rattle.council_core.specs.Members.{row_of};
 ghost use Rattle.council_core.specs.Sheets.{IsSheet};
 ghost use Rattle.council_core.specs.Rolls.{IsLegal, step, is_open, can_receive, standing_among, place_among, same_code};
 ghost use Rattle.council_core.specs.Rolls.{has_members};
+ghost use Rattle.council_core.specs.Laws.{IsOpening, SetsInRange};
 ghost use Rattle.council_core.specs.Verdicts.{Follows};
 ghost use Rattle.council_core.specs.Registers.{IsPlanned};
 ghost use Rattle.council_core.specs.Ledgers.{Ledger, IsLedger, roll_of, verdict_of, room_of, appended, sheet_of};
@@ -109,10 +110,13 @@ impl Register {
     }
 
     /// The commands accepted, in order. Each was accepted in its turn, and there are at most as many as
-    /// the limit, which is at most a million. The numbers of their sheet are in range.
+    /// the limit, which is at most a million. The votes that they set, those of the members that the register
+    /// began with, and the numbers of their sheet are in range.
     pub fn journal(&self) -> &[Command]
         ensures commands { result.now ≡ self.now.journal }
         ensures legal { IsLegal self.now.opening self.now.journal }
+        ensures begun { IsOpening self.now.opening }
+        ensures votes { All SetsInRange self.now.journal }
         ensures in_range { IsSheet (sheet_of self.now) }
         ensures within { length self.now.journal ≤ self.now.limit }
         ensures limit { self.now.limit ≤ MAX_COMMANDS }
@@ -364,6 +368,8 @@ impl Register {
     {
         // The prover asks for this line: a plan has chairs.
         let _nowhere: Option<ChairId> = None;
+        // And for this one: the votes that a command sets are in range.
+        let _votes = command.votes();
         let change = self.plan(command)?;
         self.check_room()?;
         make_room(&mut self.journal)?;

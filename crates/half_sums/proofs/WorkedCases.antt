@@ -1,6 +1,10 @@
 -- The sets of chairs of 50, 49 and 1 votes, computed by their definitions.
-use Rattle.std.proofs.Common.{◌≡◌, [], ◌∷◌, refl}
-use Rattle.half_sums.specs.Entries.{entries_of, three}
+use Rattle.std.proofs.Common.{rules, ◌≡◌, ◌≤◌, ℕ, List, [], ◌∷◌, map, eqb, refl, sym, true≢false}
+use Rattle.std.specs.List.{IsDistinct}
+use Rattle.half_sums.specs.declared.entry.Entry.{Entry}
+use Rattle.half_sums.specs.Masks.{IsOver}
+use Rattle.half_sums.specs.Laws.{MaskLaw, times}
+use Rattle.half_sums.specs.Entries.{entries_of, three, AreSubsets}
 use Rattle.half_sums.specs.Groups.{group_of, fewer_than}
 
 pub three_entries : entries_of three
@@ -18,3 +22,18 @@ pairs_of_three = refl
 pub before_the_pairs : fewer_than 2 (entries_of three) ≡ 4
 unfolding lib.Count.ones
 before_the_pairs = refl
+
+three_apart : IsDistinct eqb (map (λ c. c.0) three)
+unfolding IsDistinct
+three_apart = search rules
+
+-- by the law, the mask of the first and the last chair stands once in each list of the three, and no mask stands twice
+pub mask_once : MaskLaw → (entries : List Entry) → AreSubsets three entries → IsOver three 5 → times 5 entries ≡ 1
+mask_once law entries are over = (law three entries three_apart are).once 5 over
+
+pub no_mask_twice : MaskLaw → (entries : List Entry) → AreSubsets three entries → (mask : ℕ) → times mask entries ≤ 1
+no_mask_twice law entries are mask = (law three entries three_apart are).never_twice mask
+
+-- a mask with a fourth slot is over other chairs
+pub fourth_slot : IsOver three 8 → ⊥
+fourth_slot over = true≢false (sym (over 3 refl))

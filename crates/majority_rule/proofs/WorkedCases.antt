@@ -1,7 +1,8 @@
 -- Quotas and least sizes of worked cases, computed by their definition from the 34 words of a sheet.
-use Rattle.std.proofs.Common.{◌≡◌, ℕ, List, [], ◌∷◌, ◌++◌, true, false, refl, replicate}
+use Rattle.std.proofs.Common.{◌≡◌, ◌≤◌, ℕ, List, [], ◌∷◌, ◌++◌, true, false, refl, replicate, arith}
+use Rattle.std.specs.Prelude.{IsTrue}
 use Rattle.majority_rule.specs.declared.majorities.Majority.TheVariants.{Half, Seventy, EightyFive, Quorum}
-use Rattle.majority_rule.specs.Winning.{quota_of, least_size_of, wins, rule_of}
+use Rattle.majority_rule.specs.Winning.{quota_of, least_size_of, wins, rule_of, MonotoneLaw, QuotaLaw}
 
 -- chairs 1, 2 and 3 with 50, 49 and 1 votes, and 100 votes more in no chair
 abbrev three_chairs : List ℕ
@@ -45,3 +46,18 @@ two_a_quorum = refl
 -- no weight at all never wins at a share of the total, also of a total of 0
 pub nothing_of_nothing : wins Seventy (replicate 34 0) 0 0 ≡ false
 nothing_of_nothing = refl
+
+-- one chair that has the quorum's weight, or all of it, is still no quorum by its number
+pub one_chair_no_quorum : (rule_of Quorum three_chairs ((1, 50) ∷ []) ≡ false) × (rule_of Quorum three_chairs ((1, 100) ∷ []) ≡ false)
+one_chair_no_quorum = (refl, refl)
+
+-- by the laws, with more votes and one more chair the two still win
+pub three_a_quorum : MonotoneLaw → IsTrue (wins Quorum three_chairs 150 3)
+three_a_quorum law = law Quorum three_chairs 100 150 2 3 (omega arith) (omega arith) refl
+
+-- what reaches the quota and the least size wins, and what wins reaches them
+pub reaching_wins : QuotaLaw → IsTrue (wins Quorum three_chairs 100 2)
+reaching_wins law = (law Quorum three_chairs 100 2).0 (omega arith, omega arith)
+
+pub winning_reaches : QuotaLaw → quota_of Quorum three_chairs ≤ 100
+winning_reaches law = ((law Quorum three_chairs 100 2).1 refl).0

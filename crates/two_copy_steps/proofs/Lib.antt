@@ -11,6 +11,7 @@ pub mod EventLists
 pub mod Fixed
 pub mod Steps
 pub mod WorkedCases
+pub mod LawCases
 pub mod Fresh
 pub mod EffectLists
 pub mod StateFacts

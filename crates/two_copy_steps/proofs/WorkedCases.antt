@@ -4,12 +4,14 @@ use Rattle.council_core.specs.Ledgers.{Ledger}
 use Rattle.council_core.specs.declared.commands.Command.TheVariants.{Open, Move, SetVotes}
 use Rattle.two_copy_steps.specs.declared.events.Event.{Event}
 use Rattle.two_copy_steps.specs.declared.events.Event.TheVariants.{Submit, Publish, Writer, Reader}
-use Rattle.two_copy_steps.specs.declared.events.Note.TheVariants.{Accepted, Began, Busy, Moved, Published, Read, Skipped}
+use Rattle.two_copy_steps.specs.declared.events.Note.TheVariants.{Accepted, Refused, Began, Busy, Moved, Published, Read, Skipped}
 use Rattle.two_copy_steps.specs.declared.table.TheConstants.{COPY_WORDS, READERS}
 use Rattle.two_copy_steps.specs.declared.views.Stage.{Stage}
-use Rattle.two_copy_steps.specs.declared.views.Stage.TheVariants.{AtRest, Reading, Leaving}
-use Rattle.two_copy_steps.specs.declared.views.Phase.TheVariants.{Idle, Filling, Swapping}
-use Rattle.two_copy_steps.specs.Effects.{SequentialRun, begun_after, replied_at}
+use Rattle.two_copy_steps.specs.declared.views.Stage.TheVariants.{AtRest, Arrived, Reading, Leaving}
+use Rattle.two_copy_steps.specs.declared.views.Phase.TheVariants.{Idle, Seeing, Filling, Swapping}
+use Rattle.council_core.specs.Sequential.{submit, publish, read}
+use Rattle.council_core.specs.declared.refusals.Refusal.TheVariants.{ChairOpen}
+use Rattle.two_copy_steps.specs.Effects.{SequentialRun, begun_after, effects, replied_at, sequential_start}
 use Rattle.two_copy_steps.specs.Lawful.{State}
 use Rattle.two_copy_steps.specs.Laws.{HandsInRange, HasVotesInRange}
 use Rattle.two_copy_steps.specs.Auxiliary.{NoneUnder, side_filled, side_held}
@@ -18,14 +20,14 @@ use Rattle.two_copy_steps.specs.Stages.{reading_steps, steps_taken}
 use Rattle.two_copy_steps.specs.States.{HasRecords}
 use Rattle.two_copy_steps.specs.Transitions.{MachineState, started, notes}
 
-abbrev one_member : Ledger
+abbrev pub one_member : Ledger
 one_member = record { opening = (65 ∷ 65 ∷ 65 ∷ [], 10) ∷ []; journal = []; limit = 100 }
 
 five_notes : notes (started one_member 1) (Submit (Open 1) ∷ Reader 2 ∷ Writer ∷ Publish ∷ Reader 1 ∷ []) ≡ Accepted 1 ∷ Skipped ∷ Skipped ∷ Began ∷ Moved ∷ []
 five_notes = refl
 
 -- a reader that has arrived holds up the second publication, and reads the sheet before the first
-abbrev in_the_way : List Event
+abbrev pub in_the_way : List Event
 in_the_way =
     replicate 2 (Reader 1) ++ Submit (Open 1) ∷ Publish ∷ [] ++ replicate 35 Writer ++ Submit (Move (65 ∷ 65 ∷ 65 ∷ []) (Some 1)) ∷ Publish ∷ Writer ∷ [] ++ replicate 35 (Reader 1) ++ Publish ∷ [] ++ replicate 36 Writer
     ++ replicate 37 (Reader 1)
@@ -41,6 +43,19 @@ way_notes : notes (started one_member 1) in_the_way
     ++ replicate 36 Moved ++ Read 1 last_sheet ∷ []
 way_notes = refl
 
+-- of these 151 events six stand for a call of the sequential register, in this order
+way_effects : effects (started one_member 1) in_the_way
+    ≡ read ∷ submit (Open 1) ∷ publish ∷ submit (Move (65 ∷ 65 ∷ 65 ∷ []) (Some 1)) ∷ publish ∷ read ∷ []
+way_effects = refl
+
+-- a publication with nothing pending is a call, and neither a command nor a publication is while one is under way
+other_effects : (effects (started one_member 1) (Publish ∷ []) ≡ publish ∷ []) × (effects (started one_member 1) (Submit (Open 1) ∷ Publish ∷ Submit (Open 2) ∷ Publish ∷ []) ≡ submit (Open 1) ∷ [])
+other_effects = (refl, refl)
+
+-- at the start no publication has begun, and no reader has been replied anything
+at_the_start : ((sequential_start one_member).begun ≡ false) × ((sequential_start one_member).replied 1 ≡ None)
+at_the_start = (refl, refl)
+
 -- a publication is under way from its beginning until side is stored or it is given up
 began : begun_after false Began ≡ true
 began = refl
@@ -51,12 +66,19 @@ given_up = refl
 ended : begun_after true (Published 3) ≡ false
 ended = refl
 
+-- no other note begins one, and none of them ends it
+begins_nothing : (begun_after false Moved ≡ false) × (begun_after false (Accepted 1) ≡ false) × (begun_after false (Refused ChairOpen) ≡ false) × (begun_after false (Read 1 []) ≡ false) × (begun_after false Skipped ≡ false)
+begins_nothing = (refl, refl, refl, refl, refl)
+
+ends_nothing : (begun_after true Moved ≡ true) × (begun_after true (Accepted 1) ≡ true) × (begun_after true (Refused ChairOpen) ≡ true) × (begun_after true (Read 1 []) ≡ true) × (begun_after true Skipped ≡ true)
+ends_nothing = (refl, refl, refl, refl, refl)
+
 -- what a reader was replied is forgotten where it arrives anew
 forgotten : (t : SequentialRun) → replied_at t 1 AtRest 1 ≡ None
 forgotten t = refl
 
 -- no writer may fill the copy that a reader reads, or has read and not left
-abbrev filling_under : Stage → MachineState
+abbrev pub filling_under : Stage → MachineState
 filling_under stage = record (started one_member 1) { writer = record (started one_member 1).writer { phase = Filling 0 }; readers = stage ∷ [] }
 
 under_reading : NoneUnder (filling_under (Reading 1 [])) → ⊥
@@ -65,11 +87,19 @@ under_reading h = h 1 0 (Reading 1 []) refl refl refl
 under_leaving : NoneUnder (filling_under (Leaving 1 [])) → ⊥
 under_leaving h = h 1 0 (Leaving 1 []) refl refl refl
 
-fills_the_other : side_filled 0 (Filling 0) ≡ Some 1
-fills_the_other = refl
+-- a copy is filled from its first word to its last, and at no other time
+fills_the_other : (side_filled 0 (Filling 0) ≡ Some 1) × (side_filled 1 (Filling 33) ≡ Some 0)
+fills_the_other = (refl, refl)
 
-holds_its_side : side_held (Leaving 1 []) ≡ Some 1
-holds_its_side = refl
+fills_none : (side_filled 0 Idle ≡ None) × (side_filled 0 Seeing ≡ None) × (side_filled 0 Swapping ≡ None)
+fills_none = (refl, refl, refl)
+
+-- a copy is held from the load of side until the reader leaves
+holds_its_side : (side_held (Reading 0 []) ≡ Some 0) × (side_held (Reading 0 (1 ∷ [])) ≡ Some 0) × (side_held (Leaving 1 []) ≡ Some 1)
+holds_its_side = (refl, refl, refl)
+
+holds_none : (side_held AtRest ≡ None) × (side_held Arrived ≡ None)
+holds_none = (refl, refl)
 
 -- behind a reader's last stage its reading has all its steps
 all_steps : suc (steps_taken (Leaving 0 [])) ≡ reading_steps
@@ -79,8 +109,8 @@ all_steps = refl
 stores_it : stores_side Writer Swapping ≡ true
 stores_it = refl
 
-stores_a_word : stores_side Writer (Filling 33) ≡ false
-stores_a_word = refl
+stores_a_word : (stores_side Writer (Filling 33) ≡ false) × (stores_side Writer Seeing ≡ false) × (stores_side Writer Idle ≡ false)
+stores_a_word = (refl, refl, refl)
 
 reader_stores_none : stores_side (Reader 1) Idle ≡ false
 reader_stores_none = refl
@@ -100,13 +130,13 @@ no_cut h = absurd_words h.readings.0.0.2
     absurd_words e = cc
 
 -- the votes of a register and those that an event hands over are in range, or too many
-abbrev code : List ℕ
+abbrev pub code : List ℕ
 code = 65 ∷ 65 ∷ 65 ∷ []
 
-votes_in_range : HasVotesInRange one_member
+pub votes_in_range : HasVotesInRange one_member
 votes_in_range = search rules
 
-hands_three_votes : HandsInRange (Submit (SetVotes code 3))
+pub hands_three_votes : HandsInRange (Submit (SetVotes code 3))
 hands_three_votes = search rules
 
 hands_too_many : HandsInRange (Submit (SetVotes code (2 ^ 41))) → ⊥

@@ -63,6 +63,7 @@ invariant_of-self-2 c =
       kept = kept_of i;
       beside = c.self.invariant;
       room = room;
+      votes = c.votes-votes.ensures;
       journal = c.append.new.journal.items;
       grown = c.append.ensures ∙ ap (λ (j : List Command). j ++ c.args.command ∷ []) (same ∙ c.make_room.ensures.same);
     } in

@@ -1,4 +1,4 @@
-use Rattle.std.proofs.Common.{List, [], sym, subst, arith}
+use Rattle.std.proofs.Common.{rules, List, [], sym, subst, arith}
 use Rattle.council_core.specs.declared.commands.Command.{Command}
 use Rattle.council_core.specs.Rolls.{Opening}
 use Rattle.council_core.proofs.MirrorLemmas.{Kept, IsBeside}
@@ -11,6 +11,7 @@ invariant_of-result c =
     let start : IsStart c.args.members.now c.args.journal_limit begun = record {
       made = c.in_ok-entered.ensures.ok;
       few = omega arith;
+      apart = search rules;
       small = omega arith;
       words = c.start.ensures.words;
       counts = c.start.ensures.counts;

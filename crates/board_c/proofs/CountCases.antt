@@ -1,0 +1,73 @@
+-- What is shown of three chairs, and which answers are due: worked cases, and what the definitions exclude.
+use Rattle.std.proofs.Common.{◌≡◌, ◌≤◌, ◌++◌, ℕ, List, [], ◌∷◌, replicate, refl, subst, sym, arith, None, Some}
+use Rattle.std.proofs.lemmas.List.Elements.{All-from_recursion, recursion_from_All}
+use Rattle.majority_rule.specs.declared.majorities.Majority.{Majority}
+use Rattle.majority_rule.specs.declared.majorities.Majority.TheVariants.{Half, Seventy, EightyFive, Quorum}
+use Rattle.majority_rule.specs.Winning.{rule_of}
+use Rattle.council_core.specs.Coalitions.{omega_of}
+use Rattle.council_core.specs.Rolls.{Roll, words_of as roll_words}
+use Rattle.council_core.specs.Sheets.{open_chairs}
+use Rattle.council_core.specs.declared.refusals.Refusal.TheVariants.{BadRecord, BadSheet, OutOfMemory, JournalFull}
+use Rattle.board_c.specs.declared.counts.BoardAllCounts.{BoardAllCounts}
+use Rattle.board_c.specs.declared.counts.BoardCounts.{BoardCounts}
+use Rattle.board_c.specs.declared.members.BoardMember.{BoardMember}
+use Rattle.board_c.specs.Counts.{ShowsCounts, ShowsAllCounts, IsRefusedAs, IsRefusalOfWords, words_of, majority_of}
+use Rattle.board_c.specs.Laws.{MembersLaw, RollLaw}
+use Rattle.board_c.specs.Members.{AreRefusedAs, IsBoard, member_words}
+use Rattle.board_c.proofs.WorkedCases.{member}
+
+-- chairs 1, 2 and 3 with 50, 49 and 1 votes
+abbrev three : List ℕ
+three = words_of (50 ∷ 49 ∷ 1 ∷ []) 100
+
+three_words : three ≡ 51 ∷ 50 ∷ 2 ∷ replicate 29 0 ++ 100 ∷ 0 ∷ []
+three_words = refl
+
+numbers : (majority_of 0 ≡ Some Half) × (majority_of 1 ≡ Some Seventy) × (majority_of 2 ≡ Some EightyFive) × (majority_of 3 ≡ Some Quorum) × (majority_of 4 ≡ None)
+numbers = (refl, refl, refl, refl, refl)
+
+-- what is shown at number 0 is by more than half of the votes cast: 3 coalitions win
+half_shown : (counts : BoardCounts) → ShowsCounts 0 three counts → counts.omega ≡ 3
+half_shown counts h =
+    let known : Some Half ≡ Some h.majority = h.known in
+    let same : Half ≡ h.majority = cc in
+    subst (λ (m : Majority). counts.omega ≡ omega_of (rule_of m three) (open_chairs three)) (sym same) h.counts_of.omega
+
+-- by all majorities 3, 2, 2 and 4 coalitions win
+all_shown : (counts : BoardAllCounts) → ShowsAllCounts three counts → (counts.half.omega ≡ 3) × (counts.seventy.omega ≡ 2) × (counts.eighty_five.omega ≡ 2) × (counts.quorum.omega ≡ 4)
+all_shown counts h = (h.half.omega, h.seventy.omega, h.eighty_five.omega, h.quorum.omega)
+
+-- nothing is shown at a number of no majority, nor of words that are no sheet's
+none_shown : (counts : BoardCounts) → ShowsCounts 4 three counts → ⊥
+none_shown counts h =
+    let known : None ≡ Some h.majority = h.known in
+    cc
+
+no_sheet_shown : (counts : BoardCounts) → ShowsCounts 0 [] counts → ⊥
+no_sheet_shown counts h = omega (arith, h.whole.long)
+
+-- no other refusal is due; and that of a number is due of a sheet's words alone
+no_other : (IsRefusedAs 0 three JournalFull → ⊥) × (IsRefusedAs 0 three OutOfMemory → ⊥)
+no_other = ((λ h. h), (λ h. h))
+
+words_come_first : IsRefusedAs 4 [] BadRecord → ⊥
+words_come_first h = omega (arith, h.0.long)
+
+no_words : IsRefusalOfWords [] 32
+no_words = (refl, (λ whole. omega (arith, whole.long)))
+
+-- no members at all are a board's; a member in chair 33 is not, and its board is refused before the number
+empty_board : IsBoard []
+empty_board = record { seated = All-from_recursion (λ (m : BoardMember). m.chair ≤ 32) [] tt; small = omega arith }
+
+empty_not_refused : (AreRefusedAs 0 [] BadSheet → ⊥) × (AreRefusedAs 0 [] JournalFull → ⊥) × (AreRefusedAs 0 [] OutOfMemory → ⊥)
+empty_not_refused = ((λ h. h empty_board), (λ h. h), (λ h. h))
+
+members_come_first : AreRefusedAs 4 (member 1 33 0 ∷ []) BadRecord → ⊥
+members_come_first h = omega (arith, (recursion_from_All (λ (m : BoardMember). m.chair ≤ 32) (member 1 33 0 ∷ []) h.0.seated).0)
+
+-- by the laws, some roll of the register has the words of whatever members
+members_of_a_roll : MembersLaw → RollLaw → (members : List BoardMember) (mask : ℕ) → (roll : Roll) × (roll_words roll 0 ≡ member_words members mask)
+members_of_a_roll same found members mask =
+    let roll = found members mask in
+    (roll.0, same members mask roll.0 roll.1)

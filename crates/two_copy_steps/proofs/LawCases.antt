@@ -1,0 +1,93 @@
+-- What the laws say of worked cases, whose premises hold there; and which causes and publications the definitions exclude.
+use Rattle.std.proofs.Common.{◌≡◌, ◌≤◌, ◌++◌, replicate, true, false, List, [], ◌∷◌, slice_get, ⊎_elim, Some, Ok, refl, sym, arith, true≢false}
+use Rattle.council_core.specs.Ledgers.{IsLedger, verdict_of}
+use Rattle.council_core.specs.Sheets.{front_of}
+use Rattle.council_core.specs.declared.commands.Command.TheVariants.{Open, Close, SetVotes}
+use Rattle.council_core.specs.declared.refusals.Refusal.TheVariants.{BadLimit, OutOfMemory}
+use Rattle.two_copy_steps.specs.declared.events.Event.{Event}
+use Rattle.two_copy_steps.specs.declared.events.Event.TheVariants.{Submit, Publish, Writer, Reader}
+use Rattle.two_copy_steps.specs.declared.views.Stage.TheVariants.{AtRest}
+use Rattle.two_copy_steps.specs.declared.views.Phase.TheVariants.{Filling}
+use Rattle.two_copy_steps.specs.Lawful.{IsPublishable}
+use Rattle.two_copy_steps.specs.Laws.{AtOnceLaw, FreshLaw, RangeLaw, RecordsLaw, RepliesLaw, StayLaw, UnderLaw}
+use Rattle.two_copy_steps.specs.Auxiliary.{HasLegalRecords, NoneUnder}
+use Rattle.two_copy_steps.specs.Machines.{IsFew, WantsMemory}
+use Rattle.two_copy_steps.specs.Publications.{IsLeastUnseen, StaySeen}
+use Rattle.two_copy_steps.specs.Runs.{HasCause, IsFault, TellsReplies, auxiliary_after, machine_after}
+use Rattle.two_copy_steps.specs.Transitions.{MachineState, started, transition}
+use Rattle.two_copy_steps.proofs.WorkedCases.{code, filling_under, hands_three_votes, in_the_way, one_member, votes_in_range}
+
+-- an accepted command can want memory; a refused one, one that comes while a publication is under way, and every other
+-- event can't
+wants_memory : WantsMemory (started one_member 1) (Submit (Open 1))
+wants_memory = (refl, refl)
+
+refused_wants_none : WantsMemory (started one_member 1) (Submit (Close 1)) → ⊥
+refused_wants_none h = true≢false (sym (accepted h.1))
+  where
+    accepted : verdict_of one_member (Close 1) ≡ Ok tt → false ≡ true
+    accepted e = cc
+
+skipped_wants_none : WantsMemory (filling_under AtRest) (Submit (Open 1)) → ⊥
+skipped_wants_none h = true≢false (sym h.0)
+
+others_want_none : (m : MachineState) → (WantsMemory m Publish → ⊥) × (WantsMemory m Writer → ⊥) × (WantsMemory m (Reader 1) → ⊥)
+others_want_none m = ((λ h. h), (λ h. h), (λ h. h))
+
+-- memory doesn't run out once the only event, a publication, is done
+no_memory_after_all : IsFault one_member 1 (Publish ∷ []) one_member 1 OutOfMemory → ⊥
+no_memory_after_all h = ⊎_elim (λ t. few t.0) (λ t. ⊎_elim (λ e. omega (arith, e)) (λ w. past w.0 w.1) t.2) h.cause
+  where
+    few : (IsFew 1 → ⊥) → ⊥
+    few out = out (omega arith, omega arith)
+
+    past : (event : Event) → slice_get (Publish ∷ []) 1 ≡ Some event → ⊥
+    past event e = cc
+
+-- a bad number of readers is refused before any event
+no_readers_after_one : HasCause one_member 0 (Publish ∷ []) 1 BadLimit → ⊥
+no_readers_after_one h = ⊎_elim (λ t. omega (arith, t.2)) (λ t. omega (arith, t.0.0)) h
+
+-- who was seen out stays so, and the least that isn't is the first
+stay_refuted : StaySeen (true ∷ []) (false ∷ []) → ⊥
+stay_refuted h = true≢false (same (h 0 refl))
+  where
+    same : Some false ≡ Some true → true ≡ false
+    same e = cc
+
+least_refuted : IsLeastUnseen (false ∷ false ∷ []) 1 → ⊥
+least_refuted h = true≢false (same (h.1 0 (omega arith)))
+  where
+    same : Some false ≡ Some true → true ≡ false
+    same e = cc
+
+-- a register of one member can begin
+ledger : IsLedger one_member
+ledger = record { legal = (refl, omega arith); within = omega arith; small = omega arith }
+
+three_votes_stay_in_range : RangeLaw → IsPublishable one_member.opening (SetVotes code 3 ∷ [])
+three_votes_stay_in_range law = (law (started one_member 1) ledger votes_in_range (Submit (SetVotes code 3)) hands_three_votes).1
+
+-- over the events in which a reader holds up a publication
+records_of_the_way : RecordsLaw → HasLegalRecords (machine_after one_member 1 in_the_way) (auxiliary_after one_member 1 in_the_way)
+records_of_the_way law = law one_member 1 ledger in_the_way
+
+apart_in_the_way : UnderLaw → NoneUnder (machine_after one_member 1 in_the_way)
+apart_in_the_way law = law one_member 1 ledger in_the_way
+
+replies_in_the_way : RepliesLaw → TellsReplies one_member 1 in_the_way
+replies_in_the_way law = law one_member 1 ledger in_the_way
+
+-- a step that stores a word leaves who is seen out, and with everybody seen out a publication fills at once
+stay_used : StayLaw → StaySeen (filling_under AtRest).writer.seen_out (transition (filling_under AtRest) Writer).0.writer.seen_out
+stay_used law = law (filling_under AtRest) Writer refl
+
+at_once_used : AtOnceLaw → (transition (machine_after one_member 1 (Submit (Open 1) ∷ [])) Publish).0.writer.phase ≡ Filling 0
+at_once_used law = law (machine_after one_member 1 (Submit (Open 1) ∷ [])) refl refl
+
+-- a reader at rest after a publication of one command reads its sheet, or a newer one
+abbrev one_published : List Event
+one_published = Submit (Open 1) ∷ Publish ∷ replicate 35 Writer
+
+fresh_used : FreshLaw → 1 ≤ front_of (1 ∷ replicate 31 0 ++ 10 ∷ 1 ∷ [])
+fresh_used law = law one_member 1 ledger one_published (replicate 36 (Reader 1)) 0 _ refl refl
