@@ -1,7 +1,6 @@
 -- Which faults may end a run of the threads, and after which lines; and what the definitions exclude.
 use Rattle.std.proofs.Common.{◌≡◌, ◌++◌, ℕ, true, false, List, [], ◌∷◌, replicate, Option, Ok, Err, refl, sym, ap, arith, ⊎_elim, true≢false}
 use Rattle.council_core.specs.Sequential.{Sequential, accepted, refused, published}
-use Rattle.council_core.specs.declared.refusals.Refusal.{Refusal}
 use Rattle.council_core.specs.declared.refusals.Refusal.TheVariants as why
 use Rattle.majority_rule.specs.declared.majorities.Majority.TheVariants.{Half}
 use Rattle.board_audits.specs.declared.audits.AuditFault.TheVariants as found
