@@ -72,14 +72,14 @@ three_votes_stay_in_range : RangeLaw → IsPublishable one_member.opening (SetVo
 three_votes_stay_in_range law = (law (started one_member 1) ledger votes_in_range (Submit (SetVotes code 3)) hands_three_votes).1
 
 -- over the events in which a reader holds up a publication
-records_of_the_way : RecordsLaw → HasLegalRecords (machine_after one_member 1 in_the_way) (auxiliary_after one_member 1 in_the_way)
-records_of_the_way law = law one_member 1 ledger in_the_way
+records_while_held_up : RecordsLaw → HasLegalRecords (machine_after one_member 1 in_the_way) (auxiliary_after one_member 1 in_the_way)
+records_while_held_up law = law one_member 1 ledger in_the_way
 
-apart_in_the_way : UnderLaw → NoneUnder (machine_after one_member 1 in_the_way)
-apart_in_the_way law = law one_member 1 ledger in_the_way
+apart_while_held_up : UnderLaw → NoneUnder (machine_after one_member 1 in_the_way)
+apart_while_held_up law = law one_member 1 ledger in_the_way
 
-replies_in_the_way : RepliesLaw → TellsReplies one_member 1 in_the_way
-replies_in_the_way law = law one_member 1 ledger in_the_way
+replies_while_held_up : RepliesLaw → TellsReplies one_member 1 in_the_way
+replies_while_held_up law = law one_member 1 ledger in_the_way
 
 -- a step that stores a word leaves who is seen out, and with everybody seen out a publication fills at once
 stay_used : StayLaw → StaySeen (filling_under AtRest).writer.seen_out (transition (filling_under AtRest) Writer).0.writer.seen_out
@@ -95,8 +95,8 @@ one_published = Submit (Open 1) ∷ Publish ∷ replicate 35 Writer
 fresh_used : FreshLaw → 1 ≤ front_of (1 ∷ replicate 31 0 ++ 10 ∷ 1 ∷ [])
 fresh_used law = law one_member 1 ledger one_published (replicate 36 (Reader 1)) 0 _ refl refl
 
-never_older_on_the_way : NeverOlderLaw → FrontsNeverFall (notes (started one_member 1) in_the_way)
-never_older_on_the_way law = law one_member 1 ledger in_the_way
+never_older_while_held_up : NeverOlderLaw → FrontsNeverFall (notes (started one_member 1) in_the_way)
+never_older_while_held_up law = law one_member 1 ledger in_the_way
 
 -- the publication that the reader holds up, at the 42nd event, names the least reader that isn't seen out
 abbrev held_up : MachineState
