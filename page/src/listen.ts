@@ -1,0 +1,54 @@
+/** The controls that stand in the page from its beginning. */
+import type { App } from "./app";
+import { byId } from "./dom";
+import { withChanges } from "./study";
+import { openAdmit } from "./views/member";
+import { paintChairs } from "./views/chairs";
+
+function openSheet(name: string, isOpen: boolean): void {
+  for (const id of ["chairs", "right"]) {
+    const isThis = id === name && isOpen;
+    byId(id).classList.toggle("open", isThis);
+    document.querySelector(`.sheets [data-sheet="${id}"]`)?.setAttribute("aria-expanded", String(isThis));
+  }
+}
+
+function sheets(): void {
+  for (const button of document.querySelectorAll<HTMLElement>("[data-sheet]")) {
+    const name = button.dataset["sheet"] ?? "";
+    button.addEventListener("click", () => openSheet(name, !byId(name).classList.contains("open")));
+  }
+}
+
+function onClick(id: string, act: () => void): void {
+  byId(id).addEventListener("click", act);
+}
+
+export function listen(app: App): void {
+  onClick("undo", () => app.undo());
+  onClick("redo", () => app.redo());
+  onClick("admit-open", () => openAdmit(app));
+  onClick("clear-changes", () => app.take(withChanges(app.study, [])));
+  byId("filter").addEventListener("input", () => {
+    app.filter = byId<HTMLInputElement>("filter").value;
+    paintChairs(app);
+  });
+  byId("published").addEventListener("change", () => {
+    const digits = byId<HTMLInputElement>("published").value.replace(/[^0-9]/g, "");
+    app.take({ ...app.study, published: digits ? Number(digits) : null });
+  });
+  document.addEventListener("keydown", (event) => {
+    if (!(event.ctrlKey || event.metaKey) || event.key.toLowerCase() !== "z") return;
+    if (event.target instanceof HTMLInputElement || event.target instanceof HTMLTextAreaElement) return;
+    event.preventDefault();
+    if (event.shiftKey) app.redo();
+    else app.undo();
+  });
+  sheets();
+  let width = innerWidth;
+  addEventListener("resize", () => {
+    if (width !== innerWidth) app.repaint();
+    width = innerWidth;
+  });
+  matchMedia("(prefers-color-scheme: dark)").addEventListener("change", () => app.repaint());
+}

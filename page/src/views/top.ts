@@ -1,0 +1,59 @@
+/** The top bar: the study's name, its summary, and whether all checks passed. */
+import type { App } from "../app";
+import { byId, h, paint } from "../dom";
+import { grouped } from "../fractions";
+import { SHORT_COMMIT, VERSION } from "../made";
+import { memberWords } from "../commandWords";
+import type { Place, Standing } from "../standing";
+import type { Study } from "../study";
+import { reasonOf } from "../words";
+import { Fault } from "../count";
+
+function namesOf(places: readonly Place[]): string {
+  return places.map((it) => memberWords(it.code, it.name)).join(", ");
+}
+
+/** Members, votes, chairs, members in none and suspended ones. The total is the reading's. */
+function summaryOf(standing: Standing, total: number): string {
+  const members = standing.members();
+  const none = standing.in(null);
+  const suspended = members.filter((it) => it.suspended);
+  const parts = [`${members.length} members`, `${standing.open().length} chairs`, `${grouped(total)} votes`];
+  parts.push(none.length ? `${none.length} in none: ${namesOf(none)}` : "none without a chair");
+  if (suspended.length) parts.push(`suspended: ${namesOf(suspended)}`);
+  return parts.join(", ");
+}
+
+function publishedWords(study: Study, total: number): string {
+  if (study.published === null) return "";
+  const gap = total - study.published;
+  if (gap === 0) return "equals the base's votes";
+  return `the base has ${grouped(Math.abs(gap))} votes ${gap > 0 ? "more" : "less"}`;
+}
+
+function faultWords(why: Fault | Error): string {
+  if (!(why instanceof Fault)) return `The page can't go on: ${why.message}`;
+  const place = why.record ? ` at record ${why.record}` : "";
+  return `The run ended in a fault${place}: ${why.name}, ${reasonOf(why.name)}.`;
+}
+
+export function paintTop(app: App): void {
+  const { shown, study, fault } = app;
+  byId("study-name").textContent = study.name;
+  document.title = `${study.name} · voting power`;
+  byId<HTMLButtonElement>("undo").disabled = !app.history.canUndo;
+  byId<HTMLButtonElement>("redo").disabled = !app.history.canRedo;
+  const alert = fault ? `${faultWords(fault)} The figures are those of ${shown?.study.name ?? "no study"} before.` : "";
+  byId("fault").textContent = alert;
+  if (!shown) return;
+  const [before] = shown.counted.before.values();
+  const [after] = shown.counted.after.values();
+  const base = `base: ${summaryOf(shown.counted.opening, before?.total ?? 0)}`;
+  const isChanged = [...shown.counted.outcomes.values()].some((it) => it.kind === "accepted");
+  const changed = isChanged ? h("span", {}, `changed: ${summaryOf(shown.counted.standing, after?.total ?? 0)}`) : null;
+  paint(byId("summary"), h("span", {}, base), changed);
+  byId("published-words").textContent = publishedWords(shown.study, before?.total ?? 0);
+  const checks = shown.counted.misfits.length ? "CHECKS FAILED" : "checks passed";
+  byId("seal").textContent = `counted by board ${VERSION} (${SHORT_COMMIT}), ${checks}`;
+  byId("seal").classList.toggle("wrong", shown.counted.misfits.length > 0);
+}
