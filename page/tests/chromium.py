@@ -1,4 +1,4 @@
-"""Chromium with board.html in it: things are found by role and name, as a screen reader finds them."""
+"""Chromium with board.html in it. page/README.md says how the page's places are named."""
 from __future__ import annotations
 
 import time
@@ -7,12 +7,15 @@ from pathlib import Path
 from typing import Any
 
 from board_checks.browser_visit import set_width, started
+from selenium.webdriver.common.by import By
 from selenium.webdriver.common.keys import Keys
 from selenium.webdriver.remote.webelement import WebElement
+from selenium.webdriver.support.select import Select
 
 SECONDS = 20.0
 WIDE, NARROW = 1280, 390
-ACCESS = (Path(__file__).parent / "access.js").read_text()
+HERE = Path(__file__).parent
+ACCESS, ACTS = ((HERE / name).read_text() for name in ["access.js", "acts.js"])
 
 
 class Page:
@@ -22,16 +25,14 @@ class Page:
         self.file, self.downloads = file, downloads
         # Selenium's own types are partial.
         self.driver: Any = started()
-        self.driver.execute_cdp_cmd("Accessibility.enable", {})
         to = {"behavior": "allow", "downloadPath": str(downloads)}
         self.driver.execute_cdp_cmd("Browser.setDownloadBehavior", to)
-        self.open()
 
     def open(self, file: Path | None = None) -> None:
-        """Opens the page from scratch, or another file; it waits until figures are there."""
+        """Opens the page from scratch, or another file."""
         self.show()
         self.driver.get((file or self.file).as_uri())
-        self.wait()
+        self.settle()
 
     def show(self, width: int = WIDE, height: int = 900, scheme: str = "light") -> None:
         """Makes the screen so large, and light or dark."""
@@ -47,7 +48,7 @@ class Page:
         """What a check of access.js finds."""
         return self.run(ACCESS, check, *words)
 
-    def until(self, holds: Callable[[], object], what: str) -> Any:
+    def until(self, holds: Callable[[], Any], what: str) -> Any:
         """Waits until something holds, and gives it."""
         end = time.monotonic() + SECONDS
         while not (found := holds()):
@@ -55,53 +56,59 @@ class Page:
             time.sleep(0.01)
         return found
 
-    def nodes(self, role: str, name: str | None = None) -> list[dict[str, Any]]:
-        """The things of a role, and of a name, in the browser's own accessibility tree."""
-        root = self.driver.execute_cdp_cmd("DOM.getDocument", {"depth": 0})["root"]["nodeId"]
-        wanted = {"nodeId": root, "role": role} | ({} if name is None else {"accessibleName": name})
-        found = self.driver.execute_cdp_cmd("Accessibility.queryAXTree", wanted)["nodes"]
-        return [it for it in found if not it.get("ignored")]
+    def settle(self) -> str:
+        """Waits until the figures on the screen are those of the last edit: `ready`, or `fault`."""
+        state = "const state = document.documentElement.dataset.state; return state !== 'counting' && state;"
+        return str(self.until(lambda: self.run(state), "figures"))
 
-    def names(self, role: str) -> list[str]:
-        """The names of all things of a role."""
-        return [it.get("name", {}).get("value", "") for it in self.nodes(role)]
+    def all(self, place: str) -> list[WebElement]:
+        """What a CSS selector finds."""
+        return list(self.driver.find_elements(By.CSS_SELECTOR, place))
 
-    def find(self, role: str, name: str) -> WebElement:
-        """The one thing that has a role and a name."""
-        found = self.nodes(role, name)
-        assert len(found) == 1, f"{len(found)} things are a {role} named {name!r}; there are {self.names(role)}"
-        thing = self.driver.execute_cdp_cmd("DOM.resolveNode", {"backendNodeId": found[0]["backendDOMNodeId"]})
-        keep = {"objectId": thing["object"]["objectId"], "functionDeclaration": "function () { window.kept = this; }"}
-        self.driver.execute_cdp_cmd("Runtime.callFunctionOn", keep)
-        element = self.run("return window.kept;")
-        assert isinstance(element, WebElement)
-        return element
+    def at(self, place: str) -> WebElement:
+        """The one thing that a CSS selector finds."""
+        found = self.all(place)
+        assert len(found) == 1, f"{len(found)} things are at {place}"
+        return found[0]
 
-    def click(self, role: str, name: str) -> None:
-        self.find(role, name).click()
-        self.wait()
+    def text(self, place: str) -> str:
+        return self.at(place).text
 
-    def write(self, name: str, text: str, role: str = "textbox") -> None:
+    def texts(self, place: str) -> list[str]:
+        return [it.text for it in self.all(place)]
+
+    def click(self, place: str) -> None:
+        self.at(place).click()
+        self.settle()
+
+    def choose(self, place: str, value: str) -> None:
+        """Chooses from a list."""
+        chosen: Any = Select(self.at(place))
+        chosen.select_by_value(value)
+        self.settle()
+
+    def write(self, place: str, text: str) -> None:
         """Types a text into a field, in the place of what stands there, and Enter."""
-        self.find(role, name).send_keys(Keys.CONTROL, "a", Keys.NULL, text, Keys.ENTER)
-        self.wait()
+        self.at(place).send_keys(Keys.CONTROL, "a", Keys.NULL, text, Keys.ENTER)
+        self.settle()
 
     def press(self, *keys: str) -> None:
         """Presses keys where the focus is."""
         self.driver.switch_to.active_element.send_keys(*keys)
-        self.wait()
+        self.settle()
 
-    def downloaded(self, act: Callable[[], None]) -> tuple[str, bytes]:
-        """The file that an act downloads: its name and its bytes."""
+    def act(self, *words: object) -> bool:
+        """Does what acts.js has, much faster than by mouse and keyboard: whether the page offers it."""
+        return bool(self.driver.execute_async_script(ACTS, *words))
+
+    def downloaded(self, place: str) -> tuple[str, bytes]:
+        """The file that a button downloads: its name and its bytes."""
         for file in self.downloads.iterdir():
             file.unlink()
-        act()
-        ended: Callable[[], list[Path]] = lambda: [
-            it for it in self.downloads.iterdir() if it.suffix not in (".crdownload", ".tmp") and it.name[0] != "."
-        ]
-        (file,) = self.until(ended, "a download")
-        return file.name, file.read_bytes()
+        self.at(place).click()
 
-    def wait(self) -> None:
-        """Waits until all figures on the screen are those of the last edit."""
-        raise NotImplementedError
+        def ended() -> list[Path]:
+            return [it for it in self.downloads.iterdir() if it.suffix != ".crdownload" and it.name[0] != "."]
+
+        (file,) = self.until(ended, f"what {place} downloads")
+        return file.name, file.read_bytes()

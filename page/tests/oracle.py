@@ -2,20 +2,17 @@
 from __future__ import annotations
 
 import subprocess
-import sys
 from collections.abc import Callable
 from pathlib import Path
 
+from board_python.member_tables import Columns, MemberTable, input_lines, read_table
+from board_python.programs import Program
+from board_python.replay_output import Output, read_output
+from board_python.scenarios import Scenario
+from board_python.studies import run_study
+from board_python.tables import study_table
+
 TOP = Path(__file__).resolve().parents[2]
-sys.path.insert(0, str(TOP / "figures"))
-
-from board_python.member_tables import Columns, MemberTable, input_lines, read_table  # noqa: E402
-from board_python.programs import Program  # noqa: E402
-from board_python.replay_output import Output, read_output  # noqa: E402
-from board_python.scenarios import Scenario  # noqa: E402
-from board_python.studies import run_study  # noqa: E402
-from board_python.tables import study_table  # noqa: E402
-
 EXAMPLE = TOP / "examples" / "members.csv"
 MAJORITIES = ["half", "70", "85", "quorum"]
 
