@@ -69,11 +69,11 @@ function contrastOf({ thing, x, y }) {
 
 /** The texts that contrast with their ground by less than `least`. */
 function faint(least) {
-  const style = document.createElement("style");
-  style.textContent = "* { pointer-events: auto !important; }";
-  document.head.append(style);
+  const sheet = new CSSStyleSheet();
+  sheet.replaceSync("* { pointer-events: auto !important; }");
+  document.adoptedStyleSheets = [sheet];
   const found = texts().map((it) => [it.text, Math.round(contrastOf(it) * 100) / 100]);
-  style.remove();
+  document.adoptedStyleSheets = [];
   return found.filter(([, much]) => much < least);
 }
 

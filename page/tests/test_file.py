@@ -30,7 +30,7 @@ def test_size(page: Page) -> None:
 
 
 def test_same_bytes(page: Page) -> None:
-    # Catches: a time, a folder's name or an order by chance in what is built, so that nobody can check the bytes.
+    # Catches: a time or an order by chance in what is built, so that nobody can check the bytes.
     first = BUILT.read_bytes()
     subprocess.run([TOP / "page" / "build"], check=True, capture_output=True)
     assert BUILT.read_bytes() == first, "two builds differ"
