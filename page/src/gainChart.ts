@@ -2,13 +2,13 @@
 import { axisTop } from "d3-axis";
 import { scaleLinear } from "d3-scale";
 import type { Selection } from "d3-selection";
-import { dot, ended, fitted, framed, majorityItems, tinted, type Look } from "./charts";
+import { dot, ended, framed, labelled, labelRoom, majorityItems, tinted, type Look } from "./charts";
 import { difference, drawn, type Ratio } from "./fractions";
 import type { ChairRow } from "./compare";
 import type { PowerModel } from "./powerChart";
 import { MEASURE, type Majority, type Measure } from "./words";
 
-const [LANE, SPACE, NARROW, LABELS] = [12, 8, 560, 170] as const;
+const [LANE, SPACE] = [12, 8] as const;
 /** Hatches by majority, so that bars can be told apart without colour: an angle and a distance. */
 const HATCHES: Readonly<Record<Majority, readonly [number, number]>> = {
   half: [0, 3],
@@ -46,8 +46,7 @@ function lanesOf(row: ChairRow, model: PowerModel): (readonly [Majority | "votes
 /** Draws the chart into a place. Each row has a group with the chair's number in `data-chair`. */
 export function drawGains(target: Element, model: PowerModel, look: Look): void {
   const { palette } = look;
-  const isNarrow = look.width < NARROW;
-  const [head, left] = isNarrow ? [17, 10] : [0, LABELS];
+  const { left, head } = labelRoom(model.rows, look);
   const rows = model.rows.map((row) => ({ row, lanes: lanesOf(row, model) }));
   const height = head + LANE * (rows[0]?.lanes.length ?? 0) + SPACE;
   const votes = { words: "votes", draw: (at: Selection) => void at.append("rect").attr("x", -7).attr("y", -4).attr("width", 14).attr("height", 8).attr("fill", palette.bar) };
@@ -64,16 +63,13 @@ export function drawGains(target: Element, model: PowerModel, look: Look): void 
   const start = frame.top + 36;
   const bottom = start + height * rows.length;
   const axis = frame.root.append("g").attr("transform", `translate(0,${frame.top + 32})`);
-  axis.call(axisTop(scale).ticks(isNarrow ? 4 : 7).tickSizeInner(-(bottom - start + 4)).tickSizeOuter(0));
+  axis.call(axisTop(scale).ticks(look.width < 480 ? 4 : 7).tickSizeInner(-(bottom - start + 4)).tickSizeOuter(0));
   tinted(axis, palette);
   frame.root.append("line").attr("x1", scale(0)).attr("x2", scale(0)).attr("y1", start - 4).attr("y2", bottom).attr("stroke", palette.ink);
   rows.forEach(({ row, lanes }, at) => {
     const group = frame.root.append("g").attr("transform", `translate(0,${start + height * at})`).attr("data-chair", row.chair);
     group.append("rect").attr("width", look.width).attr("height", height).attr("fill", at % 2 ? palette.band : "transparent").attr("fill-opacity", 0.55);
-    const label = group.append("text").attr("fill", palette.ink);
-    label.text(fitted(`${row.chair} ${row.name}`, isNarrow ? look.width - 20 : LABELS - 14));
-    if (isNarrow) label.attr("x", 8).attr("y", 13);
-    else label.attr("x", LABELS - 8).attr("y", height / 2 + 4).attr("text-anchor", "end");
+    labelled(group, row, look, head, left, height);
     drawLanes(group.append("g").attr("transform", `translate(0,${head + SPACE / 2})`), lanes, scale, look);
     const isMissing = lanes.every(([, gain]) => gain === null);
     if (isMissing) {
