@@ -2,6 +2,7 @@
 import { counted, Fault, type Counted, type Replay } from "./count";
 import { History } from "./history";
 import type { Replays } from "./replays";
+import { ScenarioCounts } from "./scenarios";
 import { FIRST_VIEW, type Study, type View } from "./study";
 
 export type State = "counting" | "ready" | "fault";
@@ -15,6 +16,7 @@ export interface Shown {
 export class App {
   readonly history: History<Study>;
   readonly replays: Replays;
+  readonly scenarios = new ScenarioCounts();
   view: View;
   shown: Shown | null = null;
   state: State = "counting";
@@ -88,6 +90,13 @@ export class App {
       const { duration } = performance.measure("edit to numbers", "edit");
       document.documentElement.dataset["milliseconds"] = duration.toFixed(1);
     });
+    await this.#countScenarios(run, study);
+  }
+
+  /** Counts the scenarios behind the study itself. */
+  async #countScenarios(run: number, { base, scenarios }: Study): Promise<void> {
+    const isNew = await this.scenarios.fill(this.replay, base, scenarios, this.view.majorities);
+    if (isNew && run === this.#run) this.repaint();
   }
 
   #set(state: State): void {

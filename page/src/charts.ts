@@ -129,6 +129,29 @@ export function ended({ root }: Frame, look: Look, bottom: number): void {
   root.attr("height", height).attr("viewBox", `0 0 ${look.width} ${height}`);
 }
 
+/** Where rows begin: names stand left of them, or above them where there is little room. */
+export function labelRoom(rows: readonly Named[], { width }: Look): { left: number; head: number } {
+  const longest = Math.max(0, ...rows.map((row) => nameOf(row).length)) * LETTER + 18;
+  return width < 480 || longest > width / 2 ? { left: 10, head: 17 } : { left: Math.max(60, Math.min(longest, width / 3)), head: 0 };
+}
+
+interface Named {
+  readonly chair: number;
+  readonly name: string;
+}
+
+function nameOf({ chair, name }: Named): string {
+  return `${chair} ${name}`;
+}
+
+/** Writes a row's name. */
+export function labelled(group: Selection, row: Named, look: Look, head: number, left: number, height: number): void {
+  const label = group.append("text").attr("fill", look.palette.ink);
+  label.text(fitted(nameOf(row), head ? look.width - 20 : left - 10));
+  if (head) label.attr("x", 8).attr("y", 13);
+  else label.attr("x", left - 10).attr("y", height / 2 + 4).attr("text-anchor", "end");
+}
+
 /** Colours of an axis, whose lines and texts d3 draws. */
 export function tinted(axis: Selection, { faint, rule }: Palette): void {
   axis.selectAll("text").attr("fill", faint).attr("font-size", 11);

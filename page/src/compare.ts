@@ -112,6 +112,15 @@ function extremeText(rows: readonly ChairRow[], view: View, majority: Majority, 
   return `chair ${first.chair} ${first.name}${ties} ${verb} most (${gainText(found.gain, view.measure, view.digits)}${unit})`;
 }
 
+/** Who gains most, or who loses most, in a cell of a table. */
+export function extremeWords(rows: readonly ChairRow[], view: View, majority: Majority, direction: 1 | -1): string {
+  const found = extremes(rows, majority, direction);
+  const [first] = found?.best ?? [];
+  if (!found || !first) return "nobody";
+  const others = found.best.length > 1 ? ` and ${found.best.length - 1} more` : "";
+  return `${first.chair} ${first.name}${others} (${gainText(found.gain, view.measure, view.digits)})`;
+}
+
 /** The sentence on who gains and who loses most at a majority. */
 export function gainSentence(rows: readonly ChairRow[], view: View, majority: Majority): string {
   const unit = view.measure === "share" ? " points" : "";

@@ -1,9 +1,13 @@
 /** The controls that stand in the page from its beginning. */
 import type { App } from "./app";
 import { byId } from "./dom";
+import { readFiles, readText } from "./files";
 import { withChanges } from "./study";
+import { openExports } from "./views/exportDialog";
+import { openSeal } from "./views/foot";
 import { openAdmit } from "./views/member";
 import { paintChairs } from "./views/chairs";
+import { openPaste } from "./views/tableDialog";
 
 function openSheet(name: string, isOpen: boolean): void {
   for (const id of ["chairs", "right"]) {
@@ -24,7 +28,35 @@ function onClick(id: string, act: () => void): void {
   byId(id).addEventListener("click", act);
 }
 
+/** Files that are chosen or dropped, and text that is pasted outside of a field. */
+function takeFiles(app: App): void {
+  const file = byId<HTMLInputElement>("file");
+  onClick("open", () => file.click());
+  file.addEventListener("change", () => {
+    void readFiles(app, [...(file.files ?? [])]);
+    file.value = "";
+  });
+  addEventListener("dragover", (event) => event.preventDefault());
+  addEventListener("drop", (event) => {
+    event.preventDefault();
+    const files = [...(event.dataTransfer?.files ?? [])];
+    if (files.length) void readFiles(app, files);
+  });
+  const read = (text: string, name: string) => void readText(app, text, name);
+  onClick("paste", () => openPaste(read));
+  document.addEventListener("paste", (event) => {
+    const text = event.clipboardData?.getData("text/plain") ?? "";
+    const isField = event.target instanceof HTMLInputElement || event.target instanceof HTMLTextAreaElement;
+    if (isField || !text.includes("\n") || document.querySelector("dialog[open]")) return;
+    event.preventDefault();
+    read(text, "Pasted table");
+  });
+}
+
 export function listen(app: App): void {
+  takeFiles(app);
+  onClick("export", () => openExports(app));
+  onClick("seal", () => openSeal(app));
   onClick("undo", () => app.undo());
   onClick("redo", () => app.redo());
   onClick("admit-open", () => openAdmit(app));

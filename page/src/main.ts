@@ -1,4 +1,5 @@
 /** Begins the page: the study is the one in the page's data, else the example. */
+import "./pageText";
 import exampleText from "../../examples/members.csv";
 import { App } from "./app";
 import { byId } from "./dom";
@@ -6,21 +7,24 @@ import { keyboardDrag } from "./drag";
 import { hashOf, moduleBytes } from "./made";
 import { replaysOver } from "./replays";
 import { guessedLayout, NO_ANSWERS, readTable, sheetOf } from "./table";
-import type { Study } from "./study";
+import { FIRST_VIEW, type Study } from "./study";
+import { readData, type StudyData } from "./studyData";
 import { listen } from "./listen";
 import { paintPage } from "./paint";
 
-async function example(): Promise<Study> {
+async function example(): Promise<StudyData> {
   const sheet = sheetOf(exampleText);
   const { base } = readTable(sheet, guessedLayout(sheet), { ...NO_ANSWERS, merged: false });
   if (!base) throw new Error("the example isn't whole");
   const hash = await hashOf(exampleText);
-  return { name: "Example: invented votes", base: { ...base, hash }, changes: [], scenarios: [], published: null };
+  const study: Study = { name: "Example: invented votes", base: { ...base, hash }, changes: [], scenarios: [], published: null };
+  return { study, view: FIRST_VIEW };
 }
 
 async function begin(): Promise<void> {
-  const [replays, study] = await Promise.all([replaysOver(moduleBytes()), example()]);
-  const app = new App(study, replays, paintPage);
+  const held = readData(byId("study-data").textContent ?? "null");
+  const [replays, { study, view }] = await Promise.all([replaysOver(moduleBytes()), held ?? example()]);
+  const app = new App(study, replays, paintPage, view);
   byId("needs").hidden = true;
   byId("page").hidden = false;
   listen(app);

@@ -4,6 +4,8 @@ import { paintBoard } from "./views/board";
 import { paintChairs } from "./views/chairs";
 import { paintChanges } from "./views/changes";
 import { paintFigures } from "./views/figures";
+import { paintFoot } from "./views/foot";
+import { paintScenarios } from "./views/scenarios";
 import { paintTop } from "./views/top";
 
 export function paintPage(app: App): void {
@@ -12,4 +14,6 @@ export function paintPage(app: App): void {
   paintChanges(app);
   paintBoard(app);
   paintFigures(app);
+  paintScenarios(app);
+  paintFoot(app);
 }

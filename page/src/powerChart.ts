@@ -2,7 +2,7 @@
 import { axisBottom, axisTop } from "d3-axis";
 import { scaleLinear, type Linear } from "d3-scale";
 import type { Selection } from "d3-selection";
-import { dot, ended, fitted, framed, majorityItems, tinted, type Frame, type LegendItem, type Look } from "./charts";
+import { dot, ended, fitted, framed, labelled, labelRoom, majorityItems, tinted, type Frame, type LegendItem, type Look } from "./charts";
 import type { ChairRow } from "./compare";
 import { drawn, type Ratio } from "./fractions";
 import { measureOf, type ChairLine } from "./lines";
@@ -15,7 +15,7 @@ export interface PowerModel {
   readonly isChanged: boolean;
 }
 
-const [VOTES, LANE, SPACE, NARROW, LABELS] = [12, 11, 9, 560, 170] as const;
+const [VOTES, LANE, SPACE] = [12, 11, 9] as const;
 
 /** A value on its axis: shares and votes in per cent. */
 function place(ratio: Ratio | null, measure: Measure): number | null {
@@ -56,7 +56,7 @@ function legend({ majorities, isChanged }: PowerModel): LegendItem[] {
 
 function axes(frame: Frame, look: Look, model: PowerModel, { votes, power }: Scales, bottom: number): number {
   const { root, top } = frame;
-  const count = look.width < NARROW ? 4 : 7;
+  const count = look.width < 480 ? 4 : 7;
   const [left, right] = [votes(votes.domain()[0]), votes(votes.domain()[1])];
   const words = model.measure === "share" ? "per cent: votes of the votes cast, power of all swings" : MEASURE[model.measure].label;
   const title = (text: string, y: number) =>
@@ -106,23 +106,18 @@ function drawDots(at: Selection, row: ChairRow, { power }: Scales, look: Look, m
 
 /** Draws the chart into a place. Each row has a group with the chair's number in `data-chair`. */
 export function drawPower(place: Element, model: PowerModel, look: Look): void {
-  const isNarrow = look.width < NARROW;
-  const labels = isNarrow ? 8 : LABELS;
-  const head = isNarrow ? 17 : 0;
+  const { left, head } = labelRoom(model.rows, look);
   const height = head + VOTES + LANE * model.majorities.length + SPACE;
   const name = `${MEASURE[model.measure].label} of ${model.rows.length} chairs; the table behind this chart has its numbers`;
   const frame = framed(place, look, legend(model), name);
-  const scale = scales(model, labels, look.width - 18);
+  const scale = scales(model, left, look.width - 18);
   const start = frame.top + 36;
   const bottom = axes(frame, look, model, scale, start + height * model.rows.length);
   model.rows.forEach((row, at) => {
     const group = frame.root.append("g").attr("transform", `translate(0,${start + height * at})`).attr("data-chair", row.chair);
     group.append("rect").attr("width", look.width).attr("height", height).attr("fill", at % 2 ? look.palette.band : "transparent")
       .attr("fill-opacity", 0.55);
-    const words = fitted(`${row.chair} ${row.name}`, isNarrow ? look.width - 20 : LABELS - 14);
-    const label = group.append("text").attr("fill", look.palette.ink).text(words);
-    if (isNarrow) label.attr("x", 8).attr("y", 13);
-    else label.attr("x", LABELS - 8).attr("y", height / 2 + 2).attr("text-anchor", "end");
+    labelled(group, row, look, head, left, height);
     const inside = group.append("g").attr("transform", `translate(0,${head + SPACE / 2})`);
     drawVotes(inside, row, scale, look, model.isChanged);
     drawDots(inside, row, scale, look, model);

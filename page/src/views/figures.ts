@@ -3,6 +3,7 @@ import type { App } from "../app";
 import { DARK, LIGHT, type Look } from "../charts";
 import { chairRows, sentences, type ChairRow } from "../compare";
 import { byId, choice, h, paint } from "../dom";
+import { drawGains } from "../gainChart";
 import { drawPower, type PowerModel } from "../powerChart";
 import { chairTable, rowWords } from "./chairTable";
 import { ORDERS, TABS, type Order, type Tab } from "../study";
@@ -107,13 +108,14 @@ function readout(app: App, chart: HTMLElement, rows: readonly ChairRow[]): HTMLE
   return box;
 }
 
-function paintPower(app: App, rows: readonly ChairRow[]): void {
+/** Paints a chart of the chairs, what is read out of it, and the table behind it. */
+function paintChart(app: App, rows: readonly ChairRow[], draw: typeof drawPower): void {
   const model = powerModel(app, rows);
   const chart = h("div", { class: "chart", tabindex: 0, role: "group", "aria-label": "Chart of the chairs; arrow keys go through its rows" });
   const box = readout(app, chart, rows);
   const behind = h("details", { class: "behind" }, h("summary", {}, "The table behind this chart"), chairTable(app, rows));
   paint(byId("panel"), box, chart, behind);
-  if (model.majorities.length) drawPower(chart, model, screenLook(chart));
+  if (model.majorities.length) draw(chart, model, screenLook(chart));
   else chart.remove();
 }
 
@@ -124,6 +126,7 @@ export function paintFigures(app: App): void {
   paintTabs(app);
   const rows = chairRows(shown.study.base, shown.counted, view);
   paint(byId("sentences"), sentences(rows, shown.counted, view).map((it) => h("p", {}, it)));
-  if (view.tab === "power") paintPower(app, rows);
+  if (view.tab === "power") paintChart(app, rows, drawPower);
+  else if (view.tab === "change") paintChart(app, rows, drawGains);
   else paint(byId("panel"), chairTable(app, rows));
 }
