@@ -1,5 +1,5 @@
-// What a user does, by the page's own controls but in one call: the arguments are the act and its words. The answer is
-// whether the page offers it, once its figures are there.
+// What a user does, by the page's own controls but in one call: the arguments are the act and its words. The answer,
+// once the figures are there, is whether the page offers it, or what an export would save.
 const [act, ...words] = [...arguments].slice(0, -1);
 const [answer] = [...arguments].slice(-1);
 const at = (id) => document.getElementById(id);
@@ -35,7 +35,23 @@ function taken(field, text, button) {
 /** The change in the list at a place, from 0. */
 const change = (place) => document.querySelectorAll("#changes > li")[place].dataset.id;
 
+/** The text that a button of the exports would save; it isn't saved. */
+async function exported(id) {
+  const [{ createObjectURL }, { click }] = [URL, HTMLAnchorElement.prototype];
+  HTMLAnchorElement.prototype.click = () => {};
+  const blob = await new Promise((take) => {
+    URL.createObjectURL = (it) => (take(it), createObjectURL.call(URL, it));
+    press(at("export"));
+    press(at(id));
+  });
+  URL.createObjectURL = createObjectURL;
+  HTMLAnchorElement.prototype.click = click;
+  press(document.querySelector("dialog .close"));
+  return blob.text();
+}
+
 const acts = {
+  exported,
   move: (code, place) => opened(code) && taken("move-to", place, "move-take"),
   votes: (code, text) => {
     const field = text.endsWith("%") ? (/^[+-]/.test(text) ? "votes-own" : "votes-total") : "votes-number";
@@ -54,8 +70,8 @@ const acts = {
   earlier: (place) => press(at(`up-${change(place)}`)),
 };
 
-const isOffered = acts[act](...words);
+const found = acts[act](...words);
 (function settle() {
   if (document.documentElement.dataset.state === "counting") setTimeout(settle, 1);
-  else answer(isOffered);
+  else Promise.resolve(found).then(answer);
 })();

@@ -97,9 +97,9 @@ class Page:
         self.driver.switch_to.active_element.send_keys(*keys)
         self.settle()
 
-    def act(self, *words: object) -> bool:
-        """Does what acts.js has, much faster than by mouse and keyboard: whether the page offers it."""
-        return bool(self.driver.execute_async_script(ACTS, *words))
+    def act(self, *words: object) -> Any:
+        """Does what acts.js has, much faster than by mouse and keyboard, and gives its answer."""
+        return self.driver.execute_async_script(ACTS, *words)
 
     def downloaded(self, place: str) -> tuple[str, bytes]:
         """The file that a button downloads: its name and its bytes."""

@@ -17,6 +17,10 @@ EXAMPLE = TOP / "examples" / "members.csv"
 MAJORITIES = ["half", "70", "85", "quorum"]
 
 
+def text_of(records: list[str]) -> str:
+    return "".join(f"{it}\n" for it in records)
+
+
 class Oracle:
     """The built program, and the table of members that the page begins with."""
 
@@ -31,20 +35,25 @@ class Oracle:
         """What `board replay` prints of a script, also where it ends in a fault."""
         return subprocess.run([self.program, "replay"], input=script, stdout=subprocess.PIPE).stdout
 
+    def script(self, commands: list[str], majorities: list[str]) -> str:
+        """The script of a study as the page writes it: the base, its readings, the commands, and readings again."""
+        reads = ["publish", *(f"read,1,{it}" for it in majorities)]
+        return text_of([*input_lines(self.table), *reads, *commands, *reads])
+
     def output(self, commands: list[str], majorities: list[str]) -> Output:
         """The readings after commands on the table's register."""
         records = [*input_lines(self.table), *commands, "publish", *(f"read,1,{it}" for it in majorities)]
-        return read_output(self.lines("".join(f"{it}\n" for it in records).encode()))
+        return read_output(self.lines(text_of(records).encode()))
 
     def answers(self, commands: list[str]) -> list[str]:
         """The line that answers each command on the table's register."""
-        records = [*input_lines(self.table), *commands]
-        lines = self.lines("".join(f"{it}\n" for it in records).encode()).decode().splitlines()
+        lines = self.lines(text_of([*input_lines(self.table), *commands]).encode()).decode().splitlines()
         return lines[len(lines) - len(commands) :]
 
-    def study(self, scenarios: list[Scenario], majorities: list[str]) -> str:
-        """The table of a study, as figures/board_study writes it."""
-        study = run_study(Program(str(self.program)), self.table, majorities, scenarios, [])
+    def study(self, scenarios: dict[str, list[str]], majorities: list[str]) -> str:
+        """The table of a study, as figures/board_study writes it: commands by their label."""
+        labelled = [Scenario(label, tuple(commands)) for label, commands in scenarios.items()]
+        study = run_study(Program(str(self.program)), self.table, majorities, labelled, [])
         return str(study_table(study).to_csv(index=False))
 
 
