@@ -6,6 +6,7 @@ import { byId, choice, h, paint } from "../dom";
 import { drawGains } from "../gainChart";
 import { drawPower, type PowerModel } from "../powerChart";
 import { chairTable, rowWords } from "./chairTable";
+import { paintCurve } from "./curve";
 import { ORDERS, TABS, type Order, type Tab } from "../study";
 import { MAJORITIES, MAJORITY, MEASURE, MEASURES, type Majority, type Measure } from "../words";
 
@@ -128,5 +129,6 @@ export function paintFigures(app: App): void {
   paint(byId("sentences"), sentences(rows, shown.counted, view).map((it) => h("p", {}, it)));
   if (view.tab === "power") paintChart(app, rows, drawPower);
   else if (view.tab === "change") paintChart(app, rows, drawGains);
+  else if (view.tab === "curve") paintCurve(app);
   else paint(byId("panel"), chairTable(app, rows));
 }
