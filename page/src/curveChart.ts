@@ -77,7 +77,8 @@ export function drawCurve(place: Element, model: CurveModel, look: Look): void {
   const spread = Math.max(...all) - Math.min(...all);
   const low = Math.min(...all) - (spread || 1) * 0.05;
   const high = Math.max(...all) + (spread || 1) * 0.05;
-  const y = scaleLinear().domain([Math.max(0, low), high]).range([bottom, top]).nice(6);
+  const most = measure === "swings" ? Infinity : measure === "share" ? 100 : 1;
+  const y = scaleLinear().domain([Math.max(0, low), Math.min(most, high)]).range([bottom, top]).nice(6);
   const words = measure === "share" ? "share of power, per cent" : MEASURE[measure].label;
   root.append("text").attr("x", 8).attr("y", frame.top + 10).attr("fill", palette.faint).attr("font-size", 11).text(words);
   const across = root.append("g").attr("transform", `translate(${left},0)`);
@@ -88,8 +89,7 @@ export function drawCurve(place: Element, model: CurveModel, look: Look): void {
   tinted(along, palette);
   root.append("text").attr("x", (left + right) / 2).attr("y", bottom + 34).attr("text-anchor", "middle").attr("fill", palette.faint).attr("font-size", 11).text(model.xWords);
   if (model.hasVotes) {
-    const most = Math.max(0, ...votes.map((it) => it ?? 0));
-    const second = scaleLinear().domain([0, most || 1]).range([bottom, top]).nice(6);
+    const second = scaleLinear().domain([0, Math.max(0, ...votes.map((it) => it ?? 0)) || 1]).range([bottom, top]).nice(6);
     const axis = root.append("g").attr("transform", `translate(${right},0)`);
     axis.call(axisRight(second).ticks(6).tickSizeOuter(0));
     tinted(axis, palette);

@@ -164,11 +164,21 @@ function results(app: App, model: CurveModel, found: Swept): Child {
   ];
 }
 
+/** Forgets a sweep of another study. */
+function forgetOther(shown: Shown): void {
+  if (state.of && state.of.study.base !== shown.study.base) Object.assign(state, FIRST_CURVE);
+  const { who } = state.asked;
+  const isThere = who.kind === "chair" ? shown.counted.opening.open().includes(who.chair) : shown.counted.opening.place(who.code);
+  const first = shown.counted.opening.open()[0];
+  if (!isThere && !shown.counted.standing.open().length && first) state.asked = { ...state.asked, who: { kind: "chair", chair: first } };
+}
+
 export function paintCurve(app: App): void {
   const { shown } = app;
   if (!shown) return;
+  forgetOther(shown);
   const model = curveModel(app);
-  const isOld = state.of !== null && (state.of.study.base !== shown.study.base || (state.asked.on === "changed" && state.of.counted.script !== shown.counted.script));
+  const isOld = state.of !== null && state.swept?.asked.on === "changed" && state.of.counted.script !== shown.counted.script;
   const missing = model ? app.view.majorities.filter((it) => !model.majorities.includes(it)) : [];
   const old = isOld || missing.length ? "The study has changed since this sweep was counted: count it again." : "";
   const chart = h("div", { class: isOld ? "chart stale" : "chart" });
