@@ -164,13 +164,14 @@ function results(app: App, model: CurveModel, found: Swept): Child {
   ];
 }
 
-/** Forgets a sweep of another study. */
-function forgetOther(shown: Shown): void {
-  if (state.of && state.of.study.base !== shown.study.base) Object.assign(state, FIRST_CURVE);
-  const { who } = state.asked;
-  const isThere = who.kind === "chair" ? shown.counted.opening.open().includes(who.chair) : shown.counted.opening.place(who.code);
-  const first = shown.counted.opening.open()[0];
-  if (!isThere && !shown.counted.standing.open().length && first) state.asked = { ...state.asked, who: { kind: "chair", chair: first } };
+/** Forgets a sweep of another study, and what can't be swept any more. */
+function forgetOther({ study, counted }: Shown): void {
+  if (state.of && state.of.study.base !== study.base) Object.assign(state, FIRST_CURVE);
+  const { who, on } = state.asked;
+  const standing = on === "base" ? counted.opening : counted.standing;
+  const isThere = who.kind === "chair" ? standing.open().includes(who.chair) : standing.place(who.code) !== undefined;
+  const [first] = standing.open();
+  if (!isThere && first !== undefined) state.asked = { ...state.asked, who: { kind: "chair", chair: first } };
 }
 
 export function paintCurve(app: App): void {
