@@ -109,12 +109,21 @@ function readout(app: App, chart: HTMLElement, rows: readonly ChairRow[]): HTMLE
   return box;
 }
 
+/** Whether the table behind a chart is open; it is made when it is. */
+let isBehindOpen = false;
+
 /** Paints a chart of the chairs, what is read out of it, and the table behind it. */
 function paintChart(app: App, rows: readonly ChairRow[], draw: typeof drawPower): void {
   const model = powerModel(app, rows);
   const chart = h("div", { class: "chart", tabindex: 0, role: "group", "aria-label": "Chart of the chairs; arrow keys go through its rows" });
   const box = readout(app, chart, rows);
-  const behind = h("details", { class: "behind" }, h("summary", {}, "The table behind this chart"), chairTable(app, rows));
+  const behind = h("details", { id: "behind", open: isBehindOpen }, h("summary", {}, "The table behind this chart"));
+  const fill = () => {
+    isBehindOpen = behind.open;
+    if (behind.open && behind.childElementCount === 1) behind.append(chairTable(app, rows));
+  };
+  fill();
+  behind.addEventListener("toggle", fill);
   paint(byId("panel"), box, chart, behind);
   if (model.majorities.length) draw(chart, model, screenLook(chart));
   else chart.remove();
