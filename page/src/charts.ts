@@ -1,7 +1,7 @@
 /** What all charts share: sizes, colours for light and dark, the shapes of majorities, and the frame with its legend. */
 import { select, type Selection } from "d3-selection";
 import { symbol, symbolCircle, symbolDiamond, symbolSquare, symbolTriangle, type SymbolType } from "d3-shape";
-import { MAJORITY, type Majority } from "./words";
+import { MAJORITIES, MAJORITY, type Majority } from "./words";
 
 export interface Palette {
   readonly ink: string;
@@ -52,10 +52,8 @@ const SHAPES: Readonly<Record<Majority, SymbolType>> = {
 export const TEXT = 12;
 const LETTER = 6.6;
 
-/** The path of a majority's dot. */
-export function shapeOf(majority: Majority, area = 44): string {
-  return symbol().type(SHAPES[majority]).size(area)();
-}
+/** The paths of the majorities' dots, each made once. */
+const PATHS = new Map(MAJORITIES.map((it) => [it, symbol().type(SHAPES[it]).size(44)()]));
 
 /** A text that fits into a width. */
 export function fitted(text: string, width: number): string {
@@ -78,7 +76,7 @@ export interface LegendItem {
 export function dot(place: Selection, majority: Majority, isHollow: boolean, palette: Palette): Selection {
   return place
     .append("path")
-    .attr("d", shapeOf(majority))
+    .attr("d", PATHS.get(majority) ?? "")
     .attr("fill", isHollow ? palette.paper : palette.of[majority])
     .attr("stroke", palette.of[majority])
     .attr("stroke-width", 1.5);

@@ -19,6 +19,11 @@ export class History<State> {
     this.now = state;
   }
 
+  /** Ends a gesture: the next state is a step of its own. */
+  rest(): void {
+    this.#gesture = "";
+  }
+
   get canUndo(): boolean {
     return this.#past.length > 0;
   }

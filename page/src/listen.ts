@@ -3,10 +3,12 @@ import type { App } from "./app";
 import { byId } from "./dom";
 import { readFiles, readText } from "./files";
 import { withChanges } from "./study";
+import { openBest } from "./views/best";
 import { openExports } from "./views/exportDialog";
 import { openSeal } from "./views/foot";
 import { openAdmit } from "./views/member";
 import { paintChairs } from "./views/chairs";
+import { openRecount } from "./views/recount";
 import { openPaste } from "./views/tableDialog";
 
 function openSheet(name: string, isOpen: boolean): void {
@@ -57,6 +59,8 @@ export function listen(app: App): void {
   takeFiles(app);
   onClick("export", () => openExports(app));
   onClick("seal", () => openSeal(app));
+  onClick("best-open", () => openBest(app));
+  onClick("recount-open", () => openRecount(app));
   onClick("undo", () => app.undo());
   onClick("redo", () => app.redo());
   onClick("admit-open", () => openAdmit(app));

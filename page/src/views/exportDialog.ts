@@ -2,6 +2,7 @@
 import type { App } from "../app";
 import { LIGHT } from "../charts";
 import { chairRows } from "../compare";
+import { drawCurve } from "../curveChart";
 import { openDialog } from "../dialogs";
 import { button, h, save } from "../dom";
 import { drawGains } from "../gainChart";
@@ -13,6 +14,7 @@ import { chairName } from "../standing";
 import { dataText } from "../studyData";
 import { MAJORITY, MEASURE } from "../words";
 import { tableText } from "./chairTable";
+import { curveModel } from "./curve";
 import { powerModel } from "./figures";
 
 const WIDTH = 900;
@@ -71,7 +73,9 @@ async function figure(app: App, hasTitle: boolean): Promise<string> {
   const source = [`Source: ${lines[0]}; ${lines[5]}`, `${lines[3]}`, `${lines[1]}`];
   const look = { width: WIDTH, palette: LIGHT, title: hasTitle ? titleOf(app) : "", source };
   const model = powerModel(app, chairRows(shown.study.base, shown.counted, view));
-  if (view.tab === "change") drawGains(place, model, look);
+  const curve = view.tab === "curve" ? curveModel(app) : null;
+  if (curve) drawCurve(place, curve, { ...look, title: hasTitle ? curve.name : "" });
+  else if (view.tab === "change") drawGains(place, model, look);
   else drawPower(place, model, look);
   const svg = new XMLSerializer().serializeToString(place.firstElementChild as Element);
   const comment = lines.map((it) => it.replace(/--+/g, "-")).join("\n");
@@ -121,7 +125,7 @@ export function openExports(app: App): void {
       act().then((said) => (words.textContent = said ?? ""), (why: unknown) => (words.textContent = String(why)));
     };
     const title = h("input", { type: "checkbox", id: "with-title", checked: true });
-    const isFigure = app.view.tab === "power" || app.view.tab === "change";
+    const isFigure = app.view.tab === "curve" ? curveModel(app) !== null : app.view.tab !== "table";
     const figureName = `${fileName(app)}-${app.view.tab}`;
     const svg = async () => save(`${figureName}.svg`, text(await figure(app, title.checked), "image/svg+xml"));
     const png = async () => save(`${figureName}.png`, await pngOf(await figure(app, title.checked)));

@@ -6,6 +6,7 @@ import { byId, choice, h, paint } from "../dom";
 import { drawGains } from "../gainChart";
 import { drawPower, type PowerModel } from "../powerChart";
 import { chairTable, rowWords } from "./chairTable";
+import { paintCurve } from "./curve";
 import { ORDERS, TABS, type Order, type Tab } from "../study";
 import { MAJORITIES, MAJORITY, MEASURE, MEASURES, type Majority, type Measure } from "../words";
 
@@ -108,12 +109,21 @@ function readout(app: App, chart: HTMLElement, rows: readonly ChairRow[]): HTMLE
   return box;
 }
 
+/** Whether the table behind a chart is open; it is made when it is. */
+let isBehindOpen = false;
+
 /** Paints a chart of the chairs, what is read out of it, and the table behind it. */
 function paintChart(app: App, rows: readonly ChairRow[], draw: typeof drawPower): void {
   const model = powerModel(app, rows);
   const chart = h("div", { class: "chart", tabindex: 0, role: "group", "aria-label": "Chart of the chairs; arrow keys go through its rows" });
   const box = readout(app, chart, rows);
-  const behind = h("details", { class: "behind" }, h("summary", {}, "The table behind this chart"), chairTable(app, rows));
+  const behind = h("details", { id: "behind", open: isBehindOpen }, h("summary", {}, "The table behind this chart"));
+  const fill = () => {
+    isBehindOpen = behind.open;
+    if (behind.open && behind.childElementCount === 1) behind.append(chairTable(app, rows));
+  };
+  fill();
+  behind.addEventListener("toggle", fill);
   paint(byId("panel"), box, chart, behind);
   if (model.majorities.length) draw(chart, model, screenLook(chart));
   else chart.remove();
@@ -128,5 +138,6 @@ export function paintFigures(app: App): void {
   paint(byId("sentences"), sentences(rows, shown.counted, view).map((it) => h("p", {}, it)));
   if (view.tab === "power") paintChart(app, rows, drawPower);
   else if (view.tab === "change") paintChart(app, rows, drawGains);
+  else if (view.tab === "curve") paintCurve(app);
   else paint(byId("panel"), chairTable(app, rows));
 }
