@@ -44,6 +44,10 @@ class Page:
         """What a script returns in the page."""
         return self.driver.execute_script(script, *words)
 
+    def wait_for(self, script: str, *words: object) -> Any:
+        """What a script in the page hands to its last argument."""
+        return self.driver.execute_async_script(script, *words)
+
     def look(self, check: str, *words: object) -> Any:
         """What a check of access.js finds."""
         return self.run(ACCESS, check, *words)
@@ -99,7 +103,7 @@ class Page:
 
     def act(self, *words: object) -> Any:
         """Does what acts.js has, much faster than by mouse and keyboard, and gives its answer."""
-        return self.driver.execute_async_script(ACTS, *words)
+        return self.wait_for(ACTS, *words)
 
     def downloaded(self, place: str) -> tuple[str, bytes]:
         """The file that a button downloads: its name and its bytes."""

@@ -9,8 +9,16 @@ from chromium import Page
 from oracle import MAJORITIES, Oracle
 
 # For each row of the table behind the chart, or on the tab Table: its chair, and its cells' texts and fractions.
-ROWS = """return [...document.querySelectorAll("#chair-table tbody tr")].map((row) => [
-  Number(row.dataset.chair), [...row.querySelectorAll("td")].map((it) => [it.textContent, it.title.split(" ")[0]])]);"""
+ROWS = """
+  const [done] = [...arguments].slice(-1), behind = document.getElementById("behind");
+  if (behind) behind.open = true;
+  (function read() {
+    const rows = [...document.querySelectorAll("#chair-table tbody tr")];
+    if (!rows.length) return setTimeout(read, 1);
+    const cells = (row) => [...row.querySelectorAll("td")].map((it) => [it.textContent, it.title.split(" ")[0]]);
+    done(rows.map((row) => [Number(row.dataset.chair), cells(row)]));
+  })();
+"""
 # The cells of a row before those of the majorities: the name, and votes.
 BEFORE = 6
 # The cells of a majority: base, changed, and what is added.
@@ -19,7 +27,7 @@ EACH = 3
 
 def rows(page: Page) -> dict[int, list[tuple[str, str]]]:
     """The table's cells by chair: what stands there, and the exact fraction."""
-    return {chair: [(text, fraction) for text, fraction in cells] for chair, cells in page.run(ROWS)}
+    return {chair: [(text, fraction) for text, fraction in cells] for chair, cells in page.wait_for(ROWS)}
 
 
 def shown_majorities(page: Page) -> list[str]:

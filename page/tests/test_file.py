@@ -72,7 +72,7 @@ def test_policy(page: Page) -> None:
         document.head.append(Object.assign(document.createElement("link"), { rel: "stylesheet", href: address }));
         setTimeout(() => done(seen), 300);
     """
-    seen = page.driver.execute_async_script(script)
+    seen = page.wait_for(script)
     wanted = {"connect-src": 2, "img-src": 1, "frame-src": 1, "script-src-elem": 1, "style-src-elem": 1}
     assert {it: seen.count(it) for it in seen} == wanted, seen
     page.driver.get_log("browser")
