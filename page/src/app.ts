@@ -3,7 +3,7 @@ import { counted, Fault, type Counted, type Replay } from "./count";
 import { History } from "./history";
 import type { Replays } from "./replays";
 import { ScenarioCounts } from "./scenarios";
-import { FIRST_VIEW, type Study, type View } from "./study";
+import type { Study, View } from "./study";
 
 export type State = "counting" | "ready" | "fault";
 
@@ -16,6 +16,8 @@ export interface Shown {
 export class App {
   readonly history: History<Study>;
   readonly replays: Replays;
+  /** Whether the module's bytes have the hash that the build wrote down. */
+  readonly isOwnModule: boolean;
   readonly scenarios = new ScenarioCounts();
   view: View;
   shown: Shown | null = null;
@@ -27,9 +29,10 @@ export class App {
   #run = 0;
   readonly #paint: (app: App) => void;
 
-  constructor(study: Study, replays: Replays, paint: (app: App) => void, view: View = FIRST_VIEW) {
+  constructor(study: Study, view: View, replays: Replays, isOwnModule: boolean, paint: (app: App) => void) {
     this.history = new History(study);
     this.replays = replays;
+    this.isOwnModule = isOwnModule;
     this.view = view;
     this.#paint = paint;
   }

@@ -4,7 +4,7 @@ import exampleText from "../../examples/members.csv";
 import { App } from "./app";
 import { byId } from "./dom";
 import { keyboardDrag } from "./drag";
-import { hashOf, moduleBytes } from "./made";
+import { hashOf, MODULE_HASH, moduleBytes, NO_HASH } from "./made";
 import { replaysOver } from "./replays";
 import { guessedLayout, NO_ANSWERS, readTable, sheetOf } from "./table";
 import { FIRST_VIEW, type Study } from "./study";
@@ -22,9 +22,11 @@ async function example(): Promise<StudyData> {
 }
 
 async function begin(): Promise<void> {
+  if (typeof HTMLDialogElement !== "function") throw new Error("no dialogs");
   const held = readData(byId("study-data").textContent ?? "null");
-  const [replays, { study, view }] = await Promise.all([replaysOver(moduleBytes()), held ?? example()]);
-  const app = new App(study, replays, paintPage, view);
+  const bytes = moduleBytes();
+  const [replays, { study, view }, hash] = await Promise.all([replaysOver(bytes), held ?? example(), hashOf(bytes)]);
+  const app = new App(study, view, replays, hash === MODULE_HASH || hash === NO_HASH, paintPage);
   byId("needs").hidden = true;
   byId("page").hidden = false;
   listen(app);

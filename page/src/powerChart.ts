@@ -50,8 +50,9 @@ function legend({ majorities, isChanged }: PowerModel): LegendItem[] {
         .attr("fill", isHollow ? paper : fill).attr("stroke", fill),
   });
   const dots = majorityItems(majorities);
+  const hollow: LegendItem = { words: "hollow: base", draw: (at, palette) => void dot(at, majorities[0] ?? "half", true, palette) };
   if (!isChanged) return [bar("share of votes", true), ...dots];
-  return [bar("votes, base", true), bar("votes, changed", false), ...dots, { words: "hollow: base", draw: () => {} }];
+  return [bar("votes, base", true), bar("votes, changed", false), ...dots, hollow];
 }
 
 function axes(frame: Frame, look: Look, model: PowerModel, { votes, power }: Scales, bottom: number): number {

@@ -93,9 +93,9 @@ export function sheetOf(text: string, notices: readonly string[] = []): Sheet {
 
 /** A whole number; one mark may stand between its thousands. Null where the cell is none. */
 function wholeOf(cell: string, marks: string): number | null {
-  const plain = cell.replace(/[.,]0+$/, "");
-  const body = new RegExp(`^(?:[0-9]{1,20}|[0-9]{1,3}([${marks}])[0-9]{3}(?:\\1[0-9]{3})*)$`);
-  const text = body.test(cell) ? cell : plain;
+  const parted = `[0-9]{1,3}([${marks}])[0-9]{3}(?:\\1[0-9]{3})*`;
+  const body = new RegExp(`^(?:[0-9]{1,20}${marks && `|${parted}`})$`);
+  const text = body.test(cell) ? cell : cell.replace(/[.,]0+$/, "");
   return body.test(text) ? Number(text.replace(/[^0-9]/g, "")) : null;
 }
 
@@ -144,6 +144,12 @@ export function guessedLayout(sheet: Sheet): Layout {
     const found = exact >= 0 ? exact : heads.findIndex((head, at) => !taken.has(at) && HEADS[meaning].test(head));
     columns[meaning] = found;
     if (found >= 0) taken.add(found);
+  }
+  const others = heads.findIndex((head, at) => !taken.has(at) && HEADS.chair.test(head));
+  if (columns.chairName < 0 && others >= 0) {
+    const isNumbered = sheet.rows.slice(header).some((row) => CHAIRS.includes(wholeOf(row[others] ?? "", "") ?? 0));
+    [columns.chair, columns.chairName] = isNumbered ? [others, columns.chair] : [columns.chair, others];
+    taken.add(others);
   }
   const fill = (meaning: Meaning, like: (cell: string) => boolean) => {
     if (columns[meaning] < 0) columns[meaning] = columnLike(sheet, header, taken, like);
@@ -300,7 +306,7 @@ function choicesOf(answers: Answers, totalRow: number, blanks: readonly number[]
   const rows = [...answers.leftOut].sort((left, right) => left - right).map((row) => `Row ${row} was left out.`);
   if (totalRow && answers.isTotal) rows.push(`Row ${totalRow}, which equals the sum of the others, was left out as a total.`);
   if (totalRow && answers.isTotal === false) rows.push(`Row ${totalRow}, which equals the sum of the others, is a member.`);
-  if (blanks.length && answers.merged) rows.push(`Merged cells: the chair was filled down in ${blanks.length} rows.`);
+  if (blanks.length && answers.merged) rows.push(`Merged cells: the chair was filled down. Rows: ${blanks.length}.`);
   if (codesMade) rows.push("The table has no codes: they were made from names.");
   return rows;
 }
@@ -308,10 +314,12 @@ function choicesOf(answers: Answers, totalRow: number, blanks: readonly number[]
 function noticesOf(sheet: Sheet, rows: readonly Row[], byName: boolean): string[] {
   const zeros = rows.filter(({ cells }) => [cells.votes, cells.chair].some((cell) => hasZeros(cell, sheet.marks)));
   const small = rows.filter(({ cells }) => /[a-z]/.test(cells.code));
+  const parted = rows.filter(({ cells }) => wholeOf(cells.votes, sheet.marks) !== null && wholeOf(cells.votes, "") === null);
   return [
     ...sheet.notices,
-    ...(zeros.length ? [`${zeros.length} rows have numbers such as 1.0: they were taken as whole numbers.`] : []),
-    ...(small.length ? [`${small.length} codes have small letters: they were taken as capitals.`] : []),
+    ...(zeros.length ? [`Numbers such as 1.0 were taken as whole numbers. Rows: ${zeros.length}.`] : []),
+    ...(parted.length ? [`Marks between thousands were passed over. Rows: ${parted.length}.`] : []),
+    ...(small.length ? [`Small letters of codes were taken as capitals. Rows: ${small.length}.`] : []),
     ...(byName ? ["Chairs stand there by name: they were numbered in the order in which they come."] : []),
   ];
 }

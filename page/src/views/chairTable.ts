@@ -14,7 +14,7 @@ interface Cell {
   readonly source: string;
 }
 
-const EMPTY: Cell = { decimal: "", fraction: "", source: "the chair isn't open here" };
+const EMPTY: Cell = { decimal: "", fraction: "-", source: "the chair isn't open here" };
 
 function lineCell(line: ChairLine | undefined, measure: Measure, digits: number): Cell {
   if (!line) return EMPTY;
@@ -95,8 +95,14 @@ export function chairTable(app: App, rows: readonly ChairRow[]): HTMLElement {
   const toggle = button(view.fractions ? "Show decimals" : "Show fractions", () => app.look({ fractions: !view.fractions }), {
     id: "toggle-fractions",
   });
-  return h("div", { class: "table" },
+  const said = h("p", { class: "note", id: "cell-words", role: "status" }, "Point at a number or tap it: its fraction and its source stand here.");
+  const tell = (event: Event) => {
+    const words = (event.target as Element).closest("td")?.title;
+    if (words) said.textContent = words;
+  };
+  return h("div", { class: "table", onclick: tell, onpointerover: tell },
     h("div", { class: "buttons" }, toggle),
+    said,
     h("div", { class: "scroll", tabindex: 0, role: "region", "aria-label": words },
       h("table", { id: "chair-table" },
         h("caption", {}, words),

@@ -3,7 +3,9 @@ import type { App, Shown } from "../app";
 import { valueText } from "../compare";
 import { drawCurve, type CurveModel } from "../curveChart";
 import { button, byId, choice, h, paint, type Child } from "../dom";
-import { fractionText, grouped, percent, drawn } from "../fractions";
+import type { Readings } from "../count";
+import type { Labelled } from "../csv";
+import { decimalRatio, drawn, fractionText, grouped, percent, rounded } from "../fractions";
 import { chairIn, measureOf, voteShare } from "../lines";
 import { memberWords } from "../commandWords";
 import { chairName } from "../standing";
@@ -164,6 +166,32 @@ function results(app: App, model: CurveModel, found: Swept): Child {
   ];
 }
 
+/** A value of a sweep with as many places as its first value and its step have, as board_study writes it. */
+function padded(value: string, { from, by }: SweepAsked): string {
+  const places = Math.max(...[from, by].map((it) => it.split(".")[1]?.length ?? 0));
+  return places ? rounded(decimalRatio(value), places) : value;
+}
+
+/** The points of the sweep shown as registers of a table. Nothing where it isn't one of this study. */
+export function sweepRegisters(app: App): Labelled[] {
+  const { swept: found, of } = state;
+  const isOfThis = found && of?.study.base === app.study.base && !isOld(app);
+  if (!found || !isOfThis) return [];
+  const { who, unit, on } = found.asked;
+  const name = who.kind === "member" ? who.code : `chair ${who.chair}`;
+  const sweep = sweepText(found.asked) + (on === "changed" ? " on the changed board" : "");
+  return found.points.map(({ value, readings }) => {
+    const own = new Map(app.view.majorities.flatMap((it) => (readings.has(it) ? [[it, readings.get(it)] as const] : [])));
+    const label = `${name} ${value} ${unit === "percent" ? "%" : "votes"}`;
+    return { label, sweep, percent: padded(value, found.asked), readings: own as Readings };
+  });
+}
+
+/** Whether the changes are others than when a sweep of the changed board was counted. */
+function isOld(app: App): boolean {
+  return state.of !== null && state.swept?.asked.on === "changed" && state.of.counted.script !== app.shown?.counted.script;
+}
+
 /** Forgets a sweep of another study, and what can't be swept any more. */
 function forgetOther({ study, counted }: Shown): void {
   if (state.of && state.of.study.base !== study.base) Object.assign(state, FIRST_CURVE);
@@ -179,10 +207,10 @@ export function paintCurve(app: App): void {
   if (!shown) return;
   forgetOther(shown);
   const model = curveModel(app);
-  const isOld = state.of !== null && state.swept?.asked.on === "changed" && state.of.counted.script !== shown.counted.script;
+  const isGone = isOld(app);
   const missing = model ? app.view.majorities.filter((it) => !model.majorities.includes(it)) : [];
-  const old = isOld || missing.length ? "The study has changed since this sweep was counted: count it again." : "";
-  const chart = h("div", { class: isOld ? "chart stale" : "chart" });
+  const old = isGone || missing.length ? "The study has changed since this sweep was counted: count it again." : "";
+  const chart = h("div", { class: isGone ? "chart stale" : "chart" });
   paint(byId("panel"),
     form(app, shown),
     h("p", { id: "sweep-words", role: "status" }, [state.said, old].join(" ")),

@@ -14,7 +14,7 @@ import { chairName } from "../standing";
 import { dataText } from "../studyData";
 import { MAJORITY, MEASURE } from "../words";
 import { tableText } from "./chairTable";
-import { curveModel } from "./curve";
+import { curveModel, sweepRegisters } from "./curve";
 import { powerModel } from "./figures";
 
 const WIDTH = 900;
@@ -47,7 +47,7 @@ function registers(app: App): Labelled[] {
     const found = app.scenarios.of(study.base, it, app.view.majorities);
     return found ? [{ label: it.name, readings: found.after }] : [];
   });
-  return [{ label: "base", readings: counted.before }, ...changed, ...scenarios];
+  return [{ label: "base", readings: counted.before }, ...changed, ...scenarios, ...sweepRegisters(app)];
 }
 
 async function saveCsv(app: App): Promise<void> {

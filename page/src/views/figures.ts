@@ -137,6 +137,7 @@ export function paintFigures(app: App): void {
   const rows = chairRows(shown.study.base, shown.counted, view);
   paint(byId("sentences"), sentences(rows, shown.counted, view).map((it) => h("p", {}, it)));
   if (view.tab === "power") paintChart(app, rows, drawPower);
+  else if (view.tab === "change" && !powerModel(app, rows).isChanged) paint(byId("panel"), h("p", {}, "No change was carried out yet: changed and base are the same."));
   else if (view.tab === "change") paintChart(app, rows, drawGains);
   else if (view.tab === "curve") paintCurve(app);
   else paint(byId("panel"), chairTable(app, rows));

@@ -74,8 +74,9 @@ export function openSeal(app: App): void {
   openDialog("seal-dialog", "Where the numbers come from", () => {
     const list = h("ul", { id: "provenance" });
     void provenance(shown).then((lines) => list.append(...lines.map((it) => h("li", {}, it))));
-    const wrong = shown.counted.misfits;
-    const checks = wrong.length ? wrong.map((it) => h("li", { class: "wrong" }, it)) : [h("li", {}, "All passed: in each reading fractions, votes and coalitions fit together, and each chair's votes are those of the members shown in it.")];
+    const other = app.isOwnModule ? [] : ["The module isn't the one that this page was built with."];
+    const wrong = [...other, ...shown.counted.misfits];
+    const checks = wrong.length ? wrong.map((it) => h("li", { class: "wrong" }, it)) : [h("li", {}, "All passed: the module has the hash that the build wrote down; in each reading fractions, votes and coalitions fit together, and each chair's votes are those of the members shown in it.")];
     return [
       list,
       h("h3", {}, "Checks of this page"),

@@ -80,7 +80,7 @@ export function openMember(app: App, code: string): void {
     const where = place.chair === null ? "in no chair" : `chair ${place.chair}`;
     const votes = `${grouped(place.votes)} votes${share ? `, ${percent(share, app.view.digits)} % of the total` : ""}`;
     return [
-      h("p", {}, `${votes}, ${where}${place.suspended ? ", suspended" : ""}${place.row ? `; row ${place.row} of the table` : ""}`),
+      h("p", {}, `${votes}, ${where}${place.suspended ? ", suspended" : ""}${place.row ? `. Given: row ${place.row} of the table` : ""}`),
       moveForm(app, place, close),
       number,
       own,

@@ -9,6 +9,9 @@ import {
   type Meaning, type ReadTable, type Sheet,
 } from "../table";
 
+/** More faults than this are counted and not listed. */
+const MOST_FAULTS = 100;
+
 /** A table that is looked at, and what was chosen so far. */
 class Preview {
   layout: Layout;
@@ -61,10 +64,11 @@ function faultList(preview: Preview, read: ReadTable, again: () => void): Child 
     });
     return h("label", {}, tick, `leave row ${row} out`);
   };
-  const faults = read.faults.map((it) => h("li", { "data-row": it.row }, h("span", { class: "wrong" }, `${cellWords(preview, it)}: ${it.reason}. `), box(it.row)));
+  const more = read.faults.length - MOST_FAULTS;
+  const faults = read.faults.slice(0, MOST_FAULTS).map((it) => h("li", { "data-row": it.row }, h("span", { class: "wrong" }, `${cellWords(preview, it)}: ${it.reason}. `), box(it.row)));
   return [
     read.faults.length ? h("h3", {}, `${read.faults.length} ${read.faults.length === 1 ? "fault" : "faults"}: nothing is counted until the table is whole`) : null,
-    h("ul", { id: "table-faults" }, faults, out.map((row) => h("li", { "data-row": row }, `Row ${row} is left out. `, box(row)))),
+    h("ul", { id: "table-faults" }, faults, more > 0 ? h("li", {}, `and ${more} more`) : null, out.map((row) => h("li", { "data-row": row }, `Row ${row} is left out. `, box(row)))),
   ];
 }
 

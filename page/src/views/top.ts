@@ -9,8 +9,12 @@ import type { Study } from "../study";
 import { reasonOf } from "../words";
 import { Fault } from "../count";
 
+/** More names than this stand in the cards of chairs alone. */
+const MOST_NAMES = 12;
+
 function namesOf(places: readonly Place[]): string {
-  return places.map((it) => memberWords(it.code, it.name)).join(", ");
+  const names = places.slice(0, MOST_NAMES).map((it) => memberWords(it.code, it.name));
+  return names.join(", ") + (places.length > MOST_NAMES ? ` and ${places.length - MOST_NAMES} more` : "");
 }
 
 /** Members, votes, chairs, members in none and suspended ones. The total is the reading's. */
@@ -53,7 +57,8 @@ export function paintTop(app: App): void {
   const changed = isChanged ? h("span", {}, `changed: ${summaryOf(shown.counted.standing, after?.total ?? 0)}`) : null;
   paint(byId("summary"), h("span", {}, base), changed);
   byId("published-words").textContent = publishedWords(shown.study, before?.total ?? 0);
-  const checks = shown.counted.misfits.length ? "CHECKS FAILED" : "checks passed";
+  const isWrong = shown.counted.misfits.length > 0 || !app.isOwnModule;
+  const checks = isWrong ? "CHECKS FAILED" : "checks passed";
   byId("seal").textContent = `counted by board ${VERSION} (${SHORT_COMMIT}), ${checks}`;
-  byId("seal").classList.toggle("wrong", shown.counted.misfits.length > 0);
+  byId("seal").classList.toggle("wrong", isWrong);
 }
