@@ -15,7 +15,8 @@ ROWS = """
   (function read() {
     const rows = [...document.querySelectorAll("#chair-table tbody tr")];
     if (!rows.length) return setTimeout(read, 1);
-    const cells = (row) => [...row.querySelectorAll("td")].map((it) => [it.textContent, it.title.split(" ")[0]]);
+    const fraction = ({ title }) => (title.includes("isn't open") ? "" : title.split(" ")[0]);
+    const cells = (row) => [...row.querySelectorAll("td")].map((it) => [it.textContent, fraction(it)]);
     done(rows.map((row) => [Number(row.dataset.chair), cells(row)]));
   })();
 """

@@ -128,7 +128,7 @@ def test_refused_in_red(page: Page, oracle: Oracle) -> None:
     page.choose("#move-to", "2")
     page.click("#move-take")
     assert [it.get_attribute("data-state") for it in page.all("#changes > li")] == ["accepted", "refused"]
-    refusal = page.at("#changes .refusal")
+    refusal = page.at("#changes [data-state=refused] .refusal")
     assert refusal.text.startswith("refused 5 MemberSuspended: the member's voting rights are suspended")
     red, green, blue = map(int, refusal.value_of_css_property("color").strip("rgba()").split(",")[:3])
     assert red > 1.5 * max(green, blue)
@@ -137,6 +137,7 @@ def test_refused_in_red(page: Page, oracle: Oracle) -> None:
 
 def test_undo_and_redo(page: Page, oracle: Oracle) -> None:
     # Catches: an undo that leaves something of a change behind, or that takes two at once.
+    check_figures(page, oracle, [])
     seen = [page.text("#figures")]
     for act in [["move", "XAA", "2"], ["votes", "XAB", "+10%"], ["suspend", "XAC"], ["remove", "1"], ["switch", "0"]]:
         assert page.act(*act)
