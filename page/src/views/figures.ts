@@ -50,8 +50,10 @@ function paintChoices(app: App): void {
     byId("choose"),
     h("fieldset", { class: "boxes" }, h("legend", {}, "Majorities"), boxes),
     choice("measure", "Measure", measures, view.measure, (it) => app.look({ measure: it as Measure })),
-    choice("order", "Order by", orders, view.order, (it) => app.look({ order: it as Order })),
-    choice("order-at", "at", ats, view.orderAt, (it) => app.look({ orderAt: it as Majority })),
+    h("span", { class: "pair" },
+      choice("order", "Order by", orders, view.order, (it) => app.look({ order: it as Order })),
+      choice("order-at", "at", ats, view.orderAt, (it) => app.look({ orderAt: it as Majority })),
+    ),
     choice("digits", "Digits", digits, String(view.digits), (it) => app.look({ digits: Number(it) })),
   );
 }
