@@ -22,7 +22,7 @@ class Page:
     """The page, opened from disk in a browser without a network."""
 
     def __init__(self, file: Path, downloads: Path):
-        self.file, self.downloads = file, downloads
+        self.file, self.downloads, self.patience = file, downloads, SECONDS
         # Selenium's own types are partial.
         self.driver: Any = started()
         to = {"behavior": "allow", "downloadPath": str(downloads)}
@@ -54,7 +54,7 @@ class Page:
 
     def until(self, holds: Callable[[], Any], what: str) -> Any:
         """Waits until something holds, and gives it."""
-        end = time.monotonic() + SECONDS
+        end = time.monotonic() + self.patience
         while not (found := holds()):
             assert time.monotonic() < end, f"it never came: {what}"
             time.sleep(0.01)

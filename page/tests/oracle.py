@@ -8,7 +8,7 @@ from pathlib import Path
 from board_python.member_tables import Columns, MemberTable, input_lines, read_table
 from board_python.programs import Program
 from board_python.replay_output import Output, read_output
-from board_python.scenarios import Scenario
+from board_python.scenarios import Scenario, sweep_of
 from board_python.studies import run_study
 from board_python.tables import study_table
 
@@ -50,10 +50,10 @@ class Oracle:
         lines = self.lines(text_of([*input_lines(self.table), *commands]).encode()).decode().splitlines()
         return lines[len(lines) - len(commands) :]
 
-    def study(self, scenarios: dict[str, list[str]], majorities: list[str]) -> str:
-        """The table of a study, as figures/board_study writes it: commands by their label."""
+    def study(self, scenarios: dict[str, list[str]], majorities: list[str], *sweeps: str) -> str:
+        """The table of a study, as figures/board_study writes it: commands by their label, and sweeps."""
         labelled = [Scenario(label, tuple(commands)) for label, commands in scenarios.items()]
-        study = run_study(Program(str(self.program)), self.table, majorities, labelled, [])
+        study = run_study(Program(str(self.program)), self.table, majorities, labelled, list(map(sweep_of, sweeps)))
         return str(study_table(study).to_csv(index=False))
 
 
