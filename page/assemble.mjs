@@ -11,10 +11,11 @@ const hash = (text) => `'sha256-${createHash("sha256").update(text).digest("base
 
 const style = readFileSync(new URL("page.css", import.meta.url), "utf8").replace(/\n\s*/g, "\n");
 // A script in a page ends at the first "</script".
+const first = readFileSync(new URL("first.js", import.meta.url), "utf8").trim();
 const code = readFileSync(script, "utf8").replace(/<\/script/g, "<\\/script");
 const policy = [
   "default-src 'none'",
-  `script-src ${hash(code)} 'wasm-unsafe-eval' blob:`,
+  `script-src ${hash(first)} ${hash(code)} 'wasm-unsafe-eval' blob:`,
   `style-src ${hash(style)}`,
   "img-src data: blob:",
   "worker-src blob:",
@@ -28,6 +29,7 @@ const parts = {
   VERSION: version,
   COMMIT: commit,
   STYLE: style,
+  FIRST: first,
   STUDY: "null",
   MODULE: readFileSync(module).toString("base64"),
   SCRIPT: code,

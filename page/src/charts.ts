@@ -1,4 +1,4 @@
-/** What all charts share: sizes, colours for light and dark, the shapes of majorities, and the frame with its legend. */
+/** What all charts share: colours for light and dark, the shapes of majorities, the frame with its legend. */
 import { select, type Selection } from "d3-selection";
 import { symbol, symbolCircle, symbolDiamond, symbolSquare, symbolTriangle, type SymbolType } from "d3-shape";
 import { MAJORITIES, MAJORITY, type Majority } from "./words";
@@ -82,6 +82,11 @@ export function dot(place: Selection, majority: Majority, isHollow: boolean, pal
     .attr("stroke-width", 1.5);
 }
 
+/** The legend's bar. */
+export function legendBar(place: Selection): Selection {
+  return place.append("rect").attr("x", -7).attr("y", -4).attr("width", 14).attr("height", 8);
+}
+
 /** The legend's items for majorities: the dot, filled. */
 export function majorityItems(majorities: readonly Majority[]): LegendItem[] {
   return majorities.map((majority) => ({
@@ -121,7 +126,10 @@ export function ended({ root }: Frame, look: Look, bottom: number): void {
   for (const line of look.source) {
     height += 14;
     const words = fitted(line, (look.width - 16) * 1.2);
-    root.append("text").attr("x", 8).attr("y", height).attr("fill", look.palette.faint).attr("font-size", 10).text(words);
+    root.append("text").attr("x", 8).attr("y", height).attr(
+      "fill",
+      look.palette.faint,
+    ).attr("font-size", 10).text(words);
   }
   height += 6;
   root.attr("height", height).attr("viewBox", `0 0 ${look.width} ${height}`);
@@ -130,7 +138,10 @@ export function ended({ root }: Frame, look: Look, bottom: number): void {
 /** Where rows begin: names stand left of them, or above them where there is little room. */
 export function labelRoom(rows: readonly Named[], { width }: Look): { left: number; head: number } {
   const longest = Math.max(0, ...rows.map((row) => nameOf(row).length)) * LETTER + 18;
-  return width < 480 || longest > width / 2 ? { left: 10, head: 17 } : { left: Math.max(60, Math.min(longest, width / 3)), head: 0 };
+  return width < 480 || longest > width / 2 ? { left: 10, head: 17 } : {
+    left: Math.max(60, Math.min(longest, width / 3)),
+    head: 0,
+  };
 }
 
 interface Named {
@@ -140,6 +151,21 @@ interface Named {
 
 function nameOf({ chair, name }: Named): string {
   return `${chair} ${name}`;
+}
+
+/** The group of a row: with its chair's number in `data-chair`, and every second one on a band. */
+export function rowGroup(
+  { root }: Frame,
+  row: Named,
+  look: Look,
+  top: number,
+  height: number,
+  isOnBand: boolean,
+): Selection {
+  const group = root.append("g").attr("transform", `translate(0,${top})`).attr("data-chair", row.chair);
+  const band = group.append("rect").attr("width", look.width).attr("height", height);
+  band.attr("fill", isOnBand ? look.palette.band : "transparent").attr("fill-opacity", 0.55);
+  return group;
 }
 
 /** Writes a row's name. */

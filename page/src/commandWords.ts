@@ -22,14 +22,18 @@ function askedWords({ what }: Change): string {
   return what.of === "own" ? ` (${what.percent} %)` : ` (${what.percent} % of the total)`;
 }
 
-function commandWords(command: Command, who: string, before: { votes: number; chair: number | null } | undefined): string {
+function commandWords(
+  command: Command,
+  who: string,
+  before: { votes: number; chair: number | null } | undefined,
+): string {
   switch (command.word) {
     case "open":
       return `Chair ${command.chair} is opened`;
     case "close":
       return `Chair ${command.chair} is closed`;
     case "move":
-      return before ? `${who}: ${chairWords(before.chair)} → ${chairWords(command.chair)}` : `${who} → ${chairWords(command.chair)}`;
+      return `${who}${before ? `: ${chairWords(before.chair)}` : ""} → ${chairWords(command.chair)}`;
     case "votes":
       return `${who}: ${before ? `${grouped(before.votes)} → ` : ""}${grouped(command.votes)}`;
     case "suspend":

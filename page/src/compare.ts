@@ -90,7 +90,11 @@ export function gainText(gain: Ratio | null, measure: Measure, digits: number): 
 }
 
 /** The chairs with the greatest gain or loss. */
-function extremes(rows: readonly ChairRow[], majority: Majority, direction: 1 | -1): { best: ChairRow[]; gain: Ratio } | null {
+function extremes(
+  rows: readonly ChairRow[],
+  majority: Majority,
+  direction: 1 | -1,
+): { best: ChairRow[]; gain: Ratio } | null {
   let found: { best: ChairRow[]; gain: Ratio } | null = null;
   for (const row of rows) {
     const gain = row.at.get(majority)?.gain;
@@ -102,14 +106,21 @@ function extremes(rows: readonly ChairRow[], majority: Majority, direction: 1 | 
   return found;
 }
 
-function extremeText(rows: readonly ChairRow[], view: View, majority: Majority, direction: 1 | -1, unit: string): string {
+function extremeText(
+  rows: readonly ChairRow[],
+  view: View,
+  majority: Majority,
+  direction: 1 | -1,
+  unit: string,
+): string {
   const found = extremes(rows, majority, direction);
   const [first] = found?.best ?? [];
   if (!found || !first) return direction > 0 ? "no chair gains" : "no chair loses";
   const others = found.best.length - 1;
   const ties = others ? ` and ${others} more` : "";
   const verb = direction > 0 ? (others ? "gain" : "gains") : others ? "lose" : "loses";
-  return `chair ${first.chair} ${first.name}${ties} ${verb} most (${gainText(found.gain, view.measure, view.digits)}${unit})`;
+  const gain = gainText(found.gain, view.measure, view.digits);
+  return `chair ${first.chair} ${first.name}${ties} ${verb} most (${gain}${unit})`;
 }
 
 /** Who gains most, or who loses most, in a cell of a table. */

@@ -9,7 +9,10 @@ const FRACTIONS = ["vote_share", "banzhaf", "power_share", "prevent", "initiate"
 const MEASURES: readonly Measure[] = ["banzhaf", "share", "prevent", "initiate"];
 const BOARD = ["open_chairs", "quota", "cast", "total", "winning", "coalitions"];
 const COLUMNS = ["scenario", "sweep", "sweep_percent", "majority", ...BOARD, "chair", "name", "votes", "swings"];
-const ALL = [...COLUMNS, ...FRACTIONS.flatMap((it) => [`${it}_numerator`, `${it}_denominator`, it, `${it}_difference`])];
+const ALL = [
+  ...COLUMNS,
+  ...FRACTIONS.flatMap((it) => [`${it}_numerator`, `${it}_denominator`, it, `${it}_difference`]),
+];
 
 /** A register that was read: its label, and the sweep and its per cent where it is a step of one. */
 export interface Labelled {

@@ -65,7 +65,10 @@ export function drawCurve(place: Element, model: CurveModel, look: Look): void {
   const votes = points.map((it) => votesAt(it, model.chair));
   const bar: LegendItem = {
     words: "share of votes (right axis)",
-    draw: (at) => void at.append("line").attr("x1", -7).attr("x2", 7).attr("stroke", palette.bar).attr("stroke-width", 4),
+    draw: (at) => void at.append("line").attr("x1", -7).attr("x2", 7).attr(
+      "stroke",
+      palette.bar,
+    ).attr("stroke-width", 4),
   };
   const frame = framed(place, look, [...majorityItems(majorities), ...(model.hasVotes ? [bar] : [])], model.name);
   const { root } = frame;
@@ -80,37 +83,65 @@ export function drawCurve(place: Element, model: CurveModel, look: Look): void {
   const most = measure === "swings" ? Infinity : measure === "share" ? 100 : 1;
   const y = scaleLinear().domain([Math.max(0, low), Math.min(most, high)]).range([bottom, top]).nice(6);
   const words = measure === "share" ? "share of power, per cent" : MEASURE[measure].label;
-  root.append("text").attr("x", 8).attr("y", frame.top + 10).attr("fill", palette.faint).attr("font-size", 11).text(words);
+  root.append("text").attr("x", 8).attr("y", frame.top + 10).attr(
+    "fill",
+    palette.faint,
+  ).attr("font-size", 11).text(words);
   const across = root.append("g").attr("transform", `translate(${left},0)`);
   across.call(axisLeft(y).ticks(6).tickSizeInner(-(right - left)).tickSizeOuter(0));
   tinted(across, palette);
   const along = root.append("g").attr("transform", `translate(0,${bottom})`);
   along.call(axisBottom(x).ticks(width < 480 ? 4 : 8).tickSizeOuter(0));
   tinted(along, palette);
-  root.append("text").attr("x", (left + right) / 2).attr("y", bottom + 34).attr("text-anchor", "middle").attr("fill", palette.faint).attr("font-size", 11).text(model.xWords);
+  root.append("text").attr(
+    "x",
+    (left + right) / 2,
+  ).attr("y", bottom + 34).attr(
+    "text-anchor",
+    "middle",
+  ).attr("fill", palette.faint).attr("font-size", 11).text(model.xWords);
   if (model.hasVotes) {
-    const second = scaleLinear().domain([0, Math.max(0, ...votes.map((it) => it ?? 0)) || 1]).range([bottom, top]).nice(6);
+    const second = scaleLinear().domain(
+      [0, Math.max(0, ...votes.map((it) => it ?? 0)) || 1],
+    ).range([bottom, top]).nice(6);
     const axis = root.append("g").attr("transform", `translate(${right},0)`);
     axis.call(axisRight(second).ticks(6).tickSizeOuter(0));
     tinted(axis, palette);
-    root.append("text").attr("x", width - 8).attr("y", frame.top + 10).attr("text-anchor", "end").attr("fill", palette.faint).attr("font-size", 11).text("votes, per cent");
+    root.append("text").attr("x", width - 8).attr("y", frame.top + 10).attr("text-anchor", "end").attr(
+      "fill",
+      palette.faint,
+    ).attr("font-size", 11).text("votes, per cent");
     const path = pathOf(points.map((it, at) => [x(it.x), votes[at] === null ? null : second(votes[at] ?? 0)]));
-    root.append("path").attr("d", path).attr("fill", "none").attr("stroke", palette.bar).attr("stroke-width", 4).attr("stroke-opacity", 0.7);
+    root.append("path").attr("d", path).attr("fill", "none").attr(
+      "stroke",
+      palette.bar,
+    ).attr("stroke-width", 4).attr("stroke-opacity", 0.7);
   }
   for (const mark of model.marks) {
     const line = root.append("line").attr("x1", x(mark.x)).attr("x2", x(mark.x)).attr("y1", top).attr("y2", bottom);
-    line.attr("stroke", palette.of[mark.majority]).attr("stroke-width", 1.5).attr("stroke-dasharray", DASHES[mark.majority]);
-    root.append("g").attr("transform", `translate(${x(mark.x)},${top})`).call((at) => void dot(at, mark.majority, true, palette).append("title").text(mark.words));
+    line.attr("stroke", palette.of[mark.majority]).attr("stroke-width", 1.5).attr(
+      "stroke-dasharray",
+      DASHES[mark.majority],
+    );
+    root.append("g").attr("transform", `translate(${x(mark.x)},${top})`).call(
+      (at) => void dot(at, mark.majority, true, palette).append("title").text(mark.words),
+    );
   }
   majorities.forEach((majority, lane) => {
     const own = values[lane] ?? [];
     const path = pathOf(points.map((it, at) => [x(it.x), own[at] == null ? null : y(own[at] ?? 0)]));
-    root.append("path").attr("d", path).attr("fill", "none").attr("stroke", palette.of[majority]).attr("stroke-dasharray", DASHES[majority]);
+    root.append("path").attr("d", path).attr("fill", "none").attr("stroke", palette.of[majority]).attr(
+      "stroke-dasharray",
+      DASHES[majority],
+    );
     points.forEach((point, at) => {
       const value = own[at];
       if (value === null || value === undefined) return;
       const size = points.length > 60 ? 0.45 : 0.8;
-      const here = root.append("g").attr("transform", `translate(${x(point.x)},${y(value)}) scale(${size})`).attr("data-point", at);
+      const here = root.append("g").attr(
+        "transform",
+        `translate(${x(point.x)},${y(value)}) scale(${size})`,
+      ).attr("data-point", at);
       dot(here, majority, false, palette);
     });
   });

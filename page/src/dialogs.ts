@@ -2,13 +2,23 @@
 import { button, h, type Child } from "./dom";
 
 /** Opens a dialog with a heading. It closes by its button, by Escape and by what `close` returns. */
-export function openDialog(id: string, title: string, content: (close: () => void) => Child, onClose = () => {}): HTMLDialogElement {
+export function openDialog(
+  id: string,
+  title: string,
+  content: (close: () => void) => Child,
+  onClose = () => {},
+): HTMLDialogElement {
   document.getElementById(id)?.remove();
   const back = document.activeElement instanceof HTMLElement ? document.activeElement.id : "";
   const dialog = h("dialog", { id, "aria-labelledby": `${id}-title` });
   const close = () => dialog.close();
   dialog.append(
-    h("header", {}, h("h2", { id: `${id}-title` }, title), button("Close", close, { class: "close", "aria-label": `Close: ${title}` })),
+    h(
+      "header",
+      {},
+      h("h2", { id: `${id}-title` }, title),
+      button("Close", close, { class: "close", "aria-label": `Close: ${title}` }),
+    ),
     h("div", { class: "dialog-body" }),
   );
   const body = dialog.lastElementChild;

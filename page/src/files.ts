@@ -43,7 +43,10 @@ async function takeScript(app: App, given: string, name: string): Promise<void> 
   await answered(app.replay, given);
   const text = given.replace(/^\ufeff/, "").replace(/\r\n/g, "\n");
   const { members, base, commands, majorities, isOwn } = readScript(recordsOf(text), text);
-  const choices = isOwn ? [] : ["The script has another form than this page's: its readings stand here behind the base and behind all its commands."];
+  const choices = isOwn ? [] : [
+    "The script has another form than this page's: its readings stand here behind the base and behind all its " +
+      "commands.",
+  ];
   const changes = commands.map((what, at) => ({ id: at + 1, on: true, what }));
   const study: Study = {
     name,
@@ -61,7 +64,9 @@ async function takeBeside(app: App, json: string, script: string | null): Promis
   if (!data) throw new Error("the file has no study in it");
   takeData(app, data);
   await app.count();
-  if (script !== null && app.shown?.counted.script !== script) refuse("The script and the file beside it are not of one study: the file's study is shown.");
+  if (script !== null && app.shown?.counted.script !== script) refuse(
+    "The script and the file beside it are not of one study: the file's study is shown.",
+  );
 }
 
 /** Whether a text is a script for `board replay`. */

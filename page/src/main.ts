@@ -17,7 +17,13 @@ async function example(): Promise<StudyData> {
   const { base } = readTable(sheet, guessedLayout(sheet), { ...NO_ANSWERS, merged: false });
   if (!base) throw new Error("the example isn't whole");
   const hash = await hashOf(exampleText);
-  const study: Study = { name: "Example: invented votes", base: { ...base, hash }, changes: [], scenarios: [], published: null };
+  const study: Study = {
+    name: "Example: invented votes",
+    base: { ...base, hash },
+    changes: [],
+    scenarios: [],
+    published: null,
+  };
   return { study, view: FIRST_VIEW };
 }
 
@@ -27,15 +33,14 @@ async function begin(): Promise<void> {
   const bytes = moduleBytes();
   const [replays, { study, view }, hash] = await Promise.all([replaysOver(bytes), held ?? example(), hashOf(bytes)]);
   const app = new App(study, view, replays, hash === MODULE_HASH || hash === NO_HASH, paintPage);
-  byId("needs").hidden = true;
-  byId("page").hidden = false;
   listen(app);
   keyboardDrag(app);
   await app.count();
 }
 
+// From here on an error is no sign of an old browser.
+window.onerror = null;
 begin().catch((why: unknown) => {
-  byId("page").hidden = true;
-  byId("needs").hidden = false;
+  document.documentElement.className = "";
   byId("needs").append(` (${String(why)})`);
 });

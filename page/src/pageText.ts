@@ -1,7 +1,9 @@
 /** The page's own text, as it was before anything was shown in it. */
 
 const START = '<script type="application/json" id="study-data">';
-const original = `<!DOCTYPE html>\n${document.documentElement.outerHTML}\n`;
+const now = document.documentElement.outerHTML;
+// The class is what first.js sets.
+const original = `<!DOCTYPE html>\n${now.replace(' class="begun"', "")}\n`;
 
 /** The page with data in it. */
 export function pageText(data: string): string {

@@ -2,7 +2,21 @@
 import { axisBottom, axisTop } from "d3-axis";
 import { scaleLinear, type Linear } from "d3-scale";
 import type { Selection } from "d3-selection";
-import { dot, ended, fitted, framed, labelled, labelRoom, majorityItems, tinted, type Frame, type LegendItem, type Look } from "./charts";
+import {
+  dot,
+  ended,
+  fitted,
+  framed,
+  labelled,
+  labelRoom,
+  legendBar,
+  majorityItems,
+  rowGroup,
+  tinted,
+  type Frame,
+  type LegendItem,
+  type Look,
+} from "./charts";
 import type { ChairRow } from "./compare";
 import { drawn, type Ratio } from "./fractions";
 import { measureOf, type ChairLine } from "./lines";
@@ -45,12 +59,13 @@ function scales({ rows, measure }: PowerModel, left: number, right: number): Sca
 function legend({ majorities, isChanged }: PowerModel): LegendItem[] {
   const bar = (words: string, isHollow: boolean): LegendItem => ({
     words,
-    draw: (at, { bar: fill, paper }) =>
-      void at.append("rect").attr("x", -7).attr("y", -4).attr("width", 14).attr("height", 8)
-        .attr("fill", isHollow ? paper : fill).attr("stroke", fill),
+    draw: (at, { bar: fill, paper }) => void legendBar(at).attr("fill", isHollow ? paper : fill).attr("stroke", fill),
   });
   const dots = majorityItems(majorities);
-  const hollow: LegendItem = { words: "hollow: base", draw: (at, palette) => void dot(at, majorities[0] ?? "half", true, palette) };
+  const hollow: LegendItem = {
+    words: "hollow: base",
+    draw: (at, palette) => void dot(at, majorities[0] ?? "half", true, palette),
+  };
   if (!isChanged) return [bar("share of votes", true), ...dots];
   return [bar("votes, base", true), bar("votes, changed", false), ...dots, hollow];
 }
@@ -59,7 +74,8 @@ function axes(frame: Frame, look: Look, model: PowerModel, { votes, power }: Sca
   const { root, top } = frame;
   const count = look.width < 480 ? 4 : 7;
   const [left, right] = [votes(votes.domain()[0]), votes(votes.domain()[1])];
-  const words = model.measure === "share" ? "per cent: votes of the votes cast, power of all swings" : MEASURE[model.measure].label;
+  const shares = "per cent: votes of the votes cast, power of all swings";
+  const words = model.measure === "share" ? shares : MEASURE[model.measure].label;
   const title = (text: string, y: number) =>
     root.append("text").attr("x", left).attr("y", y).attr("fill", look.palette.faint).attr("font-size", 11)
       .text(fitted(text, right - left + 20));
@@ -109,15 +125,14 @@ function drawDots(at: Selection, row: ChairRow, { power }: Scales, look: Look, m
 export function drawPower(place: Element, model: PowerModel, look: Look): void {
   const { left, head } = labelRoom(model.rows, look);
   const height = head + VOTES + LANE * model.majorities.length + SPACE;
-  const name = `${MEASURE[model.measure].label} of ${model.rows.length} chairs; the table behind this chart has its numbers`;
+  const { label } = MEASURE[model.measure];
+  const name = `${label} of ${model.rows.length} chairs; the table behind this chart has its numbers`;
   const frame = framed(place, look, legend(model), name);
   const scale = scales(model, left, look.width - 18);
   const start = frame.top + 36;
   const bottom = axes(frame, look, model, scale, start + height * model.rows.length);
   model.rows.forEach((row, at) => {
-    const group = frame.root.append("g").attr("transform", `translate(0,${start + height * at})`).attr("data-chair", row.chair);
-    group.append("rect").attr("width", look.width).attr("height", height).attr("fill", at % 2 ? look.palette.band : "transparent")
-      .attr("fill-opacity", 0.55);
+    const group = rowGroup(frame, row, look, start + height * at, height, at % 2 === 1);
     labelled(group, row, look, head, left, height);
     const inside = group.append("g").attr("transform", `translate(0,${head + SPACE / 2})`);
     drawVotes(inside, row, scale, look, model.isChanged);

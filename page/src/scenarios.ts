@@ -19,7 +19,12 @@ export class ScenarioCounts {
   }
 
   /** Counts those scenarios that aren't counted yet. */
-  async fill(replay: Replay, base: Base, scenarios: readonly Scenario[], majorities: readonly Majority[]): Promise<boolean> {
+  async fill(
+    replay: Replay,
+    base: Base,
+    scenarios: readonly Scenario[],
+    majorities: readonly Majority[],
+  ): Promise<boolean> {
     const missing = scenarios.filter((it) => !this.of(base, it, majorities));
     for (const scenario of missing) {
       const result = await counted(replay, base, scenario.changes, majorities);

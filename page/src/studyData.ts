@@ -1,6 +1,7 @@
 /** A study as data: in a page that holds one, and in the file beside an exported script. What is read is checked. */
 import {
-  FIRST_VIEW, ORDERS, TABS, type Base, type Change, type Command, type Member, type Percentage, type Scenario, type Study, type View,
+  FIRST_VIEW, ORDERS, TABS, type Base, type Change, type Command, type Member, type Percentage, type Scenario,
+  type Study, type View,
 } from "./study";
 import { CHAIRS, MAJORITIES, MEASURES, MOST_VOTES } from "./words";
 
@@ -68,7 +69,11 @@ function command(value: unknown): Command {
     case "close":
       return { word, chair: oneOf(CHAIRS, found["chair"], "a chair") };
     case "move":
-      return { word, code: code(found["code"]), chair: found["chair"] === null ? null : oneOf(CHAIRS, found["chair"], "a chair") };
+      return {
+        word,
+        code: code(found["code"]),
+        chair: found["chair"] === null ? null : oneOf(CHAIRS, found["chair"], "a chair"),
+      };
     case "votes":
     case "admit":
       return { word, code: code(found["code"]), votes: votes(found["votes"]) };
@@ -86,7 +91,10 @@ function what(value: unknown): Command | Percentage {
   if (found["word"] !== "percent") return command(value);
   const percent = text(found["percent"], "a percentage");
   const of = oneOf(["own", "total"] as const, found["of"], "a percentage");
-  must((of === "own" ? /^[+-][0-9]{1,9}(\.[0-9]{1,9})?$/ : /^[0-9]{1,9}(\.[0-9]{1,9})?$/).test(percent), "a percentage");
+  must(
+    (of === "own" ? /^[+-][0-9]{1,9}(\.[0-9]{1,9})?$/ : /^[0-9]{1,9}(\.[0-9]{1,9})?$/).test(percent),
+    "a percentage",
+  );
   return { word: "percent", of, code: code(found["code"]), percent };
 }
 

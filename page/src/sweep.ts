@@ -7,7 +7,9 @@ import type { Place, Standing } from "./standing";
 import type { Base, Command } from "./study";
 import { MOST_VOTES, type Majority } from "./words";
 
-export type Who = { readonly kind: "member"; readonly code: string } | { readonly kind: "chair"; readonly chair: number };
+export type Who =
+  | { readonly kind: "member"; readonly code: string }
+  | { readonly kind: "chair"; readonly chair: number };
 
 /** What is swept. From, to and by are plain decimals: votes, or per cent of the total voting power. */
 export interface SweepAsked {
@@ -98,7 +100,9 @@ export function sharedOut(votes: number, members: readonly Place[]): Command[] {
   const sum = members.reduce((all, it) => all + BigInt(it.votes), 0n);
   const parts = members.map((it) => (sum === 0n ? 0n : (BigInt(votes) * BigInt(it.votes)) / sum));
   const rests = members.map((it, at) => (sum === 0n ? 0n : BigInt(votes) * BigInt(it.votes) - (parts[at] ?? 0n) * sum));
-  const order = members.map((_, at) => at).sort((left, right) => Number((rests[right] ?? 0n) - (rests[left] ?? 0n)) || left - right);
+  const order = members.map((_, at) => at).sort(
+    (left, right) => Number((rests[right] ?? 0n) - (rests[left] ?? 0n)) || left - right,
+  );
   let missing = BigInt(votes) - parts.reduce((all, it) => all + it, 0n);
   const given = [...parts];
   for (let at = 0; missing > 0n; at = (at + 1) % order.length) {
@@ -117,7 +121,13 @@ interface Target {
   commands(votes: number): Command[];
 }
 
-async function targetOf(replay: Replay, records: readonly string[], standing: Standing, reading: Reading, who: Who): Promise<Target> {
+async function targetOf(
+  replay: Replay,
+  records: readonly string[],
+  standing: Standing,
+  reading: Reading,
+  who: Who,
+): Promise<Target> {
   if (who.kind === "chair") {
     const line = chairIn(reading, who.chair);
     const members = standing.in(who.chair).filter((it) => !it.suspended);

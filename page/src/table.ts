@@ -173,7 +173,13 @@ function rowsOf(sheet: Sheet, { header, columns }: Layout): Row[] {
   const filled = rows.slice(header).filter(({ cells }) => cells.some((cell) => cell !== ""));
   return filled.map(({ row, cells }) => {
     const at = (meaning: Meaning) => cells[columns[meaning]] ?? "";
-    const own = { code: at("code"), name: at("name"), votes: at("votes"), chair: at("chair"), chairName: at("chairName") };
+    const own = {
+      code: at("code"),
+      name: at("name"),
+      votes: at("votes"),
+      chair: at("chair"),
+      chairName: at("chairName"),
+    };
     return { row, cells: own };
   });
 }
@@ -264,7 +270,11 @@ class Reader {
     const other = this.#rowOfCode.get(code);
     if (cell === "") this.#refuse(row, "code", "an empty cell");
     else if (!/^[A-Z]{3}$/.test(code)) this.#refuse(row, "code", `BadMember: ${reasonOf("BadMember")}`);
-    else if (other) this.#refuse(row, "code", `DuplicateMember: ${reasonOf("DuplicateMember")}, here and in row ${other}`);
+    else if (other) this.#refuse(
+      row,
+      "code",
+      `DuplicateMember: ${reasonOf("DuplicateMember")}, here and in row ${other}`,
+    );
     else this.#rowOfCode.set(code, row);
     return code;
   }
@@ -304,8 +314,12 @@ class Reader {
 /** What was chosen, in sentences for the list of changes and the exports. */
 function choicesOf(answers: Answers, totalRow: number, blanks: readonly number[], codesMade: boolean): string[] {
   const rows = [...answers.leftOut].sort((left, right) => left - right).map((row) => `Row ${row} was left out.`);
-  if (totalRow && answers.isTotal) rows.push(`Row ${totalRow}, which equals the sum of the others, was left out as a total.`);
-  if (totalRow && answers.isTotal === false) rows.push(`Row ${totalRow}, which equals the sum of the others, is a member.`);
+  if (totalRow && answers.isTotal) rows.push(
+    `Row ${totalRow}, which equals the sum of the others, was left out as a total.`,
+  );
+  if (totalRow && answers.isTotal === false) rows.push(
+    `Row ${totalRow}, which equals the sum of the others, is a member.`,
+  );
   if (blanks.length && answers.merged) rows.push(`Merged cells: the chair was filled down. Rows: ${blanks.length}.`);
   if (codesMade) rows.push("The table has no codes: they were made from names.");
   return rows;
@@ -314,7 +328,9 @@ function choicesOf(answers: Answers, totalRow: number, blanks: readonly number[]
 function noticesOf(sheet: Sheet, rows: readonly Row[], byName: boolean): string[] {
   const zeros = rows.filter(({ cells }) => [cells.votes, cells.chair].some((cell) => hasZeros(cell, sheet.marks)));
   const small = rows.filter(({ cells }) => /[a-z]/.test(cells.code));
-  const parted = rows.filter(({ cells }) => wholeOf(cells.votes, sheet.marks) !== null && wholeOf(cells.votes, "") === null);
+  const parted = rows.filter(
+    ({ cells }) => wholeOf(cells.votes, sheet.marks) !== null && wholeOf(cells.votes, "") === null,
+  );
   return [
     ...sheet.notices,
     ...(zeros.length ? [`Numbers such as 1.0 were taken as whole numbers. Rows: ${zeros.length}.`] : []),
@@ -340,7 +356,11 @@ export function readTable(sheet: Sheet, layout: Layout, answers: Answers): ReadT
   const reader = new Reader(sheet.marks, byName);
   for (const row of rows) reader.take(row);
   const faults = [...reader.faults];
-  if (layout.columns.votes < 0) faults.splice(0, faults.length, { row: 0, meaning: "votes", reason: "no column is chosen" });
+  if (layout.columns.votes < 0) faults.splice(
+    0,
+    faults.length,
+    { row: 0, meaning: "votes", reason: "no column is chosen" },
+  );
   else if (!rows.length) faults.push({ row: 0, meaning: "code", reason: "there is no member in the table" });
   const isAnswered = (!blanks.length || answers.merged !== null) && (!totalRow || answers.isTotal !== null);
   const open = [...new Set(reader.seats.flatMap((it) => (it.word === "move" && it.chair ? [it.chair] : [])))];
@@ -359,7 +379,8 @@ export function readTable(sheet: Sheet, layout: Layout, answers: Answers): ReadT
 
 /** The name of a column: its head, else its letter. */
 export function columnName(sheet: Sheet, layout: Layout, column: number): string {
-  const letter = (column >= 26 ? String.fromCharCode(64 + Math.floor(column / 26)) : "") + String.fromCharCode(65 + (column % 26));
+  const letterOf = (number: number) => String.fromCharCode(65 + number);
+  const letter = (column >= 26 ? letterOf(Math.floor(column / 26) - 1) : "") + letterOf(column % 26);
   const head = sheet.rows[layout.header - 1]?.[column];
   return head ? `${letter} ${head}` : letter;
 }

@@ -1,4 +1,4 @@
-/** The words of the page: majorities, measures, refusals and faults, as docs/FORMATS.md and docs/DEFINITIONS.md have them. */
+/** The words of majorities, measures, refusals and faults, as docs/FORMATS.md and docs/DEFINITIONS.md have them. */
 
 export const MAJORITIES = ["half", "70", "85", "quorum"] as const;
 export type Majority = typeof MAJORITIES[number];

@@ -46,21 +46,43 @@ export function openBest(app: App): void {
       const tried = await bestMoves(app.replay, shown.study.base, shown.counted, chair, majority, app.view.measure);
       said.textContent = `${tried.length} moves were counted in ${(performance.now() - begun).toFixed(0)} ms.`;
       const heads = ["", "Member", "From", "Votes", MEASURE[app.view.measure].label, "Added", ""];
-      paint(place, h("div", { class: "scroll preview", tabindex: 0, role: "region", "aria-label": `Moves to chair ${chair}` },
+      paint(place, h("div", {
+        class: "scroll preview",
+        tabindex: 0,
+        role: "region",
+        "aria-label": `Moves to chair ${chair}`,
+      },
         h("table", { id: "best-table" },
           h("thead", {}, h("tr", {}, heads.map((it) => (it ? h("th", { scope: "col" }, it) : h("td", {}))))),
           h("tbody", {}, tried.map((it, at) => rowOf(app, chair, it, at, close))),
         ),
       ));
     };
-    const chairs = open.map((it): [string, string] => [String(it), `${it} ${chairName(shown.study.base, standing, it)}`]);
+    const chairs = open.map(
+      (it): [string, string] => [String(it), `${it} ${chairName(shown.study.base, standing, it)}`],
+    );
     const majorities = app.view.majorities.map((it): [string, string] => [it, MAJORITY[it].label]);
     return [
-      h("p", { class: "note" }, `Each member that sits elsewhere and isn't suspended is moved to the chair, on the changed board, and the program counts. The measure is the one chosen above the chart: ${MEASURE[app.view.measure].label}.`),
+      h(
+        "p",
+        { class: "note" },
+        `Each member that sits elsewhere and isn't suspended is moved to the chair, on the changed board, and ` +
+          `the program counts. The measure is the one chosen above the chart: ${MEASURE[app.view.measure].label}.`,
+      ),
       h("div", { class: "choices" },
         choice("best-chair", "Chair", chairs, String(chair), (it) => (chair = Number(it))),
-        choice("best-at", "at", majorities, majority, (it) => (majority = app.view.majorities.find((own) => own === it) ?? majority)),
-        button("Try all members", () => void run().catch((why: unknown) => (said.textContent = String(why))), { id: "best-run" }),
+        choice(
+          "best-at",
+          "at",
+          majorities,
+          majority,
+          (it) => (majority = app.view.majorities.find((own) => own === it) ?? majority),
+        ),
+        button(
+          "Try all members",
+          () => void run().catch((why: unknown) => (said.textContent = String(why))),
+          { id: "best-run" },
+        ),
       ),
       said,
       place,

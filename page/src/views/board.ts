@@ -29,7 +29,12 @@ function tableOf(majority: Majority, readings: readonly Reading[], digits: numbe
   return h("table", { "data-majority": majority },
     h("caption", {}, MAJORITY[majority].label),
     h("thead", {}, h("tr", {}, h("td", {}), heads)),
-    h("tbody", {}, rows, h("tr", {}, h("th", { scope: "row", class: "text" }, "Power to act"), readings.map((it) => act(it, digits)))),
+    h(
+      "tbody",
+      {},
+      rows,
+      h("tr", {}, h("th", { scope: "row", class: "text" }, "Power to act"), readings.map((it) => act(it, digits))),
+    ),
   );
 }
 

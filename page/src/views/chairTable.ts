@@ -20,7 +20,11 @@ function lineCell(line: ChairLine | undefined, measure: Measure, digits: number)
   if (!line) return EMPTY;
   const ratio = measureOf(line, measure);
   const fraction = measure === "swings" ? String(line.swings) : fractionText(ratio);
-  return { decimal: valueText(ratio, measure, digits), fraction, source: `counted: line ${line.line}, ${MEASURE[measure].column}` };
+  return {
+    decimal: valueText(ratio, measure, digits),
+    fraction,
+    source: `counted: line ${line.line}, ${MEASURE[measure].column}`,
+  };
 }
 
 function madeCell(ratio: Ratio | null, decimal: string, source: string): Cell {
@@ -31,7 +35,11 @@ function madeCell(ratio: Ratio | null, decimal: string, source: string): Cell {
 function votesCells(row: ChairRow, digits: number): Cell[] {
   const [first] = row.at.values();
   const weight = (line: ChairLine | undefined): Cell =>
-    line ? { decimal: grouped(line.weight), fraction: String(line.weight), source: `counted: line ${line.line}, WEIGHT` } : EMPTY;
+    line ? {
+      decimal: grouped(line.weight),
+      fraction: String(line.weight),
+      source: `counted: line ${line.line}, WEIGHT`,
+    } : EMPTY;
   const share = (ratio: Ratio | null) => madeCell(ratio, ratio ? `${percent(ratio, digits)} %` : "", "WEIGHT/CAST");
   const added = difference(row.votesAfter, row.votesBefore);
   return [
@@ -76,7 +84,11 @@ export function tableText(rows: readonly ChairRow[], view: View): string {
 export function rowWords(row: ChairRow, view: View): Child[] {
   const heads = headsOf(view).slice(2);
   const items = cellsOf(row, view).map((cell, at) => {
-    return cell.decimal ? h("li", { title: cell.source }, `${heads[at]}: ${cell.decimal} = ${cell.fraction} (${cell.source})`) : null;
+    return cell.decimal ? h(
+      "li",
+      { title: cell.source },
+      `${heads[at]}: ${cell.decimal} = ${cell.fraction} (${cell.source})`,
+    ) : null;
   });
   return [h("strong", {}, `${row.chair} ${row.name}`), h("ul", {}, items)];
 }
@@ -89,13 +101,25 @@ export function chairTable(app: App, rows: readonly ChairRow[]): HTMLElement {
     h("tr", { "data-chair": row.chair },
       h("th", { scope: "row" }, String(row.chair)),
       h("td", { class: "text" }, row.name),
-      cellsOf(row, view).map((cell) => h("td", { title: `${cell.fraction} (${cell.source})` }, view.fractions ? cell.fraction : cell.decimal)),
+      cellsOf(row, view).map(
+        (cell) => h(
+          "td",
+          { title: `${cell.fraction} (${cell.source})` },
+          view.fractions ? cell.fraction : cell.decimal,
+        ),
+      ),
     ),
   );
-  const toggle = button(view.fractions ? "Show decimals" : "Show fractions", () => app.look({ fractions: !view.fractions }), {
+  const toggle = button(view.fractions ? "Show decimals" : "Show fractions", () => app.look(
+    { fractions: !view.fractions },
+  ), {
     id: "toggle-fractions",
   });
-  const said = h("p", { class: "note", id: "cell-words", role: "status" }, "Point at a number or tap it: its fraction and its source stand here.");
+  const said = h(
+    "p",
+    { class: "note", id: "cell-words", role: "status" },
+    "Point at a number or tap it: its fraction and its source stand here.",
+  );
   const tell = (event: Event) => {
     const words = (event.target as Element).closest("td")?.title;
     if (words) said.textContent = words;

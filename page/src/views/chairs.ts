@@ -54,7 +54,8 @@ interface Card {
 
 function cardElement(app: App, card: Card): HTMLElement {
   const found = card.members.filter((it) => matches(it, app.filter));
-  const isOpen = card.members.length > 0 && (app.openCards.has(card.place) || (app.filter.trim() !== "" && found.length > 0));
+  const isFound = app.filter.trim() !== "" && found.length > 0;
+  const isOpen = card.members.length > 0 && (app.openCards.has(card.place) || isFound);
   const toggle = () => {
     if (isOpen) app.openCards.delete(card.place);
     else app.openCards.add(card.place);
@@ -76,7 +77,11 @@ function chairCard(app: App, { study, counted }: Shown, chair: number): Card {
   const share = reading && line ? voteShare(reading, line) : null;
   const members = counted.standing.in(chair);
   const close = () => app.take(withAdded(app.study, [{ word: "close", chair }]));
-  const tail = members.length ? null : h("button", { type: "button", id: `close-${chair}`, onclick: close }, "Close this chair");
+  const tail = members.length ? null : h(
+    "button",
+    { type: "button", id: `close-${chair}`, onclick: close },
+    "Close this chair",
+  );
   return {
     place: String(chair),
     title: `${chair} ${chairName(study.base, members.length ? counted.standing : counted.opening, chair)}`,

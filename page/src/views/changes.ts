@@ -47,7 +47,12 @@ function rangeOf(app: App, { id, what }: Change): Range | null {
   if (what.word !== "votes") return null;
   const outcome = app.shown?.counted.outcomes.get(id);
   const before = outcome?.kind === "accepted" ? outcome.before?.votes ?? 0 : 0;
-  return { min: 0, max: Math.min(MOST_VOTES, 2 * Math.max(before, what.votes, 50)), step: 1, value: String(what.votes) };
+  return {
+    min: 0,
+    max: Math.min(MOST_VOTES, 2 * Math.max(before, what.votes, 50)),
+    step: 1,
+    value: String(what.votes),
+  };
 }
 
 /** The change with the number that a slider says; null where it says none. */
@@ -77,7 +82,14 @@ function slider(app: App, change: Change): Item | null {
   const { min, max, step } = first;
   const input = (type: string, key: string): HTMLInputElement => {
     const own: HTMLInputElement = h("input", {
-      type, id: `${key}-${id}`, min, max, step, value: first.value, oninput: () => take(own.value), onchange: () => app.history.rest(),
+      type,
+      id: `${key}-${id}`,
+      min,
+      max,
+      step,
+      value: first.value,
+      oninput: () => take(own.value),
+      onchange: () => app.history.rest(),
     });
     own.value = first.value;
     return own;
@@ -101,9 +113,22 @@ function itemOf(app: App, change: Change, at: number, many: number): Item {
   const toggle = () => replaced(app, id, { on: tick.checked });
   const tick: HTMLInputElement = h("input", { type: "checkbox", id: `on-${id}`, checked: change.on, onchange: toggle });
   const acts = [
-    { act: "Move up", button: button("↑", () => moved(app, id, -1), { id: `up-${id}`, title: "Move up", disabled: at === 0 }) },
-    { act: "Move down", button: button("↓", () => moved(app, id, 1), { id: `down-${id}`, title: "Move down", disabled: at === many - 1 }) },
-    { act: "Remove", button: button("✕", () => set(app, app.study.changes.filter((it) => it.id !== id)), { id: `remove-${id}`, title: "Remove" }) },
+    {
+      act: "Move up",
+      button: button("↑", () => moved(app, id, -1), { id: `up-${id}`, title: "Move up", disabled: at === 0 }),
+    },
+    {
+      act: "Move down",
+      button: button("↓", () => moved(app, id, 1), { id: `down-${id}`, title: "Move down", disabled: at === many - 1 }),
+    },
+    {
+      act: "Remove",
+      button: button(
+        "✕",
+        () => set(app, app.study.changes.filter((it) => it.id !== id)),
+        { id: `remove-${id}`, title: "Remove" },
+      ),
+    },
   ];
   const moving = slider(app, change);
   const element = h("li", { class: "change", "data-id": id },

@@ -9,7 +9,16 @@ import { decimalRatio, drawn, fractionText, grouped, percent, rounded } from "..
 import { chairIn, measureOf, voteShare } from "../lines";
 import { memberWords } from "../commandWords";
 import { chairName } from "../standing";
-import { BadSweep, shareText, STATEMENT_WORDS, sweepText, swept, type SweepAsked, type Swept, type Threshold } from "../sweep";
+import {
+  BadSweep,
+  shareText,
+  STATEMENT_WORDS,
+  sweepText,
+  swept,
+  type SweepAsked,
+  type Swept,
+  type Threshold,
+} from "../sweep";
 import { MAJORITY, MEASURE } from "../words";
 import { screenLook } from "./figures";
 
@@ -42,8 +51,10 @@ async function run(app: App): Promise<void> {
   try {
     state.swept = await swept(app.replay, shown.study.base, shown.counted, app.view.majorities, state.asked);
     [state.of, state.chair] = [shown, state.swept.chair];
-    state.said = `${state.swept.points.length} points were counted at ${app.view.majorities.length} majorities in ${state.swept.milliseconds.toFixed(0)} ms.`;
-    byId("panel").dataset["sweep"] = state.swept.milliseconds.toFixed(0);
+    const milliseconds = state.swept.milliseconds.toFixed(0);
+    const points = `${state.swept.points.length} points at ${app.view.majorities.length} majorities`;
+    state.said = `${points} were counted in ${milliseconds} ms.`;
+    byId("panel").dataset["sweep"] = milliseconds;
   } catch (why) {
     [state.swept, state.of] = [null, null];
     state.said = why instanceof BadSweep ? `This can't be swept: ${why.message}.` : String(why);
@@ -54,7 +65,9 @@ async function run(app: App): Promise<void> {
 
 function whoOptions({ study, counted }: Shown): [string, string][] {
   const standing = state.asked.on === "base" ? counted.opening : counted.standing;
-  const chairs = standing.open().map((it): [string, string] => [String(it), `chair ${it} ${chairName(study.base, standing, it)}`]);
+  const chairs = standing.open().map(
+    (it): [string, string] => [String(it), `chair ${it} ${chairName(study.base, standing, it)}`],
+  );
   const members = standing.members().map((it): [string, string] => [it.code, memberWords(it.code, it.name)]);
   return [...chairs, ...members];
 }
@@ -66,13 +79,21 @@ function form(app: App, shown: Shown): HTMLElement {
   };
   const number = (id: "from" | "to" | "by", label: string) => {
     const input: HTMLInputElement = h("input", {
-      id: `sweep-${id}`, class: "short", inputmode: "decimal", required: true, pattern: "[0-9]{1,13}(\\.[0-9]{1,9})?", value: asked[id],
-      title: "a number without a sign, such as 10 or 0.5", oninput: () => set({ [id]: input.value.trim() }),
+      id: `sweep-${id}`,
+      class: "short",
+      inputmode: "decimal",
+      required: true,
+      pattern: "[0-9]{1,13}(\\.[0-9]{1,9})?",
+      title: "a number without a sign, such as 10 or 0.5",
+      value: asked[id],
+      oninput: () => set({ [id]: input.value.trim() }),
     });
     return h("label", { class: "choice", for: `sweep-${id}` }, h("span", {}, label), input);
   };
   const key = asked.who.kind === "chair" ? String(asked.who.chair) : asked.who.code;
-  const who = (value: string) => set({ who: /^\d+$/.test(value) ? { kind: "chair", chair: Number(value) } : { kind: "member", code: value } });
+  const who = (value: string) => set(
+    { who: /^\d+$/.test(value) ? { kind: "chair", chair: Number(value) } : { kind: "member", code: value } },
+  );
   const submit = (event: Event) => {
     event.preventDefault();
     void run(app);
@@ -84,18 +105,25 @@ function form(app: App, shown: Shown): HTMLElement {
       app.repaint();
     }),
     number("from", "from"), number("to", "to"), number("by", "by"),
-    choice("sweep-unit", "unit", [["percent", "per cent of the total"], ["votes", "votes"]], asked.unit, (it) => set({ unit: it === "votes" ? "votes" : "percent" })),
+    choice(
+      "sweep-unit",
+      "unit",
+      [["percent", "per cent of the total"], ["votes", "votes"]],
+      asked.unit,
+      (it) => set({ unit: it === "votes" ? "votes" : "percent" }),
+    ),
     h("button", { id: "sweep-run" }, "Count the sweep"),
   );
 }
 
-/** A threshold in words: "At 85 per cent it prevents everything from 847,524 votes, 14.886 % of the total (not at 847,523)". */
+/** A threshold in words, such as "At 85 per cent it prevents everything from 847,524 votes (not at 847,523)". */
 function thresholdWords(threshold: Threshold, digits: number): string {
   const { majority, what, isFrom, votes, share } = threshold;
   const from = isFrom ? `${STATEMENT_WORDS[what]} from` : `${STATEMENT_WORDS[what]} up to`;
   const own = isFrom ? votes : votes - 1;
   const other = isFrom ? `not at ${grouped(votes - 1)}` : `not at ${grouped(votes)}`;
-  return `${MAJORITY[majority].at} it ${from} ${grouped(own)} votes${isFrom && share ? `, ${shareText(share, digits)}` : ""} (${other}).`;
+  const part = isFrom && share ? `, ${shareText(share, digits)}` : "";
+  return `${MAJORITY[majority].at} it ${from} ${grouped(own)} votes${part} (${other}).`;
 }
 
 /** The chart's model, also for exports. Null where nothing was swept. */
@@ -107,6 +135,7 @@ export function curveModel(app: App): CurveModel | null {
   const chair = state.chair ?? found.chair;
   const standing = asked.on === "base" ? of.counted.opening : of.counted.standing;
   const majorities = app.view.majorities.filter((it) => points[0]?.readings.has(it));
+  const name = chairName(of.study.base, standing, chair);
   const shareOf = (threshold: Threshold) => (threshold.share ? 100 * drawn(threshold.share) : 0);
   return {
     points: points.map((it) => ({ x: Number(it.value), readings: it.readings })),
@@ -120,13 +149,18 @@ export function curveModel(app: App): CurveModel | null {
     measure: app.view.measure,
     hasVotes: state.hasVotes,
     xWords: isPercent ? "votes of what is swept, per cent of the total voting power" : "votes of what is swept",
-    name: `${MEASURE[app.view.measure].label} of chair ${chair} ${chairName(of.study.base, standing, chair)}: ${sweepText(asked)}`,
+    name: `${MEASURE[app.view.measure].label} of chair ${chair} ${name}: ${sweepText(asked)}`,
   };
 }
 
 function tableOf(app: App, model: CurveModel, found: Swept): HTMLElement {
   const { digits, measure } = app.view;
-  const heads = [found.asked.unit === "percent" ? "Per cent of the total" : "Votes asked for", "Votes", "Share of votes", ...model.majorities.map((it) => `${MEASURE[measure].label}, ${MAJORITY[it].label}`)];
+  const heads = [
+    found.asked.unit === "percent" ? "Per cent of the total" : "Votes asked for",
+    "Votes",
+    "Share of votes",
+    ...model.majorities.map((it) => `${MEASURE[measure].label}, ${MAJORITY[it].label}`),
+  ];
   const rows = found.points.map(({ value, votes, readings }) => {
     const [reading] = readings.values();
     const line = chairIn(reading, model.chair);
@@ -137,21 +171,45 @@ function tableOf(app: App, model: CurveModel, found: Swept): HTMLElement {
       const text = app.view.fractions ? fractionText(ratio) : valueText(ratio, measure, digits);
       return h("td", { title: own ? `${fractionText(ratio)} (counted: line ${own.line} of the sweep)` : "" }, text);
     });
-    return h("tr", {}, h("th", { scope: "row" }, value), h("td", {}, grouped(votes)), h("td", { title: fractionText(share) }, share ? `${percent(share, digits)} %` : "-"), cells);
+    return h(
+      "tr",
+      {},
+      h("th", { scope: "row" }, value),
+      h("td", {}, grouped(votes)),
+      h("td", { title: fractionText(share) }, share ? `${percent(share, digits)} %` : "-"),
+      cells,
+    );
   });
   return h("div", { class: "scroll preview", tabindex: 0, role: "region", "aria-label": model.name },
-    h("table", { id: "sweep-table" }, h("caption", {}, model.name), h("thead", {}, h("tr", {}, heads.map((it) => h("th", { scope: "col" }, it)))), h("tbody", {}, rows)),
+    h(
+      "table",
+      { id: "sweep-table" },
+      h("caption", {}, model.name),
+      h("thead", {}, h("tr", {}, heads.map((it) => h("th", { scope: "col" }, it)))),
+      h("tbody", {}, rows),
+    ),
   );
 }
 
 function results(app: App, model: CurveModel, found: Swept): Child {
   const names = (state.of?.counted ?? app.shown?.counted)?.opening;
   const chairs = [...(found.points[0]?.readings.values() ?? [])][0]?.chairs ?? [];
-  const options = chairs.map(({ chair }): [string, string] => [String(chair), `${chair} ${names && state.of ? chairName(state.of.study.base, names, chair) : ""}`]);
-  const votes: HTMLInputElement = h("input", { type: "checkbox", id: "sweep-votes", checked: state.hasVotes, onchange: () => {
+  const options = chairs.map(
+    ({ chair }): [string, string] => [
+      String(chair),
+      `${chair} ${names && state.of ? chairName(state.of.study.base, names, chair) : ""}`,
+    ],
+  );
+  const showVotes = () => {
     state.hasVotes = votes.checked;
     app.repaint();
-  } });
+  };
+  const votes: HTMLInputElement = h("input", {
+    type: "checkbox",
+    id: "sweep-votes",
+    checked: state.hasVotes,
+    onchange: showVotes,
+  });
   const marks = found.thresholds.map((it) => h("li", {}, thresholdWords(it, app.view.digits)));
   return [
     h("div", { class: "choices" },
@@ -181,7 +239,9 @@ export function sweepRegisters(app: App): Labelled[] {
   const name = who.kind === "member" ? who.code : `chair ${who.chair}`;
   const sweep = sweepText(found.asked) + (on === "changed" ? " on the changed board" : "");
   return found.points.map(({ value, readings }) => {
-    const own = new Map(app.view.majorities.flatMap((it) => (readings.has(it) ? [[it, readings.get(it)] as const] : [])));
+    const own = new Map(
+      app.view.majorities.flatMap((it) => (readings.has(it) ? [[it, readings.get(it)] as const] : [])),
+    );
     const label = `${name} ${value} ${unit === "percent" ? "%" : "votes"}`;
     return { label, sweep, percent: padded(value, found.asked), readings: own as Readings };
   });
@@ -189,7 +249,8 @@ export function sweepRegisters(app: App): Labelled[] {
 
 /** Whether the changes are others than when a sweep of the changed board was counted. */
 function isOld(app: App): boolean {
-  return state.of !== null && state.swept?.asked.on === "changed" && state.of.counted.script !== app.shown?.counted.script;
+  const { of, swept: found } = state;
+  return of !== null && found?.asked.on === "changed" && of.counted.script !== app.shown?.counted.script;
 }
 
 /** Forgets a sweep of another study, and what can't be swept any more. */
@@ -214,7 +275,12 @@ export function paintCurve(app: App): void {
   paint(byId("panel"),
     form(app, shown),
     h("p", { id: "sweep-words", role: "status" }, [state.said, old].join(" ")),
-    model && state.swept ? [results(app, model, state.swept), chart, tableOf(app, model, state.swept), source(state.swept)] : null,
+    model && state.swept ? [
+      results(app, model, state.swept),
+      chart,
+      tableOf(app, model, state.swept),
+      source(state.swept),
+    ] : null,
   );
   if (model && model.majorities.length) drawCurve(chart, model, screenLook(chart));
 }
@@ -222,7 +288,13 @@ export function paintCurve(app: App): void {
 /** The script of the sweep, which gives its lines. */
 function source(found: Swept): HTMLElement {
   const script = h("pre", { id: "sweep-script", tabindex: 0, role: "region", "aria-label": "Script of the sweep" });
-  const details = h("details", {}, h("summary", {}, "The script of this sweep"), button("Copy", () => void navigator.clipboard.writeText(found.script)), script);
+  const details = h(
+    "details",
+    {},
+    h("summary", {}, "The script of this sweep"),
+    button("Copy", () => void navigator.clipboard.writeText(found.script)),
+    script,
+  );
   details.addEventListener("toggle", () => (script.textContent = details.open ? found.script : ""));
   return details;
 }

@@ -90,7 +90,9 @@ async function pngOf(svg: string): Promise<Blob> {
     await image.decode();
     const canvas = h("canvas", { width: 2 * image.naturalWidth, height: 2 * image.naturalHeight });
     canvas.getContext("2d")?.drawImage(image, 0, 0, canvas.width, canvas.height);
-    return await new Promise((take, refuse) => canvas.toBlob((blob) => (blob ? take(blob) : refuse(new Error("no picture"))), "image/png"));
+    return await new Promise(
+      (take, refuse) => canvas.toBlob((blob) => (blob ? take(blob) : refuse(new Error("no picture"))), "image/png"),
+    );
   } finally {
     URL.revokeObjectURL(url);
   }
@@ -131,15 +133,40 @@ export function openExports(app: App): void {
     const png = async () => save(`${figureName}.png`, await pngOf(await figure(app, title.checked)));
     return [
       h("h3", {}, "Script"),
-      h("p", { class: "note" }, "The script gives board replay the base, the changes and the readings; what it prints is, byte for byte, what this page shows. A script has no comments, so its version, commit and hashes, and the names, stand in a file beside it."),
-      h("div", { class: "buttons" }, button("Script", run(() => saveScript(app)), { id: "export-script" }), button("File beside the script", run(() => saveBeside(app)), { id: "export-beside" })),
+      h(
+        "p",
+        { class: "note" },
+        "The script gives board replay the base, the changes and the readings; what it prints is, byte for " +
+          "byte, what this page shows. A script has no comments, so its version, commit and hashes, and the " +
+          "names, stand in a file beside it.",
+      ),
+      h(
+        "div",
+        { class: "buttons" },
+        button("Script", run(() => saveScript(app)), { id: "export-script" }),
+        button("File beside the script", run(() => saveBeside(app)), { id: "export-beside" }),
+      ),
       h("h3", {}, "Table"),
-      h("div", { class: "buttons" }, button("CSV with the columns of board_study", run(() => saveCsv(app)), { id: "export-csv" }), button("Copy the table shown", run(() => copyTable(app)), { id: "export-copy" })),
+      h(
+        "div",
+        { class: "buttons" },
+        button("CSV with the columns of board_study", run(() => saveCsv(app)), { id: "export-csv" }),
+        button("Copy the table shown", run(() => copyTable(app)), { id: "export-copy" }),
+      ),
       h("h3", {}, "Figure of the tab"),
       h("label", {}, title, "with its title"),
-      h("div", { class: "buttons" }, button("SVG", run(svg), { id: "export-svg", disabled: !isFigure }), button("PNG", run(png), { id: "export-png", disabled: !isFigure })),
+      h(
+        "div",
+        { class: "buttons" },
+        button("SVG", run(svg), { id: "export-svg", disabled: !isFigure }),
+        button("PNG", run(png), { id: "export-png", disabled: !isFigure }),
+      ),
       h("h3", {}, "Page"),
-      h("div", { class: "buttons" }, button("This page with the study in it", run(() => savePage(app)), { id: "export-page" })),
+      h(
+        "div",
+        { class: "buttons" },
+        button("This page with the study in it", run(() => savePage(app)), { id: "export-page" }),
+      ),
       words,
     ];
   });

@@ -88,13 +88,20 @@ export function powerModel(app: App, rows: readonly ChairRow[]): PowerModel {
 
 /** Shows all fractions of a row under the chart, at hover, tap and by arrow keys. */
 function readout(app: App, chart: HTMLElement, rows: readonly ChairRow[]): HTMLElement {
-  const box = h("div", { id: "readout", class: "readout", role: "status" }, "Point at a row, or use the arrow keys: its exact fractions stand here.");
+  const box = h(
+    "div",
+    { id: "readout", class: "readout", role: "status" },
+    "Point at a row, or use the arrow keys: its exact fractions stand here.",
+  );
   let at = -1;
   const show = (next: number) => {
     const row = rows[next];
     if (!row) return;
     at = next;
-    for (const group of chart.querySelectorAll("[data-chair]")) group.classList.toggle("pointed", group.getAttribute("data-chair") === String(row.chair));
+    for (const group of chart.querySelectorAll("[data-chair]")) group.classList.toggle(
+      "pointed",
+      group.getAttribute("data-chair") === String(row.chair),
+    );
     paint(box, rowWords(row, app.view));
   };
   const point = (event: Event) => {
@@ -117,7 +124,10 @@ let isBehindOpen = false;
 /** Paints a chart of the chairs, what is read out of it, and the table behind it. */
 function paintChart(app: App, rows: readonly ChairRow[], draw: typeof drawPower): void {
   const model = powerModel(app, rows);
-  const chart = h("div", { class: "chart", tabindex: 0, role: "group", "aria-label": "Chart of the chairs; arrow keys go through its rows" });
+  const chart = h(
+    "div",
+    { class: "chart", tabindex: 0, role: "group", "aria-label": "Chart of the chairs; arrow keys go through its rows" },
+  );
   const box = readout(app, chart, rows);
   const behind = h("details", { id: "behind", open: isBehindOpen }, h("summary", {}, "The table behind this chart"));
   const fill = () => {
@@ -139,7 +149,10 @@ export function paintFigures(app: App): void {
   const rows = chairRows(shown.study.base, shown.counted, view);
   paint(byId("sentences"), sentences(rows, shown.counted, view).map((it) => h("p", {}, it)));
   if (view.tab === "power") paintChart(app, rows, drawPower);
-  else if (view.tab === "change" && !powerModel(app, rows).isChanged) paint(byId("panel"), h("p", {}, "No change was carried out yet: changed and base are the same."));
+  else if (view.tab === "change" && !powerModel(app, rows).isChanged) paint(
+    byId("panel"),
+    h("p", {}, "No change was carried out yet: changed and base are the same."),
+  );
   else if (view.tab === "change") paintChart(app, rows, drawGains);
   else if (view.tab === "curve") paintCurve(app);
   else paint(byId("panel"), chairTable(app, rows));

@@ -49,7 +49,13 @@ function moveForm(app: App, place: Place, close: () => void): HTMLFormElement {
     close();
     moveTo(app, place.code, list.value);
   };
-  return h("form", { class: "field", onsubmit: submit }, h("label", { for: "move-to" }, "Move to"), list, h("button", { id: "move-take" }, "Move"));
+  return h(
+    "form",
+    { class: "field", onsubmit: submit },
+    h("label", { for: "move-to" }, "Move to"),
+    list,
+    h("button", { id: "move-take" }, "Move"),
+  );
 }
 
 /** Opens the menu of a member. */
@@ -64,7 +70,11 @@ export function openMember(app: App, code: string): void {
       app.take(withAdded(app.study, [what]));
     };
     const whole = { pattern: "[0-9]{1,13}", title: "a whole number, digits alone" };
-    const signed = { pattern: `[+\\-]${DECIMAL}`, title: "a plus or a minus and a number, such as +40 or -12.5", placeholder: "+40" };
+    const signed = {
+      pattern: `[+\\-]${DECIMAL}`,
+      title: "a plus or a minus and a number, such as +40 or -12.5",
+      placeholder: "+40",
+    };
     const plain = { pattern: DECIMAL, title: "a number without a sign, such as 15 or 12.5", placeholder: "15" };
     const number = field("votes-number", "Votes, as a number", "Set votes", whole, (text) => {
       if (Number(text) <= MOST_VOTES) add({ word: "votes", code, votes: Number(text) });
@@ -77,10 +87,15 @@ export function openMember(app: App, code: string): void {
       add({ word: "percent", of: "total", code, percent: text }),
     );
     const error = h("p", { class: "wrong", role: "alert" });
+    const given = place.row ? `. Given: row ${place.row} of the table` : "";
     const where = place.chair === null ? "in no chair" : `chair ${place.chair}`;
     const votes = `${grouped(place.votes)} votes${share ? `, ${percent(share, app.view.digits)} % of the total` : ""}`;
     return [
-      h("p", {}, `${votes}, ${where}${place.suspended ? ", suspended" : ""}${place.row ? `. Given: row ${place.row} of the table` : ""}`),
+      h(
+        "p",
+        {},
+        `${votes}, ${where}${place.suspended ? ", suspended" : ""}${given}`,
+      ),
       moveForm(app, place, close),
       number,
       own,
@@ -91,7 +106,11 @@ export function openMember(app: App, code: string): void {
         button("Restore", () => add({ word: "restore", code }), { id: "restore" }),
         button("Withdraw", () => add({ word: "withdraw", code }), { id: "withdraw" }),
       ),
-      h("p", { class: "note" }, "The register answers each command: one that it refuses stays in the list of changes, in red."),
+      h(
+        "p",
+        { class: "note" },
+        "The register answers each command: one that it refuses stays in the list of changes, in red.",
+      ),
     ];
   });
 }
@@ -99,10 +118,29 @@ export function openMember(app: App, code: string): void {
 /** Asks for a member to admit. */
 export function openAdmit(app: App): void {
   openDialog("admit", "Admit a member", (close) => {
-    const code = h("input", { id: "admit-code", required: true, pattern: "[A-Z]{3}", title: "three capitals, A to Z", autocomplete: "off" });
+    const code = h(
+      "input",
+      { id: "admit-code", required: true, pattern: "[A-Z]{3}", title: "three capitals, A to Z", autocomplete: "off" },
+    );
     const name = h("input", { id: "admit-name", autocomplete: "off" });
-    const votes = h("input", { id: "admit-votes", required: true, pattern: "[0-9]{1,13}", title: "a whole number, digits alone", inputmode: "numeric" });
-    const list = h("select", { id: "admit-chair" }, ...[["", "in no chair"], ...places(app).filter(([key]) => /\d/.test(key))].map(([key, words]) => h("option", { value: key ?? "" }, words ?? "")));
+    const votes = h(
+      "input",
+      {
+        id: "admit-votes",
+        required: true,
+        pattern: "[0-9]{1,13}",
+        title: "a whole number, digits alone",
+        inputmode: "numeric",
+      },
+    );
+    const list = h(
+      "select",
+      { id: "admit-chair" },
+      ...[
+        ["", "in no chair"],
+        ...places(app).filter(([key]) => /\d/.test(key)),
+      ].map(([key, words]) => h("option", { value: key ?? "" }, words ?? "")),
+    );
     const submit = (event: Event) => {
       event.preventDefault();
       const admit: Command = { word: "admit", code: code.value, votes: Number(votes.value) };

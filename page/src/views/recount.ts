@@ -34,15 +34,31 @@ export function openRecount(app: App): void {
         const wrong = await differing(app, standing, reading);
         const seconds = ((performance.now() - begun) / 1000).toFixed(1);
         const numbers = `${1 + reading.chairs.length} numbers`;
-        item.textContent = `${MAJORITY[reading.majority].label}: ${wrong ? `${wrong} of ${numbers} DIFFER` : `all ${numbers} are the same`}, ${grouped(reading.coalitions)} coalitions in ${seconds} s.`;
+        const found = wrong ? `${wrong} of ${numbers} DIFFER` : `all ${numbers} are the same`;
+        const coalitions = `${grouped(reading.coalitions)} coalitions in ${seconds} s`;
+        item.textContent = `${MAJORITY[reading.majority].label}: ${found}, ${coalitions}.`;
         item.classList.toggle("wrong", wrong > 0);
       }
     };
     const isTooMany = many > MOST_PLAIN;
     return [
-      h("p", {}, "This counts the changed board's swings and winning coalitions once more, one coalition after the other, straight from the definitions and from the members shown. It is an independent check in this page's own code, and the source of no number."),
-      isTooMany ? h("p", { class: "wrong" }, `${many} chairs have ${grouped(2 ** many)} coalitions: this check takes at most ${MOST_PLAIN} chairs.`) : null,
-      button("Count again", () => void run().catch((why: unknown) => list.append(h("li", { class: "wrong" }, String(why)))), { id: "recount-run", disabled: isTooMany }),
+      h(
+        "p",
+        {},
+        "This counts the changed board's swings and winning coalitions once more, one coalition after the " +
+          "other, straight from the definitions and from the members shown. It is an independent check in this " +
+          "page's own code, and the source of no number.",
+      ),
+      isTooMany ? h(
+        "p",
+        { class: "wrong" },
+        `${many} chairs have ${grouped(2 ** many)} coalitions: this check takes at most ${MOST_PLAIN} chairs.`,
+      ) : null,
+      button(
+        "Count again",
+        () => void run().catch((why: unknown) => list.append(h("li", { class: "wrong" }, String(why)))),
+        { id: "recount-run", disabled: isTooMany },
+      ),
       list,
     ];
   });

@@ -25,17 +25,29 @@ function rows(app: App, scenario: Scenario): Child {
   const buttons = h("td", { class: "text", rowspan: view.majorities.length },
     h("span", { class: "buttons" },
       button("Show", () => app.take(shownAgain(study, scenario)), { "aria-label": `Show ${scenario.name}` }),
-      button("Remove", () => app.take({ ...study, scenarios: study.scenarios.filter((it) => it !== scenario) }), { "aria-label": `Remove ${scenario.name}` }),
+      button(
+        "Remove",
+        () => app.take({ ...study, scenarios: study.scenarios.filter((it) => it !== scenario) }),
+        { "aria-label": `Remove ${scenario.name}` },
+      ),
     ),
   );
   const list = counted ? chairRows(study.base, counted, view) : [];
-  const refused = counted ? [...counted.outcomes.values()].filter((it) => it.kind === "refused" || it.kind === "impossible").length : 0;
+  const refused = counted ? [...counted.outcomes.values()].filter(
+    (it) => it.kind === "refused" || it.kind === "impossible",
+  ).length : 0;
   const note = refused ? ` (${refused} refused)` : "";
   return view.majorities.map((majority, at) => {
-    const words = counted ? [1, -1].map((it) => extremeWords(list, view, majority, it === 1 ? 1 : -1)) : ["counting", "counting"];
+    const words = counted ? [1, -1].map(
+      (it) => extremeWords(list, view, majority, it === 1 ? 1 : -1),
+    ) : ["counting", "counting"];
     const empty = counted ? emptySentence(counted, majority) : null;
     return h("tr", { "data-scenario": scenario.name, "data-majority": majority },
-      at === 0 ? h("th", { scope: "rowgroup", class: "text", rowspan: view.majorities.length }, scenario.name + note) : null,
+      at === 0 ? h(
+        "th",
+        { scope: "rowgroup", class: "text", rowspan: view.majorities.length },
+        scenario.name + note,
+      ) : null,
       h("td", { class: "text" }, MAJORITY[majority].label),
       empty ? h("td", { class: "text", colspan: 2 }, empty) : words.map((it) => h("td", { class: "text" }, it)),
       at === 0 ? buttons : null,
