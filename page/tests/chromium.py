@@ -22,17 +22,24 @@ class Page:
     """The page, opened from disk in a browser without a network."""
 
     def __init__(self, file: Path, downloads: Path):
-        self.file, self.downloads, self.patience = file, downloads, SECONDS
+        self.file, self.downloads = file, downloads
         # Selenium's own types are partial.
         self.driver: Any = started()
         to = {"behavior": "allow", "downloadPath": str(downloads)}
         self.driver.execute_cdp_cmd("Browser.setDownloadBehavior", to)
 
-    def open(self, file: Path | None = None) -> None:
-        """Opens the page from scratch, or another file."""
-        self.show()
-        self.driver.get((file or self.file).as_uri())
+    def open(self, file: Path | None = None, *without: str) -> None:
+        """Opens the page from scratch, or another file, in a browser that lacks what is named."""
+        self.load(file, *without)
         self.settle()
+
+    def load(self, file: Path | None = None, *without: str) -> None:
+        """The same, without waiting for figures."""
+        self.show()
+        wanted = {"source": "".join(f"delete window.{it};" for it in without)}
+        script = self.driver.execute_cdp_cmd("Page.addScriptToEvaluateOnNewDocument", wanted)
+        self.driver.get((file or self.file).as_uri())
+        self.driver.execute_cdp_cmd("Page.removeScriptToEvaluateOnNewDocument", script)
 
     def show(self, width: int = WIDE, height: int = 900, scheme: str = "light") -> None:
         """Makes the screen so large, and light or dark."""
@@ -54,7 +61,7 @@ class Page:
 
     def until(self, holds: Callable[[], Any], what: str) -> Any:
         """Waits until something holds, and gives it."""
-        end = time.monotonic() + self.patience
+        end = time.monotonic() + SECONDS
         while not (found := holds()):
             assert time.monotonic() < end, f"it never came: {what}"
             time.sleep(0.01)

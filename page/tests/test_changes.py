@@ -165,3 +165,34 @@ def test_list_of_changes(page: Page, oracle: Oracle) -> None:
     check_figures(page, oracle, ["votes,XAA,975824", "votes,XAA,100000"])
     page.click("#clear-changes")
     check_figures(page, oracle, [])
+
+
+def test_open_and_close_chairs(page: Page, oracle: Oracle) -> None:
+    # Catches: an empty chair that can't be closed, or a closed one that stays in the count.
+    seated = [it.code for it in oracle.table.members if it.chair == 24]
+    for code in seated:
+        assert page.act("move", code, "none")
+    moved = [f"move,{code},none" for code in seated]
+    page.click("#close-24")
+    check_figures(page, oracle, [*moved, "close,24"])
+    page.click("#open-new")
+    check_figures(page, oracle, [*moved, "close,24", "open,24"])
+
+
+def test_overtaken_run(page: Page, oracle: Oracle) -> None:
+    # Catches: numbers of an earlier edit that come late and stay; old numbers that look like new ones while it counts.
+    assert page.act("votes", "XAD", "300000")
+    grey = """
+      const box = document.querySelector("#changes input[type=number]");
+      const look = () => Number(getComputedStyle(document.getElementById("panel")).opacity), looks = [look()];
+      for (const votes of [310000, 400000, 5, 318104]) {
+        box.value = votes;
+        box.dispatchEvent(new Event("input", { bubbles: true }));
+        looks.push(look());
+      }
+      return looks;
+    """
+    before, *during = page.run(grey)
+    assert before == 1 and max(during) < 0.6
+    page.settle()
+    check_figures(page, oracle, ["votes,XAD,318104"])

@@ -10,9 +10,10 @@ import xml.etree.ElementTree as ElementTree
 from pathlib import Path
 
 import pytest
+from board_python.replay_output import read_output
 from chromium import Page
-from figures import check_figures, rows, shown_majorities
-from oracle import Oracle
+from figures import BEFORE, EACH, check_figures, rows, shown_majorities
+from oracle import EXAMPLE, TOP, Oracle
 from selenium.webdriver.common.keys import Keys
 from test_random import table_of
 
@@ -39,6 +40,8 @@ def check_provenance(text: str, page: Page, oracle: Oracle) -> None:
     starts = [next((it for it in lines if start in it), "") for start in PROVENANCE]
     assert all(starts) and re.search(r"counted by board \d+\.\d+\.\d+, commit [0-9a-f]{40}", starts[0]), lines[:9]
     script = oracle.script(COMMANDS, shown_majorities(page)).encode()
+    assert starts[1].endswith(sha256((TOP / "wasm" / "out" / "board.wasm").read_bytes()))
+    assert starts[2].endswith(sha256(EXAMPLE.read_bytes()))
     assert starts[3].endswith(sha256(script)) and starts[4].endswith(sha256(oracle.lines(script)))
 
 
@@ -68,8 +71,7 @@ def test_csv_of_the_script(study: Page, oracle: Oracle, tmp_path: Path) -> None:
     _, content = study.downloaded("#export-csv")
     words = ["examples/members.csv", str(tmp_path / "it"), "--board", str(oracle.program)]
     words += ["--at", ",".join(shown_majorities(study)), "--scenario", f"changed: {'; '.join(COMMANDS)}"]
-    top = Path(__file__).parents[2]
-    subprocess.run([top / "figures" / "board_study", *words], check=True, cwd=top)
+    subprocess.run([TOP / "figures" / "board_study", *words], check=True, cwd=TOP)
     assert table_of(content.decode()) == (tmp_path / "it.csv").read_text()
 
 
@@ -171,13 +173,40 @@ def test_import_of_the_page(study: Page, oracle: Oracle, tmp_path: Path) -> None
     check_figures(study, oracle, COMMANDS)
 
 
-def test_script_with_a_fault(page: Page, oracle: Oracle) -> None:
+def test_script_of_another_form(page: Page, oracle: Oracle) -> None:
+    # Catches: a script that this page didn't write, whose changes are lost or whose lines become other numbers.
+    script = (TOP / "examples" / "twenty-four-chairs.csv").read_bytes()
+    page.run(DROP, "chairs.csv", script.decode())
+    page.until(lambda: page.text("#study-name") == "chairs", "the study")
+    page.settle()
+    readings = read_output(oracle.lines(script)).readings
+    last = [it for it in readings if it.front == readings[-1].front]
+    for reading in last:
+        at = shown_majorities(page).index(reading.majority)
+        found = {chair: of[BEFORE + EACH * at + 1][1] for chair, of in rows(page).items()}
+        assert found == {it.chair: str(it.share) for it in reading.chairs}
+    assert len(last) == 2 < len(readings)
+    assert "another form" in page.text("#choices")
+
+
+@pytest.mark.parametrize(
+    ("old", "new", "fault"),
+    [
+        ("read,1,half", "read,3,half", "BadReader"),
+        ("suspend,XAC", "suspend,xac", "BadRecord"),
+        ("XAB,", "XAA,", "DuplicateMember"),
+        ("publish", "\n" * 2**22 + "publish", "TooLong"),
+    ],
+    ids=lambda it: str(it)[-15:].strip(),
+)
+def test_script_with_a_fault(page: Page, oracle: Oracle, old: str, new: str, fault: str) -> None:
     # Catches: a script that the program can't take, and numbers of the study before it under the script's name.
-    script = oracle.script(COMMANDS, ["half"]).replace("read,1,half", "read,3,half")
+    script = oracle.script(COMMANDS, ["half"]).replace(old, new, 1)
     page.run(DROP, "bad.csv", script)
     page.until(lambda: page.all("#refusal"), "the refusal")
-    assert "BadReader" in page.text("#refusal") and oracle.lines(script.encode()).endswith(b",BadReader\n")
+    assert fault in page.text("#refusal") and oracle.lines(script.encode()).endswith(f",{fault}\n".encode())
     page.press(Keys.ESCAPE)
+    assert page.text("#study-name").startswith("Example")
     check_figures(page, oracle, [])
 
 

@@ -10,7 +10,8 @@ import tempfile
 from pathlib import Path
 
 from chromium import Page
-from oracle import TOP
+from figures import check_figures
+from oracle import TOP, Oracle
 
 MOST_BYTES = 700_000
 BUILT = TOP / "page" / "out" / "board.html"
@@ -84,3 +85,18 @@ def test_other_folder(page: Page) -> None:
         copy = Path(folder, "board (1) é.html")
         shutil.copy(BUILT, copy)
         page.open(copy)
+
+
+def test_without_a_worker(page: Page, oracle: Oracle) -> None:
+    # Catches: an empty page where a browser makes no worker for a file.
+    page.open(None, "Worker")
+    assert page.act("votes", "XAD", "+40%")
+    check_figures(page, oracle, ["votes,XAD,318104"])
+
+
+def test_without_webassembly(page: Page) -> None:
+    # Catches: an empty page, or a count of another kind, where the module can't run.
+    page.load(None, "Worker", "WebAssembly")
+    page.until(lambda: page.text("#needs").startswith("This page needs a browser"), "the sentence")
+    assert not page.all("#chair-table, .chart")
+    page.driver.get_log("browser")
