@@ -147,7 +147,7 @@ export function paintFigures(app: App): void {
   paintChoices(app);
   paintTabs(app);
   const rows = chairRows(shown.study.base, shown.counted, view);
-  paint(byId("sentences"), sentences(rows, shown.counted, view).map((it) => h("p", {}, it)));
+  paint(byId("sentences"), sentences(rows, shown.counted, view).map((it) => h("p", { title: it.source }, it.words)));
   if (view.tab === "power") paintChart(app, rows, drawPower);
   else if (view.tab === "change" && !powerModel(app, rows).isChanged) paint(
     byId("panel"),
