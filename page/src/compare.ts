@@ -147,8 +147,9 @@ export function extremeCell(rows: readonly ChairRow[], view: View, majority: Maj
 function gainSentence(rows: readonly ChairRow[], view: View, majority: Majority): Said {
   const [best, worst] = [extreme(rows, view, majority, 1), extreme(rows, view, majority, -1)];
   const unit = view.measure === "share" ? " points" : "";
-  const gains = best ? `chair ${best.who} ${best.isOne ? "gains" : "gain"} most (${best.gain}${unit})` : "no chair gains";
-  const loses = worst ? `chair ${worst.who} ${worst.isOne ? "loses" : "lose"} most (${worst.gain})` : "no chair loses";
+  const [gain, lose] = [best?.isOne ? "gains" : "gain", worst?.isOne ? "loses" : "lose"];
+  const gains = best ? `chair ${best.who} ${gain} most (${best.gain}${unit})` : "no chair gains";
+  const loses = worst ? `chair ${worst.who} ${lose} most (${worst.gain})` : "no chair loses";
   const source = [best, worst].flatMap((it) => (it ? [it.source] : [])).join("; ");
   return { words: `${MAJORITY[majority].at} ${gains}, ${loses}.`, source };
 }
