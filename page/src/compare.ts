@@ -1,6 +1,6 @@
 /** Base against changed: rows of chairs, their order, and the sentence on who gains. All of it is made here. */
 import type { Counted, Readings } from "./count";
-import { compared, difference, grouped, percent, rounded, signed, type Ratio } from "./fractions";
+import { compared, difference, fractionText, grouped, percent, rounded, signed, type Ratio } from "./fractions";
 import { chairIn, measureOf, voteShare, type ChairLine } from "./lines";
 import { chairName } from "./standing";
 import type { Base, View } from "./study";
@@ -106,50 +106,69 @@ function extremes(
   return found;
 }
 
-function extremeText(
-  rows: readonly ChairRow[],
-  view: View,
-  majority: Majority,
-  direction: 1 | -1,
-  unit: string,
-): string {
+/** Words, and the fractions behind their numbers with the lines that these come from. */
+export interface Said {
+  readonly words: string;
+  readonly source: string;
+}
+
+/** A chair's value as its line has it. */
+function lineSource(line: ChairLine | undefined, measure: Measure): string {
+  return line ? `${fractionText(ratioOf(line, measure))} (line ${line.line})` : "-";
+}
+
+function gainSource({ chair, name, at }: ChairRow, majority: Majority, measure: Measure): string {
+  const found = at.get(majority);
+  const values = [found?.after, found?.before].map((it) => lineSource(it, measure));
+  return `${chair} ${name}, made here: ${values.join(" less ")}`;
+}
+
+/** Who gains most, or who loses most: a chair's name and its gain. Null where there is nobody. */
+function extreme(rows: readonly ChairRow[], view: View, majority: Majority, direction: 1 | -1) {
   const found = extremes(rows, majority, direction);
   const [first] = found?.best ?? [];
-  if (!found || !first) return direction > 0 ? "no chair gains" : "no chair loses";
+  if (!found || !first) return null;
   const others = found.best.length - 1;
-  const ties = others ? ` and ${others} more` : "";
-  const verb = direction > 0 ? (others ? "gain" : "gains") : others ? "lose" : "loses";
-  const gain = gainText(found.gain, view.measure, view.digits);
-  return `chair ${first.chair} ${first.name}${ties} ${verb} most (${gain}${unit})`;
+  return {
+    who: `${first.chair} ${first.name}${others ? ` and ${others} more` : ""}`,
+    isOne: others === 0,
+    gain: gainText(found.gain, view.measure, view.digits),
+    source: gainSource(first, majority, view.measure),
+  };
 }
 
 /** Who gains most, or who loses most, in a cell of a table. */
-export function extremeWords(rows: readonly ChairRow[], view: View, majority: Majority, direction: 1 | -1): string {
-  const found = extremes(rows, majority, direction);
-  const [first] = found?.best ?? [];
-  if (!found || !first) return "nobody";
-  const others = found.best.length > 1 ? ` and ${found.best.length - 1} more` : "";
-  return `${first.chair} ${first.name}${others} (${gainText(found.gain, view.measure, view.digits)})`;
+export function extremeCell(rows: readonly ChairRow[], view: View, majority: Majority, direction: 1 | -1): Said {
+  const found = extreme(rows, view, majority, direction);
+  return found ? { words: `${found.who} (${found.gain})`, source: found.source } : { words: "nobody", source: "" };
 }
 
 /** The sentence on who gains and who loses most at a majority. */
-export function gainSentence(rows: readonly ChairRow[], view: View, majority: Majority): string {
+function gainSentence(rows: readonly ChairRow[], view: View, majority: Majority): Said {
+  const [best, worst] = [extreme(rows, view, majority, 1), extreme(rows, view, majority, -1)];
   const unit = view.measure === "share" ? " points" : "";
-  const parts = [extremeText(rows, view, majority, 1, unit), extremeText(rows, view, majority, -1, "")];
-  return `${MAJORITY[majority].at} ${parts.join(", ")}.`;
+  const [gain, lose] = [best?.isOne ? "gains" : "gain", worst?.isOne ? "loses" : "lose"];
+  const gains = best ? `chair ${best.who} ${gain} most (${best.gain}${unit})` : "no chair gains";
+  const loses = worst ? `chair ${worst.who} ${lose} most (${worst.gain})` : "no chair loses";
+  const source = [best, worst].flatMap((it) => (it ? [it.source] : [])).join("; ");
+  return { words: `${MAJORITY[majority].at} ${gains}, ${loses}.`, source };
 }
 
 /** The sentence on a base without changes: who has most. */
-export function mostSentence(rows: readonly ChairRow[], view: View, majority: Majority): string {
-  const value = (row: ChairRow) => ratioOf(row.at.get(majority)?.after, view.measure);
+function mostSentence(rows: readonly ChairRow[], view: View, majority: Majority): Said {
+  const lineOf = (row: ChairRow) => row.at.get(majority)?.after;
+  const value = (row: ChairRow) => ratioOf(lineOf(row), view.measure);
   const [first] = rows.filter(value).sort((left, right) => {
     const [here, there] = [value(left), value(right)];
     return here && there ? compared(there, here) || left.chair - right.chair : 0;
   });
-  if (!first) return `${MAJORITY[majority].at} no chair has any power.`;
+  if (!first) return { words: `${MAJORITY[majority].at} no chair has any power.`, source: "" };
   const votes = first.votesAfter ? `, with ${percent(first.votesAfter, view.digits)} % of the votes cast` : "";
   const most = valueText(value(first), view.measure, view.digits);
-  return `${MAJORITY[majority].at} chair ${first.chair} ${first.name} has most: ${most}${votes}.`;
+  return {
+    words: `${MAJORITY[majority].at} chair ${first.chair} ${first.name} has most: ${most}${votes}.`,
+    source: `counted: ${lineSource(lineOf(first), view.measure)}; votes, made here: ${fractionText(first.votesAfter)}`,
+  };
 }
 
 /** Why a reading has no power to show: no coalition wins. */
@@ -162,10 +181,11 @@ export function emptySentence(counted: Counted, majority: Majority): string | nu
 }
 
 /** The sentences of all majorities shown. */
-export function sentences(rows: readonly ChairRow[], counted: Counted, view: View): string[] {
+export function sentences(rows: readonly ChairRow[], counted: Counted, view: View): Said[] {
   const isChanged = [...counted.outcomes.values()].some((it) => it.kind === "accepted");
   return view.majorities.map((majority) => {
     const empty = emptySentence(counted, majority);
-    return empty ?? (isChanged ? gainSentence : mostSentence)(rows, view, majority);
+    if (empty) return { words: empty, source: `counted: line ${counted.after.get(majority)?.line}` };
+    return (isChanged ? gainSentence : mostSentence)(rows, view, majority);
   });
 }

@@ -92,7 +92,6 @@ function drop(app: App): void {
   const place = card?.dataset["place"];
   release(`${code} is moved to ${titleOf(card)}`);
   if (!place) return;
-  app.openCards.add(place);
   moveTo(app, code, place);
 }
 

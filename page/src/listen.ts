@@ -2,6 +2,7 @@
 import type { App } from "./app";
 import { byId } from "./dom";
 import { readFiles, readText } from "./files";
+import { notes } from "./note";
 import { withChanges } from "./study";
 import { openBest } from "./views/best";
 import { openExports } from "./views/exportDialog";
@@ -57,6 +58,7 @@ function takeFiles(app: App): void {
 
 export function listen(app: App): void {
   takeFiles(app);
+  notes();
   onClick("export", () => openExports(app));
   onClick("seal", () => openSeal(app));
   onClick("best-open", () => openBest(app));

@@ -11,5 +11,6 @@ export function moveTo(app: App, code: string, place: string): void {
   if (place === "new" && fresh === null) return;
   const chair = place === "none" ? null : place === "new" ? fresh : Number(place);
   const opens: Command[] = place === "new" && fresh !== null ? [{ word: "open", chair: fresh }] : [];
+  app.openCards.add(chair === null ? "none" : String(chair));
   app.take(withAdded(app.study, [...opens, { word: "move", code, chair }]));
 }

@@ -115,18 +115,8 @@ export function chairTable(app: App, rows: readonly ChairRow[]): HTMLElement {
   ), {
     id: "toggle-fractions",
   });
-  const said = h(
-    "p",
-    { class: "note", id: "cell-words", role: "status" },
-    "Point at a number or tap it: its fraction and its source stand here.",
-  );
-  const tell = (event: Event) => {
-    const words = (event.target as Element).closest("td")?.title;
-    if (words) said.textContent = words;
-  };
-  return h("div", { class: "table", onclick: tell, onpointerover: tell },
+  return h("div", { class: "table" },
     h("div", { class: "buttons" }, toggle),
-    said,
     h("div", { class: "scroll", tabindex: 0, role: "region", "aria-label": words },
       h("table", { id: "chair-table" },
         h("caption", {}, words),

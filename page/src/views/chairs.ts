@@ -1,7 +1,7 @@
 /** The chairs as cards, closed; open, they show their members as chips that can be dragged. */
 import type { App, Shown } from "../app";
 import { byId, h, paint, type Child } from "../dom";
-import { grouped, percent } from "../fractions";
+import { fractionText, grouped, percent } from "../fractions";
 import { chairIn, voteShare } from "../lines";
 import { memberWords } from "../commandWords";
 import { chairName, type Place } from "../standing";
@@ -48,6 +48,7 @@ interface Card {
   readonly place: CardPlace;
   readonly title: string;
   readonly votes: string;
+  readonly source: string;
   readonly members: readonly Place[];
   readonly tail: Child;
 }
@@ -65,7 +66,7 @@ function cardElement(app: App, card: Card): HTMLElement {
     "button",
     { type: "button", id: `card-${card.place}`, class: "card-head", "aria-expanded": String(isOpen), onclick: toggle },
     h("span", { class: "card-title" }, card.title),
-    h("span", { class: "number" }, card.votes),
+    h("span", { class: "number", title: card.source }, card.votes),
   );
   const members = h("ul", { class: "chips" }, found.map((it) => h("li", {}, chip(app, it))));
   return h("li", { class: "card", "data-place": card.place }, head, isOpen && members, card.tail);
@@ -85,6 +86,7 @@ function chairCard(app: App, { study, counted }: Shown, chair: number): Card {
   return {
     place: String(chair),
     title: `${chair} ${chairName(study.base, members.length ? counted.standing : counted.opening, chair)}`,
+    source: line ? `${line.weight}, counted: line ${line.line}; share, made here: ${fractionText(share)}` : "",
     votes: `${grouped(line?.weight ?? 0)}${share ? ` · ${percent(share, 2)} %` : ""}`,
     members,
     tail,
@@ -98,11 +100,11 @@ function cardsOf(app: App, shown: Shown): Card[] {
   const next = closedChair(open);
   const cards = open.map((chair) => chairCard(app, shown, chair));
   const members = `${none.length} ${none.length === 1 ? "member" : "members"}`;
-  cards.push({ place: "none", title: "In no chair", votes: members, members: none, tail: null });
+  cards.push({ place: "none", title: "In no chair", votes: members, source: "", members: none, tail: null });
   if (next !== null) {
     const act = () => app.take(withAdded(app.study, [{ word: "open", chair: next }]));
     const tail = h("button", { type: "button", id: "open-new", onclick: act }, `Open chair ${next}`);
-    cards.push({ place: "new", title: `New chair ${next}`, votes: "", members: [], tail });
+    cards.push({ place: "new", title: `New chair ${next}`, votes: "", source: "", members: [], tail });
   }
   return cards;
 }

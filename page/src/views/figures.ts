@@ -18,10 +18,18 @@ const ORDER_WORDS: Readonly<Record<Order, string>> = {
   gain: "gain",
 };
 
+/** The width of charts in a window of some width: to measure it lays the whole page out. */
+const measured = { window: 0, chart: 0 };
+
+function chartWidth(place: HTMLElement): number {
+  if (measured.window !== innerWidth) Object.assign(measured, { window: innerWidth, chart: place.clientWidth });
+  return Math.max(280, measured.chart);
+}
+
 /** The look of charts on the page. */
 export function screenLook(place: HTMLElement): Look {
   const isDark = matchMedia("(prefers-color-scheme: dark)").matches;
-  return { width: Math.max(280, place.clientWidth), palette: isDark ? DARK : LIGHT, title: "", source: [] };
+  return { width: chartWidth(place), palette: isDark ? DARK : LIGHT, title: "", source: [] };
 }
 
 function tickMajority(app: App, majority: Majority, isOn: boolean): void {
@@ -147,7 +155,7 @@ export function paintFigures(app: App): void {
   paintChoices(app);
   paintTabs(app);
   const rows = chairRows(shown.study.base, shown.counted, view);
-  paint(byId("sentences"), sentences(rows, shown.counted, view).map((it) => h("p", {}, it)));
+  paint(byId("sentences"), sentences(rows, shown.counted, view).map((it) => h("p", { title: it.source }, it.words)));
   if (view.tab === "power") paintChart(app, rows, drawPower);
   else if (view.tab === "change" && !powerModel(app, rows).isChanged) paint(
     byId("panel"),

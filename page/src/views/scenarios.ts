@@ -1,6 +1,6 @@
 /** Named scenarios side by side: who gains and who loses most at each majority. */
 import type { App } from "../app";
-import { chairRows, emptySentence, extremeWords } from "../compare";
+import { chairRows, emptySentence, extremeCell, type Said } from "../compare";
 import { button, byId, h, paint, type Child } from "../dom";
 import { freshId, withChanges, type Scenario, type Study } from "../study";
 import { MAJORITY } from "../words";
@@ -38,9 +38,7 @@ function rows(app: App, scenario: Scenario): Child {
   ).length : 0;
   const note = refused ? ` (${refused} refused)` : "";
   return view.majorities.map((majority, at) => {
-    const words = counted ? [1, -1].map(
-      (it) => extremeWords(list, view, majority, it === 1 ? 1 : -1),
-    ) : ["counting", "counting"];
+    const cells = ([1, -1] as const).map((it) => (counted ? extremeCell(list, view, majority, it) : COUNTING));
     const empty = counted ? emptySentence(counted, majority) : null;
     return h("tr", { "data-scenario": scenario.name, "data-majority": majority },
       at === 0 ? h(
@@ -49,10 +47,16 @@ function rows(app: App, scenario: Scenario): Child {
         scenario.name + note,
       ) : null,
       h("td", { class: "text" }, MAJORITY[majority].label),
-      empty ? h("td", { class: "text", colspan: 2 }, empty) : words.map((it) => h("td", { class: "text" }, it)),
+      empty ? h("td", { class: "text", colspan: 2 }, empty) : cells.map(cellOf),
       at === 0 ? buttons : null,
     );
   });
+}
+
+const COUNTING: Said = { words: "counting", source: "" };
+
+function cellOf({ words, source }: Said): HTMLElement {
+  return h("td", { class: "text", title: source }, words);
 }
 
 function form(app: App): HTMLElement {

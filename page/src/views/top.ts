@@ -49,6 +49,8 @@ export function paintTop(app: App): void {
   byId<HTMLButtonElement>("redo").disabled = !app.history.canRedo;
   const alert = fault ? `${faultWords(fault)} The figures are those of ${shown?.study.name ?? "no study"} before.` : "";
   byId("fault").textContent = alert;
+  const published = byId<HTMLInputElement>("published");
+  if (published !== document.activeElement) published.value = study.published === null ? "" : grouped(study.published);
   if (!shown) return;
   const [before] = shown.counted.before.values();
   const [after] = shown.counted.after.values();
