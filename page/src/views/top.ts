@@ -54,7 +54,7 @@ export function paintTop(app: App): void {
   if (!shown) return;
   const [before] = shown.counted.before.values();
   const [after] = shown.counted.after.values();
-  const source = (line: number) => `votes: counted, TOTAL of line ${line}; members, chairs and names: given, and made here`;
+  const source = (line: number) => `votes: counted, TOTAL of line ${line}; the rest: given, and made here`;
   const base = h(
     "span",
     { title: source(before?.line ?? 0) },
