@@ -107,5 +107,8 @@ export async function readFiles(app: App, files: readonly File[]): Promise<void>
   const beside = read.find((it) => /^\s*\{\s*"format": "board study/.test(it.text));
   const script = read.find((it) => isScript(it.text));
   if (beside && script) await takeBeside(app, beside.text, script.text).catch((why) => refuse(wordsOf(why)));
+  else if (read.length > 1) refuse(
+    "Several files: a script and the file beside it can come together, others one by one.",
+  );
   else if (read[0]) await readText(app, read[0].text, read[0].name, read[0].notices);
 }

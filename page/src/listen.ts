@@ -6,6 +6,7 @@ import { notes } from "./note";
 import { withChanges } from "./study";
 import { openBest } from "./views/best";
 import { openExports } from "./views/exportDialog";
+import { paintForPaper } from "./views/figures";
 import { openSeal } from "./views/foot";
 import { openAdmit } from "./views/member";
 import { paintChairs } from "./views/chairs";
@@ -88,5 +89,7 @@ export function listen(app: App): void {
     if (width !== innerWidth) app.repaint();
     width = innerWidth;
   });
+  addEventListener("beforeprint", () => paintForPaper(app, true));
+  addEventListener("afterprint", () => paintForPaper(app, false));
   matchMedia("(prefers-color-scheme: dark)").addEventListener("change", () => app.repaint());
 }

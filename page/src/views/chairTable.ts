@@ -61,28 +61,47 @@ function cellsOf(row: ChairRow, { measure, digits }: View): Cell[] {
   return [...votesCells(row, digits), ...powers];
 }
 
-function headsOf({ majorities, measure }: View): string[] {
-  const votes = ["Votes, base", "Votes, changed", "Share of votes, base", "Share of votes, changed", "Added, points"];
+/** A heading of a column, and the mark of its numbers. */
+interface Head {
+  readonly words: string;
+  readonly mark: "counted" | "made here" | "given";
+}
+
+const counted = (words: string): Head => ({ words, mark: "counted" });
+const madeHere = (words: string): Head => ({ words, mark: "made here" });
+
+function headsOf({ majorities, measure }: View): Head[] {
   const unit = measure === "share" ? ", points" : "";
   const powers = majorities.flatMap((it) => {
     const words = `${MEASURE[measure].label}, ${MAJORITY[it].label}`;
-    return [`${words}, base`, `${words}, changed`, `Added${unit}, ${MAJORITY[it].label}`];
+    const added = madeHere(`Added${unit}, ${MAJORITY[it].label}`);
+    return [counted(`${words}, base`), counted(`${words}, changed`), added];
   });
-  return ["Chair", "Name", ...votes, ...powers];
+  return [
+    counted("Chair"),
+    { words: "Name", mark: "given" },
+    counted("Votes, base"),
+    counted("Votes, changed"),
+    madeHere("Share of votes, base"),
+    madeHere("Share of votes, changed"),
+    madeHere("Added, points"),
+    ...powers,
+  ];
 }
 
 /** The table as text with tabs, as a spreadsheet takes it. */
 export function tableText(rows: readonly ChairRow[], view: View): string {
   const cells = rows.map((row) => {
     const own = cellsOf(row, view).map((it) => (view.fractions ? it.fraction : it.decimal.replace(/,| %$/g, "")));
-    return [String(row.chair), row.name, ...own];
+    return [String(row.chair), row.name.replace(/\s+/g, " "), ...own];
   });
-  return [headsOf(view), ...cells].map((line) => `${line.join("\t")}\n`).join("");
+  const heads = headsOf(view).map((it) => it.words);
+  return [heads, ...cells].map((line) => `${line.join("\t")}\n`).join("");
 }
 
 /** The exact fractions of a row in words. */
 export function rowWords(row: ChairRow, view: View): Child[] {
-  const heads = headsOf(view).slice(2);
+  const heads = headsOf(view).slice(2).map((it) => it.words);
   const items = cellsOf(row, view).map((cell, at) => {
     return cell.decimal ? h(
       "li",
@@ -120,7 +139,11 @@ export function chairTable(app: App, rows: readonly ChairRow[]): HTMLElement {
     h("div", { class: "scroll", tabindex: 0, role: "region", "aria-label": words },
       h("table", { id: "chair-table" },
         h("caption", {}, words),
-        h("thead", {}, h("tr", {}, headsOf(view).map((it) => h("th", { scope: "col" }, it)))),
+        h(
+          "thead",
+          {},
+          h("tr", {}, headsOf(view).map((it) => h("th", { scope: "col", "data-mark": it.mark }, it.words))),
+        ),
         h("tbody", {}, body),
       ),
     ),

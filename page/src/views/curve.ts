@@ -156,11 +156,11 @@ export function curveModel(app: App): CurveModel | null {
 function tableOf(app: App, model: CurveModel, found: Swept): HTMLElement {
   const { digits, measure } = app.view;
   const heads = [
-    found.asked.unit === "percent" ? "Per cent of the total" : "Votes asked for",
-    "Votes",
-    "Share of votes",
-    ...model.majorities.map((it) => `${MEASURE[measure].label}, ${MAJORITY[it].label}`),
-  ];
+    ["given", found.asked.unit === "percent" ? "Per cent of the total" : "Votes asked for"],
+    ["made here", "Votes"],
+    ["made here", "Share of votes"],
+    ...model.majorities.map((it) => ["counted", `${MEASURE[measure].label}, ${MAJORITY[it].label}`]),
+  ].map(([mark, words]) => h("th", { scope: "col", "data-mark": mark }, words ?? ""));
   const rows = found.points.map(({ value, votes, readings }) => {
     const [reading] = readings.values();
     const line = chairIn(reading, model.chair);
@@ -185,7 +185,7 @@ function tableOf(app: App, model: CurveModel, found: Swept): HTMLElement {
       "table",
       { id: "sweep-table" },
       h("caption", {}, model.name),
-      h("thead", {}, h("tr", {}, heads.map((it) => h("th", { scope: "col" }, it)))),
+      h("thead", {}, h("tr", {}, heads)),
       h("tbody", {}, rows),
     ),
   );

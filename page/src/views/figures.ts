@@ -26,9 +26,18 @@ function chartWidth(place: HTMLElement): number {
   return Math.max(280, measured.chart);
 }
 
+/** Whether the page is being printed, which is light. */
+let isPrinting = false;
+
+/** Paints figures for paper, or for the screen again. */
+export function paintForPaper(app: App, isPaper: boolean): void {
+  isPrinting = isPaper;
+  paintFigures(app);
+}
+
 /** The look of charts on the page. */
 export function screenLook(place: HTMLElement): Look {
-  const isDark = matchMedia("(prefers-color-scheme: dark)").matches;
+  const isDark = matchMedia("(prefers-color-scheme: dark)").matches && !isPrinting;
   return { width: chartWidth(place), palette: isDark ? DARK : LIGHT, title: "", source: [] };
 }
 

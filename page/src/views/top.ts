@@ -54,10 +54,16 @@ export function paintTop(app: App): void {
   if (!shown) return;
   const [before] = shown.counted.before.values();
   const [after] = shown.counted.after.values();
-  const base = `base: ${summaryOf(shown.counted.opening, before?.total ?? 0)}`;
+  const source = (line: number) => `votes: counted, TOTAL of line ${line}; the rest: given, and made here`;
+  const base = h(
+    "span",
+    { title: source(before?.line ?? 0) },
+    `base: ${summaryOf(shown.counted.opening, before?.total ?? 0)}`,
+  );
   const isChanged = [...shown.counted.outcomes.values()].some((it) => it.kind === "accepted");
-  const changed = isChanged ? h("span", {}, `changed: ${summaryOf(shown.counted.standing, after?.total ?? 0)}`) : null;
-  paint(byId("summary"), h("span", {}, base), changed);
+  const words = `changed: ${summaryOf(shown.counted.standing, after?.total ?? 0)}`;
+  const changed = isChanged ? h("span", { title: source(after?.line ?? 0) }, words) : null;
+  paint(byId("summary"), base, changed);
   byId("published-words").textContent = publishedWords(shown.study, before?.total ?? 0);
   const isWrong = shown.counted.misfits.length > 0 || !app.isOwnModule;
   const checks = isWrong ? "CHECKS FAILED" : "checks passed";
