@@ -43,9 +43,10 @@ function registers(app: App): Labelled[] {
   if (!app.shown) return [];
   const { study, counted } = app.shown;
   const changed = counted.commands.length ? [{ label: "changed", readings: counted.after }] : [];
-  const scenarios = study.scenarios.flatMap((it) => {
+  const scenarios = study.scenarios.map((it) => {
     const found = app.scenarios.of(study.base, it, app.view.majorities);
-    return found ? [{ label: it.name, readings: found.after }] : [];
+    if (!found) throw new Error(`the scenario ${it.name} can't be counted`);
+    return { label: it.name, readings: found.after };
   });
   return [{ label: "base", readings: counted.before }, ...changed, ...scenarios, ...sweepRegisters(app)];
 }
@@ -124,7 +125,8 @@ export function openExports(app: App): void {
   openDialog("export-dialog", "Export", () => {
     const words = h("p", { id: "export-words", role: "status" });
     const run = (act: () => Promise<string | void>) => () => {
-      act().then((said) => (words.textContent = said ?? ""), (why: unknown) => (words.textContent = String(why)));
+      const done = app.counting.then(act);
+      done.then((said) => (words.textContent = said ?? ""), (why: unknown) => (words.textContent = String(why)));
     };
     const title = h("input", { type: "checkbox", id: "with-title", checked: true });
     const isFigure = app.view.tab === "curve" ? curveModel(app) !== null : app.view.tab !== "table";
