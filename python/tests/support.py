@@ -16,7 +16,7 @@ HEADER = "member,votes"
 def printed(script: str | bytes, *words: str) -> bytes:
     """What `board replay` prints of a script. The environment's BOARD names the program."""
     given = script.encode() if isinstance(script, str) else script
-    return subprocess.run([os.environ["BOARD"], "replay", *words], input=given, stdout=subprocess.PIPE).stdout
+    return subprocess.run([os.environ["BOARD"], "replay", *words], input=given, capture_output=True).stdout
 
 
 def code(number: int) -> str:

@@ -1,6 +1,8 @@
 """The refusals: a call that the library or the register refuses, with the names and numbers of docs/FORMATS.md."""
 from __future__ import annotations
 
+from typing import Optional
+
 __all__ = ["Refused", "name_of"]
 
 #: The name and the reason of each refusal and each fault by its number: the table of docs/FORMATS.md.
@@ -63,12 +65,12 @@ class Refused(ValueError):
     `name` and `number` are those of docs/FORMATS.md. `command` is the record that a `Register` refused, else None.
     """
 
-    def __init__(self, number: int, message: str, command: str | None = None) -> None:
+    def __init__(self, number: int, message: str, command: Optional[str] = None) -> None:
         super().__init__(message)
         self.number = number
         self.name = name_of(number)
         self.command = command
         self._message = message
 
-    def __reduce__(self) -> tuple[type[Refused], tuple[int, str, str | None]]:
+    def __reduce__(self) -> tuple[type[Refused], tuple[int, str, Optional[str]]]:
         return type(self), (self.number, self._message, self.command)

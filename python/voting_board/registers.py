@@ -3,7 +3,7 @@ from __future__ import annotations
 
 from collections.abc import Mapping
 from itertools import zip_longest
-from typing import Any, Optional, SupportsIndex
+from typing import Any, Optional, SupportsIndex, Union
 
 from .checks import CHAIR, Majority, number_of, whole
 from .counts import Member
@@ -78,7 +78,7 @@ class Register:
         """Closes an open chair without members, suspended ones counted."""
         return self._run([record_of("close", whole(chair, "the chair", CHAIR))])
 
-    def move(self, code: str, chair: SupportsIndex | None) -> int:
+    def move(self, code: str, chair: Optional[SupportsIndex]) -> int:
         """Moves a member to an open chair, or out of its chair, where `chair` is None."""
         seat = "none" if chair is None else str(whole(chair, "the chair", CHAIR))
         return self._run([record_of("move", code_in(code), seat)])
@@ -205,7 +205,7 @@ def refused_by(number: int, record: str) -> Exception:
     return Refused(number, f"refused {record!r}: {name}{allowed}" if record else name + allowed, record or None)
 
 
-def record_of(*fields: str | int) -> str:
+def record_of(*fields: Union[str, int]) -> str:
     """A record. A field that would end it or cut it is quoted, so that the register refuses it as a whole."""
     return ",".join(quoted(str(field)) for field in fields)
 
