@@ -17,10 +17,6 @@ Name: voting-board
 Version: {version}
 Summary: The exact voting power of a board, counted over all coalitions by a proved library
 Requires-Python: >=3.9
-Provides-Extra: arrays
-Requires-Dist: numpy; extra == "arrays"
-Provides-Extra: tables
-Requires-Dist: pandas; extra == "tables"
 Classifier: Operating System :: POSIX :: Linux
 Classifier: Programming Language :: Python :: 3
 Classifier: Typing :: Typed

@@ -18,7 +18,7 @@ MAJORITIES: tuple[Majority, ...] = ("half", "70", "85", "quorum")
 
 MAJORITY_NAMES = "half, 70, 85 or quorum"
 VOTES = "votes are whole numbers from 0"
-CHAIR = f"a chair is a whole number from 1 to {CHAIRS}"
+CHAIR = f"chairs are numbered from 1 to {CHAIRS}"
 
 
 def whole(value: Any, what: str, allowed: str) -> int:
@@ -67,19 +67,25 @@ def votes_of(weights: Iterable[SupportsIndex], where: str = "") -> list[int]:
     return [whole(it, f"{where}weight {place}", VOTES) for place, it in enumerate(items, 1)]
 
 
-def whole_total(total: Optional[SupportsIndex], votes: list[int], where: str = "") -> int:
-    """The total of a board, which is the sum of its weights where none is given."""
-    return sum(votes) if total is None else whole(total, f"{where}the total", VOTES)
-
-
-def check_board(votes: list[int], total: int, where: str = "") -> None:
-    """Refuses weights and a total that are no board's, for the first reason that holds."""
+def check_board(votes: list[int], total: Optional[int], where: str = "") -> int:
+    """The total of a board, which is the sum of its weights where none is given. Refuses weights and a total that are no
+    board's, for the first reason that holds."""
+    cast = sum(votes)
     if len(votes) > CHAIRS:
-        raise Refused(BAD_SHEET, f"{where}{len(votes)} weights: a board has at most {CHAIRS} chairs")
+        raise Refused(BAD_SHEET, f"{where}{len(votes)} weights: there are at most {CHAIRS} chairs")
     for place, weight in enumerate(votes, 1):
         if weight < 0:
             raise Refused(BAD_SHEET, f"{where}weight {place} is {weight}: {VOTES}")
-    if total > MOST_VOTES:
-        raise Refused(BAD_SHEET, f"{where}the total is {total}: at most {MOST_VOTES}")
-    if total < sum(votes):
-        raise Refused(BAD_SHEET, f"{where}the total is {total}: at least the sum of the weights, {sum(votes)}")
+    if total is None and cast > MOST_VOTES:
+        raise Refused(BAD_SHEET, f"{where}the weights add up to {cast}: a total is at most 2^48")
+    if total is not None and total > MOST_VOTES:
+        raise Refused(BAD_SHEET, f"{where}total {total} is above 2^48")
+    if total is not None and total < cast:
+        raise Refused(BAD_SHEET, f"{where}total {total} is below the sum of the weights, {cast}")
+    return cast if total is None else total
+
+
+def total_of(votes: list[int], total: Optional[SupportsIndex], where: str = "") -> int:
+    """The total of a board whose weights and total the library takes."""
+    given = None if total is None else whole(total, f"{where}the total", VOTES)
+    return check_board(votes, given, where)

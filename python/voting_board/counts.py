@@ -9,7 +9,7 @@ from functools import cached_property
 from importlib import import_module
 from typing import Any, Literal, NamedTuple, Optional, SupportsIndex, Union
 
-from .checks import MAJORITIES, VOTES, Majority, chair_of, check_board, number_of, votes_of, whole, whole_total
+from .checks import MAJORITIES, VOTES, Majority, chair_of, number_of, total_of, votes_of, whole
 from .library import ALL_COUNTS_WORDS, CHAIRS, COUNT_WORDS, FIRST_ROW, MOST_VOTES, ROW_WORDS, library, room
 from .refusals import BAD_SHEET, Refused, reason_of
 
@@ -165,8 +165,7 @@ def indices(
     What isn't a whole number is a TypeError.
     """
     votes = votes_of(weights)
-    whole_of = whole_total(total, votes)
-    check_board(votes, whole_of)
+    whole_of = total_of(votes, total)
     number = number_of(majority)
     given, found = array("Q", votes), array("Q", bytes(8 * COUNT_WORDS))
     place, to = given.buffer_info()[0], found.buffer_info()[0]
@@ -179,8 +178,7 @@ def indices_of_all(
 ) -> dict[Majority, Indices]:
     """The voting power of a board at each of the four majorities, which takes less than four calls of `indices`."""
     votes = votes_of(weights)
-    whole_of = whole_total(total, votes)
-    check_board(votes, whole_of)
+    whole_of = total_of(votes, total)
     found = array("Q", bytes(8 * ALL_COUNTS_WORDS))
     count_all(sheet_of(votes, whole_of), found)
     return {it: indices_in(found, at * COUNT_WORDS, it) for at, it in enumerate(MAJORITIES)}
@@ -197,11 +195,11 @@ def indices_of_members(
     Raises `Refused`: `BadSheet` for a chair that isn't from 1 to 32, for votes below 0 and for a total above 2^48, else
     `BadRecord` where there is no such majority.
     """
-    table = [member_of(member, f"of member {place}") for place, member in enumerate(members, 1)]
+    table = [member_of(member, place) for place, member in enumerate(members, 1)]
     total = sum(member.votes for member in table if not member.suspended)
     if total > MOST_VOTES:
-        raise Refused(BAD_SHEET, f"the votes of the members that aren't suspended are {total}: at most {MOST_VOTES}")
-    mask = sum({1 << (chair_of(chair, "an open chair") - 1) for chair in open_chairs})
+        raise Refused(BAD_SHEET, f"the votes of the members add up to {total}: a total is at most 2^48")
+    mask = sum({1 << (chair_of(chair, "open chair") - 1) for chair in open_chairs})
     number = number_of(majority)
     given = array("Q", [word for it in table for word in (it.votes, it.chair or 0, it.suspended)])
     found = array("Q", bytes(8 * COUNT_WORDS))
@@ -210,16 +208,18 @@ def indices_of_members(
     return indices_in(found, 0, MAJORITIES[number])
 
 
-def member_of(given: MemberLike, where: str) -> Member:
+def member_of(given: MemberLike, place: int) -> Member:
     """A member whose numbers are within what the library takes."""
     member = Member(*given)
-    votes = whole(member.votes, f"the number of votes {where}", VOTES)
-    if not 0 <= votes <= MOST_WORD:
-        raise Refused(BAD_SHEET, f"the number of votes {where} is {votes}: {VOTES} to {MOST_WORD}")
-    chair = None if member.chair is None else chair_of(member.chair, f"the chair {where}")
+    votes = whole(member.votes, f"votes of member {place}", VOTES)
+    if votes < 0:
+        raise Refused(BAD_SHEET, f"votes of member {place} are {votes}: {VOTES}")
+    if votes > MOST_WORD:
+        raise Refused(BAD_SHEET, f"votes of member {place} are {votes}: {VOTES} to {MOST_WORD}")
+    chair = None if member.chair is None else chair_of(member.chair, f"chair of member {place}")
     if not type(member.suspended).__name__.startswith("bool"):
         kind = type(member.suspended).__name__
-        raise TypeError(f"suspended {where} is {member.suspended!r} ({kind}): True or False")
+        raise TypeError(f"suspended of member {place} is {member.suspended!r} ({kind}): True or False")
     return Member(votes, chair, bool(member.suspended))
 
 

@@ -9,7 +9,7 @@ from importlib import import_module
 from itertools import repeat
 from typing import Any, Optional, SupportsIndex
 
-from .checks import MAJORITIES, Majority, check_board, items_of, number_of, votes_of, whole_total
+from .checks import MAJORITIES, Majority, items_of, number_of, total_of, votes_of
 from .counts import INDEX_NAMES, IndexName, Indices, count_all, count_by, rows_in, sheet_of
 from .library import ALL_COUNTS_WORDS, COUNT_WORDS
 
@@ -109,9 +109,7 @@ def boards_of(
     for at, (row, total) in enumerate(zip(table, wholes)):
         where = f"row {at}: "
         votes = votes_of(row, where)
-        whole = whole_total(total, votes, where)
-        check_board(votes, whole, where)
-        yield votes, whole
+        yield votes, total_of(votes, total, where)
 
 
 class Columns:

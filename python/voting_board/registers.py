@@ -72,15 +72,15 @@ class Register:
 
     def open(self, chair: SupportsIndex) -> int:
         """Opens a closed chair."""
-        return self._run([record_of("open", whole(chair, "the chair", CHAIR))])
+        return self._run([record_of("open", whole(chair, "chair", CHAIR))])
 
     def close(self, chair: SupportsIndex) -> int:
         """Closes an open chair without members, suspended ones counted."""
-        return self._run([record_of("close", whole(chair, "the chair", CHAIR))])
+        return self._run([record_of("close", whole(chair, "chair", CHAIR))])
 
     def move(self, code: str, chair: Optional[SupportsIndex]) -> int:
         """Moves a member to an open chair, or out of its chair, where `chair` is None."""
-        seat = "none" if chair is None else str(whole(chair, "the chair", CHAIR))
+        seat = "none" if chair is None else str(whole(chair, "chair", CHAIR))
         return self._run([record_of("move", code_in(code), seat)])
 
     def set_votes(self, code: str, votes: SupportsIndex) -> int:
@@ -198,11 +198,11 @@ def check_members(answer: Answer, records: list[str]) -> None:
 
 def refused_by(number: int, record: str) -> Exception:
     """The exception for a refusal or a fault, which names the record."""
-    name = f"{name_of(number)} ({number}), {reason_of(number)}"
+    message = f"{f'{record} is' if record else 'the members are'} refused: {name_of(number)}, {reason_of(number)}"
     if number == OUT_OF_MEMORY:
-        return MemoryError(f"refused {record!r}: {name}")
+        return MemoryError(message)
     allowed = f": {ALLOWED.get(record.split(',')[0], MEMBER)}" if number == BAD_RECORD else ""
-    return Refused(number, f"refused {record!r}: {name}{allowed}" if record else name + allowed, record or None)
+    return Refused(number, message + allowed, record or None)
 
 
 def record_of(*fields: Union[str, int]) -> str:
@@ -224,7 +224,7 @@ def code_in(code: Any) -> str:
 
 def votes_in(votes: Any, code: Any) -> int:
     """The votes of a member, as a whole number."""
-    return whole(votes, f"the number of votes of {code}", VOTES)
+    return whole(votes, f"votes of {code}", VOTES)
 
 
 def chair_in(cell: Any) -> Optional[int]:
@@ -233,4 +233,4 @@ def chair_in(cell: Any) -> Optional[int]:
         return None
     if isinstance(cell, float) and cell.is_integer():
         return int(cell)
-    return whole(cell, "a chair of the table", CHAIR)
+    return whole(cell, "chair of the table", CHAIR)
