@@ -22,9 +22,28 @@ from .registers import Register
 from .replays import Accepted, Fault, Line, Published, Reading, Refusal, Replay, replay
 
 __all__ = [
-    *["MAJORITIES", "Accepted", "Chair", "Counts", "Fault", "Indices", "Line", "Majority", "ManyIndices", "Member"],
-    *["Published", "Reading", "Refusal", "Refused", "Register", "Replay", "__version__", "indices", "indices_of_all"],
-    *["indices_of_many", "indices_of_members", "replay"],
+    "MAJORITIES",
+    "Accepted",
+    "Chair",
+    "Counts",
+    "Fault",
+    "Indices",
+    "Line",
+    "Majority",
+    "ManyIndices",
+    "Member",
+    "Published",
+    "Reading",
+    "Refusal",
+    "Refused",
+    "Register",
+    "Replay",
+    "__version__",
+    "indices",
+    "indices_of_all",
+    "indices_of_many",
+    "indices_of_members",
+    "replay",
 ]
 
 #: The version of the library.

@@ -66,7 +66,7 @@ def check_package_config(room: Path) -> None:
 
 
 def check_other_languages(room: Path) -> None:
-    """The header compiles as C89, C99, C11, C++98 and C++20."""
+    """The header compiles as C99, C11, C++11 and C++20."""
     (room / "header.c").write_text('#include "board.h"\nint main(void) { return 0; }\n')
     warnings = ["-Wall", "-Wextra", "-pedantic", "-Werror", "-fsyntax-only", "-Iinclude"]
     standards = [("c", it) for it in ("c99", "c11")] + [("c++", it) for it in ("c++11", "c++20") if shutil.which("g++")]
