@@ -354,7 +354,7 @@ fn a_failed_device_is_not_read_again(rt: HostRuntime) -> Result<(), Fail> {
     Ok(())
 }
 
-// A writer that takes whatever it is handed, and is interrupted at two places.
+// A writer that takes whatever it gets, and is interrupted at two places.
 #[derive(Drop)]
 struct Halting {
     taken: Vec<u8>,
