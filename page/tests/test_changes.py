@@ -1,6 +1,7 @@
 """Changes of the board: each is entered as a user enters it, and the program's numbers come."""
 from __future__ import annotations
 
+import time
 from typing import Any
 
 import pytest
@@ -181,18 +182,21 @@ def test_open_and_close_chairs(page: Page, oracle: Oracle) -> None:
 
 def test_overtaken_run(page: Page, oracle: Oracle) -> None:
     # Catches: numbers of an earlier edit that come late and stay; old numbers that look like new ones while it counts.
-    assert page.act("votes", "XAD", "300000")
-    grey = """
-      const box = document.querySelector("#changes input[type=number]");
+    assert page.act("votes", "XAD", "+40%")
+    overtake = """
+      const at = (place) => document.querySelector(`#changes ${place}`);
       const look = () => Number(getComputedStyle(document.getElementById("panel")).opacity), looks = [look()];
-      for (const votes of [310000, 400000, 5, 318104]) {
-        box.value = votes;
-        box.dispatchEvent(new Event("input", { bubbles: true }));
+      for (const percent of [50, 60, 70]) {
+        at("input[type=number]").value = percent;
+        at("input[type=number]").dispatchEvent(new Event("input", { bubbles: true }));
         looks.push(look());
       }
+      at("[id^=remove]").click();
       return looks;
     """
-    before, *during = page.run(grey)
+    before, *during = page.run(overtake)
     assert before == 1 and max(during) < 0.6
     page.settle()
-    check_figures(page, oracle, ["votes,XAD,318104"])
+    time.sleep(0.5)
+    check_figures(page, oracle, [])
+    assert not page.all("#changes > li")

@@ -36,6 +36,13 @@ def paste(page: Page, text: str) -> None:
     page.until(lambda: page.all("#table-dialog"), "the preview")
 
 
+def take(page: Page, name: str = "Pasted table") -> None:
+    """Takes the table of the preview, once all is answered."""
+    page.at("#table-take").click()
+    page.until(lambda: page.text("#study-name") == name, "the study")
+    page.settle()
+
+
 def test_paste_from_a_spreadsheet(page: Page, small: Oracle) -> None:
     # Catches: a title above the header, columns in another order, thousands, small letters, blanks or an empty row.
     paste(page, inputs.CELLS)
@@ -43,7 +50,7 @@ def test_paste_from_a_spreadsheet(page: Page, small: Oracle) -> None:
     assert chosen == {"code": "3", "name": "2", "votes": "1", "chair": "0"}
     assert page.at("#header-row").get_property("value") == "3"
     page.click("#merged-no")
-    page.click("#table-take")
+    take(page)
     small.table = small.table_of(inputs.THOUSANDS.encode())
     check_figures(page, small, [])
     assert "1 in none: EEE Elland" in page.text("#summary")
@@ -55,8 +62,7 @@ def test_open_a_file(page: Page, small: Oracle, tmp_path: Path) -> None:
     page.at("#file").send_keys(str(tmp_path / "council.csv"))
     page.until(lambda: page.all("#table-dialog"), "the preview")
     page.click("#merged-no")
-    page.click("#table-take")
-    page.until(lambda: page.text("#study-name") == "council", "the study")
+    take(page, "council")
     check_figures(page, small, [])
     assert [it.split("\n")[0] for it in page.texts(".card-head")][:3] == ["1 Alland", "2 Hills & Dales", "3 Plains"]
 
@@ -66,8 +72,7 @@ def test_drop_a_file(page: Page, small: Oracle) -> None:
     page.run(DROP, "council.csv", inputs.PLAIN)
     page.until(lambda: page.all("#table-dialog"), "the preview")
     page.click("#merged-no")
-    page.click("#table-take")
-    page.until(lambda: page.text("#study-name") == "council", "the study")
+    take(page, "council")
     check_figures(page, small, [])
 
 
@@ -77,12 +82,11 @@ def test_merged_cells(page: Page, small: Oracle, is_merged: bool) -> None:
     paste(page, inputs.MERGED)
     assert "Merged cells?" in page.text("#merged") and not page.at("#table-take").is_enabled()
     page.click("#merged-yes" if is_merged else "#merged-no")
-    page.click("#table-take")
-    page.until(lambda: page.text("#study-name") == "Pasted table", "the study")
+    take(page)
     rows = inputs.MERGED.replace("CCC,Celland,15,", "CCC,Celland,15,2").replace("EEE,Elland,8,", "EEE,Elland,8,3")
     small.table = small.table_of((rows if is_merged else inputs.MERGED).encode())
     check_figures(page, small, [])
-    assert ("filled down in 2 rows" in page.text("#choices")) == is_merged
+    assert ("the chair was filled down" in page.text("#choices")) == is_merged
 
 
 @pytest.mark.parametrize("is_total", [True, False])
@@ -92,8 +96,7 @@ def test_total_row(page: Page, small: Oracle, is_total: bool) -> None:
     page.click("#merged-no")
     assert "A total?" in page.text("#total") and not page.at("#table-take").is_enabled()
     page.click("#total-yes" if is_total else "#total-no")
-    page.click("#table-take")
-    page.until(lambda: page.text("#study-name") == "Pasted table", "the study")
+    take(page)
     small.table = small.table_of((inputs.PLAIN if is_total else inputs.TOTAL).encode())
     check_figures(page, small, [])
     assert "Row 7" in page.text("#choices")
@@ -103,8 +106,7 @@ def test_names_alone(page: Page, oracle: Oracle) -> None:
     # Catches: a table without codes, or with chairs by name, that can't be taken; codes that differ from one look to another.
     paste(page, inputs.NAMES)
     page.click("#merged-no")
-    page.click("#table-take")
-    page.until(lambda: page.text("#study-name") == "Pasted table", "the study")
+    take(page)
     script = page.act("exported", "export-script").splitlines()
     assert script[1:6] == ["ALL,40", "BEL,25", "CEL,15", "DEL,12", "ELL,8"]
     assert script[7:14] == ["open,1", "open,2", "open,3", "move,ALL,1", "move,BEL,2", "move,CEL,2", "move,DEL,3"]
@@ -122,8 +124,7 @@ def test_faults_all_at_once(page: Page, oracle: Oracle) -> None:
     assert not page.at("#table-take").is_enabled()
     for row in [2, 3, 4]:
         page.click(f"#leave-{row}")
-    page.click("#table-take")
-    page.until(lambda: page.text("#study-name") == "Pasted table", "the study")
+    take(page)
     script = page.act("exported", "export-script").splitlines()
     assert script[1:3] == ["CCC,12", "EEE,8"]
     assert all(f"Row {row} was left out." in page.text("#choices") for row in [2, 3, 4])
