@@ -27,6 +27,7 @@ export class App {
   readonly openCards = new Set<string>();
   filter = "";
   #run = 0;
+  #counting: Promise<void> = Promise.resolve();
   readonly #paint: (app: App) => void;
 
   constructor(study: Study, view: View, replays: Replays, isOwnModule: boolean, paint: (app: App) => void) {
@@ -71,8 +72,18 @@ export class App {
     this.#paint(this);
   }
 
-  /** Counts the study. A run that another overtakes is dropped. */
-  async count(): Promise<void> {
+  /** Ends when the last count has ended, with its scenarios. */
+  get counting(): Promise<void> {
+    return this.#counting;
+  }
+
+  /** Counts the study and then its scenarios. A run that another overtakes is dropped. */
+  count(): Promise<void> {
+    this.#counting = this.#count();
+    return this.#counting;
+  }
+
+  async #count(): Promise<void> {
     const run = (this.#run += 1);
     const [study, { majorities }] = [this.study, this.view];
     performance.mark("edit");

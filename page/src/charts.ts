@@ -176,6 +176,19 @@ export function labelled(group: Selection, row: Named, look: Look, head: number,
   else label.attr("x", left - 10).attr("y", height / 2 + 4).attr("text-anchor", "end");
 }
 
+/** A small text beside an axis. */
+export function caption(
+  root: Selection,
+  words: string,
+  x: number,
+  y: number,
+  palette: Palette,
+  anchor = "start",
+): void {
+  const text = root.append("text").attr("x", x).attr("y", y).attr("text-anchor", anchor);
+  text.attr("fill", palette.faint).attr("font-size", 11).text(words);
+}
+
 /** Colours of an axis, whose lines and texts d3 draws. */
 export function tinted(axis: Selection, { faint, rule }: Palette): void {
   axis.selectAll("text").attr("fill", faint).attr("font-size", 11);

@@ -143,6 +143,21 @@ export function extremeCell(rows: readonly ChairRow[], view: View, majority: Maj
   return found ? { words: `${found.who} (${found.gain})`, source: found.source } : { words: "nobody", source: "" };
 }
 
+/** Chairs that are open in the base alone or in the changed board alone, which have no gain. */
+function openedWords(rows: readonly ChairRow[], view: View, majority: Majority): string {
+  const named = (what: string, some: readonly ChairRow[]) => {
+    const values = some.map((row) => {
+      const at = row.at.get(majority);
+      const value = valueText(ratioOf(at?.after ?? at?.before, view.measure), view.measure, view.digits);
+      return `${row.chair} ${row.name} (${value})`;
+    });
+    return values.length ? ` ${what}: ${values.join(", ")}.` : "";
+  };
+  const opened = rows.filter((row) => row.at.get(majority)?.before === undefined);
+  const closed = rows.filter((row) => row.at.get(majority)?.after === undefined);
+  return named("New", opened) + named("Closed", closed);
+}
+
 /** The sentence on who gains and who loses most at a majority. */
 function gainSentence(rows: readonly ChairRow[], view: View, majority: Majority): Said {
   const [best, worst] = [extreme(rows, view, majority, 1), extreme(rows, view, majority, -1)];
@@ -151,7 +166,7 @@ function gainSentence(rows: readonly ChairRow[], view: View, majority: Majority)
   const gains = best ? `chair ${best.who} ${gain} most (${best.gain}${unit})` : "no chair gains";
   const loses = worst ? `chair ${worst.who} ${lose} most (${worst.gain})` : "no chair loses";
   const source = [best, worst].flatMap((it) => (it ? [it.source] : [])).join("; ");
-  return { words: `${MAJORITY[majority].at} ${gains}, ${loses}.`, source };
+  return { words: `${MAJORITY[majority].at} ${gains}, ${loses}.${openedWords(rows, view, majority)}`, source };
 }
 
 /** The sentence on a base without changes: who has most. */

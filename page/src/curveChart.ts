@@ -1,7 +1,8 @@
 /** The chart of a sweep: a dot for each point that was counted, straight lines between them, marks at thresholds. */
 import { axisBottom, axisLeft, axisRight } from "d3-axis";
-import { scaleLinear } from "d3-scale";
-import { dot, ended, framed, majorityItems, tinted, type LegendItem, type Look } from "./charts";
+import { scaleLinear, type Linear } from "d3-scale";
+import type { Selection } from "d3-selection";
+import { caption, dot, ended, framed, majorityItems, tinted, type LegendItem, type Look } from "./charts";
 import { drawn, type Ratio } from "./fractions";
 import { chairIn, measureOf, voteShare } from "./lines";
 import type { Readings } from "./count";
@@ -24,6 +25,8 @@ export interface CurveModel {
 }
 
 const HEIGHT = 340;
+/** Where points stand close together, about this many dots of a line show their shape. */
+const SHAPES = 14;
 
 function yOf(ratio: Ratio | null, measure: Measure): number | null {
   return ratio === null ? null : (measure === "share" ? 100 : 1) * drawn(ratio);
@@ -58,92 +61,110 @@ function pathOf(points: readonly (readonly [number, number | null])[]): string {
 
 const DASHES: Readonly<Record<Majority, string>> = { half: "", "70": "7 3", "85": "2 3", quorum: "9 3 2 3" };
 
+/** A chart that is being drawn: where its plot stands, and what places are for values. */
+interface Plot {
+  readonly root: Selection;
+  readonly model: CurveModel;
+  readonly look: Look;
+  readonly left: number;
+  readonly right: number;
+  readonly top: number;
+  readonly bottom: number;
+  readonly x: Linear;
+}
+
 /** Draws the chart into a place. */
 export function drawCurve(place: Element, model: CurveModel, look: Look): void {
-  const { palette, width } = look;
-  const { points, majorities, measure } = model;
-  const votes = points.map((it) => votesAt(it, model.chair));
   const bar: LegendItem = {
     words: "share of votes (right axis)",
-    draw: (at) => void at.append("line").attr("x1", -7).attr("x2", 7).attr(
-      "stroke",
-      palette.bar,
-    ).attr("stroke-width", 4),
+    draw: (at, { bar: stroke }) =>
+      void at.append("line").attr("x1", -7).attr("x2", 7).attr("stroke", stroke).attr("stroke-width", 4),
   };
-  const frame = framed(place, look, [...majorityItems(majorities), ...(model.hasVotes ? [bar] : [])], model.name);
-  const { root } = frame;
-  const [left, right, top, bottom] = [58, width - (model.hasVotes ? 52 : 16), frame.top + 22, frame.top + 22 + HEIGHT];
-  const xs = points.map((it) => it.x);
+  const items = [...majorityItems(model.majorities), ...(model.hasVotes ? [bar] : [])];
+  const frame = framed(place, look, items, model.name);
+  const [left, right] = [58, look.width - (model.hasVotes ? 52 : 16)];
+  const [top, bottom] = [frame.top + 22, frame.top + 22 + HEIGHT];
+  const xs = model.points.map((it) => it.x);
   const x = scaleLinear().domain([Math.min(...xs), Math.max(...xs)]).range([left, right]);
-  const values = majorities.map((it) => points.map((point) => measureAt(point, model, it)));
-  const all = values.flat().filter((it): it is number => it !== null);
-  const spread = Math.max(...all) - Math.min(...all);
-  const low = Math.min(...all) - (spread || 1) * 0.05;
-  const high = Math.max(...all) + (spread || 1) * 0.05;
+  const plot = { root: frame.root, model, look, left, right, top, bottom, x };
+  const values = model.majorities.map((it) => model.points.map((point) => measureAt(point, model, it)));
+  const y = drawAxes(plot, values.flat());
+  if (model.hasVotes) drawVotes(plot);
+  drawMarks(plot);
+  model.majorities.forEach((majority, at) => drawLine(plot, majority, values[at] ?? [], y));
+  ended(frame, look, bottom + 38);
+}
+
+/** Draws the axes of the plot, the one of the measure over values with a little room: its scale. */
+function drawAxes(
+  { root, model, look, left, right, top, bottom, x }: Plot,
+  values: readonly (number | null)[],
+): Linear {
+  const { measure } = model;
+  const all = values.filter((it): it is number => it !== null);
+  const room = (Math.max(...all) - Math.min(...all) || 1) * 0.05;
   const most = measure === "swings" ? Infinity : measure === "share" ? 100 : 1;
-  const y = scaleLinear().domain([Math.max(0, low), Math.min(most, high)]).range([bottom, top]).nice(6);
-  const words = measure === "share" ? "share of power, per cent" : MEASURE[measure].label;
-  root.append("text").attr("x", 8).attr("y", frame.top + 10).attr(
-    "fill",
-    palette.faint,
-  ).attr("font-size", 11).text(words);
+  const ends: [number, number] = [Math.max(0, Math.min(...all) - room), Math.min(most, Math.max(...all) + room)];
+  const y = scaleLinear().domain(ends).range([bottom, top]).nice(6);
   const across = root.append("g").attr("transform", `translate(${left},0)`);
   across.call(axisLeft(y).ticks(6).tickSizeInner(-(right - left)).tickSizeOuter(0));
-  tinted(across, palette);
+  tinted(across, look.palette);
   const along = root.append("g").attr("transform", `translate(0,${bottom})`);
-  along.call(axisBottom(x).ticks(width < 480 ? 4 : 8).tickSizeOuter(0));
-  tinted(along, palette);
-  root.append("text").attr(
-    "x",
-    (left + right) / 2,
-  ).attr("y", bottom + 34).attr(
-    "text-anchor",
-    "middle",
-  ).attr("fill", palette.faint).attr("font-size", 11).text(model.xWords);
-  if (model.hasVotes) {
-    const second = scaleLinear().domain(
-      [0, Math.max(0, ...votes.map((it) => it ?? 0)) || 1],
-    ).range([bottom, top]).nice(6);
-    const axis = root.append("g").attr("transform", `translate(${right},0)`);
-    axis.call(axisRight(second).ticks(6).tickSizeOuter(0));
-    tinted(axis, palette);
-    root.append("text").attr("x", width - 8).attr("y", frame.top + 10).attr("text-anchor", "end").attr(
-      "fill",
-      palette.faint,
-    ).attr("font-size", 11).text("votes, per cent");
-    const path = pathOf(points.map((it, at) => [x(it.x), votes[at] === null ? null : second(votes[at] ?? 0)]));
-    root.append("path").attr("d", path).attr("fill", "none").attr(
-      "stroke",
-      palette.bar,
-    ).attr("stroke-width", 4).attr("stroke-opacity", 0.7);
+  along.call(axisBottom(x).ticks(look.width < 480 ? 4 : 8).tickSizeOuter(0));
+  tinted(along, look.palette);
+  const words = measure === "share" ? "share of power, per cent" : MEASURE[measure].label;
+  caption(root, words, 8, top - 12, look.palette);
+  caption(root, model.xWords, (left + right) / 2, bottom + 34, look.palette, "middle");
+  return y;
+}
+
+/** Draws the chair's share of the votes, with an axis of its own. */
+function drawVotes({ root, model, look, right, top, bottom, x }: Plot): void {
+  const { palette, width } = look;
+  const votes = model.points.map((it) => votesAt(it, model.chair));
+  const most = Math.max(0, ...votes.map((it) => it ?? 0)) || 1;
+  const y = scaleLinear().domain([0, most]).range([bottom, top]).nice(6);
+  const axis = root.append("g").attr("transform", `translate(${right},0)`);
+  axis.call(axisRight(y).ticks(6).tickSizeOuter(0));
+  tinted(axis, palette);
+  caption(root, "votes, per cent", width - 8, top - 12, palette, "end");
+  const line = root.append("path").attr("d", pathOver(model.points, votes, x, y)).attr("fill", "none");
+  line.attr("stroke", palette.bar).attr("stroke-width", 4).attr("stroke-opacity", 0.7);
+}
+
+/** Draws a mark at each threshold. */
+function drawMarks({ root, model, look, top, bottom, x }: Plot): void {
+  for (const { x: at, majority, words } of model.marks) {
+    const line = root.append("line").attr("x1", x(at)).attr("x2", x(at)).attr("y1", top).attr("y2", bottom);
+    line.attr("stroke", look.palette.of[majority]).attr("stroke-dasharray", DASHES[majority]);
+    const head = root.append("g").attr("transform", `translate(${x(at)},${top})`);
+    dot(head, majority, true, look.palette).append("title").text(words);
   }
-  for (const mark of model.marks) {
-    const line = root.append("line").attr("x1", x(mark.x)).attr("x2", x(mark.x)).attr("y1", top).attr("y2", bottom);
-    line.attr("stroke", palette.of[mark.majority]).attr("stroke-width", 1.5).attr(
-      "stroke-dasharray",
-      DASHES[mark.majority],
-    );
-    root.append("g").attr("transform", `translate(${x(mark.x)},${top})`).call(
-      (at) => void dot(at, mark.majority, true, palette).append("title").text(mark.words),
-    );
-  }
-  majorities.forEach((majority, lane) => {
-    const own = values[lane] ?? [];
-    const path = pathOf(points.map((it, at) => [x(it.x), own[at] == null ? null : y(own[at] ?? 0)]));
-    root.append("path").attr("d", path).attr("fill", "none").attr("stroke", palette.of[majority]).attr(
-      "stroke-dasharray",
-      DASHES[majority],
-    );
-    points.forEach((point, at) => {
-      const value = own[at];
-      if (value === null || value === undefined) return;
-      const size = points.length > 60 ? 0.45 : 0.8;
-      const here = root.append("g").attr(
-        "transform",
-        `translate(${x(point.x)},${y(value)}) scale(${size})`,
-      ).attr("data-point", at);
-      dot(here, majority, false, palette);
-    });
+}
+
+function pathOver(points: readonly CurvePoint[], values: readonly (number | null)[], x: Linear, y: Linear): string {
+  return pathOf(points.map((it, at) => {
+    const value = values[at] ?? null;
+    return [x(it.x), value === null ? null : y(value)];
+  }));
+}
+
+/** Draws a measure: a dot at each point, and straight lines between them. */
+function drawLine(
+  { root, model, look, x }: Plot,
+  majority: Majority,
+  values: readonly (number | null)[],
+  y: Linear,
+): void {
+  const line = root.append("path").attr("d", pathOver(model.points, values, x, y)).attr("fill", "none");
+  line.attr("stroke", look.palette.of[majority]).attr("stroke-dasharray", DASHES[majority]);
+  const many = model.points.length;
+  const large = Math.ceil(many / SHAPES);
+  model.points.forEach((point, at) => {
+    const value = values[at] ?? null;
+    if (value === null) return;
+    const size = many > 60 && at % large ? 0.4 : 0.85;
+    const here = root.append("g").attr("transform", `translate(${x(point.x)},${y(value)}) scale(${size})`);
+    dot(here.attr("data-point", at), majority, false, look.palette);
   });
-  ended(frame, look, bottom + 38);
 }

@@ -63,7 +63,7 @@ async function takeBeside(app: App, json: string, script: string | null): Promis
   const data = readData(json);
   if (!data) throw new Error("the file has no study in it");
   takeData(app, data);
-  await app.count();
+  await app.counting;
   if (script !== null && app.shown?.counted.script !== script) refuse(
     "The script and the file beside it are not of one study: the file's study is shown.",
   );

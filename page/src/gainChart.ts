@@ -1,9 +1,10 @@
 /** The chart of what is added: a bar for each chair and majority, to the right of the line or to the left. */
 import { axisTop } from "d3-axis";
-import { scaleLinear } from "d3-scale";
+import { scaleLinear, type Linear } from "d3-scale";
 import type { Selection } from "d3-selection";
 import {
-  dot, ended, framed, labelled, labelRoom, legendBar, majorityItems, rowGroup, tinted, type Look,
+  caption, dot, ended, framed, labelled, labelRoom, legendBar, majorityItems, rowGroup, tinted,
+  type Frame, type Look,
 } from "./charts";
 import { difference, drawn, type Ratio } from "./fractions";
 import type { ChairRow } from "./compare";
@@ -45,49 +46,57 @@ function lanesOf(row: ChairRow, model: PowerModel): (readonly [Majority | "votes
   return [...first, ...rest];
 }
 
+interface GainRow {
+  readonly row: ChairRow;
+  readonly lanes: ReturnType<typeof lanesOf>;
+}
+
+function gainScale(rows: readonly GainRow[], left: number, right: number): Linear {
+  const values = rows.flatMap(({ lanes }) => lanes.map(([, gain]) => gain ?? 0));
+  const [low, high] = [Math.min(0, ...values), Math.max(0, ...values)];
+  return scaleLinear().domain(low === high ? [-1, 1] : [low, high]).range([left, right]).nice(5);
+}
+
+/** Begins the drawing, with its legend and hatches. */
+function begun(target: Element, model: PowerModel, look: Look): Frame {
+  const votes = { words: "votes", draw: (at: Selection) => void legendBar(at).attr("fill", look.palette.bar) };
+  const items = [...(model.measure === "share" ? [votes] : []), ...majorityItems(model.majorities)];
+  const { label } = MEASURE[model.measure];
+  const name = `What is added to ${label} of ${model.rows.length} chairs; the table behind this chart has its numbers`;
+  const frame = framed(target, look, items, name);
+  hatches(frame.root, model.majorities, look);
+  return frame;
+}
+
+/** Draws the axis and the line of no gain. */
+function drawAxis({ root, top }: Frame, model: PowerModel, look: Look, scale: Linear, bottom: number): void {
+  const words = model.measure === "share" ? "percentage points" : MEASURE[model.measure].label;
+  caption(root, `changed less base, ${words}`, scale(scale.domain()[0]), top + 10, look.palette);
+  const axis = root.append("g").attr("transform", `translate(0,${top + 32})`);
+  axis.call(axisTop(scale).ticks(look.width < 480 ? 4 : 7).tickSizeInner(-(bottom - top - 32)).tickSizeOuter(0));
+  tinted(axis, look.palette);
+  const zero = root.append("line").attr("x1", scale(0)).attr("x2", scale(0)).attr("y1", top + 32).attr("y2", bottom);
+  zero.attr("stroke", look.palette.ink);
+}
+
 /** Draws the chart into a place. Each row has a group with the chair's number in `data-chair`. */
 export function drawGains(target: Element, model: PowerModel, look: Look): void {
-  const { palette } = look;
   const { left, head } = labelRoom(model.rows, look);
   const rows = model.rows.map((row) => ({ row, lanes: lanesOf(row, model) }));
   const height = head + LANE * (rows[0]?.lanes.length ?? 0) + SPACE;
-  const votes = {
-    words: "votes",
-    draw: (at: Selection) => void legendBar(at).attr("fill", palette.bar),
-  };
-  const items = [...(model.measure === "share" ? [votes] : []), ...majorityItems(model.majorities)];
-  const { label } = MEASURE[model.measure];
-  const name = `What is added to ${label} of ${rows.length} chairs; the table behind this chart has its numbers`;
-  const frame = framed(target, look, items, name);
-  hatches(frame.root, model.majorities, look);
-  const values = rows.flatMap(({ lanes }) => lanes.map(([, gain]) => gain ?? 0));
-  const [low, high] = [Math.min(0, ...values), Math.max(0, ...values)];
-  const ends: [number, number] = low === high ? [-1, 1] : [low, high];
-  const scale = scaleLinear().domain(ends).range([left, look.width - 18]).nice(5);
-  const words = model.measure === "share" ? "changed less base, percentage points" : `${label}, changed less base`;
-  frame.root.append("text").attr("x", left).attr("y", frame.top + 10).attr(
-    "fill",
-    palette.faint,
-  ).attr("font-size", 11).text(words);
+  const frame = begun(target, model, look);
+  const scale = gainScale(rows, left, look.width - 18);
   const start = frame.top + 36;
   const bottom = start + height * rows.length;
-  const axis = frame.root.append("g").attr("transform", `translate(0,${frame.top + 32})`);
-  axis.call(axisTop(scale).ticks(look.width < 480 ? 4 : 7).tickSizeInner(-(bottom - start + 4)).tickSizeOuter(0));
-  tinted(axis, palette);
-  frame.root.append("line").attr("x1", scale(0)).attr("x2", scale(0)).attr("y1", start - 4).attr("y2", bottom).attr(
-    "stroke",
-    palette.ink,
-  );
+  drawAxis(frame, model, look, scale, bottom);
   rows.forEach(({ row, lanes }, at) => {
     const group = rowGroup(frame, row, look, start + height * at, height, at % 2 === 1);
     labelled(group, row, look, head, left, height);
-    drawLanes(group.append("g").attr("transform", `translate(0,${head + SPACE / 2})`), lanes, scale, look);
-    const isMissing = lanes.every(([, gain]) => gain === null);
-    if (isMissing) {
-      const why = row.votesBefore === null ? "not open in the base" : "not open in the changed board";
-      const at = group.append("text").attr("x", scale(0) + 6).attr("y", head + SPACE / 2 + LANE);
-      at.attr("fill", palette.faint).text(why);
-    }
+    const inside = group.append("g").attr("transform", `translate(0,${head + SPACE / 2})`);
+    drawLanes(inside, lanes, scale, look);
+    if (lanes.some(([, gain]) => gain !== null)) return;
+    const where = row.votesBefore === null ? "not open in the base" : "not open in the changed board";
+    caption(inside, where, scale(0) + 6, LANE, look.palette);
   });
   ended(frame, look, bottom);
 }

@@ -43,9 +43,10 @@ function registers(app: App): Labelled[] {
   if (!app.shown) return [];
   const { study, counted } = app.shown;
   const changed = counted.commands.length ? [{ label: "changed", readings: counted.after }] : [];
-  const scenarios = study.scenarios.flatMap((it) => {
+  const scenarios = study.scenarios.map((it) => {
     const found = app.scenarios.of(study.base, it, app.view.majorities);
-    return found ? [{ label: it.name, readings: found.after }] : [];
+    if (!found) throw new Error(`the scenario ${it.name} can't be counted`);
+    return { label: it.name, readings: found.after };
   });
   return [{ label: "base", readings: counted.before }, ...changed, ...scenarios, ...sweepRegisters(app)];
 }
@@ -119,55 +120,48 @@ async function savePage(app: App): Promise<void> {
   save(`${fileName(app)}.html`, text(pageText(data), "text/html"));
 }
 
+/** A button that makes an export once all that it holds is counted. */
+function exporter(app: App, said: HTMLElement) {
+  return (words: string, id: string, act: () => Promise<string | void>, disabled = false): HTMLElement => {
+    const run = () => {
+      const done = app.counting.then(act);
+      done.then((text) => (said.textContent = text ?? ""), (why: unknown) => (said.textContent = String(why)));
+    };
+    return button(words, run, { id, disabled });
+  };
+}
+
+const SCRIPT_WORDS =
+  "The script gives board replay the base, the changes and the readings; what it prints is, byte for byte, what this " +
+  "page shows. A script has no comments, so its version, commit and hashes, and the names, stand in a file beside it.";
+
 /** Opens the list of exports. */
 export function openExports(app: App): void {
-  openDialog("export-dialog", "Export", () => {
-    const words = h("p", { id: "export-words", role: "status" });
-    const run = (act: () => Promise<string | void>) => () => {
-      act().then((said) => (words.textContent = said ?? ""), (why: unknown) => (words.textContent = String(why)));
-    };
-    const title = h("input", { type: "checkbox", id: "with-title", checked: true });
-    const isFigure = app.view.tab === "curve" ? curveModel(app) !== null : app.view.tab !== "table";
-    const figureName = `${fileName(app)}-${app.view.tab}`;
-    const svg = async () => save(`${figureName}.svg`, text(await figure(app, title.checked), "image/svg+xml"));
-    const png = async () => save(`${figureName}.png`, await pngOf(await figure(app, title.checked)));
-    return [
-      h("h3", {}, "Script"),
-      h(
-        "p",
-        { class: "note" },
-        "The script gives board replay the base, the changes and the readings; what it prints is, byte for " +
-          "byte, what this page shows. A script has no comments, so its version, commit and hashes, and the " +
-          "names, stand in a file beside it.",
-      ),
-      h(
-        "div",
-        { class: "buttons" },
-        button("Script", run(() => saveScript(app)), { id: "export-script" }),
-        button("File beside the script", run(() => saveBeside(app)), { id: "export-beside" }),
-      ),
-      h("h3", {}, "Table"),
-      h(
-        "div",
-        { class: "buttons" },
-        button("CSV with the columns of board_study", run(() => saveCsv(app)), { id: "export-csv" }),
-        button("Copy the table shown", run(() => copyTable(app)), { id: "export-copy" }),
-      ),
-      h("h3", {}, "Figure of the tab"),
-      h("label", {}, title, "with its title"),
-      h(
-        "div",
-        { class: "buttons" },
-        button("SVG", run(svg), { id: "export-svg", disabled: !isFigure }),
-        button("PNG", run(png), { id: "export-png", disabled: !isFigure }),
-      ),
-      h("h3", {}, "Page"),
-      h(
-        "div",
-        { class: "buttons" },
-        button("This page with the study in it", run(() => savePage(app)), { id: "export-page" }),
-      ),
-      words,
-    ];
-  });
+  const said = h("p", { id: "export-words", role: "status" });
+  const make = exporter(app, said);
+  const title = h("input", { type: "checkbox", id: "with-title", checked: true });
+  const noFigure = app.view.tab === "curve" ? curveModel(app) === null : app.view.tab === "table";
+  const name = `${fileName(app)}-${app.view.tab}`;
+  const svg = async () => save(`${name}.svg`, text(await figure(app, title.checked), "image/svg+xml"));
+  const png = async () => save(`${name}.png`, await pngOf(await figure(app, title.checked)));
+  const row = (...children: HTMLElement[]) => h("div", { class: "buttons" }, children);
+  openDialog("export-dialog", "Export", () => [
+    h("h3", {}, "Script"),
+    h("p", { class: "note" }, SCRIPT_WORDS),
+    row(
+      make("Script", "export-script", () => saveScript(app)),
+      make("File beside the script", "export-beside", () => saveBeside(app)),
+    ),
+    h("h3", {}, "Table"),
+    row(
+      make("CSV with the columns of board_study", "export-csv", () => saveCsv(app)),
+      make("Copy the table shown", "export-copy", () => copyTable(app)),
+    ),
+    h("h3", {}, "Figure of the tab"),
+    h("label", {}, title, "with its title"),
+    row(make("SVG", "export-svg", svg, noFigure), make("PNG", "export-png", png, noFigure)),
+    h("h3", {}, "Page"),
+    row(make("This page with the study in it", "export-page", () => savePage(app))),
+    said,
+  ]);
 }

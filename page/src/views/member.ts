@@ -2,12 +2,12 @@
 import type { App } from "../app";
 import { openDialog } from "../dialogs";
 import { button, h } from "../dom";
-import { grouped, percent, over } from "../fractions";
+import { fractionText, grouped, over, percent } from "../fractions";
 import { memberWords } from "../commandWords";
 import { moveTo } from "../moves";
 import { chairName, type Place } from "../standing";
 import { withAdded, type Command, type Percentage } from "../study";
-import { MOST_VOTES } from "../words";
+import { MOST_VOTES, reasonOf } from "../words";
 import { closedChair } from "./chairs";
 
 const DECIMAL = "[0-9]{1,9}(\\.[0-9]{1,9})?";
@@ -58,59 +58,60 @@ function moveForm(app: App, place: Place, close: () => void): HTMLFormElement {
   );
 }
 
+const WHOLE = { pattern: "[0-9]{1,13}", title: "a whole number, digits alone" };
+const SIGNED = {
+  pattern: `[+\\-]${DECIMAL}`,
+  title: "a plus or a minus and a number, such as +40 or -12.5",
+  placeholder: "+40",
+};
+const PLAIN = { pattern: DECIMAL, title: "a number without a sign, such as 15 or 12.5", placeholder: "15" };
+
+/** Three fields for votes: a number, plus or minus per cent, and per cent of the total. */
+function votesForms(code: string, add: (what: Command | Percentage) => void): HTMLElement[] {
+  const error = h("p", { class: "wrong", role: "alert" });
+  const setVotes = (text: string) => {
+    if (Number(text) <= MOST_VOTES) add({ word: "votes", code, votes: Number(text) });
+    else error.textContent = `VotesTooLarge: ${reasonOf("VotesTooLarge")}`;
+  };
+  const setPercent = (of: "own" | "total") => (percent: string) => add({ word: "percent", of, code, percent });
+  return [
+    field("votes-number", "Votes, as a number", "Set votes", WHOLE, setVotes),
+    field("votes-own", "Plus or minus per cent of its own votes", "Change votes", SIGNED, setPercent("own")),
+    field("votes-total", "Per cent of the total voting power", "Set share", PLAIN, setPercent("total")),
+    error,
+  ];
+}
+
+/** A member as it stands, in words. */
+function placeWords(app: App, place: Place): HTMLElement {
+  const [reading] = app.shown?.counted.after.values() ?? [];
+  const share = place.suspended || !reading ? null : over(place.votes, reading.total);
+  const part = share ? `, ${percent(share, app.view.digits)} % of the total` : "";
+  const where = place.chair === null ? "in no chair" : `chair ${place.chair}`;
+  const given = place.row ? `. Given: row ${place.row} of the table` : "";
+  const words = `${grouped(place.votes)} votes${part}, ${where}${place.suspended ? ", suspended" : ""}${given}`;
+  return h("p", { title: share ? `made here: ${fractionText(share)}` : "" }, words);
+}
+
 /** Opens the menu of a member. */
 export function openMember(app: App, code: string): void {
   const place = app.shown?.counted.standing.place(code);
   if (!place) return;
-  const total = [...(app.shown?.counted.after.values() ?? [])][0]?.total ?? 0;
-  const share = place.suspended ? null : over(place.votes, total);
   openDialog("member", memberWords(code, place.name), (close) => {
     const add = (what: Command | Percentage) => {
       close();
       app.take(withAdded(app.study, [what]));
     };
-    const whole = { pattern: "[0-9]{1,13}", title: "a whole number, digits alone" };
-    const signed = {
-      pattern: `[+\\-]${DECIMAL}`,
-      title: "a plus or a minus and a number, such as +40 or -12.5",
-      placeholder: "+40",
-    };
-    const plain = { pattern: DECIMAL, title: "a number without a sign, such as 15 or 12.5", placeholder: "15" };
-    const number = field("votes-number", "Votes, as a number", "Set votes", whole, (text) => {
-      if (Number(text) <= MOST_VOTES) add({ word: "votes", code, votes: Number(text) });
-      else error.textContent = `VotesTooLarge: a member has more than 2^40 votes (${grouped(MOST_VOTES)})`;
-    });
-    const own = field("votes-own", "Plus or minus per cent of its own votes", "Change votes", signed, (text) =>
-      add({ word: "percent", of: "own", code, percent: text }),
-    );
-    const ofTotal = field("votes-total", "Per cent of the total voting power", "Set share", plain, (text) =>
-      add({ word: "percent", of: "total", code, percent: text }),
-    );
-    const error = h("p", { class: "wrong", role: "alert" });
-    const given = place.row ? `. Given: row ${place.row} of the table` : "";
-    const where = place.chair === null ? "in no chair" : `chair ${place.chair}`;
-    const votes = `${grouped(place.votes)} votes${share ? `, ${percent(share, app.view.digits)} % of the total` : ""}`;
     return [
-      h(
-        "p",
-        {},
-        `${votes}, ${where}${place.suspended ? ", suspended" : ""}${given}`,
-      ),
+      placeWords(app, place),
       moveForm(app, place, close),
-      number,
-      own,
-      ofTotal,
-      error,
+      votesForms(code, add),
       h("div", { class: "buttons" },
         button("Suspend", () => add({ word: "suspend", code }), { id: "suspend" }),
         button("Restore", () => add({ word: "restore", code }), { id: "restore" }),
         button("Withdraw", () => add({ word: "withdraw", code }), { id: "withdraw" }),
       ),
-      h(
-        "p",
-        { class: "note" },
-        "The register answers each command: one that it refuses stays in the list of changes, in red.",
-      ),
+      h("p", { class: "note" }, "The register answers each command: one that it refuses stays in the list, in red."),
     ];
   });
 }

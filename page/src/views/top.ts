@@ -17,12 +17,17 @@ function namesOf(places: readonly Place[]): string {
   return names.join(", ") + (places.length > MOST_NAMES ? ` and ${places.length - MOST_NAMES} more` : "");
 }
 
+/** A number of things. */
+function counted(many: number, thing: string): string {
+  return `${grouped(many)} ${thing}${many === 1 ? "" : "s"}`;
+}
+
 /** Members, votes, chairs, members in none and suspended ones. The total is the reading's. */
 function summaryOf(standing: Standing, total: number): string {
   const members = standing.members();
   const none = standing.in(null);
   const suspended = members.filter((it) => it.suspended);
-  const parts = [`${members.length} members`, `${standing.open().length} chairs`, `${grouped(total)} votes`];
+  const parts = [counted(members.length, "member"), counted(standing.open().length, "chair"), counted(total, "vote")];
   parts.push(none.length ? `${none.length} in none: ${namesOf(none)}` : "none without a chair");
   if (suspended.length) parts.push(`suspended: ${namesOf(suspended)}`);
   return parts.join(", ");
