@@ -24,3 +24,11 @@ BEYOND = {
     "VotesTooLarge": HEAD + f"AAA,{2**40 + 1},1\n",
     "BadChair": HEAD + "".join(f"{code},1,{chair}\n" for chair, code in enumerate(codes(33), 1)),
 }
+# As much as the program takes: 256 members, 32 chairs, 2^40 votes.
+MOST = HEAD + "".join(f"{code},{2**40 - 977 * at},{1 + at % 32}\n" for at, code in enumerate(codes(256)))
+# Names that a page, a CSV or a picture may trip over.
+ODD = '''code,name,votes,chair,chair_name
+AAA,"A, ""B"" </script><b>&amp;",40,1,"=1+1, ""C"" --> <i>"
+BBB,Łódź,26,2,"Ünter & Söhne; 'x'"
+CCC,日本,15,3,%20
+'''

@@ -1,15 +1,17 @@
 """Tables of members: pasted from a spreadsheet, opened or dropped; what is asked about them, and their faults."""
 from __future__ import annotations
 
+import xml.etree.ElementTree as ElementTree
 from pathlib import Path
 
 import inputs
 import pytest
 from chromium import Page
-from figures import check_figures
+from figures import check_figures, shown_majorities
 from oracle import Oracle
 from selenium.webdriver.common.keys import Keys
 from test_exports import DROP
+from test_random import table_of
 
 # A field with a text in it that is chosen, from which a user copies it.
 FIELD = """
@@ -145,3 +147,33 @@ def test_limits(page: Page, words: str) -> None:
     # Catches: a table beyond what the program takes, of which a part is counted.
     paste(page, inputs.BEYOND[words])
     assert words in page.text("#table-faults") and not page.at("#table-take").is_enabled()
+
+
+def test_as_much_as_there_may_be(page: Page, small: Oracle) -> None:
+    # Catches: a sum of votes beyond 2^53, or a card for a 33rd chair.
+    page.run(DROP, "most.csv", inputs.MOST)
+    page.until(lambda: page.all("#table-dialog"), "the preview")
+    take(page, "most")
+    small.table = small.table_of(inputs.MOST.encode())
+    check_figures(page, small, [])
+    assert page.text("#summary").startswith("base: 256 members, 32 chairs, ") and not page.all("#open-new")
+
+
+def test_odd_names(page: Page, small: Oracle, tmp_path: Path) -> None:
+    # Catches: a name that is taken for code of the page, or that breaks a CSV, a picture or an exported page.
+    page.run(DROP, "odd.csv", inputs.ODD)
+    page.until(lambda: page.all("#table-dialog"), "the preview")
+    take(page, "odd")
+    small.table = small.table_of(inputs.ODD.encode())
+    assert page.act("votes", "AAA", "30") and not page.all("#page b, #page i")
+    check_figures(page, small, ["votes,AAA,30"])
+    wanted = small.study({"changed": ["votes,AAA,30"]}, shown_majorities(page))
+    assert table_of(page.act("exported", "export-csv")) == wanted
+    assert "Łódź" not in wanted and "Ünter & Söhne" in wanted
+    picture = ElementTree.fromstring(page.act("exported", "export-svg"))
+    assert any('1 =1+1, "C"' in (it.text or "") for it in picture.iter())
+    (tmp_path / "odd.html").write_text(page.act("exported", "export-page"))
+    shown = page.texts("#changes .change-words")
+    page.open(tmp_path / "odd.html")
+    assert page.texts("#changes .change-words") == shown == ['AAA A, "B" </script><b>&amp;: 40 → 30']
+    check_figures(page, small, ["votes,AAA,30"])
