@@ -38,14 +38,17 @@ def test_drag_to_none_and_to_a_new_chair(page: Page, oracle: Oracle) -> None:
     check_figures(page, oracle, ["open,25", "move,XAA,25", "move,XAB,none"])
 
 
-def test_drag_by_keyboard(page: Page, oracle: Oracle) -> None:
-    # Catches: a page that can be used by a mouse alone; a focus that is lost with the member that moved.
+def pick_up(page: Page, *keys: str) -> None:
+    """Picks XAA up by keyboard, and presses more keys."""
     page.click("#card-1")
     page.run('document.getElementById("chip-XAA").focus();')
-    page.press(Keys.SPACE)
-    page.press(Keys.ARROW_DOWN)
-    page.press(Keys.ARROW_DOWN)
-    page.press(Keys.ARROW_UP)
+    for key in [Keys.SPACE, *keys]:
+        page.press(key)
+
+
+def test_drag_by_keyboard(page: Page, oracle: Oracle) -> None:
+    # Catches: a page that can be used by a mouse alone; a focus that is lost with the member that moved.
+    pick_up(page, Keys.ARROW_DOWN, Keys.ARROW_DOWN, Keys.ARROW_UP)
     assert [it.get_attribute("data-place") for it in page.all(".card.aimed")] == ["2"]
     page.press(Keys.ENTER)
     check_figures(page, oracle, ["move,XAA,2"])
@@ -54,11 +57,7 @@ def test_drag_by_keyboard(page: Page, oracle: Oracle) -> None:
 
 def test_drag_given_up(page: Page, oracle: Oracle) -> None:
     # Catches: Escape that drops the member where it is aimed at.
-    page.click("#card-1")
-    page.run('document.getElementById("chip-XAA").focus();')
-    page.press(Keys.SPACE)
-    page.press(Keys.ARROW_DOWN)
-    page.press(Keys.ESCAPE)
+    pick_up(page, Keys.ARROW_DOWN, Keys.ESCAPE)
     assert not page.all("#changes > li")
     check_figures(page, oracle, [])
 

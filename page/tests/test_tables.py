@@ -105,7 +105,7 @@ def test_total_row(page: Page, small: Oracle, is_total: bool) -> None:
 
 
 def test_names_alone(page: Page, oracle: Oracle) -> None:
-    # Catches: a table without codes, or with chairs by name, that can't be taken; codes that differ from one look to another.
+    # Catches: a table without codes, or with chairs by name, that can't be taken.
     paste(page, inputs.NAMES)
     page.click("#merged-no")
     take(page)
