@@ -52,7 +52,7 @@ class Page:
         return self.driver.execute_script(script, *words)
 
     def wait_for(self, script: str, *words: object) -> Any:
-        """What a script in the page hands to its last argument."""
+        """What a script in the page passes to its last argument, a function."""
         return self.driver.execute_async_script(script, *words)
 
     def look(self, check: str, *words: object) -> Any:

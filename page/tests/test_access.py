@@ -4,11 +4,13 @@ from __future__ import annotations
 from itertools import pairwise
 from typing import Any
 
+import inputs
 import pytest
 from chromium import NARROW, Page
 from figures import check_figures, open_menu, rows
 from oracle import Oracle
 from selenium.webdriver.common.keys import Keys
+from test_exports import DROP
 
 LEAST_CONTRAST = 4.5
 # More presses of Tab than the page has controls.
@@ -55,14 +57,28 @@ def test_names_in_dialogs(page: Page, opener: str) -> None:
     assert not page.all("dialog") and page.run("return `#${document.activeElement.id}`;") == opener
 
 
+def check_contrast(page: Page, where: str) -> None:
+    faint = page.look("faint", LEAST_CONTRAST)
+    assert not faint, f"{where}: {faint}"
+
+
 @pytest.mark.parametrize("scheme", ["light", "dark"])
 def test_contrast(page: Page, scheme: str) -> None:
-    # Catches: grey letters on white, and letters that stay black in the dark.
+    # Catches: grey letters on white, red ones on grey, and letters that stay black in the dark.
     page.show(height=TALL, scheme=scheme)
+    for act in [["suspend", "XAA"], ["move", "XAA", "2"], ["votes", "XAD", "+40%"], ["switch", "2"]]:
+        assert page.act(*act)
+    page.click("#card-1")
     for tab in TABS:
         page.click(tab)
-        faint = page.look("faint", LEAST_CONTRAST)
-        assert not faint, f"{tab}: {faint}"
+        check_contrast(page, tab)
+    for opener in ["#chip-XAA", *OPENERS]:
+        page.click(opener)
+        check_contrast(page, opener)
+        page.press(Keys.ESCAPE)
+    page.run(DROP, "faulty.csv", inputs.FAULTY)
+    page.until(lambda: page.all("#table-dialog"), "the preview")
+    check_contrast(page, "the preview")
 
 
 def test_width_of_a_phone(page: Page) -> None:
