@@ -5,7 +5,6 @@ import resource
 from pathlib import Path
 
 from voting_board import Register, indices, replay
-from voting_board.replays import lent_room
 
 OPENING = "member,votes\nAAA,1\nscript\n"
 PAGE = resource.getpagesize()
@@ -26,7 +25,7 @@ limit(None)
 register = Register({"AAA": 1})
 register._script = OPENING + "open,1\nclose,1\n" * 200_000
 script = register.script().encode()
-lent_room(4 * len(script))
+replay(script)  # the thread keeps room for its lines
 limit(1 << 20)
 fault = replay(script).fault
 print(fault and fault.name)

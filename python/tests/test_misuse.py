@@ -9,6 +9,7 @@ import os
 import pickle
 import random
 import re
+import signal
 import subprocess
 import sys
 import threading
@@ -29,6 +30,7 @@ from voting_board.refusals import REFUSALS
 TOP = Path(__file__).resolve().parents[2]
 LARGEST = [2**43 - at for at in range(32)]
 SCRIPT = "member,votes\nAAA,50\nBBB,49\nscript\nopen,1\nmove,AAA,1\npublish\nread,1,half\n"
+SOON = 0.0005
 HAS_NUMPY = importlib.util.find_spec("numpy") is not None
 
 NO_NUMBERS = [50.0, 1.5, float("nan"), float("inf"), Fraction(1), Decimal(1), "50", None, True, False, b"5", [1], 1j, object]
@@ -254,6 +256,27 @@ class PlacesTest(unittest.TestCase):
         finally:
             stop.set()
             thread.join()
+
+    def test_signals(self):
+        """A handler that counts and replays may come at any time."""
+        wanted, other = replay(SCRIPT).text, SCRIPT.replace("50", "49").replace("half", "85")
+
+        came = []
+
+        def handle(*_):
+            came.append((len(replay(other).readings), shares([50, 49, 1])))
+            signal.setitimer(signal.ITIMER_REAL, SOON)
+
+        before = signal.signal(signal.SIGALRM, handle)
+        signal.setitimer(signal.ITIMER_REAL, SOON)
+        try:
+            for _ in range(2_000):
+                self.assertEqual(replay(SCRIPT).text, wanted)
+        finally:
+            signal.setitimer(signal.ITIMER_REAL, 0)
+            signal.signal(signal.SIGALRM, before)
+        self.assertTrue(came)
+        self.assertEqual([it for it in came if it != (1, [0.6, 0.2, 0.2])], [])
 
     def test_asyncio(self):
         async def count():

@@ -99,22 +99,29 @@ def limit(value: SupportsIndex, what: str, most: int) -> int:
 
 def run(script: bytes, readers: int, journal: int) -> Answer:
     """Replays a script by the library, in room that is large enough for its lines."""
+    room = taken_room(GROWTH * len(script))
+    try:
+        return run_in(room, script, readers, journal)
+    finally:
+        thread.room = room
+
+
+def taken_room(least: int) -> bytearray:
+    """The room for lines that this thread keeps, or a new one, with at least so many bytes. Until it is put back, a handler
+    of a signal that replays takes another one."""
+    room: bytearray = thread.__dict__.pop("room", bytearray())
+    return room if room and len(room) >= least else bytearray(max(least, LEAST_ROOM))
+
+
+def run_in(room: bytearray, script: bytes, readers: int, journal: int) -> Answer:
+    """Replays a script in some room, or in more, where its lines don't fit in."""
     written, record = c_uint64(), c_uint32()
-    room = lent_room(GROWTH * len(script))
     while True:
         to, size = byref(c_char.from_buffer(room)), len(room)
         number = library.board_replay(script, len(script), readers, journal, to, size, byref(written), byref(record))
         if number != WRITE_FAULT:
             return Answer(number, record.value, bytes(memoryview(room)[: written.value]))
         room = bytearray(GROWTH * size)
-
-
-def lent_room(least: int) -> bytearray:
-    """Room for lines, at least so many bytes, which this thread keeps for its next run."""
-    room: bytearray = getattr(thread, "room", bytearray())
-    if len(room) < least or not room:
-        thread.room = room = bytearray(max(least, LEAST_ROOM))
-    return room
 
 
 def replay(text: Union[str, bytes], *, readers: SupportsIndex = 1, journal: SupportsIndex = JOURNAL) -> Replay:
