@@ -1,4 +1,4 @@
-"""Counts and replays in a process that gets no more memory; prints what came of it."""
+"""Counts and replays in a process that gets no more memory, and prints the exceptions and the answers."""
 from __future__ import annotations
 
 import resource
@@ -13,7 +13,8 @@ PAGE = resource.getpagesize()
 def limit(more: int | None) -> None:
     """Sets the limit of the process's memory to what it has and a little more, or takes it away."""
     now = int(Path("/proc/self/statm").read_text().split()[0]) * PAGE
-    resource.setrlimit(resource.RLIMIT_AS, (resource.RLIM_INFINITY if more is None else now + more, resource.RLIM_INFINITY))
+    most = resource.RLIM_INFINITY if more is None else now + more
+    resource.setrlimit(resource.RLIMIT_AS, (most, resource.RLIM_INFINITY))
 
 
 limit(0)

@@ -59,10 +59,12 @@ class IndicesTest(unittest.TestCase):
 
     def test_largest_board(self):
         got = indices([2**43] * 32, majority="half")
-        self.assertEqual((got.total, got.coalitions, {it.share for it in got.chairs}), (2**48, 2**32, {Fraction(1, 32)}))
+        self.assertEqual((got.total, got.coalitions), (2**48, 2**32))
+        self.assertEqual({it.share for it in got.chairs}, {Fraction(1, 32)})
 
     def test_no_chairs(self):
-        for got in [indices([], majority="half"), indices([], total=5, majority="quorum"), *indices_of_all([]).values()]:
+        quorum = indices([], total=5, majority="quorum")
+        for got in [indices([], majority="half"), quorum, *indices_of_all([]).values()]:
             self.assertEqual((got.omega, got.coalitions, got.chairs, got.records()), (0, 1, (), []))
 
     def test_members(self):
@@ -140,7 +142,8 @@ class ManyTest(unittest.TestCase):
 
         rows = [[50, 49, 1], [0, 255, 3]]
         wanted = indices_of_many(rows, MAJORITIES)
-        for given in [*(numpy.array(rows, kind) for kind in ("uint8", "int32", "uint64", object)), pandas.DataFrame(rows)]:
+        arrays = [numpy.array(rows, kind) for kind in ("uint8", "int32", "uint64", object)]
+        for given in [*arrays, pandas.DataFrame(rows)]:
             got = indices_of_many(given, MAJORITIES)
             self.assertEqual((got.swings.dtype, got.swings.shape), (numpy.dtype("uint64"), (2, 4, 3)))
             self.assertTrue((got.swings == wanted.swings).all() and (got.omega == wanted.omega).all())

@@ -22,7 +22,8 @@ from fractions import Fraction
 from pathlib import Path
 
 import voting_board
-from voting_board import MAJORITIES, Refused, Register, indices, indices_of_all, indices_of_many, indices_of_members, replay
+from voting_board import MAJORITIES, Refused, Register, indices, indices_of_all, indices_of_many, indices_of_members
+from voting_board import replay
 from voting_board.checks import check_board
 from voting_board.library import COUNT_WORDS, library, room
 from voting_board.refusals import REFUSALS
@@ -33,7 +34,8 @@ SCRIPT = "member,votes\nAAA,50\nBBB,49\nscript\nopen,1\nmove,AAA,1\npublish\nrea
 SOON = 0.0005
 HAS_NUMPY = importlib.util.find_spec("numpy") is not None
 
-NO_NUMBERS = [50.0, 1.5, float("nan"), float("inf"), Fraction(1), Decimal(1), "50", None, True, False, b"5", [1], 1j, object]
+NAN, INFINITE = float("nan"), float("inf")
+NO_NUMBERS = [50.0, 1.5, NAN, INFINITE, Fraction(1), Decimal(1), "50", None, True, False, b"5", [1], 1j, object]
 NO_MAJORITIES = ["HALF", " half", "70%", "", "seventy", "half\n"]
 NO_STRINGS = [70, 0, 0.7, None, True, b"half", ["half"]]
 OUT_OF_RANGE = [
@@ -64,7 +66,7 @@ class ValuesTest(unittest.TestCase):
         for value in NO_NUMBERS:
             kind = type(value).__name__
             for what, call in [
-                (f"weight 2 .* \\({kind}\\): votes are whole numbers from 0", lambda: indices([1, value], majority="half")),
+                (f"weight 2 .* \\({kind}\\): votes are whole", lambda: indices([1, value], majority="half")),
                 (f"weight 2 .* \\({kind}\\): votes", lambda: indices_of_all([1, value])),
                 (f"row 1: weight 2 .* \\({kind}\\)", lambda: indices_of_many([[1], [1, value]], ["half"])),
                 (f"votes of member 1 .* \\({kind}\\)", lambda: indices_of_members([(value, 1)], majority="half")),
@@ -84,10 +86,11 @@ class ValuesTest(unittest.TestCase):
     def test_ranges(self):
         """A number out of its range is refused with its place, its value and what is allowed."""
         for weights, total, message in OUT_OF_RANGE:
+            totals = None if total is None else [0, total]
             for prefix, call in [
                 ("", lambda: indices(weights, total=total, majority="half")),
                 ("", lambda: indices_of_all(weights, total=total)),
-                ("row 1: ", lambda: indices_of_many([[], weights], ["half"], totals=None if total is None else [0, total])),
+                ("row 1: ", lambda: indices_of_many([[], weights], ["half"], totals=totals)),
             ]:
                 with self.subTest(weights=weights, total=total), self.assertRaises(Refused) as caught:
                     call()
@@ -192,7 +195,8 @@ class ValuesTest(unittest.TestCase):
 
     def test_types_are_told(self):
         """The hints can be evaluated, and the version is the library's."""
-        for call in [indices, indices_of_all, indices_of_many, indices_of_members, replay, Register.move, Register.from_table]:
+        counts = [indices, indices_of_all, indices_of_many, indices_of_members]
+        for call in [*counts, replay, Register.move, Register.from_table]:
             self.assertIn("return", typing.get_type_hints(call))
         self.assertEqual(typing.get_args(voting_board.Majority), MAJORITIES)
         self.assertRegex(voting_board.__version__, r"^\d+\.\d+\.\d+$")
@@ -202,7 +206,8 @@ class PlacesTest(unittest.TestCase):
     def test_pickle(self):
         for why in [Refused(32, "weight 3 is -1"), Refused(1, "refused", "open,1")]:
             same = pickle.loads(pickle.dumps(why))
-            self.assertEqual((str(same), same.name, same.number, same.command), (str(why), why.name, why.number, why.command))
+            for told in (str, lambda it: (it.name, it.number, it.command)):
+                self.assertEqual(told(same), told(why))
         got = indices([50, 49, 1], majority="half")
         self.assertEqual((pickle.loads(pickle.dumps(got)), len(got.chairs)), (got, 3))
         self.assertEqual(pickle.loads(pickle.dumps(got)).chairs[0].share, Fraction(3, 5))
@@ -285,7 +290,7 @@ class PlacesTest(unittest.TestCase):
         self.assertEqual(asyncio.run(count()), [[0.6, 0.2, 0.2]] * 20)
 
     def test_little_memory(self):
-        """Where memory is refused, a call raises MemoryError or a replay answers OutOfMemory, and later calls are right."""
+        """Where memory is refused, a call raises MemoryError, a replay answers OutOfMemory, and a later call counts."""
         program = Path(__file__).with_name("little_memory.py")
         done = subprocess.run([sys.executable, str(program)], stdout=subprocess.PIPE, text=True, check=True)
         self.assertEqual(done.stdout, "MemoryError\nOutOfMemory\nMemoryError\n3/5\n")

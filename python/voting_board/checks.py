@@ -1,5 +1,5 @@
-"""What callers hand in, as whole numbers within their limits: what is wrong is said with its place, its value and what is
-allowed."""
+"""What callers hand in, as whole numbers within their limits: what is wrong is said with its place, its value and what
+is allowed."""
 from __future__ import annotations
 
 import operator
@@ -12,8 +12,8 @@ from .refusals import BAD_RECORD, BAD_SHEET, Refused
 
 Majority = Literal["half", "70", "85", "quorum"]
 
-#: The majorities: more than half of the votes cast; at least 70 and 85 per cent of the total; more than half of the chairs,
-#: having at least half of the total. The library numbers them in this order, from 0.
+#: The majorities: more than half of the votes cast; at least 70 and 85 per cent of the total; more than half of the
+#: chairs, having at least half of the total. The library numbers them in this order, from 0.
 MAJORITIES: tuple[Majority, ...] = ("half", "70", "85", "quorum")
 
 MAJORITY_NAMES = "half, 70, 85 or quorum"
@@ -68,8 +68,8 @@ def votes_of(weights: Iterable[SupportsIndex], where: str = "") -> list[int]:
 
 
 def check_board(votes: list[int], total: Optional[int], where: str = "") -> int:
-    """The total of a board, which is the sum of its weights where none is given. Refuses weights and a total that are no
-    board's, for the first reason that holds."""
+    """The total of a board, which is the sum of its weights where none is given. Refuses weights and a total that are
+    no board's, for the first reason that holds."""
     cast = sum(votes)
     if len(votes) > CHAIRS:
         raise Refused(BAD_SHEET, f"{where}{len(votes)} weights: there are at most {CHAIRS} chairs")

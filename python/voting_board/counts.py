@@ -189,8 +189,8 @@ def indices_of_members(
 ) -> Indices:
     """The voting power of a board by its members, in any order: each a `Member`, or a sequence that makes one.
 
-    A chair is open where a member sits in it, suspended or not, and where `open_chairs` names it. Its weight is the votes
-    of its members that aren't suspended. The total is the votes of all members that aren't suspended.
+    A chair is open where a member sits in it, suspended or not, and where `open_chairs` names it. Its weight is the
+    votes of its members that aren't suspended. The total is the votes of all members that aren't suspended.
 
     Raises `Refused`: `BadSheet` for a chair that isn't from 1 to 32, for votes below 0 and for a total above 2^48, else
     `BadRecord` where there is no such majority.

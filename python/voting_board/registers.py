@@ -24,8 +24,8 @@ ALLOWED |= dict.fromkeys(["suspend", "restore", "withdraw"], CODE)
 class Register:
     """A register with its members, their votes and the chairs that they sit in.
 
-    It has no rule of its own: it keeps a script, and what each command and each reading answers is what the replay of that
-    script answers. A command answers how many were accepted, or raises `Refused` with the name, the number and the
+    It has no rule of its own: it keeps a script, and what each command and each reading answers is what the replay of
+    that script answers. A command answers how many were accepted, or raises `Refused` with the name, the number and the
     command, and the register is as before. So each command takes as long as a replay of all commands before it.
 
     `members` and `chairs` are kept from the commands that were accepted. A register serves one thread at a time.
@@ -104,7 +104,8 @@ class Register:
         return self._run([record_of("withdraw", code_in(code))])
 
     def indices(self, majority: Majority) -> Reading:
-        """The voting power of the open chairs as the register stands, at a majority. It is kept until the next command."""
+        """The voting power of the open chairs as the register stands, at a majority. It is kept until the next
+        command."""
         number_of(majority)
         if majority not in self._readings:
             fault, (_, *lines) = self._answer(f"publish\nread,1,{majority}\n")
@@ -137,7 +138,8 @@ class Register:
         return self._script
 
     def what_if(self) -> Register:
-        """A copy, which can be changed while this register stays as it is. It is also a context: `with r.what_if() as it:`"""
+        """A copy, which can be changed while this register stays as it is. It is also a context: `with r.what_if()
+        as it:`"""
         copy = object.__new__(type(self))
         copy._limit, copy._script, copy._records, copy._said = self._limit, self._script, self._records, self._said
         copy._members, copy._open = dict(self._members), set(self._open)

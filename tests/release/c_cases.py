@@ -39,8 +39,8 @@ def check_names(room: Path) -> None:
 
 
 def check_shared(room: Path) -> None:
-    """The shared library names itself by two numbers of the version, exports the calls of board.h and R's alone, and needs
-    the C library alone, none newer than 2.17."""
+    """The shared library names itself by two numbers of the version, exports the calls of board.h and R's alone, and
+    needs the C library alone, none newer than 2.17."""
     name = f"libboard.so.{version_of(room).rpartition('.')[0]}"
     link = room / "lib" / "libboard.so"
     assert link.is_symlink() and str(link.readlink()) == name, "libboard.so is no link to the shared library"
