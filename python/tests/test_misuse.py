@@ -3,6 +3,7 @@ from __future__ import annotations
 
 import asyncio
 import ctypes
+import doctest
 import importlib.util
 import multiprocessing
 import os
@@ -192,6 +193,10 @@ class ValuesTest(unittest.TestCase):
         for number in range(300):
             name = REFUSALS[number][0] if number in REFUSALS else ""
             self.assertEqual(library.board_refusal_name(number).decode(), name)
+
+    def test_examples(self):
+        """The package's own examples answer what stands below them."""
+        self.assertEqual(doctest.testmod(voting_board), doctest.TestResults(failed=0, attempted=4))
 
     def test_types_are_told(self):
         """The hints can be evaluated, and the version is the library's."""

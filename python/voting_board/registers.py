@@ -108,10 +108,10 @@ class Register:
         command."""
         number_of(majority)
         if majority not in self._readings:
-            fault, (_, *lines) = self._answer(f"publish\nread,1,{majority}\n")
+            fault, lines = self._answer(f"publish\nread,1,{majority}\n")
             if fault:
                 raise refused_by(fault, f"read,1,{majority}")
-            (_, *fields), *below = (line.split(",") for line in lines)
+            _, (_, *fields), *below = (line.split(",") for line in lines)
             self._readings[majority] = reading_of(fields, self._records + 2, below)
         return self._readings[majority]
 
@@ -138,8 +138,7 @@ class Register:
         return self._script
 
     def what_if(self) -> Register:
-        """A copy, which can be changed while this register stays as it is. It is also a context: `with r.what_if()
-        as it:`"""
+        """A copy, which can be changed while this register stays as it is. It is also a context."""
         copy = object.__new__(type(self))
         copy._limit, copy._script, copy._records, copy._said = self._limit, self._script, self._records, self._said
         copy._members, copy._open = dict(self._members), set(self._open)
