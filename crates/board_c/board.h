@@ -9,8 +9,8 @@
  * A call keeps nothing, starts no thread and takes no lock. Calls on several threads are independent where each has its
  * own room, counts and other places to write to.
  *
- * The library is proved to do what this header says, except for board_version and board_refusal_name. Nothing checks its
- * callers, who have to see to this:
+ * What a call answers and what it writes is proved to be what this header says, except for board_version and
+ * board_refusal_name. Nothing checks its callers, who have to see to this:
  *
  * - `words`, `weights` and `members` point to `len` items, `room` to a board_room and `counts` to what the call writes.
  *   No pointer is null, except that of a list with `len` 0.

@@ -11,6 +11,7 @@ use Rattle.board_text.specs.Output.{Fails, IsBadLimit, IsBroken, Plays, Starts}
 use Rattle.board_text.specs.Text.{fault_at, prints, stops}
 use Rattle.board_text.specs.declared.bounds.Limits.{Limits}
 use Rattle.board_text.specs.declared.faults.Fault.{Fault}
+use Rattle.board_text.specs.declared.input.TheConstants.{INTERRUPTIONS, READS}
 use Rattle.board_text.specs.declared.stops.Stop.TheVariants as stop
 use Rattle.board_text.specs.Requests.{member_of, request_of}
 use Rattle.board_text.specs.Lines.{accepted_line, refused_line, published_line, chair_line}
@@ -229,3 +230,10 @@ stopped_by_another h = let e : fault_at BadRecord 5 ≡ fault_at BadRecord 6 = l
 
 line_left_out : Plays (Some []) (Some []) (Ok tt) (prints (codes "began" ∷ [])) → ⊥
 line_left_out h = let e = h.1 in cc e
+
+-- the limits of a run's reads and retries by number
+retries : INTERRUPTIONS ≡ 1000
+retries = refl
+
+reads : READS ≡ 4195305
+reads = refl
