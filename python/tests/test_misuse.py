@@ -41,14 +41,14 @@ NO_MAJORITIES = ["HALF", " half", "70%", "", "seventy", "half\n"]
 NO_STRINGS = [70, 0, 0.7, None, True, b"half", ["half"]]
 OUT_OF_RANGE = [
     ([1, 2, -1], None, "weight 3 is -1: votes are whole numbers from 0"),
-    ([1] * 33, None, "33 weights: there are at most 32 chairs"),
-    ([2, 3], 4, "total 4 is below the sum of the weights, 5"),
-    ([2, 3], -1, "total -1 is below the sum of the weights, 5"),
-    ([2**48, 1], None, "the weights add up to 281474976710657: a total is at most 2^48"),
-    ([1], 2**48 + 1, "total 281474976710657 is above 2^48"),
-    ([2**64], None, "the weights add up to 18446744073709551616: a total is at most 2^48"),
-    ([2**64], 5, "total 5 is below the sum of the weights, 18446744073709551616"),
-    ([10**400], 2**64, "total 18446744073709551616 is above 2^48"),
+    ([1] * 33, None, "33 weights: a board has at most 32 chairs"),
+    ([2, 3], 4, "the total is 4: at least the sum of the weights, 5"),
+    ([2, 3], -1, "the total is -1: at least the sum of the weights, 5"),
+    ([2**48, 1], None, "the total is 281474976710657: at most 281474976710656"),
+    ([1], 2**48 + 1, "the total is 281474976710657: at most 281474976710656"),
+    ([2**64], None, "the total is 18446744073709551616: at most 281474976710656"),
+    ([2**64], 5, "the total is 5: at least the sum of the weights, 18446744073709551616"),
+    ([10**400], 2**64, "the total is 18446744073709551616: at most 281474976710656"),
 ]
 
 
@@ -154,11 +154,12 @@ class ValuesTest(unittest.TestCase):
         self.assertEqual(indices([numpy.uint8(200), numpy.int8(100)], majority="half").cast, 300)
 
     def test_members(self):
+        votes = "the votes of the members that aren't suspended are 281474976710657: at most 281474976710656"
         for members, message in [
-            ([(1, 1), (1, 33)], "chair of member 2 is 33: chairs are numbered from 1 to 32"),
-            ([(1, 0)], "chair of member 1 is 0: chairs are numbered from 1 to 32"),
-            ([(-1, 1)], "votes of member 1 are -1: votes are whole numbers from 0"),
-            ([(2**48, 1), (1,)], "the votes of the members add up to 281474976710657: a total is at most 2^48"),
+            ([(1, 1), (1, 33)], "the chair of member 2 is 33: a chair is a whole number from 1 to 32"),
+            ([(1, 0)], "the chair of member 1 is 0: a chair is a whole number from 1 to 32"),
+            ([(-1, 1)], "the votes of member 1 are -1: votes are whole numbers from 0"),
+            ([(2**48, 1), (1,)], votes),
         ]:
             with self.assertRaises(Refused) as caught:
                 indices_of_members(members, majority="half")

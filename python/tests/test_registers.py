@@ -31,7 +31,7 @@ def answer(register, fields):
     try:
         return f"accepted,{do(register, fields)}"
     except Refused as why:
-        assert why.command == ",".join(fields) and f" is refused: {why.name}, " in str(why), why
+        assert why.command == ",".join(fields) and f": {why.name} ({why.number}), " in str(why), why
         return f"refused,{why.number},{why.name}"
 
 

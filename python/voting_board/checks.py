@@ -18,7 +18,7 @@ MAJORITIES: tuple[Majority, ...] = ("half", "70", "85", "quorum")
 
 MAJORITY_NAMES = "half, 70, 85 or quorum"
 VOTES = "votes are whole numbers from 0"
-CHAIR = f"chairs are numbered from 1 to {CHAIRS}"
+CHAIR = f"a chair is a whole number from 1 to {CHAIRS}"
 
 
 def whole(value: Any, what: str, allowed: str) -> int:
@@ -72,17 +72,16 @@ def check_board(votes: list[int], total: Optional[int], where: str = "") -> int:
     no board's, for the first reason that holds."""
     cast = sum(votes)
     if len(votes) > CHAIRS:
-        raise Refused(BAD_SHEET, f"{where}{len(votes)} weights: there are at most {CHAIRS} chairs")
+        raise Refused(BAD_SHEET, f"{where}{len(votes)} weights: a board has at most {CHAIRS} chairs")
     for place, weight in enumerate(votes, 1):
         if weight < 0:
             raise Refused(BAD_SHEET, f"{where}weight {place} is {weight}: {VOTES}")
-    if total is None and cast > MOST_VOTES:
-        raise Refused(BAD_SHEET, f"{where}the weights add up to {cast}: a total is at most 2^48")
-    if total is not None and total > MOST_VOTES:
-        raise Refused(BAD_SHEET, f"{where}total {total} is above 2^48")
-    if total is not None and total < cast:
-        raise Refused(BAD_SHEET, f"{where}total {total} is below the sum of the weights, {cast}")
-    return cast if total is None else total
+    found = cast if total is None else total
+    if found > MOST_VOTES:
+        raise Refused(BAD_SHEET, f"{where}the total is {found}: at most {MOST_VOTES}")
+    if found < cast:
+        raise Refused(BAD_SHEET, f"{where}the total is {found}: at least the sum of the weights, {cast}")
+    return found
 
 
 def total_of(votes: list[int], total: Optional[SupportsIndex], where: str = "") -> int:

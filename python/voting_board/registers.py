@@ -72,15 +72,15 @@ class Register:
 
     def open(self, chair: SupportsIndex) -> int:
         """Opens a closed chair."""
-        return self._run([record_of("open", whole(chair, "chair", CHAIR))])
+        return self._run([record_of("open", whole(chair, "the chair", CHAIR))])
 
     def close(self, chair: SupportsIndex) -> int:
         """Closes an open chair without members, suspended ones counted."""
-        return self._run([record_of("close", whole(chair, "chair", CHAIR))])
+        return self._run([record_of("close", whole(chair, "the chair", CHAIR))])
 
     def move(self, code: str, chair: Optional[SupportsIndex]) -> int:
         """Moves a member to an open chair, or out of its chair, where `chair` is None."""
-        seat = "none" if chair is None else str(whole(chair, "chair", CHAIR))
+        seat = "none" if chair is None else str(whole(chair, "the chair", CHAIR))
         return self._run([record_of("move", code_in(code), seat)])
 
     def set_votes(self, code: str, votes: SupportsIndex) -> int:
@@ -199,7 +199,7 @@ def check_members(answer: Answer, records: list[str]) -> None:
 
 def refused_by(number: int, record: str) -> Exception:
     """The exception for a refusal or a fault, which names the record."""
-    message = f"{f'{record} is' if record else 'the members are'} refused: {name_of(number)}, {reason_of(number)}"
+    message = f"{f'refused {record!r}: ' if record else ''}{name_of(number)} ({number}), {reason_of(number)}"
     if number == OUT_OF_MEMORY:
         return MemoryError(message)
     allowed = f": {ALLOWED.get(record.split(',')[0], MEMBER)}" if number == BAD_RECORD else ""
@@ -225,7 +225,7 @@ def code_in(code: Any) -> str:
 
 def votes_in(votes: Any, code: Any) -> int:
     """The votes of a member, as a whole number."""
-    return whole(votes, f"votes of {code}", VOTES)
+    return whole(votes, f"the votes of {code}", VOTES)
 
 
 def chair_in(cell: Any) -> Optional[int]:
