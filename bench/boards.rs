@@ -1,5 +1,5 @@
-//! Counts the boards of a file at all four majorities by the crate for Rust, as bench/boards.c does from C, and prints the
-//! sum of all omegas: boards FILE
+//! Counts the boards of a file at all four majorities by the crate for Rust, as bench/boards.c does from C, and prints
+//! the sum of all omegas: boards FILE
 use std::{env, fs};
 use voting_board::counts_of_all;
 
@@ -14,6 +14,7 @@ fn main() {
 
 /// The omegas of a board at all four majorities.
 fn omegas(board: &[u8]) -> u64 {
-    let weights: Vec<u64> = board.chunks_exact(8).map(|it| u64::from_le_bytes(it.try_into().expect("8 bytes"))).collect();
+    let word = |it: &[u8]| u64::from_le_bytes(it.try_into().expect("8 bytes"));
+    let weights: Vec<u64> = board.chunks_exact(8).map(word).collect();
     counts_of_all(&weights, None).expect("a board").iter().map(|it| it.omega).sum()
 }

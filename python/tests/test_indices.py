@@ -70,7 +70,7 @@ class IndicesTest(unittest.TestCase):
     def test_members(self):
         """The weights of chairs are those of their members that aren't suspended; a chair may be open without one."""
         members = [(50, 3), Member(49, 5), (1, 5, True), (7,), Member(9, 9, suspended=True)]
-        got = indices_of_members(members, majority="85", open_chairs=[32, 3])
+        got = indices_of_members(members, majority="85", open_chairs=[32, 3, 3])
         self.assertEqual((got.numbers, got.weights, got.total), ((3, 5, 9, 32), (50, 49, 0, 0), 106))
         alike = indices([50, 49, 0, 0], majority="85", total=106)
         self.assertEqual((got.quota, got.swings), (alike.quota, alike.swings))
@@ -88,6 +88,7 @@ class IndicesTest(unittest.TestCase):
         got = indices([50, 49, 1], majority="half")
         self.assertEqual(got.records()[0]["share"], Fraction(3, 5))
         self.assertEqual(json.loads(json.dumps(got.records(floats=True)))[0]["share"], 0.6)
+        self.assertIsNone(indices([0], majority="half").records(floats=True)[0]["share"])
 
     @unittest.skipUnless(HAS_PANDAS, "pandas isn't there")
     def test_dataframe(self):
@@ -121,6 +122,16 @@ class ManyTest(unittest.TestCase):
         self.check(indices_of_many(self.ROWS, MAJORITIES))
         self.check(indices_of_many((iter(row) for row in self.ROWS), ["quorum", "half"]))
         self.check(indices_of_many(map(tuple, self.ROWS), iter(["85"])))
+        self.check(indices_of_many(self.ROWS, ["quorum", "85", "half", "70", "half"]))
+
+    def test_no_swings(self):
+        """Where an index is None, its float is nan."""
+        many = indices_of_many([[0, 0]], ["half"])
+        self.assertEqual(str(many.floats("share").tolist()), "[[[nan, nan]]]")
+        self.assertEqual(many.floats("initiate").tolist(), [[[0, 0]]])
+        self.assertRaisesRegex(ValueError, "no index 'power'", many.floats, "power")
+        self.assertRaisesRegex(KeyError, "wasn't asked for", many.indices, 0, "85")
+        self.assertRaisesRegex(IndexError, "no board 1", many.indices, 1, "half")
 
     def test_without_numpy(self):
         with mock.patch.dict(sys.modules, {"numpy": None}):

@@ -160,6 +160,7 @@ class ValuesTest(unittest.TestCase):
             ([(1, 0)], "the chair of member 1 is 0: a chair is a whole number from 1 to 32"),
             ([(-1, 1)], "the votes of member 1 are -1: votes are whole numbers from 0"),
             ([(2**48, 1), (1,)], votes),
+            ([(2**64, 1, True)], f"the votes of member 1 are {2**64}: votes are whole numbers from 0 to {2**64 - 1}"),
         ]:
             with self.assertRaises(Refused) as caught:
                 indices_of_members(members, majority="half")
