@@ -132,5 +132,5 @@ def scripts(many: int) -> list[bytes]:
         mark = lot.choice(["script", "script", '"script"', "\nscript\n"])
         lines = [lot.choice([HEADER] * 9 + ["member,vote"]), *members, mark, *records]
         end = lot.choice(["\n", "\n", "\r\n", "\r", "\n\n"])
-        found.append((lot.choice(["", "\ufeff"]) + end.join(lines) + lot.choice(["", end])).encode())
+        found.append((lot.choice(["", "\n", "\ufeff", "\ufeff\n"]) + end.join(lines) + lot.choice(["", end])).encode())
     return found
