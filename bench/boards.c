@@ -3,8 +3,8 @@
  *     boards FILE ROUNDS      counts the boards of a file at all four majorities: words of 64 bits, 24 for a board
  *     boards replay FILE N    replays a script N times
  *
- * Prints the processor's nanoseconds of the best round, and the sum of all omegas or the bytes of one text. Nothing here
- * is part of the checks. */
+ * Prints the processor's nanoseconds of the best round, and the sum of all omegas or the length of the text. Nothing
+ * here is part of the checks. */
 #include "board.h"
 #include <inttypes.h>
 #include <stdio.h>

@@ -1,5 +1,5 @@
-"""Makes the package's wheels for pip, so that an installation needs no other tool and no network. The same files make the same
-bytes."""
+"""Makes the package's wheels for pip, so that an installation needs no other tool and no network. The same files make
+the same bytes."""
 from __future__ import annotations
 
 import base64
@@ -41,7 +41,7 @@ def record_line(name: str, content: bytes) -> str:
 def version() -> str:
     """The version of the package, where its library is there."""
     if not all((HERE / name).is_file() for name in [LIBRARY, "VERSION"]):
-        raise SystemExit("voting_board: the library isn't here: ./release makes a release, and its folder python has it")
+        raise SystemExit("voting_board: the library isn't here: ./release makes a release, whose folder python has it")
     return (HERE / "VERSION").read_text().strip()
 
 

@@ -134,7 +134,7 @@ uint8_t board_counts_of_members(const struct board_member *members, size_t len, 
 uint8_t board_replay(const uint8_t *input, size_t len, uint32_t readers, uint32_t journal, uint8_t *out, size_t out_len,
                      uint64_t *written, uint32_t *record);
 
-/* The version of the library, such as "0.2.0". This call and the next one are not proved: they read a table, which is
+/* The version of the library, which is that of the program. This call and the next one are not proved: they read a table, which is
  * tested. What they answer stays, and is not freed. */
 const char *board_version(void);
 

@@ -27,6 +27,5 @@ int main(void) {
     printf("a total below the sum: %d, %s\n", below, board_refusal_name(below));
     uint8_t majority = board_counts_of_weights(weights, 3, 100, 4, &room, &all.half);
     printf("a majority 4: %d, %s\n", majority, board_refusal_name(majority));
-    printf("version %s\n", board_version());
     return 0;
 }

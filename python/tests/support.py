@@ -43,19 +43,22 @@ def counted(weights: list[int], total: int, majority: str) -> tuple[int, list[in
         return wins(majority, votes, len(coalition), sum(weights), total, len(weights))
 
     coalitions = [it for size in range(len(weights) + 1) for it in combinations(chairs, size)]
-    swings = [sum(chair not in it and not does_win(it) and does_win((*it, chair)) for it in coalitions) for chair in chairs]
+    losing = [it for it in coalitions if not does_win(it)]
+    swings = [sum(chair not in it and does_win((*it, chair)) for it in losing) for chair in chairs]
     return sum(map(does_win, coalitions)), swings
 
 
 def boards(many: int, most: int) -> list[tuple[list[int], int]]:
-    """Boards of up to `most` chairs: weights, and votes beside them. Some have equal votes, some have zeros, and some have
-    many votes."""
+    """Boards of up to `most` chairs: weights, and votes beside them. Some have equal votes, some have zeros, and some
+    have many votes."""
     lot = random.Random(1946)
     found = []
     for _ in range(many):
         top = lot.choice([1, 3, 12, 1000, 2**40])
         chairs = lot.randrange(most + 1)
-        weights = [lot.choice([0, top])] * chairs if lot.random() < 0.1 else [lot.randint(0, top) for _ in range(chairs)]
+        weights = [lot.randint(0, top) for _ in range(chairs)]
+        if lot.random() < 0.1:
+            weights = [lot.choice([0, top])] * chairs
         found.append((weights, lot.choice([0, 0, lot.randint(0, top)])))
     return found
 
@@ -95,9 +98,13 @@ def is_reading(reading: Reading, fields: list[str], rows: list[list[str]]) -> bo
     return found == fields and len(rows) == len(reading.chairs) and all(map(is_row, reading.chairs, rows))
 
 
+WORDS = "open open close move move move votes suspend restore admit withdraw".split()
+FAULTY = ["open,33", "read,2,half", "Open,1", '"open,1', "x"]
+
+
 def commands(lot: random.Random, codes: list[str]) -> list[str]:
     """A command that is often accepted, as its fields."""
-    word = lot.choice(["open", "open", "close", "move", "move", "move", "votes", "suspend", "restore", "admit", "withdraw"])
+    word = lot.choice(WORDS)
     who, chair = lot.choice(codes), str(lot.randint(1, 8))
     if word in ("open", "close"):
         return [word, chair]
@@ -121,9 +128,9 @@ def scripts(many: int) -> list[bytes]:
             more = lot.choice(["publish", f"read,1,{lot.choice(MAJORITIES)}"])
             records.insert(lot.randint(0, len(records)), more)
         if lot.random() < 0.2:
-            records.insert(lot.randint(0, len(records)), lot.choice(["open,33", "read,2,half", "Open,1", '"open,1', "x"]))
+            records.insert(lot.randint(0, len(records)), lot.choice(FAULTY))
         mark = lot.choice(["script", "script", '"script"', "\nscript\n"])
         lines = [lot.choice([HEADER] * 9 + ["member,vote"]), *members, mark, *records]
         end = lot.choice(["\n", "\n", "\r\n", "\r", "\n\n"])
-        found.append((lot.choice(["", "\ufeff"]) + end.join(lines) + lot.choice(["", end])).encode())
+        found.append((lot.choice(["", "\n", "\ufeff", "\ufeff\n"]) + end.join(lines) + lot.choice(["", end])).encode())
     return found

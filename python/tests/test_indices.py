@@ -59,16 +59,18 @@ class IndicesTest(unittest.TestCase):
 
     def test_largest_board(self):
         got = indices([2**43] * 32, majority="half")
-        self.assertEqual((got.total, got.coalitions, {it.share for it in got.chairs}), (2**48, 2**32, {Fraction(1, 32)}))
+        self.assertEqual((got.total, got.coalitions), (2**48, 2**32))
+        self.assertEqual({it.share for it in got.chairs}, {Fraction(1, 32)})
 
     def test_no_chairs(self):
-        for got in [indices([], majority="half"), indices([], total=5, majority="quorum"), *indices_of_all([]).values()]:
+        quorum = indices([], total=5, majority="quorum")
+        for got in [indices([], majority="half"), quorum, *indices_of_all([]).values()]:
             self.assertEqual((got.omega, got.coalitions, got.chairs, got.records()), (0, 1, (), []))
 
     def test_members(self):
         """The weights of chairs are those of their members that aren't suspended; a chair may be open without one."""
         members = [(50, 3), Member(49, 5), (1, 5, True), (7,), Member(9, 9, suspended=True)]
-        got = indices_of_members(members, majority="85", open_chairs=[32, 3])
+        got = indices_of_members(members, majority="85", open_chairs=[32, 3, 3])
         self.assertEqual((got.numbers, got.weights, got.total), ((3, 5, 9, 32), (50, 49, 0, 0), 106))
         alike = indices([50, 49, 0, 0], majority="85", total=106)
         self.assertEqual((got.quota, got.swings), (alike.quota, alike.swings))
@@ -86,6 +88,7 @@ class IndicesTest(unittest.TestCase):
         got = indices([50, 49, 1], majority="half")
         self.assertEqual(got.records()[0]["share"], Fraction(3, 5))
         self.assertEqual(json.loads(json.dumps(got.records(floats=True)))[0]["share"], 0.6)
+        self.assertIsNone(indices([0], majority="half").records(floats=True)[0]["share"])
 
     @unittest.skipUnless(HAS_PANDAS, "pandas isn't there")
     def test_dataframe(self):
@@ -119,6 +122,16 @@ class ManyTest(unittest.TestCase):
         self.check(indices_of_many(self.ROWS, MAJORITIES))
         self.check(indices_of_many((iter(row) for row in self.ROWS), ["quorum", "half"]))
         self.check(indices_of_many(map(tuple, self.ROWS), iter(["85"])))
+        self.check(indices_of_many(self.ROWS, ["quorum", "85", "half", "70", "half"]))
+
+    def test_no_swings(self):
+        """Where an index is None, its float is nan."""
+        many = indices_of_many([[0, 0]], ["half"])
+        self.assertEqual(str(many.floats("share").tolist()), "[[[nan, nan]]]")
+        self.assertEqual(many.floats("initiate").tolist(), [[[0, 0]]])
+        self.assertRaisesRegex(ValueError, "no index 'power'", many.floats, "power")
+        self.assertRaisesRegex(KeyError, "wasn't asked for", many.indices, 0, "85")
+        self.assertRaisesRegex(IndexError, "no board 1", many.indices, 1, "half")
 
     def test_without_numpy(self):
         with mock.patch.dict(sys.modules, {"numpy": None}):
@@ -140,7 +153,8 @@ class ManyTest(unittest.TestCase):
 
         rows = [[50, 49, 1], [0, 255, 3]]
         wanted = indices_of_many(rows, MAJORITIES)
-        for given in [*(numpy.array(rows, kind) for kind in ("uint8", "int32", "uint64", object)), pandas.DataFrame(rows)]:
+        arrays = [numpy.array(rows, kind) for kind in ("uint8", "int32", "uint64", object)]
+        for given in [*arrays, pandas.DataFrame(rows)]:
             got = indices_of_many(given, MAJORITIES)
             self.assertEqual((got.swings.dtype, got.swings.shape), (numpy.dtype("uint64"), (2, 4, 3)))
             self.assertTrue((got.swings == wanted.swings).all() and (got.omega == wanted.omega).all())

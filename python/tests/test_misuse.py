@@ -3,12 +3,14 @@ from __future__ import annotations
 
 import asyncio
 import ctypes
+import doctest
 import importlib.util
 import multiprocessing
 import os
 import pickle
 import random
 import re
+import signal
 import subprocess
 import sys
 import threading
@@ -21,7 +23,8 @@ from fractions import Fraction
 from pathlib import Path
 
 import voting_board
-from voting_board import MAJORITIES, Refused, Register, indices, indices_of_all, indices_of_many, indices_of_members, replay
+from voting_board import MAJORITIES, Refused, Register, indices, indices_of_all, indices_of_many, indices_of_members
+from voting_board import replay
 from voting_board.checks import check_board
 from voting_board.library import COUNT_WORDS, library, room
 from voting_board.refusals import REFUSALS
@@ -29,21 +32,23 @@ from voting_board.refusals import REFUSALS
 TOP = Path(__file__).resolve().parents[2]
 LARGEST = [2**43 - at for at in range(32)]
 SCRIPT = "member,votes\nAAA,50\nBBB,49\nscript\nopen,1\nmove,AAA,1\npublish\nread,1,half\n"
+SOON = 0.0005
 HAS_NUMPY = importlib.util.find_spec("numpy") is not None
 
-NO_NUMBERS = [50.0, 1.5, float("nan"), float("inf"), Fraction(1), Decimal(1), "50", None, True, False, b"5", [1], 1j, object]
+NAN, INFINITE = float("nan"), float("inf")
+NO_NUMBERS = [50.0, 1.5, NAN, INFINITE, Fraction(1), Decimal(1), "50", None, True, False, b"5", [1], 1j, object]
 NO_MAJORITIES = ["HALF", " half", "70%", "", "seventy", "half\n"]
 NO_STRINGS = [70, 0, 0.7, None, True, b"half", ["half"]]
 OUT_OF_RANGE = [
     ([1, 2, -1], None, "weight 3 is -1: votes are whole numbers from 0"),
-    ([1] * 33, None, "33 weights: there are at most 32 chairs"),
-    ([2, 3], 4, "total 4 is below the sum of the weights, 5"),
-    ([2, 3], -1, "total -1 is below the sum of the weights, 5"),
-    ([2**48, 1], None, "the weights add up to 281474976710657: a total is at most 2^48"),
-    ([1], 2**48 + 1, "total 281474976710657 is above 2^48"),
-    ([2**64], None, "the weights add up to 18446744073709551616: a total is at most 2^48"),
-    ([2**64], 5, "total 5 is below the sum of the weights, 18446744073709551616"),
-    ([10**400], 2**64, "total 18446744073709551616 is above 2^48"),
+    ([1] * 33, None, "33 weights: a board has at most 32 chairs"),
+    ([2, 3], 4, "the total is 4: at least the sum of the weights, 5"),
+    ([2, 3], -1, "the total is -1: at least the sum of the weights, 5"),
+    ([2**48, 1], None, "the total is 281474976710657: at most 281474976710656"),
+    ([1], 2**48 + 1, "the total is 281474976710657: at most 281474976710656"),
+    ([2**64], None, "the total is 18446744073709551616: at most 281474976710656"),
+    ([2**64], 5, "the total is 5: at least the sum of the weights, 18446744073709551616"),
+    ([10**400], 2**64, "the total is 18446744073709551616: at most 281474976710656"),
 ]
 
 
@@ -62,7 +67,7 @@ class ValuesTest(unittest.TestCase):
         for value in NO_NUMBERS:
             kind = type(value).__name__
             for what, call in [
-                (f"weight 2 .* \\({kind}\\): votes are whole numbers from 0", lambda: indices([1, value], majority="half")),
+                (f"weight 2 .* \\({kind}\\): votes are whole", lambda: indices([1, value], majority="half")),
                 (f"weight 2 .* \\({kind}\\): votes", lambda: indices_of_all([1, value])),
                 (f"row 1: weight 2 .* \\({kind}\\)", lambda: indices_of_many([[1], [1, value]], ["half"])),
                 (f"votes of member 1 .* \\({kind}\\)", lambda: indices_of_members([(value, 1)], majority="half")),
@@ -82,10 +87,11 @@ class ValuesTest(unittest.TestCase):
     def test_ranges(self):
         """A number out of its range is refused with its place, its value and what is allowed."""
         for weights, total, message in OUT_OF_RANGE:
+            totals = None if total is None else [0, total]
             for prefix, call in [
                 ("", lambda: indices(weights, total=total, majority="half")),
                 ("", lambda: indices_of_all(weights, total=total)),
-                ("row 1: ", lambda: indices_of_many([[], weights], ["half"], totals=None if total is None else [0, total])),
+                ("row 1: ", lambda: indices_of_many([[], weights], ["half"], totals=totals)),
             ]:
                 with self.subTest(weights=weights, total=total), self.assertRaises(Refused) as caught:
                     call()
@@ -148,11 +154,13 @@ class ValuesTest(unittest.TestCase):
         self.assertEqual(indices([numpy.uint8(200), numpy.int8(100)], majority="half").cast, 300)
 
     def test_members(self):
+        votes = "the votes of the members that aren't suspended are 281474976710657: at most 281474976710656"
         for members, message in [
-            ([(1, 1), (1, 33)], "chair of member 2 is 33: chairs are numbered from 1 to 32"),
-            ([(1, 0)], "chair of member 1 is 0: chairs are numbered from 1 to 32"),
-            ([(-1, 1)], "votes of member 1 are -1: votes are whole numbers from 0"),
-            ([(2**48, 1), (1,)], "the votes of the members add up to 281474976710657: a total is at most 2^48"),
+            ([(1, 1), (1, 33)], "the chair of member 2 is 33: a chair is a whole number from 1 to 32"),
+            ([(1, 0)], "the chair of member 1 is 0: a chair is a whole number from 1 to 32"),
+            ([(-1, 1)], "the votes of member 1 are -1: votes are whole numbers from 0"),
+            ([(2**48, 1), (1,)], votes),
+            ([(2**64, 1, True)], f"the votes of member 1 are {2**64}: votes are whole numbers from 0 to {2**64 - 1}"),
         ]:
             with self.assertRaises(Refused) as caught:
                 indices_of_members(members, majority="half")
@@ -188,9 +196,14 @@ class ValuesTest(unittest.TestCase):
             name = REFUSALS[number][0] if number in REFUSALS else ""
             self.assertEqual(library.board_refusal_name(number).decode(), name)
 
+    def test_examples(self):
+        """The package's own examples answer what stands below them."""
+        self.assertEqual(doctest.testmod(voting_board), doctest.TestResults(failed=0, attempted=4))
+
     def test_types_are_told(self):
         """The hints can be evaluated, and the version is the library's."""
-        for call in [indices, indices_of_all, indices_of_many, indices_of_members, replay, Register.move, Register.from_table]:
+        counts = [indices, indices_of_all, indices_of_many, indices_of_members]
+        for call in [*counts, replay, Register.move, Register.from_table]:
             self.assertIn("return", typing.get_type_hints(call))
         self.assertEqual(typing.get_args(voting_board.Majority), MAJORITIES)
         self.assertRegex(voting_board.__version__, r"^\d+\.\d+\.\d+$")
@@ -200,7 +213,8 @@ class PlacesTest(unittest.TestCase):
     def test_pickle(self):
         for why in [Refused(32, "weight 3 is -1"), Refused(1, "refused", "open,1")]:
             same = pickle.loads(pickle.dumps(why))
-            self.assertEqual((str(same), same.name, same.number, same.command), (str(why), why.name, why.number, why.command))
+            for told in (str, lambda it: (it.name, it.number, it.command)):
+                self.assertEqual(told(same), told(why))
         got = indices([50, 49, 1], majority="half")
         self.assertEqual((pickle.loads(pickle.dumps(got)), len(got.chairs)), (got, 3))
         self.assertEqual(pickle.loads(pickle.dumps(got)).chairs[0].share, Fraction(3, 5))
@@ -255,6 +269,27 @@ class PlacesTest(unittest.TestCase):
             stop.set()
             thread.join()
 
+    def test_signals(self):
+        """A handler that counts and replays may come at any time."""
+        wanted, other = replay(SCRIPT).text, SCRIPT.replace("50", "49").replace("half", "85")
+
+        came = []
+
+        def handle(*_):
+            came.append((len(replay(other).readings), shares([50, 49, 1])))
+            signal.setitimer(signal.ITIMER_REAL, SOON)
+
+        before = signal.signal(signal.SIGALRM, handle)
+        signal.setitimer(signal.ITIMER_REAL, SOON)
+        try:
+            for _ in range(2_000):
+                self.assertEqual(replay(SCRIPT).text, wanted)
+        finally:
+            signal.setitimer(signal.ITIMER_REAL, 0)
+            signal.signal(signal.SIGALRM, before)
+        self.assertTrue(came)
+        self.assertEqual([it for it in came if it != (1, [0.6, 0.2, 0.2])], [])
+
     def test_asyncio(self):
         async def count():
             return await asyncio.gather(*(asyncio.to_thread(shares, [50, 49, 1]) for _ in range(20)))
@@ -262,7 +297,7 @@ class PlacesTest(unittest.TestCase):
         self.assertEqual(asyncio.run(count()), [[0.6, 0.2, 0.2]] * 20)
 
     def test_little_memory(self):
-        """Where memory is refused, a call raises MemoryError or a replay answers OutOfMemory, and later calls are right."""
+        """Where memory is refused, a call raises MemoryError, a replay answers OutOfMemory, and a later call counts."""
         program = Path(__file__).with_name("little_memory.py")
         done = subprocess.run([sys.executable, str(program)], stdout=subprocess.PIPE, text=True, check=True)
         self.assertEqual(done.stdout, "MemoryError\nOutOfMemory\nMemoryError\n3/5\n")

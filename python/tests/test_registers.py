@@ -31,7 +31,7 @@ def answer(register, fields):
     try:
         return f"accepted,{do(register, fields)}"
     except Refused as why:
-        assert why.command == ",".join(fields) and f" is refused: {why.name}, " in str(why), why
+        assert why.command == ",".join(fields) and f": {why.name} ({why.number}), " in str(why), why
         return f"refused,{why.number},{why.name}"
 
 
@@ -79,7 +79,9 @@ class RegisterTest(unittest.TestCase):
         register = opened()
         self.assertEqual(register.journal[:2], ("open,1", "move,AAA,1"))
         self.assertEqual(register.chairs, {1: ("AAA",), 2: ("BBB",), 3: ("CCC",)})
+        self.assertEqual(register.indices("half").swings, (3, 1, 1))
         self.assertEqual(register.suspend("AAA"), 7)
+        self.assertEqual(register.indices("half").swings, (0, 4, 0))
         self.assertEqual(register.set_votes("AAA", 51), 8)
         self.assertEqual(register.admit("DDD", 3), 9)
         self.assertEqual(register.move("CCC", None), 10)
@@ -87,7 +89,9 @@ class RegisterTest(unittest.TestCase):
         self.assertEqual(register.withdraw("CCC"), 12)
         self.assertEqual(register.members, {"AAA": Member(51, 1, True), "BBB": Member(49, 2), "DDD": Member(3)})
         self.assertEqual((register.restore("AAA"), register.members["AAA"]), (13, Member(51, 1)))
-        self.assertEqual(register.indices("half").swings, (2, 0))
+        seen = register.indices("half")
+        self.assertEqual((seen.swings, seen.front, seen.reader), ((2, 0), 13, 1))
+        self.assertEqual(seen, replay(register.script() + "publish\nread,1,half\n").readings[0])
 
     def test_refused(self):
         """A refused command leaves the register as it was, and says why."""
@@ -146,13 +150,14 @@ class RegisterTest(unittest.TestCase):
     def test_too_long(self):
         """A script that has grown too long is refused, and the register stays as it was."""
         register = Register({"AAA": 1})
-        register.open(1)
-        register._script += "\n" * 4_194_304  # empty lines are no records
-        for call in [lambda: register.open(2), lambda: register.indices("half")]:
+        for chair in range(1, 9):
+            register.open(chair)
+            register._script += "\n" * (4_194_304 // 8)  # empty lines are no records
+        for call in [lambda: register.open(9), lambda: register.indices("half")]:
             with self.assertRaises(Refused) as caught:
                 call()
             self.assertEqual(caught.exception.name, "TooLong")
-        self.assertEqual(register.journal, ("open,1",))
+        self.assertEqual(len(register.journal), 8)
 
     def test_table(self):
         """A table of columns, with members in no chair; the chairs that it names are open."""

@@ -10,8 +10,8 @@
     >>> register.open(1), register.move("AAA", 1)
     (1, 2)
 
-"Proved" ends at the library's exports: the counts that they write are the definitions', and the lines of a replay are the
-program's. What this package makes of them, as fractions, objects and messages, is tested.
+"Proved" ends at the library's exports: the counts that they write are the definitions', and the lines of a replay are
+the program's. What this package makes of them, as fractions, objects and messages, is tested.
 """
 from .checks import MAJORITIES, Majority
 from .counts import Chair, Counts, Indices, Member, indices, indices_of_all, indices_of_members

@@ -1,5 +1,5 @@
-"""What callers hand in, as whole numbers within their limits: what is wrong is said with its place, its value and what is
-allowed."""
+"""What callers hand in, as whole numbers within their limits: what is wrong is said with its place, its value and what
+is allowed."""
 from __future__ import annotations
 
 import operator
@@ -12,13 +12,13 @@ from .refusals import BAD_RECORD, BAD_SHEET, Refused
 
 Majority = Literal["half", "70", "85", "quorum"]
 
-#: The majorities: more than half of the votes cast; at least 70 and 85 per cent of the total; more than half of the chairs,
-#: having at least half of the total. The library numbers them in this order, from 0.
+#: The majorities: more than half of the votes cast; at least 70 and 85 per cent of the total; more than half of the
+#: chairs, having at least half of the total. The library numbers them in this order, from 0.
 MAJORITIES: tuple[Majority, ...] = ("half", "70", "85", "quorum")
 
 MAJORITY_NAMES = "half, 70, 85 or quorum"
 VOTES = "votes are whole numbers from 0"
-CHAIR = f"chairs are numbered from 1 to {CHAIRS}"
+CHAIR = f"a chair is a whole number from 1 to {CHAIRS}"
 
 
 def whole(value: Any, what: str, allowed: str) -> int:
@@ -68,21 +68,20 @@ def votes_of(weights: Iterable[SupportsIndex], where: str = "") -> list[int]:
 
 
 def check_board(votes: list[int], total: Optional[int], where: str = "") -> int:
-    """The total of a board, which is the sum of its weights where none is given. Refuses weights and a total that are no
-    board's, for the first reason that holds."""
+    """The total of a board, which is the sum of its weights where none is given. Refuses weights and a total that are
+    no board's, for the first reason that holds."""
     cast = sum(votes)
     if len(votes) > CHAIRS:
-        raise Refused(BAD_SHEET, f"{where}{len(votes)} weights: there are at most {CHAIRS} chairs")
+        raise Refused(BAD_SHEET, f"{where}{len(votes)} weights: a board has at most {CHAIRS} chairs")
     for place, weight in enumerate(votes, 1):
         if weight < 0:
             raise Refused(BAD_SHEET, f"{where}weight {place} is {weight}: {VOTES}")
-    if total is None and cast > MOST_VOTES:
-        raise Refused(BAD_SHEET, f"{where}the weights add up to {cast}: a total is at most 2^48")
-    if total is not None and total > MOST_VOTES:
-        raise Refused(BAD_SHEET, f"{where}total {total} is above 2^48")
-    if total is not None and total < cast:
-        raise Refused(BAD_SHEET, f"{where}total {total} is below the sum of the weights, {cast}")
-    return cast if total is None else total
+    found = cast if total is None else total
+    if found > MOST_VOTES:
+        raise Refused(BAD_SHEET, f"{where}the total is {found}: at most {MOST_VOTES}")
+    if found < cast:
+        raise Refused(BAD_SHEET, f"{where}the total is {found}: at least the sum of the weights, {cast}")
+    return found
 
 
 def total_of(votes: list[int], total: Optional[SupportsIndex], where: str = "") -> int:

@@ -189,8 +189,8 @@ def indices_of_members(
 ) -> Indices:
     """The voting power of a board by its members, in any order: each a `Member`, or a sequence that makes one.
 
-    A chair is open where a member sits in it, suspended or not, and where `open_chairs` names it. Its weight is the votes
-    of its members that aren't suspended. The total is the votes of all members that aren't suspended.
+    A chair is open where a member sits in it, suspended or not, and where `open_chairs` names it. Its weight is the
+    votes of its members that aren't suspended. The total is the votes of all members that aren't suspended.
 
     Raises `Refused`: `BadSheet` for a chair that isn't from 1 to 32, for votes below 0 and for a total above 2^48, else
     `BadRecord` where there is no such majority.
@@ -198,8 +198,8 @@ def indices_of_members(
     table = [member_of(member, place) for place, member in enumerate(members, 1)]
     total = sum(member.votes for member in table if not member.suspended)
     if total > MOST_VOTES:
-        raise Refused(BAD_SHEET, f"the votes of the members add up to {total}: a total is at most 2^48")
-    mask = sum({1 << (chair_of(chair, "open chair") - 1) for chair in open_chairs})
+        raise Refused(BAD_SHEET, f"the votes of the members that aren't suspended are {total}: at most {MOST_VOTES}")
+    mask = sum({1 << (chair_of(chair, "an open chair") - 1) for chair in open_chairs})
     number = number_of(majority)
     given = array("Q", [word for it in table for word in (it.votes, it.chair or 0, it.suspended)])
     found = array("Q", bytes(8 * COUNT_WORDS))
@@ -211,12 +211,12 @@ def indices_of_members(
 def member_of(given: MemberLike, place: int) -> Member:
     """A member whose numbers are within what the library takes."""
     member = Member(*given)
-    votes = whole(member.votes, f"votes of member {place}", VOTES)
+    votes = whole(member.votes, f"the votes of member {place}", VOTES)
     if votes < 0:
-        raise Refused(BAD_SHEET, f"votes of member {place} are {votes}: {VOTES}")
+        raise Refused(BAD_SHEET, f"the votes of member {place} are {votes}: {VOTES}")
     if votes > MOST_WORD:
-        raise Refused(BAD_SHEET, f"votes of member {place} are {votes}: {VOTES} to {MOST_WORD}")
-    chair = None if member.chair is None else chair_of(member.chair, f"chair of member {place}")
+        raise Refused(BAD_SHEET, f"the votes of member {place} are {votes}: {VOTES} to {MOST_WORD}")
+    chair = None if member.chair is None else chair_of(member.chair, f"the chair of member {place}")
     if not type(member.suspended).__name__.startswith("bool"):
         kind = type(member.suspended).__name__
         raise TypeError(f"suspended of member {place} is {member.suspended!r} ({kind}): True or False")

@@ -48,8 +48,8 @@ library.board_version.restype = ctypes.c_char_p
 library.board_refusal_name.argtypes = [number]
 library.board_refusal_name.restype = ctypes.c_char_p
 
-# Each thread lends the library a board_room of its own, since a room serves one call at a time. The room is kept: to make
-# one takes longer than most counts.
+# Each thread lends the library a board_room of its own, since a room serves one call at a time. The room is kept: to
+# make one takes longer than most counts.
 ROOM_WORDS = 163_840
 thread = threading.local()
 

@@ -81,11 +81,11 @@ def indices_of_many(
     totals: Optional[Iterable[SupportsIndex]] = None,
 ) -> ManyIndices:
     """The voting power of many boards: each row has the weights of a board's chairs 1, 2 and so on, as `indices` takes
-    them. `rows` is an array of numpy, a table of pandas or any iterable of iterables; boards may differ in their chairs.
-    `totals` has the total of each board; without it, it is the sum of the row.
+    them. `rows` is an array of numpy, a table of pandas or any iterable of iterables; boards may differ in their
+    chairs. `totals` has the total of each board; without it, it is the sum of the row.
 
-    All boards are looked at before the first is counted. Raises what `indices` raises, with the row, counted from 0. Other
-    threads run while the library counts.
+    All boards are looked at before the first is counted. Raises what `indices` raises, with the row, counted from 0.
+    Other threads run while the library counts.
     """
     if isinstance(majorities, str):
         raise TypeError(f"the majorities are {majorities!r} (str): a list of them, such as ['half', '85']")

@@ -24,8 +24,8 @@ ALLOWED |= dict.fromkeys(["suspend", "restore", "withdraw"], CODE)
 class Register:
     """A register with its members, their votes and the chairs that they sit in.
 
-    It has no rule of its own: it keeps a script, and what each command and each reading answers is what the replay of that
-    script answers. A command answers how many were accepted, or raises `Refused` with the name, the number and the
+    It has no rule of its own: it keeps a script, and what each command and each reading answers is what the replay of
+    that script answers. A command answers how many were accepted, or raises `Refused` with the name, the number and the
     command, and the register is as before. So each command takes as long as a replay of all commands before it.
 
     `members` and `chairs` are kept from the commands that were accepted. A register serves one thread at a time.
@@ -72,15 +72,15 @@ class Register:
 
     def open(self, chair: SupportsIndex) -> int:
         """Opens a closed chair."""
-        return self._run([record_of("open", whole(chair, "chair", CHAIR))])
+        return self._run([record_of("open", whole(chair, "the chair", CHAIR))])
 
     def close(self, chair: SupportsIndex) -> int:
         """Closes an open chair without members, suspended ones counted."""
-        return self._run([record_of("close", whole(chair, "chair", CHAIR))])
+        return self._run([record_of("close", whole(chair, "the chair", CHAIR))])
 
     def move(self, code: str, chair: Optional[SupportsIndex]) -> int:
         """Moves a member to an open chair, or out of its chair, where `chair` is None."""
-        seat = "none" if chair is None else str(whole(chair, "chair", CHAIR))
+        seat = "none" if chair is None else str(whole(chair, "the chair", CHAIR))
         return self._run([record_of("move", code_in(code), seat)])
 
     def set_votes(self, code: str, votes: SupportsIndex) -> int:
@@ -104,13 +104,14 @@ class Register:
         return self._run([record_of("withdraw", code_in(code))])
 
     def indices(self, majority: Majority) -> Reading:
-        """The voting power of the open chairs as the register stands, at a majority. It is kept until the next command."""
+        """The voting power of the open chairs as the register stands, at a majority. It is kept until the next
+        command."""
         number_of(majority)
         if majority not in self._readings:
-            fault, (_, *lines) = self._answer(f"publish\nread,1,{majority}\n")
+            fault, lines = self._answer(f"publish\nread,1,{majority}\n")
             if fault:
                 raise refused_by(fault, f"read,1,{majority}")
-            (_, *fields), *below = (line.split(",") for line in lines)
+            _, (_, *fields), *below = (line.split(",") for line in lines)
             self._readings[majority] = reading_of(fields, self._records + 2, below)
         return self._readings[majority]
 
@@ -137,7 +138,7 @@ class Register:
         return self._script
 
     def what_if(self) -> Register:
-        """A copy, which can be changed while this register stays as it is. It is also a context: `with r.what_if() as it:`"""
+        """A copy, which can be changed while this register stays as it is. It is also a context."""
         copy = object.__new__(type(self))
         copy._limit, copy._script, copy._records, copy._said = self._limit, self._script, self._records, self._said
         copy._members, copy._open = dict(self._members), set(self._open)
@@ -198,7 +199,7 @@ def check_members(answer: Answer, records: list[str]) -> None:
 
 def refused_by(number: int, record: str) -> Exception:
     """The exception for a refusal or a fault, which names the record."""
-    message = f"{f'{record} is' if record else 'the members are'} refused: {name_of(number)}, {reason_of(number)}"
+    message = f"{f'refused {record!r}: ' if record else ''}{name_of(number)} ({number}), {reason_of(number)}"
     if number == OUT_OF_MEMORY:
         return MemoryError(message)
     allowed = f": {ALLOWED.get(record.split(',')[0], MEMBER)}" if number == BAD_RECORD else ""
@@ -224,7 +225,7 @@ def code_in(code: Any) -> str:
 
 def votes_in(votes: Any, code: Any) -> int:
     """The votes of a member, as a whole number."""
-    return whole(votes, f"votes of {code}", VOTES)
+    return whole(votes, f"the votes of {code}", VOTES)
 
 
 def chair_in(cell: Any) -> Optional[int]:

@@ -16,8 +16,8 @@ from .refusals import BAD_LIMIT, WRITE_FAULT, Refused, name_of
 READERS = 4
 JOURNAL = 1_000_000
 
-# Room for the lines of a run. A script without readings never needs more than four bytes for each of its own. Where a run
-# doesn't fit in, it is repeated in room that is four times as large.
+# Room for the lines of a run. A script without readings never needs more than four bytes for each of its own. Where a
+# run doesn't fit in, it is repeated in room that is four times as large.
 LEAST_ROOM = 1 << 16
 GROWTH = 4
 thread = threading.local()
@@ -99,8 +99,23 @@ def limit(value: SupportsIndex, what: str, most: int) -> int:
 
 def run(script: bytes, readers: int, journal: int) -> Answer:
     """Replays a script by the library, in room that is large enough for its lines."""
+    room = taken_room(GROWTH * len(script))
+    try:
+        return run_in(room, script, readers, journal)
+    finally:
+        thread.room = room
+
+
+def taken_room(least: int) -> bytearray:
+    """The room for lines that this thread keeps, or a new one, with at least `least` bytes. Until it is put back, a
+    handler of a signal that replays takes another one."""
+    room: bytearray = thread.__dict__.pop("room", bytearray())
+    return room if room and len(room) >= least else bytearray(max(least, LEAST_ROOM))
+
+
+def run_in(room: bytearray, script: bytes, readers: int, journal: int) -> Answer:
+    """Replays a script in some room, or in more, where its lines don't fit in."""
     written, record = c_uint64(), c_uint32()
-    room = lent_room(GROWTH * len(script))
     while True:
         to, size = byref(c_char.from_buffer(room)), len(room)
         number = library.board_replay(script, len(script), readers, journal, to, size, byref(written), byref(record))
@@ -109,19 +124,11 @@ def run(script: bytes, readers: int, journal: int) -> Answer:
         room = bytearray(GROWTH * size)
 
 
-def lent_room(least: int) -> bytearray:
-    """Room for lines, at least so many bytes, which this thread keeps for its next run."""
-    room: bytearray = getattr(thread, "room", bytearray())
-    if len(room) < least or not room:
-        thread.room = room = bytearray(max(least, LEAST_ROOM))
-    return room
-
-
 def replay(text: Union[str, bytes], *, readers: SupportsIndex = 1, journal: SupportsIndex = JOURNAL) -> Replay:
     """Replays a script as `board replay` does: its records, lines, refusals and faults are those of docs/FORMATS.md.
 
-    `readers` are from 1 to 4, and `journal` is how many commands are accepted at most, from 1 to 1,000,000; other limits
-    raise `Refused`, `BadLimit`. A refused command and a fault are part of the answer, and raise nothing.
+    `readers` are from 1 to 4, and `journal` is how many commands are accepted at most, from 1 to 1,000,000; other
+    limits raise `Refused`, `BadLimit`. A refused command and a fault are part of the answer, and raise nothing.
     """
     if not isinstance(text, (str, bytes, bytearray)):
         raise TypeError(f"the script is {text!r:.60} ({type(text).__name__}): str or bytes")
@@ -141,7 +148,8 @@ class Replay:
 
     @cached_property
     def lines(self) -> tuple[Line, ...]:
-        """The lines as objects, with the number of the record that each answers. A reading has the lines of its chairs."""
+        """The lines as objects, with the number of the record that each answers. A reading has the lines of its
+        chairs."""
         found: list[Line] = []
         rows = [line.split(",") for line in self.text.splitlines()]
         record = first_record(self.script)
@@ -165,7 +173,8 @@ class Replay:
 
 
 def first_record(script: bytes) -> int:
-    """The number of the first record behind the mark. Before the mark a record is a line, else the run has ended there."""
+    """The number of the first record behind the mark. Before the mark a record is a line, else the run has ended
+    there."""
     records = [it for it in LINE_ENDS.split(script.removeprefix(BYTE_ORDER_MARK)) if it]
     return 2 + next((at for at, it in enumerate(records) if it in (b"script", b'"script"')), len(records))
 

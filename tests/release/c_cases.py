@@ -5,6 +5,7 @@ import re
 import shutil
 from pathlib import Path
 
+from answers import answers_in
 from steps import TOP, Case, ran
 
 STRICT = ["-std=c11", "-Wall", "-Wextra", "-Wconversion", "-pedantic", "-Werror", "-pthread", "-Iinclude"]
@@ -15,6 +16,14 @@ def check_calls(room: Path) -> None:
     """The calls of board.h: against a count over all coalitions, and on input that is refused."""
     ran(["cc", *STRICT, str(SOURCES / "calls.c"), "lib/libboard.a", "-o", "calls"], room)
     ran(["./calls"], room)
+
+
+def check_answers(room: Path, what: str) -> None:
+    """The library answers to boards or scripts what the program answers."""
+    folder = answers_in(room)
+    ran(["cc", "-O2", *STRICT, str(SOURCES / "answers.c"), "lib/libboard.a", "-o", "answers_c"], room)
+    got = ran(["sh", "-c", f"./answers_c {what} < {folder}/{what}.txt"], room)
+    assert got == (folder / f"{what}.txt").read_text(), f"the answers to {what} differ"
 
 
 def check_needs(room: Path) -> None:
@@ -39,8 +48,8 @@ def check_names(room: Path) -> None:
 
 
 def check_shared(room: Path) -> None:
-    """The shared library names itself by two numbers of the version, exports the calls of board.h and R's alone, and needs
-    the C library alone, none newer than 2.17."""
+    """The shared library names itself by two numbers of the version, exports the calls of board.h and R's alone, and
+    needs the C library alone, none newer than 2.17."""
     name = f"libboard.so.{version_of(room).rpartition('.')[0]}"
     link = room / "lib" / "libboard.so"
     assert link.is_symlink() and str(link.readlink()) == name, "libboard.so is no link to the shared library"
@@ -84,6 +93,8 @@ def check_aarch64(room: Path) -> None:
 def cases(room: Path) -> list[Case]:
     found = [
         ("the calls from C", lambda: check_calls(room)),
+        ("2,000 boards from C", lambda: check_answers(room, "boards")),
+        ("500 scripts from C", lambda: check_answers(room, "scripts")),
         ("what the library for C needs", lambda: check_needs(room)),
         ("the names of C's refusals, and the version", lambda: check_names(room)),
         ("the shared library", lambda: check_shared(room)),

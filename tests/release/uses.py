@@ -1,4 +1,5 @@
-"""What a program that uses voting_board writes: mypy finds an error in each line that ends in `# wrong`, and no other."""
+"""What a program that uses voting_board writes: mypy finds an error in each line that ends in `# wrong`, and no
+other."""
 from array import array
 from collections.abc import Iterator
 from fractions import Fraction
