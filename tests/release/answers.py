@@ -1,0 +1,102 @@
+#!/usr/bin/env python3
+"""Writes the program's answers to random boards and scripts, which the tests of each language compare with theirs.
+
+    tests/release/answers.py PROGRAM FOLDER
+
+FOLDER/boards.txt has, for each board, `board,TOTAL,WEIGHT..`, then for each majority
+`MAJORITY,CHAIRS,QUOTA,CAST,TOTAL,WINNING,COALITIONS` and the lines `chair,..` of the reading. FOLDER/scripts.txt has,
+for each script, `READERS,JOURNAL,STATUS,INPUT,TEXT`: the limits, the status of the program, and the bytes of the input
+and of what was printed, each byte as two hexadecimal digits."""
+from __future__ import annotations
+
+import random
+import subprocess
+import sys
+from collections.abc import Iterator
+from concurrent.futures import ThreadPoolExecutor
+from pathlib import Path
+
+sys.path.insert(0, str(Path(__file__).resolve().parents[1] / "targets"))
+from boards import weights_of  # noqa: E402
+from inputs import Call, mutated, of_rows  # noqa: E402
+
+SEED = 20_261_126
+BOARDS = 2_000
+SCRIPTS = 500
+# A case of tests/rows with more bytes stays out.
+MOST = 20_000
+WORKERS = 2
+CHAIRS = 32
+LARGEST_VOTES = 2**40
+MAJORITIES = ["half", "70", "85", "quorum"]
+SECONDS = 60
+
+
+def ran(program: Path, call: Call) -> tuple[int, bytes]:
+    """The status of a replay by the program, and what it printed."""
+    words = [str(program), "replay", "--readers", str(call.readers), "--journal", str(call.journal)]
+    done = subprocess.run(words, input=call.text, stdout=subprocess.PIPE, stderr=subprocess.DEVNULL, timeout=SECONDS)
+    return done.returncode, done.stdout
+
+
+def codes() -> Iterator[str]:
+    """The codes of members: AAA, AAB and so on."""
+    letters = [chr(it) for it in range(ord("A"), ord("Z") + 1)]
+    return (one + two + three for one in letters for two in letters for three in letters)
+
+
+def boards(seed: int, many: int) -> list[tuple[int, list[int]]]:
+    """Boards that are counted, each a total and the weights of its chairs. The total is above their sum on some."""
+    some = random.Random(seed)
+    found = []
+    for _ in range(many):
+        weights = [min(it, LARGEST_VOTES) for it in weights_of(some, some.randint(0, CHAIRS))]
+        found.append((sum(weights) + some.choice([0, 0, some.randint(1, 1000), LARGEST_VOTES]), weights))
+    return found
+
+
+def script_of(total: int, weights: list[int]) -> bytes:
+    """A script that reads a board at each majority. A member in no chair has the votes that no chair casts."""
+    named = list(zip(codes(), [*weights, total - sum(weights)]))
+    lines = ["member,votes", *(f"{code},{votes}" for code, votes in named), "script"]
+    for chair, (code, _) in enumerate(named[:-1], start=1):
+        lines += [f"open,{chair}", f"move,{code},{chair}"]
+    return "\n".join([*lines, "publish", *(f"read,1,{it}" for it in MAJORITIES), ""]).encode()
+
+
+def board_lines(program: Path, board: tuple[int, list[int]]) -> str:
+    """A board and what the program reads on it."""
+    total, weights = board
+    status, text = ran(program, Call("a board", script_of(total, weights)))
+    assert status == 0, text
+    lines = [it for it in text.decode().splitlines() if it.startswith(("reading,", "chair,"))]
+    read = [line.split(",", 3)[3] if line.startswith("reading,") else line for line in lines]
+    return "\n".join([",".join(["board", *map(str, [total, *weights])]), *read, ""])
+
+
+def script_line(program: Path, call: Call) -> str:
+    """A script and what the program prints."""
+    status, text = ran(program, call)
+    return f"{call.readers},{call.journal},{status},{call.text.hex()},{text.hex()}\n"
+
+
+def write(program: Path, folder: Path) -> None:
+    """Writes both files."""
+    scripts = [*(it for it in of_rows() if len(it.text) <= MOST), *mutated(SEED, SCRIPTS)]
+    with ThreadPoolExecutor(WORKERS) as pool:
+        counted = pool.map(lambda it: board_lines(program, it), boards(SEED, BOARDS))
+        (folder / "boards.txt").write_text("".join(counted))
+        (folder / "scripts.txt").write_text("".join(pool.map(lambda it: script_line(program, it), scripts)))
+
+
+def answers_in(room: Path) -> Path:
+    """The folder of both files in an unpacked release, which are written where they aren't there yet."""
+    folder = room / "answers"
+    if not folder.exists():
+        folder.mkdir()
+        write(room / "board", folder)
+    return folder
+
+
+if __name__ == "__main__":
+    write(Path(sys.argv[1]).resolve(), Path(sys.argv[2]))
