@@ -57,6 +57,12 @@ def check_chromium(room: Path) -> None:
     assert ended["passed"] == wanted > 0, f"{ended['passed']} of {wanted} tests passed"
 
 
+def check_version(room: Path) -> None:
+    """The package has the version of the release."""
+    version = (room / "VERSION").read_text().split()[1]
+    assert json.loads((room / "js" / "package.json").read_text())["version"] == version, f"it isn't {version}"
+
+
 def check_types(room: Path) -> None:
     """The types are right for calls that the package takes, and refuse those that it doesn't."""
     to = room / "node_modules"
@@ -70,7 +76,7 @@ def check_types(room: Path) -> None:
 
 def cases(room: Path) -> list[Case]:
     """The cases whose tools are here; it says which aren't."""
-    found: list[Case] = []
+    found: list[Case] = [("the version of the package for JavaScript", lambda: check_version(room))]
     if shutil.which("node"):
         found.append(("the package for JavaScript, in node", lambda: check_node(room)))
     else:
