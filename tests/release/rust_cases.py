@@ -18,9 +18,10 @@ def check_crate(room: Path) -> None:
     """The crate's tests, the blocks of its documents, and the tests against the program pass, without a warning."""
     crate = room / "rust"
     shutil.copy(HERE / "answers.rs", crate / "tests")
-    more = {"CARGO_TARGET_DIR": str(room / "target"), "BOARD_ANSWERS": str(answers_in(room)), "RUSTFLAGS": "-D warnings"}
+    more = {"CARGO_TARGET_DIR": str(room / "target"), "BOARD_ANSWERS": str(answers_in(room))}
     kept = {"stdout": subprocess.PIPE, "stderr": subprocess.STDOUT, "text": True, "timeout": SECONDS}
     environment = {name: value for name, value in os.environ.items() if name != "BOARD_LIBRARY_DIR"} | more
+    environment["RUSTFLAGS"] = "-D warnings"
     words = ["cargo", "test", "--offline", "--jobs", "2", "--manifest-path", str(crate / "Cargo.toml")]
     done = subprocess.run(words, cwd=room, env=environment, **kept)
     assert done.returncode == 0, done.stdout
