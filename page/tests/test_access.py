@@ -1,4 +1,4 @@
-"""The page for people who use a keyboard, a screen reader, a phone, a dark screen or a printer."""
+"""The page for people who use a keyboard, a screen reader, a phone or a dark screen."""
 from __future__ import annotations
 
 from itertools import pairwise
@@ -46,7 +46,7 @@ def test_names_and_roles(page: Page) -> None:
 
 @pytest.mark.parametrize("opener", ["#chip-XAA", *OPENERS])
 def test_names_in_dialogs(page: Page, opener: str) -> None:
-    # Catches: a dialog without a name, with a field that has none, or that a keyboard doesn't get out of.
+    # Catches: a dialog without a name, with a field that has none, or that can't be left by keyboard.
     page.click("#card-1")
     page.click(opener)
     check_names(page, opener)
@@ -82,7 +82,7 @@ def test_contrast(page: Page, scheme: str) -> None:
 
 
 def test_width_of_a_phone(page: Page) -> None:
-    # Catches: a page that is shifted to and fro on a phone, since something in it is wider than the screen.
+    # Catches: a page that must be scrolled sideways on a phone, since something in it is wider than the screen.
     page.show(NARROW, 844)
     for tab in TABS:
         page.click(tab)
@@ -103,7 +103,7 @@ def stops(page: Page) -> list[dict[str, Any]]:
 
 
 def test_order_of_tab(page: Page) -> None:
-    # Catches: a focus that one doesn't see, that hides, or that jumps back to what stands above in the same column.
+    # Catches: a focus that isn't seen, or that jumps back to what stands above in the same column.
     page.show(height=TALL)
     found = stops(page)
     assert len(found) > 20 and not [it for it in found if not it["isRinged"] or not it["width"] * it["height"]]
@@ -143,7 +143,8 @@ def test_keyboard_alone(page: Page, oracle: Oracle) -> None:
     page.until(lambda: page.all("#sweep-table"), "the sweep")
     tab_to(page, "#changes input[type=checkbox]")
     page.press(Keys.SPACE)
-    page.click("#tab-table")
+    tab_to(page, "#tab-curve")
+    page.press(Keys.ARROW_RIGHT)
     check_figures(page, oracle, [])
 
 
@@ -160,7 +161,7 @@ def test_charts_have_tables(page: Page) -> None:
 
 
 def test_phone(page: Page, oracle: Oracle) -> None:
-    # Catches: chairs and changes that a phone doesn't reach, since there is no room for three columns.
+    # Catches: chairs and changes that can't be reached on a phone, which has no room for three columns.
     page.show(NARROW, 844)
     page.click('.sheets [data-sheet="chairs"]')
     open_menu(page, "XAA")

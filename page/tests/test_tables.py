@@ -150,7 +150,7 @@ def test_limits(page: Page, words: str) -> None:
 
 
 def test_as_much_as_there_may_be(page: Page, small: Oracle) -> None:
-    # Catches: a sum of votes beyond 2^53, or a card for a 33rd chair.
+    # Catches: a sum or a product of votes that a floating number rounds, or a card for a 33rd chair.
     page.run(DROP, "most.csv", inputs.MOST)
     page.until(lambda: page.all("#table-dialog"), "the preview")
     take(page, "most")
