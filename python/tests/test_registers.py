@@ -5,9 +5,11 @@ import importlib.util
 import os
 import random
 import unittest
+from unittest import mock
 
 from support import code, commands, is_reading, printed, readings
 from voting_board import MAJORITIES, Member, Refused, Register, indices_of_members, replay
+from voting_board.replays import Answer
 
 SCRIPTS = 500
 COMMANDS = 30
@@ -158,6 +160,14 @@ class RegisterTest(unittest.TestCase):
                 call()
             self.assertEqual(caught.exception.name, "TooLong")
         self.assertEqual(len(register.journal), 8)
+
+    def test_out_of_memory(self):
+        """Where a replay ends for want of memory, it is a MemoryError, and the register stays as it was."""
+        register, answer = opened(), Answer(10, 0, b"accepted,1\nfault,0,OutOfMemory\n")
+        with mock.patch("voting_board.registers.run", return_value=answer):
+            for call in [lambda: register.open(9), lambda: register.indices("half"), lambda: Register({})]:
+                self.assertRaisesRegex(MemoryError, "OutOfMemory", call)
+        self.assertEqual((len(register.journal), register.open(9)), (6, 7))
 
     def test_table(self):
         """A table of columns, with members in no chair; the chairs that it names are open."""

@@ -4,6 +4,7 @@ from __future__ import annotations
 import os
 import re
 import unittest
+from concurrent.futures import ThreadPoolExecutor
 from pathlib import Path
 
 from support import is_reading, printed, readings, scripts
@@ -82,9 +83,10 @@ class ReplayTest(unittest.TestCase):
             self.assertEqual((replay(script).fault, replay(script).lines), (fault, (fault,)))
 
     def test_long_output(self):
-        """The room for lines grows until a run fits in."""
+        """The room for lines grows until a run fits in; a new thread begins with little room."""
         opened = "".join(f"open,{chair}\n" for chair in range(1, 13))
-        got = replay(FIRST + opened + "publish\n" + "read,1,half\n" * 3000)
+        with ThreadPoolExecutor(1) as pool:
+            got = pool.submit(replay, FIRST + opened + "publish\n" + "read,1,half\n" * 3000).result()
         self.assertEqual((len(got.readings), len(got.text) > 1_000_000), (3000, True))
         refused = replay(FIRST + "close,1\n" * 300_000)
         self.assertEqual((len(refused.refused), refused.fault), (300_000, None))
