@@ -3,7 +3,7 @@
 import { Board, MAJORITIES, Refused } from "./board.mjs";
 import { fraction } from "./fractions.mjs";
 import { linesOf } from "./lines.mjs";
-import { BAD_RECORD, CHAIR, VOTES } from "./reasons.mjs";
+import { BAD_RECORD, BAD_SHEET, CHAIR, VOTES } from "./reasons.mjs";
 import { chairOf, isWord, itemsOf, limitOf, noBoard, noMajority, noMembers, sumOf, typed, whole } from "./reasons.mjs";
 
 const MOST_READERS = 4;
@@ -58,8 +58,9 @@ function explained(call, majority, whyBoard) {
   try {
     return call();
   } catch (why) {
-    if (!(why instanceof Refused)) throw why;
-    throw why.number === BAD_RECORD ? noMajority(majority) : whyBoard();
+    const number = why instanceof Refused ? why.number : 0;
+    if (number === BAD_RECORD) throw noMajority(majority);
+    throw number === BAD_SHEET ? whyBoard() : why;
   }
 }
 

@@ -132,9 +132,11 @@ test("a copy changes on its own", () => {
   const copy = register.whatIf();
   deepEqual([copy.script(), copy.members, copy.indices("half")], before);
   copy.move("BBB", 1);
+  copy.open(4);
+  deepEqual([...register.chairs.keys()], [1, 2, 3]);
   register.members.get("AAA").votes = 7;
   deepEqual([register.script(), register.members, register.indices("half")], before);
-  deepEqual(copy.indices("half").chairs.map(({ weight }) => weight), [99, 0, 1]);
+  deepEqual(copy.indices("half").chairs.map(({ weight }) => weight), [99, 0, 1, 0]);
 });
 
 /** Numbers from 0 and below `limit`, the same in each run. */

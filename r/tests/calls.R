@@ -104,7 +104,8 @@ for (chair in c(0, 33, -1, 1.5, NaN, Inf)) {
   bad_sheet(board_indices(one, "half", open = c(1, chair)), "an open chair is ", chair, chairs)
 }
 sum <- "the votes of the members that aren't suspended are "
-bad_sheet(board_indices(data.frame(votes = c(2^48, 1), chair = 1), "half"), sum, "281474976710657", most)
+rows <- data.frame(votes = c(2^48, 1, 5), chair = 1, suspended = c(FALSE, FALSE, TRUE))
+bad_sheet(board_indices(rows, "half"), sum, "281474976710657", most)
 bad_sheet(board_indices(data.frame(votes = 2^64, chair = 1), "half"), sum, "18446744073709551616", most)
 numbers <- "votes are numbers: a factor has codes in place of its labels"
 wrong(board_indices(data.frame(votes = factor("50"), chair = 1), "half"), numbers)
@@ -133,6 +134,7 @@ same(board_replay("")$fault, list(record = 0L, number = 21, name = "BadHeader"))
 same(board_replay(character(0))$fault$name, "BadHeader")
 same(board_replay(raw(0))$fault$name, "BadHeader")
 same(board_replay(raw(4194305))$fault$name, "TooLong")
+same(board_replay(as.raw(c(65, 0, 66)))$fault$name, "BadHeader")
 same(board_replay("member,votes\nscript")[c("text", "fault")], list(text = "", fault = NULL))
 same(board_replay("member,votes\nscript\nread,2,half", readers = 2)$readings[[1]]$reader, 2)
 same(board_replay(c("member,votes", "script", "open,1", "open,2"), journal = 1)$refused$name, "JournalFull")

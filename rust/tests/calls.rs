@@ -84,7 +84,8 @@ fn members_that_cannot_be_are_refused() {
     }
     let sum = "the votes of the members that aren't suspended are";
     let message = format!("{sum} 36893488147419103230: at most 281474976710656");
-    assert_eq!(of(&[member(u64::MAX, None), member(u64::MAX, Some(1))], &[]), bad_sheet(&message));
+    let suspended = Member { votes: 5, chair: None, suspended: true };
+    assert_eq!(of(&[member(u64::MAX, None), member(u64::MAX, Some(1)), suspended], &[]), bad_sheet(&message));
 }
 
 #[test]

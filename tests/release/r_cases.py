@@ -10,6 +10,7 @@ from pathlib import Path
 from answers import answers_in
 
 HERE = Path(__file__).resolve().parent
+CALLS = "194 passed\n"
 SECONDS = 600
 Case = tuple[str, Callable[[], object]]
 
@@ -35,7 +36,7 @@ def check_installed(room: Path) -> None:
     """The installed package passes its tests, also without the release, and its examples run."""
     to = installed(room)
     tests = str(room / "r" / "tests" / "calls.R")
-    assert "193 passed\n" in ran(["Rscript", tests], Path("/"), R_LIBS=to)
+    assert CALLS in ran(["Rscript", tests], Path("/"), R_LIBS=to)
     pages = "c('board_indices', 'board_replay', 'board_version')"
     examples = f"library(votingboard); for (it in {pages}) example(it, character.only = TRUE)"
     ran(["Rscript", "-e", f"{examples}; unloadNamespace('votingboard')"], Path("/"), R_LIBS=to)
@@ -45,7 +46,7 @@ def check_sourced(room: Path) -> None:
     """The sourced file passes the same tests, from any folder, and names what is missing."""
     tests, file = str(room / "r" / "tests" / "calls.R"), room / "r" / "R" / "board.R"
     for path, where in [(str(file), Path("/")), ("R/board.R", room / "r"), ("board.R", file.parent)]:
-        assert "193 passed\n" in ran(["Rscript", tests], where, BOARD_R=path), path
+        assert CALLS in ran(["Rscript", tests], where, BOARD_R=path), path
     ran(["Rscript", "-e", "source('r/R/board.R', chdir = TRUE); board_indices(1, 'half')"], room)
     alone = room / "alone" / "R"
     alone.mkdir(parents=True)
