@@ -27,10 +27,10 @@ function definitions({ view }: App): HTMLElement {
 const MARKS: readonly (readonly [string, string])[] = [
   [
     "counted",
-    "from a line of the proved program. The source says which line and which fraction. What is proved: each line that " +
-      "the program prints is what the definitions say of the script, over all coalitions. The module is the program's " +
-      "code compiled for another machine, and is tested against the program. Not proved: that compilation, the " +
-      "drawing, the reading of tables, this browser.",
+    "from a line of the proved program. The source says which line and which fraction. What is proved: each line " +
+      "that the program prints is what the definitions say of the script, over all coalitions. The module is the " +
+      "program's code compiled for another machine, and is tested against the program. Not proved: that " +
+      "compilation, the drawing, the reading of tables, this browser.",
   ],
   [
     "made here",
