@@ -1,0 +1,34 @@
+"""What the cases of a release share: commands in the unpacked release, and the tools that are here."""
+from __future__ import annotations
+
+import os
+import subprocess
+from collections.abc import Callable
+from pathlib import Path
+
+TOP = Path(__file__).resolve().parents[2]
+SECONDS = 600
+Case = tuple[str, Callable[[], object]]
+
+
+def path_without(tool: str) -> str:
+    """The PATH without the folders that have a tool."""
+    return os.pathsep.join(it for it in os.environ["PATH"].split(os.pathsep) if not (Path(it) / tool).exists())
+
+
+def ran(words: list[str], where: Path, **more: str) -> str:
+    """What a command prints, on standard output and standard error; it fails where the command does."""
+    environment = os.environ | {"PATH": path_without("rt"), "LC_ALL": "C.UTF-8"} | more
+    done = subprocess.run(
+        words,
+        cwd=where,
+        env=environment,
+        stdin=subprocess.DEVNULL,
+        stdout=subprocess.PIPE,
+        stderr=subprocess.STDOUT,
+        text=True,
+        timeout=SECONDS,
+    )
+    if done.returncode:
+        raise AssertionError(f"status {done.returncode}:\n{done.stdout}")
+    return done.stdout
