@@ -3,19 +3,16 @@ from __future__ import annotations
 
 import json
 import shutil
-import subprocess
 import sys
-from collections.abc import Callable
 from pathlib import Path
 
 sys.path.insert(0, str(Path(__file__).resolve().parents[2] / "figures"))
 from answers import answers_in  # noqa: E402
 from board_checks.place import has  # noqa: E402
+from steps import Case, ran  # noqa: E402
 
 HERE = Path(__file__).resolve().parent
-SECONDS = 600
 PYTHON = "/usr/bin/python3"
-Case = tuple[str, Callable[[], object]]
 PAGE = """<!doctype html><meta charset="utf-8"><title>tests</title><link rel="icon" href="data:,">
 <script type="importmap">{imports}</script>
 <script type="module">{tests} import {{ ended }} from "node:test"; window.ended = await ended();</script>
@@ -33,10 +30,7 @@ def prepared(room: Path) -> Path:
 def check_node(room: Path) -> None:
     """The tests pass by node's runner."""
     tests = prepared(room)
-    words = ["node", "--test", str(tests)]
-    done = subprocess.run(words, cwd=room, stdout=subprocess.PIPE, stderr=subprocess.STDOUT, text=True, timeout=SECONDS)
-    assert done.returncode == 0, done.stdout
-    assert "\n# skipped 0\n" in done.stdout, "tests are skipped"
+    assert "\n# skipped 0\n" in ran(["node", "--test", str(tests)], room), "tests are skipped"
 
 
 def check_chromium(room: Path) -> None:
@@ -48,10 +42,8 @@ def check_chromium(room: Path) -> None:
     files = sorted(it.name for it in tests.glob("*.test.mjs"))
     lines = "".join(f'import "./{it}"; ' for it in files)
     (tests / "index.html").write_text(PAGE.format(imports=json.dumps({"imports": imports}), tests=lines))
-    words = [PYTHON, str(HERE / "visit_tests.py"), str(room), "js/tests/index.html"]
-    done = subprocess.run(words, capture_output=True, text=True, timeout=SECONDS)
-    assert done.returncode == 0, done.stderr
-    ended = json.loads(done.stdout)
+    told = ran([PYTHON, str(HERE / "visit_tests.py"), str(room), "js/tests/index.html"], room)
+    ended = json.loads(next(line for line in told.splitlines() if line.startswith("{")))
     wanted = sum((tests / it).read_text().count('\ntest("') for it in files)
     assert not ended["failed"], ended["failed"]
     assert ended["passed"] == wanted > 0, f"{ended['passed']} of {wanted} tests passed"
@@ -70,8 +62,7 @@ def check_types(room: Path) -> None:
     (to / "voting-board").symlink_to(room / "js")
     shutil.copy(HERE / "types.ts", room / "types.mts")
     words = ["tsc", "--noEmit", "--strict", "--target", "es2022", "--module", "nodenext", "types.mts"]
-    done = subprocess.run(words, cwd=room, stdout=subprocess.PIPE, text=True, timeout=SECONDS)
-    assert done.returncode == 0, done.stdout
+    ran(words, room)
 
 
 def cases(room: Path) -> list[Case]:

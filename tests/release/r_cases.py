@@ -1,26 +1,14 @@
 """The package for R in an unpacked release: installed, sourced, and against the program."""
 from __future__ import annotations
 
-import os
 import shutil
-import subprocess
-from collections.abc import Callable
 from pathlib import Path
 
 from answers import answers_in
+from steps import Case, ran
 
 HERE = Path(__file__).resolve().parent
 CALLS = "194 passed\n"
-SECONDS = 600
-Case = tuple[str, Callable[[], object]]
-
-
-def ran(words: list[str], where: Path, **more: str) -> str:
-    """What a command prints; it fails where the command does."""
-    kept = {"stdout": subprocess.PIPE, "stderr": subprocess.STDOUT, "text": True, "timeout": SECONDS}
-    done = subprocess.run(words, cwd=where, env=os.environ | {"LC_ALL": "C.UTF-8"} | more, **kept)
-    assert done.returncode == 0, done.stdout
-    return done.stdout
 
 
 def installed(room: Path) -> str:

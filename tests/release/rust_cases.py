@@ -1,17 +1,13 @@
 """The crate for Rust in an unpacked release: its tests and those of its documents, also against the program."""
 from __future__ import annotations
 
-import os
 import shutil
-import subprocess
-from collections.abc import Callable
 from pathlib import Path
 
 from answers import answers_in
+from steps import Case, ran
 
 HERE = Path(__file__).resolve().parent
-SECONDS = 600
-Case = tuple[str, Callable[[], object]]
 
 
 def check_crate(room: Path) -> None:
@@ -19,15 +15,12 @@ def check_crate(room: Path) -> None:
     crate = room / "rust"
     shutil.copy(HERE / "answers.rs", crate / "tests")
     more = {"CARGO_TARGET_DIR": str(room / "target"), "BOARD_ANSWERS": str(answers_in(room))}
-    kept = {"stdout": subprocess.PIPE, "stderr": subprocess.STDOUT, "text": True, "timeout": SECONDS}
-    environment = {name: value for name, value in os.environ.items() if name != "BOARD_LIBRARY_DIR"} | more
-    environment["RUSTFLAGS"] = "-D warnings"
+    more |= {"BOARD_LIBRARY_DIR": str(room / "lib"), "RUSTFLAGS": "-D warnings"}
     words = ["cargo", "test", "--offline", "--jobs", "2", "--manifest-path", str(crate / "Cargo.toml")]
-    done = subprocess.run(words, cwd=room, env=environment, **kept)
-    assert done.returncode == 0, done.stdout
+    told = ran(words, room, **more)
     blocks = (crate / "src" / "lib.rs").read_text().count("\n//! ```") // 2
-    assert f"{blocks} passed" in done.stdout, f"the {blocks} blocks of its documents don't all pass:\n{done.stdout}"
-    assert "1 ignored" not in done.stdout, "tests are ignored"
+    assert f"{blocks} passed" in told, f"the {blocks} blocks of its documents don't all pass:\n{told}"
+    assert "1 ignored" not in told, "tests are ignored"
 
 
 def check_version(room: Path) -> None:
