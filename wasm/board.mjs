@@ -3,7 +3,8 @@
  * The register and the counts of a voting board in JavaScript, over the WebAssembly module board.wasm.
  *
  * What the module is compiled from is proved. This file is not: it puts arguments into the module's memory and takes
- * results out. Each call has an instance of its own, which is thrown away when it has answered or trapped.
+ * results out. Each replay has an instance of its own. Counts share one, which is thrown away where a call traps. The
+ * package in js is built on this file.
  *
  *     import { readFileSync } from "node:fs";
  *     import { Board } from "./board.mjs";
@@ -26,7 +27,7 @@
  */
 /**
  * A member: its votes; the number of its chair, or 0 where it is in none; and whether its votes are suspended.
- * @typedef {{ votes: number | bigint, chair: number, suspended?: boolean }} Member
+ * @typedef {{ votes: number | bigint, chair: number | bigint, suspended?: boolean }} Member
  */
 /**
  * What a replay printed; the number of the fault that ended it; and the number of that fault's record. Where there is
@@ -44,6 +45,8 @@ const WORD = 8;
 /** The bytes of a board_counts, and of a board_room. */
 const COUNTS = WORD * (7 + 3 * CHAIRS);
 const ROOM = 65536 * 2 * (WORD + 2);
+/** The words of a list for which an instance that counts has a place at first: those of 256 members. */
+const LIST = 3 * 256;
 /** More bytes than any line of a replay has. */
 const LINE = 128;
 const OUT_OF_MEMORY = 10;
@@ -53,15 +56,21 @@ const REFUSALS = new Map([
   [32, "BadSheet"],
 ]);
 
-/** A call that is refused. `number` and `code` are the refusal's number and name in docs/FORMATS.md. */
+/**
+ * A call that is refused. `number` and `code` are the refusal's number and name in docs/FORMATS.md; `command` is the
+ * record of a register's script that was refused, where it was one.
+ */
 export class Refused extends Error {
-  /** @param {number} number */
-  constructor(number) {
-    const code = REFUSALS.get(number) ?? "Unknown";
-    super(`the call is refused: ${code}`);
+  /**
+   * @param {number} number
+   * @param {{ code?: string, message?: string, command?: string }} about
+   */
+  constructor(number, { code = REFUSALS.get(number) ?? "Unknown", message, command } = {}) {
+    super(message ?? `the call is refused: ${code}`);
     this.name = "Refused";
     this.number = number;
     this.code = code;
+    this.command = command;
   }
 }
 
@@ -130,13 +139,13 @@ class Call {
   }
 
   /**
-   * Puts bytes or words into memory.
-   * @param {Uint8Array | BigUint64Array} given
+   * Puts bytes into memory.
+   * @param {Uint8Array} given
    * @returns {bigint} their address
    */
-  put({ buffer, byteOffset, byteLength }) {
-    const address = this.reserve(byteLength);
-    this.bytes(address, byteLength).set(new Uint8Array(buffer, byteOffset, byteLength));
+  put(given) {
+    const address = this.reserve(given.length);
+    this.bytes(address, given.length).set(given);
     return address;
   }
 
@@ -148,18 +157,41 @@ class Call {
   bytes(address, length) {
     return new Uint8Array(this.memory.buffer, Number(address), length);
   }
+}
+
+/** An instance that counts, call after call, with places in its memory for a list, the room and the counts. */
+class Counting {
+  /**
+   * @param {WebAssembly.Module} module
+   * @param {number} most the words of the longest list
+   */
+  constructor(module, most) {
+    this.call = new Call(module);
+    this.most = most;
+    this.list = this.call.reserve(WORD * most);
+    this.room = this.call.reserve(ROOM);
+    this.counts = this.call.reserve(COUNTS * MAJORITIES.length);
+  }
 
   /**
-   * Calls an export that writes `many` counts.
+   * Calls an export, and answers what it answers.
    * @param {string} name
-   * @param {(bigint | number)[]} given its first arguments
+   * @param {bigint[]} words the list
+   * @param {(bigint | number)[]} given the arguments between the list's address and the room
+   * @returns {number}
+   */
+  answer(name, words, given) {
+    new BigUint64Array(this.call.memory.buffer, Number(this.list), words.length).set(words);
+    return this.call.calls[name](this.list, ...given, this.room, this.counts);
+  }
+
+  /**
+   * The counts that the last call wrote.
    * @param {number} many
    */
-  counts(name, given, many) {
-    const [room, counts] = [this.reserve(ROOM), this.reserve(COUNTS * many)];
-    const answer = this.calls[name](...given, room, counts);
-    if (answer !== 0) throw new Refused(answer);
-    const words = Array.from(new BigUint64Array(this.memory.buffer, Number(counts), (COUNTS / WORD) * many), Number);
+  found(many) {
+    const { buffer } = this.call.memory;
+    const words = Array.from(new BigUint64Array(buffer, Number(this.counts), (COUNTS / WORD) * many), Number);
     return Array.from({ length: many }, (_, at) => countsIn(words.slice((at * COUNTS) / WORD)));
   }
 }
@@ -180,6 +212,8 @@ function countsIn([quota, leastSize, cast, total, open, omega, coalitions, ...ro
 /** The calls of the module. */
 export class Board {
   #module;
+  /** @type {Counting | undefined} */
+  #counting;
 
   /** @param {WebAssembly.Module} module board.wasm, compiled */
   constructor(module) {
@@ -187,9 +221,27 @@ export class Board {
   }
 
   /**
+   * Calls an export that writes `many` counts. An instance whose call trapped isn't called again.
+   * @param {string} name
+   * @param {bigint[]} words
+   * @param {(bigint | number)[]} given
+   * @param {number} many
+   */
+  #counts(name, words, given, many) {
+    const kept = this.#counting;
+    const isLarge = kept !== undefined && kept.most >= words.length;
+    const counting = isLarge ? kept : new Counting(this.#module, Math.max(LIST, words.length));
+    this.#counting = undefined;
+    const answer = counting.answer(name, words, given);
+    this.#counting = counting;
+    if (answer !== 0) throw new Refused(answer);
+    return counting.found(many);
+  }
+
+  /**
    * Replays an input, as `board replay` does. docs/FORMATS.md has its records, lines and faults.
    * @param {Uint8Array} input
-   * @param {{ readers?: number, journal?: number }} [limits]
+   * @param {{ readers?: number, journal?: number }} limits
    * @returns {Replay}
    */
   replay(input, { readers = 1, journal = 1000000 } = {}) {
@@ -211,10 +263,9 @@ export class Board {
    *   2^48
    */
   countsOfWeights(weights, { total, majority }) {
-    const call = new Call(this.#module);
-    const words = BigUint64Array.from(weights, word);
-    const given = [call.put(words), BigInt(words.length), word(total), numberOf(majority)];
-    return call.counts("board_counts_of_weights", given, 1)[0];
+    const words = Array.from(weights, word);
+    const given = [BigInt(words.length), word(total), numberOf(majority)];
+    return this.#counts("board_counts_of_weights", words, given, 1)[0];
   }
 
   /**
@@ -223,13 +274,12 @@ export class Board {
    * @param {{ total: number | bigint }} by
    */
   allCounts(weights, { total }) {
-    const call = new Call(this.#module);
     // The words of a sheet: for each chair its weight and 1, or 0 where it is closed; the total; and no commands.
     const open = Array.from(weights, (it) => word(word(it) + 1n));
     const closed = Array.from({ length: Math.max(0, CHAIRS - open.length) }, () => 0n);
-    const words = BigUint64Array.from([...open, ...closed, word(total), 0n]);
-    const given = [call.put(words), BigInt(words.length)];
-    const [half, seventy, eightyFive, quorum] = call.counts("board_all_counts", given, MAJORITIES.length);
+    const words = [...open, ...closed, word(total), 0n];
+    const given = [BigInt(words.length)];
+    const [half, seventy, eightyFive, quorum] = this.#counts("board_all_counts", words, given, MAJORITIES.length);
     return { half, seventy, eightyFive, quorum };
   }
 
@@ -240,10 +290,8 @@ export class Board {
    * @param {{ majority: Majority, open?: Iterable<number> }} by
    */
   countsOfMembers(members, { majority, open = [] }) {
-    const call = new Call(this.#module);
     const rows = Array.from(members, (it) => [word(it.votes), word(it.chair), it.suspended ? 1n : 0n]);
-    const words = BigUint64Array.from(rows.flat());
-    const given = [call.put(words), BigInt(rows.length), maskOf(open), numberOf(majority)];
-    return call.counts("board_counts_of_members", given, 1)[0];
+    const given = [BigInt(rows.length), maskOf(open), numberOf(majority)];
+    return this.#counts("board_counts_of_members", rows.flat(), given, 1)[0];
   }
 }

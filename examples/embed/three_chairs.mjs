@@ -1,15 +1,12 @@
-// The three chairs of the first example, by the WebAssembly module.
+// The three chairs of the first example, by the package for JavaScript.
 import { readFileSync } from "node:fs";
-import { Board } from "../../wasm/board.mjs";
+import { counts, replay } from "../../js/node.mjs";
 
-const module = new URL("../../wasm/board.wasm", import.meta.url);
-const board = new Board(new WebAssembly.Module(readFileSync(module)));
-
-const counts = board.countsOfWeights([50, 49, 1], { total: 100, majority: "half" });
-console.log(`${counts.quota} votes win, ${counts.omega} of ${counts.coalitions} coalitions`);
-for (const { chair, weight, swings } of counts.chairs) {
+const board = counts([50, 49, 1], { majority: "half" });
+console.log(`${board.quota} votes win, ${board.omega} of ${board.coalitions} coalitions`);
+for (const { chair, weight, swings } of board.chairs) {
   console.log(`chair ${chair}: weight ${weight}, swings ${swings}`);
 }
 
 const input = readFileSync(new URL("../three-chairs.csv", import.meta.url));
-process.stdout.write(board.replay(input).text);
+process.stdout.write(replay(input).text);

@@ -25,6 +25,8 @@ export interface CurveModel {
 }
 
 const HEIGHT = 340;
+/** Where points stand close together, about this many dots of a line show their shape. */
+const SHAPES = 14;
 
 function yOf(ratio: Ratio | null, measure: Measure): number | null {
   return ratio === null ? null : (measure === "share" ? 100 : 1) * drawn(ratio);
@@ -156,10 +158,12 @@ function drawLine(
 ): void {
   const line = root.append("path").attr("d", pathOver(model.points, values, x, y)).attr("fill", "none");
   line.attr("stroke", look.palette.of[majority]).attr("stroke-dasharray", DASHES[majority]);
-  const size = model.points.length > 60 ? 0.45 : 0.8;
+  const many = model.points.length;
+  const large = Math.ceil(many / SHAPES);
   model.points.forEach((point, at) => {
     const value = values[at] ?? null;
     if (value === null) return;
+    const size = many > 60 && at % large ? 0.4 : 0.85;
     const here = root.append("g").attr("transform", `translate(${x(point.x)},${y(value)}) scale(${size})`);
     dot(here.attr("data-point", at), majority, false, look.palette);
   });

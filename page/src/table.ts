@@ -314,13 +314,14 @@ class Reader {
 /** What was chosen, in sentences for the list of changes and the exports. */
 function choicesOf(answers: Answers, totalRow: number, blanks: readonly number[], codesMade: boolean): string[] {
   const rows = [...answers.leftOut].sort((left, right) => left - right).map((row) => `Row ${row} was left out.`);
+  const rowWord = blanks.length === 1 ? "row" : "rows";
   if (totalRow && answers.isTotal) rows.push(
     `Row ${totalRow}, which equals the sum of the others, was left out as a total.`,
   );
   if (totalRow && answers.isTotal === false) rows.push(
     `Row ${totalRow}, which equals the sum of the others, is a member.`,
   );
-  if (blanks.length && answers.merged) rows.push(`Merged cells: the chair was filled down. Rows: ${blanks.length}.`);
+  if (blanks.length && answers.merged) rows.push(`Merged cells: the chair was filled down in ${blanks.length} ${rowWord}.`);
   if (codesMade) rows.push("The table has no codes: they were made from names.");
   return rows;
 }

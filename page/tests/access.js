@@ -88,7 +88,8 @@ function focused() {
 
 /** What is wider than the page, but for what scrolls within a box of its own. */
 function wide(most) {
-  const scrolls = (it) => it && (/auto|scroll|hidden/.test(getComputedStyle(it).overflowX) || scrolls(it.parentElement));
+  const isBox = (it) => /auto|scroll|hidden/.test(getComputedStyle(it).overflowX);
+  const scrolls = (it) => it && (isBox(it) || scrolls(it.parentElement));
   return [...document.querySelectorAll("body *")]
     .filter((it) => it.checkVisibility() && it.getBoundingClientRect().right > most + 0.5 && !scrolls(it.parentElement))
     .map((it) => it.outerHTML.slice(0, 120));

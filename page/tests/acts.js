@@ -60,7 +60,11 @@ const acts = {
   suspend: (code) => opened(code) && press(at("suspend")),
   restore: (code) => opened(code) && press(at("restore")),
   withdraw: (code) => opened(code) && press(at("withdraw")),
-  admit: (code, votes) => press(at("admit-open")) && (fill(at("admit-code"), code), taken("admit-votes", votes, "admit-take")),
+  admit: (code, votes) => {
+    press(at("admit-open"));
+    fill(at("admit-code"), code);
+    return taken("admit-votes", votes, "admit-take");
+  },
   open: () => press(at("open-new")),
   close: (chair) => press(at(`close-${chair}`)),
   undo: () => press(at("undo")),

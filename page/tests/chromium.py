@@ -42,7 +42,7 @@ class Page:
         self.driver.execute_cdp_cmd("Page.removeScriptToEvaluateOnNewDocument", script)
 
     def show(self, width: int = WIDE, height: int = 900, scheme: str = "light") -> None:
-        """Makes the screen so large, and light or dark."""
+        """Sets the size of the screen, and whether it is light or dark."""
         set_width(self.driver, width, height)
         features = [{"name": "prefers-color-scheme", "value": scheme}]
         self.driver.execute_cdp_cmd("Emulation.setEmulatedMedia", {"features": features})
@@ -52,7 +52,7 @@ class Page:
         return self.driver.execute_script(script, *words)
 
     def wait_for(self, script: str, *words: object) -> Any:
-        """What a script in the page hands to its last argument."""
+        """What a script in the page passes to its last argument, a function."""
         return self.driver.execute_async_script(script, *words)
 
     def look(self, check: str, *words: object) -> Any:
@@ -118,8 +118,11 @@ class Page:
             file.unlink()
         self.at(place).click()
 
-        def ended() -> list[Path]:
-            return [it for it in self.downloads.iterdir() if it.suffix != ".crdownload" and it.name[0] != "."]
+        def ended() -> Path | None:
+            """The file, once it is whole: before that it is empty, and stands beside a part of it."""
+            file, *others = [*self.downloads.iterdir(), None]
+            is_whole = file and others == [None] and file.suffix != ".crdownload" and file.stat().st_size
+            return file if is_whole else None
 
-        (file,) = self.until(ended, f"what {place} downloads")
+        file = self.until(ended, f"what {place} downloads")
         return file.name, file.read_bytes()

@@ -30,8 +30,8 @@ def browser(tmp_path_factory: pytest.TempPathFactory) -> Iterator[Page]:
 @pytest.fixture
 def page(browser: Page) -> Iterator[Page]:
     """The page, just opened. Whatever a test does, nothing comes on the console."""
-    browser.open()
     browser.driver.get_log("browser")
+    browser.open()
     yield browser
     said = browser.driver.get_log("browser")
     assert not said, f"on the console: {said}"

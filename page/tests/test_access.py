@@ -1,14 +1,16 @@
-"""The page for people who use a keyboard, a screen reader, a phone, a dark screen or a printer."""
+"""The page for people who use a keyboard, a screen reader, a phone or a dark screen."""
 from __future__ import annotations
 
 from itertools import pairwise
 from typing import Any
 
+import inputs
 import pytest
 from chromium import NARROW, Page
 from figures import check_figures, open_menu, rows
 from oracle import Oracle
 from selenium.webdriver.common.keys import Keys
+from test_exports import DROP
 
 LEAST_CONTRAST = 4.5
 # More presses of Tab than the page has controls.
@@ -44,7 +46,7 @@ def test_names_and_roles(page: Page) -> None:
 
 @pytest.mark.parametrize("opener", ["#chip-XAA", *OPENERS])
 def test_names_in_dialogs(page: Page, opener: str) -> None:
-    # Catches: a dialog without a name, with a field that has none, or that a keyboard doesn't get out of.
+    # Catches: a dialog without a name, with a field that has none, or that can't be left by keyboard.
     page.click("#card-1")
     page.click(opener)
     check_names(page, opener)
@@ -55,18 +57,32 @@ def test_names_in_dialogs(page: Page, opener: str) -> None:
     assert not page.all("dialog") and page.run("return `#${document.activeElement.id}`;") == opener
 
 
+def check_contrast(page: Page, where: str) -> None:
+    faint = page.look("faint", LEAST_CONTRAST)
+    assert not faint, f"{where}: {faint}"
+
+
 @pytest.mark.parametrize("scheme", ["light", "dark"])
 def test_contrast(page: Page, scheme: str) -> None:
-    # Catches: grey letters on white, and letters that stay black in the dark.
+    # Catches: grey letters on white, red ones on grey, and letters that stay black in the dark.
     page.show(height=TALL, scheme=scheme)
+    for act in [["suspend", "XAA"], ["move", "XAA", "2"], ["votes", "XAD", "+40%"], ["switch", "2"]]:
+        assert page.act(*act)
+    page.click("#card-1")
     for tab in TABS:
         page.click(tab)
-        faint = page.look("faint", LEAST_CONTRAST)
-        assert not faint, f"{tab}: {faint}"
+        check_contrast(page, tab)
+    for opener in ["#chip-XAA", *OPENERS]:
+        page.click(opener)
+        check_contrast(page, opener)
+        page.press(Keys.ESCAPE)
+    page.run(DROP, "faulty.csv", inputs.FAULTY)
+    page.until(lambda: page.all("#table-dialog"), "the preview")
+    check_contrast(page, "the preview")
 
 
 def test_width_of_a_phone(page: Page) -> None:
-    # Catches: a page that is shifted to and fro on a phone, since something in it is wider than the screen.
+    # Catches: a page that must be scrolled sideways on a phone, since something in it is wider than the screen.
     page.show(NARROW, 844)
     for tab in TABS:
         page.click(tab)
@@ -87,7 +103,7 @@ def stops(page: Page) -> list[dict[str, Any]]:
 
 
 def test_order_of_tab(page: Page) -> None:
-    # Catches: a focus that one doesn't see, that hides, or that jumps back to what stands above in the same column.
+    # Catches: a focus that isn't seen, or that jumps back to what stands above in the same column.
     page.show(height=TALL)
     found = stops(page)
     assert len(found) > 20 and not [it for it in found if not it["isRinged"] or not it["width"] * it["height"]]
@@ -127,7 +143,8 @@ def test_keyboard_alone(page: Page, oracle: Oracle) -> None:
     page.until(lambda: page.all("#sweep-table"), "the sweep")
     tab_to(page, "#changes input[type=checkbox]")
     page.press(Keys.SPACE)
-    page.click("#tab-table")
+    tab_to(page, "#tab-curve")
+    page.press(Keys.ARROW_RIGHT)
     check_figures(page, oracle, [])
 
 
@@ -144,7 +161,7 @@ def test_charts_have_tables(page: Page) -> None:
 
 
 def test_phone(page: Page, oracle: Oracle) -> None:
-    # Catches: chairs and changes that a phone doesn't reach, since there is no room for three columns.
+    # Catches: chairs and changes that can't be reached on a phone, which has no room for three columns.
     page.show(NARROW, 844)
     page.click('.sheets [data-sheet="chairs"]')
     open_menu(page, "XAA")

@@ -1,6 +1,7 @@
 """Changes of the board: each is entered as a user enters it, and the program's numbers come."""
 from __future__ import annotations
 
+import time
 from typing import Any
 
 import pytest
@@ -37,14 +38,17 @@ def test_drag_to_none_and_to_a_new_chair(page: Page, oracle: Oracle) -> None:
     check_figures(page, oracle, ["open,25", "move,XAA,25", "move,XAB,none"])
 
 
-def test_drag_by_keyboard(page: Page, oracle: Oracle) -> None:
-    # Catches: a page that can be used by a mouse alone; a focus that is lost with the member that moved.
+def pick_up(page: Page, *keys: str) -> None:
+    """Picks XAA up by keyboard, and presses more keys."""
     page.click("#card-1")
     page.run('document.getElementById("chip-XAA").focus();')
-    page.press(Keys.SPACE)
-    page.press(Keys.ARROW_DOWN)
-    page.press(Keys.ARROW_DOWN)
-    page.press(Keys.ARROW_UP)
+    for key in [Keys.SPACE, *keys]:
+        page.press(key)
+
+
+def test_drag_by_keyboard(page: Page, oracle: Oracle) -> None:
+    # Catches: a page that can be used by a mouse alone; a focus that is lost with the member that moved.
+    pick_up(page, Keys.ARROW_DOWN, Keys.ARROW_DOWN, Keys.ARROW_UP)
     assert [it.get_attribute("data-place") for it in page.all(".card.aimed")] == ["2"]
     page.press(Keys.ENTER)
     check_figures(page, oracle, ["move,XAA,2"])
@@ -53,11 +57,7 @@ def test_drag_by_keyboard(page: Page, oracle: Oracle) -> None:
 
 def test_drag_given_up(page: Page, oracle: Oracle) -> None:
     # Catches: Escape that drops the member where it is aimed at.
-    page.click("#card-1")
-    page.run('document.getElementById("chip-XAA").focus();')
-    page.press(Keys.SPACE)
-    page.press(Keys.ARROW_DOWN)
-    page.press(Keys.ESCAPE)
+    pick_up(page, Keys.ARROW_DOWN, Keys.ESCAPE)
     assert not page.all("#changes > li")
     check_figures(page, oracle, [])
 
@@ -181,18 +181,21 @@ def test_open_and_close_chairs(page: Page, oracle: Oracle) -> None:
 
 def test_overtaken_run(page: Page, oracle: Oracle) -> None:
     # Catches: numbers of an earlier edit that come late and stay; old numbers that look like new ones while it counts.
-    assert page.act("votes", "XAD", "300000")
-    grey = """
-      const box = document.querySelector("#changes input[type=number]");
+    assert page.act("votes", "XAD", "+40%")
+    overtake = """
+      const at = (place) => document.querySelector(`#changes ${place}`);
       const look = () => Number(getComputedStyle(document.getElementById("panel")).opacity), looks = [look()];
-      for (const votes of [310000, 400000, 5, 318104]) {
-        box.value = votes;
-        box.dispatchEvent(new Event("input", { bubbles: true }));
+      for (const percent of [50, 60, 70]) {
+        at("input[type=number]").value = percent;
+        at("input[type=number]").dispatchEvent(new Event("input", { bubbles: true }));
         looks.push(look());
       }
+      at("[id^=remove]").click();
       return looks;
     """
-    before, *during = page.run(grey)
+    before, *during = page.run(overtake)
     assert before == 1 and max(during) < 0.6
     page.settle()
-    check_figures(page, oracle, ["votes,XAD,318104"])
+    time.sleep(0.5)
+    check_figures(page, oracle, [])
+    assert not page.all("#changes > li")

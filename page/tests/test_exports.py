@@ -52,7 +52,7 @@ def test_script(study: Page, oracle: Oracle) -> None:
 
 
 def test_beside(study: Page, oracle: Oracle) -> None:
-    # Catches: a script that goes round without a word on where its numbers come from.
+    # Catches: a script that is passed on without a word on where its numbers come from.
     name, content = study.downloaded("#export-beside")
     assert name.endswith(".provenance.json")
     check_provenance("\n".join(json.loads(content)["provenance"]), study, oracle)

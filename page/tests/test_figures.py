@@ -91,7 +91,10 @@ def test_no_coalition_wins(page: Page, oracle: Oracle) -> None:
 
 def test_fraction_at_each_number(page: Page, oracle: Oracle) -> None:
     # Catches: a row of the chart whose exact numbers can't be seen.
-    page.run('document.querySelector(\'.chart g[data-chair="5"]\').dispatchEvent(new MouseEvent("pointerover", {bubbles: true}));')
+    page.run("""
+      const row = document.querySelector('.chart g[data-chair="5"]');
+      row.dispatchEvent(new MouseEvent("pointerover", { bubbles: true }));
+    """)
     for reading in oracle.output([], shown_majorities(page)).readings:
         assert str(reading.chairs[4].share) in page.text("#readout")
     page.click("#tab-table")

@@ -43,7 +43,7 @@ def test_module(page: Page) -> None:
 
 
 def test_committed(page: Page) -> None:
-    # Catches: a board.html at the top of the repository that was forgotten, or changed by hand.
+    # Catches: a board.html at the top of the repository whose module isn't the one of its version.
     committed = TOP / "board.html"
     versions = [set(VERSION.findall(it.read_text())) for it in [BUILT, committed]]
     assert versions[0] != versions[1] or module_in(committed) == module_in(BUILT), "the modules differ"

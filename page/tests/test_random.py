@@ -5,13 +5,23 @@ import random
 
 import pytest
 from actions import Model, drawn_act
-from chromium import Page
+from chromium import NARROW, Page
 from figures import shown_majorities
 from oracle import Oracle
 
 SEED = 20_260_101
 PARTS, LISTS, MOST_ACTS = 10, 20, 9
-TEXTS = 'return ["script", "lines"].map((it) => document.getElementById(`${it}-text`).textContent);'
+# Opens the script and the lines, reads both, and closes them.
+TEXTS = """
+  const [done] = [...arguments].slice(-1), source = document.getElementById("source");
+  const texts = () => ["script", "lines"].map((it) => document.getElementById(`${it}-text`).textContent);
+  source.open = true;
+  (function read() {
+    if (!texts()[1]) return setTimeout(read, 1);
+    done(texts());
+    source.open = false;
+  })();
+"""
 
 
 def acted(page: Page, oracle: Oracle, some: random.Random) -> Model:
@@ -34,13 +44,15 @@ def table_of(csv: str) -> str:
 def test_random_lists(page: Page, oracle: Oracle, part: int) -> None:
     # Catches: any act, in whatever order, after which the page shows other numbers than its script gives.
     some = random.Random(SEED + part)
-    page.run('document.getElementById("source").open = true;')
     for majority in some.sample(["70", "quorum"], part % 3):
         page.click(f"#at-{majority}")
     majorities = shown_majorities(page)
+    # Painting takes most of the time, and there is least of it here.
+    page.click("#tab-curve")
+    page.show(NARROW, 200)
     for number in range(LISTS):
         commands = acted(page, oracle, some).commands(oracle)
-        script, lines = page.run(TEXTS)
+        script, lines = page.wait_for(TEXTS)
         assert script == page.act("exported", "export-script") == oracle.script(commands, majorities), f"list {number}"
         assert lines.encode() == oracle.lines(script.encode()), f"list {number}: {commands}"
         accepted = [command for command, line in zip(commands, oracle.answers(commands)) if line.startswith("acc")]

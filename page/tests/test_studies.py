@@ -9,12 +9,13 @@ from board_python.member_tables import MOST_VOTES
 from board_python.replay_output import Chair, Ratio
 from board_python.rounding import exact, rounded
 from board_python.scenarios import Votes
-from chromium import Page
+from chromium import ACTS, Page
 from figures import check_figures, gains, shown_majorities
 from oracle import Oracle, least
 from selenium.webdriver.common.action_chains import ActionChains
 from test_exports import DROP
 from test_random import table_of
+from test_tables import take
 
 CELLS = """return [...document.querySelectorAll("#sweep-table tbody tr")].map(
   (row) => [...row.children].map((it) => it.title.split(" ")[0] || it.textContent));"""
@@ -125,6 +126,7 @@ def test_scenarios(page: Page, oracle: Oracle) -> None:
     page.write("#scenario-name", "A move")
     page.click("#clear-changes")
     assert not page.all("#changes > li")
+    page.until(lambda: "counting" not in page.text("#scenarios"), "the scenarios")
     names = oracle.table.chair_names
     for name, commands in kept.items():
         for majority in shown_majorities(page):
@@ -138,6 +140,16 @@ def test_scenarios(page: Page, oracle: Oracle) -> None:
     check_figures(page, oracle, kept["A move"])
     page.click('[aria-label="Remove A move"]')
     assert not page.all('#scenarios tr[data-scenario="A move"]')
+
+
+def test_csv_of_a_scenario_just_kept(page: Page, oracle: Oracle) -> None:
+    # Catches: a scenario that is left out of the table, without a word, since it isn't counted yet.
+    assert page.act("votes", "XAD", "318104")
+    page.at("#scenario-name").send_keys("More votes")
+    keep = 'document.getElementById("scenario-keep").click();'
+    csv = page.wait_for(keep + ACTS, "exported", "export-csv")
+    wanted = {"changed": ["votes,XAD,318104"], "More votes": ["votes,XAD,318104"]}
+    assert table_of(csv) == oracle.study(wanted, shown_majorities(page))
 
 
 def test_best_move(page: Page, oracle: Oracle) -> None:
@@ -182,10 +194,8 @@ def test_independent_count(page: Page) -> None:
     page.run(DROP, "council.csv", inputs.PLAIN)
     page.until(lambda: page.all("#merged-no"), "the preview")
     page.click("#merged-no")
-    page.click("#table-take")
-    page.until(lambda: page.text("#study-name") == "council", "the study")
-    page.settle()
+    take(page, "council")
     page.click("#recount-open")
     page.click("#recount-run")
-    counted = page.until(lambda: [it for it in page.texts("#recount-results li") if "coalitions" in it][1:], "the count")
-    assert "all 4 numbers are the same, 8 coalitions" in counted[0]
+    same = "all 4 numbers are the same, 8 coalitions"
+    page.until(lambda: [same in it for it in page.texts("#recount-results li")] == [True, True], "the same numbers")

@@ -1,15 +1,17 @@
 """Tables of members: pasted from a spreadsheet, opened or dropped; what is asked about them, and their faults."""
 from __future__ import annotations
 
+import xml.etree.ElementTree as ElementTree
 from pathlib import Path
 
 import inputs
 import pytest
 from chromium import Page
-from figures import check_figures
+from figures import check_figures, shown_majorities
 from oracle import Oracle
 from selenium.webdriver.common.keys import Keys
 from test_exports import DROP
+from test_random import table_of
 
 # A field with a text in it that is chosen, from which a user copies it.
 FIELD = """
@@ -36,6 +38,13 @@ def paste(page: Page, text: str) -> None:
     page.until(lambda: page.all("#table-dialog"), "the preview")
 
 
+def take(page: Page, name: str = "Pasted table") -> None:
+    """Takes the table of the preview, once all is answered."""
+    page.at("#table-take").click()
+    page.until(lambda: page.text("#study-name") == name, "the study")
+    page.settle()
+
+
 def test_paste_from_a_spreadsheet(page: Page, small: Oracle) -> None:
     # Catches: a title above the header, columns in another order, thousands, small letters, blanks or an empty row.
     paste(page, inputs.CELLS)
@@ -43,7 +52,7 @@ def test_paste_from_a_spreadsheet(page: Page, small: Oracle) -> None:
     assert chosen == {"code": "3", "name": "2", "votes": "1", "chair": "0"}
     assert page.at("#header-row").get_property("value") == "3"
     page.click("#merged-no")
-    page.click("#table-take")
+    take(page)
     small.table = small.table_of(inputs.THOUSANDS.encode())
     check_figures(page, small, [])
     assert "1 in none: EEE Elland" in page.text("#summary")
@@ -55,8 +64,7 @@ def test_open_a_file(page: Page, small: Oracle, tmp_path: Path) -> None:
     page.at("#file").send_keys(str(tmp_path / "council.csv"))
     page.until(lambda: page.all("#table-dialog"), "the preview")
     page.click("#merged-no")
-    page.click("#table-take")
-    page.until(lambda: page.text("#study-name") == "council", "the study")
+    take(page, "council")
     check_figures(page, small, [])
     assert [it.split("\n")[0] for it in page.texts(".card-head")][:3] == ["1 Alland", "2 Hills & Dales", "3 Plains"]
 
@@ -66,8 +74,7 @@ def test_drop_a_file(page: Page, small: Oracle) -> None:
     page.run(DROP, "council.csv", inputs.PLAIN)
     page.until(lambda: page.all("#table-dialog"), "the preview")
     page.click("#merged-no")
-    page.click("#table-take")
-    page.until(lambda: page.text("#study-name") == "council", "the study")
+    take(page, "council")
     check_figures(page, small, [])
 
 
@@ -77,12 +84,11 @@ def test_merged_cells(page: Page, small: Oracle, is_merged: bool) -> None:
     paste(page, inputs.MERGED)
     assert "Merged cells?" in page.text("#merged") and not page.at("#table-take").is_enabled()
     page.click("#merged-yes" if is_merged else "#merged-no")
-    page.click("#table-take")
-    page.until(lambda: page.text("#study-name") == "Pasted table", "the study")
+    take(page)
     rows = inputs.MERGED.replace("CCC,Celland,15,", "CCC,Celland,15,2").replace("EEE,Elland,8,", "EEE,Elland,8,3")
     small.table = small.table_of((rows if is_merged else inputs.MERGED).encode())
     check_figures(page, small, [])
-    assert ("filled down in 2 rows" in page.text("#choices")) == is_merged
+    assert ("the chair was filled down" in page.text("#choices")) == is_merged
 
 
 @pytest.mark.parametrize("is_total", [True, False])
@@ -92,19 +98,17 @@ def test_total_row(page: Page, small: Oracle, is_total: bool) -> None:
     page.click("#merged-no")
     assert "A total?" in page.text("#total") and not page.at("#table-take").is_enabled()
     page.click("#total-yes" if is_total else "#total-no")
-    page.click("#table-take")
-    page.until(lambda: page.text("#study-name") == "Pasted table", "the study")
+    take(page)
     small.table = small.table_of((inputs.PLAIN if is_total else inputs.TOTAL).encode())
     check_figures(page, small, [])
     assert "Row 7" in page.text("#choices")
 
 
 def test_names_alone(page: Page, oracle: Oracle) -> None:
-    # Catches: a table without codes, or with chairs by name, that can't be taken; codes that differ from one look to another.
+    # Catches: a table without codes, or with chairs by name, that can't be taken.
     paste(page, inputs.NAMES)
     page.click("#merged-no")
-    page.click("#table-take")
-    page.until(lambda: page.text("#study-name") == "Pasted table", "the study")
+    take(page)
     script = page.act("exported", "export-script").splitlines()
     assert script[1:6] == ["ALL,40", "BEL,25", "CEL,15", "DEL,12", "ELL,8"]
     assert script[7:14] == ["open,1", "open,2", "open,3", "move,ALL,1", "move,BEL,2", "move,CEL,2", "move,DEL,3"]
@@ -122,8 +126,7 @@ def test_faults_all_at_once(page: Page, oracle: Oracle) -> None:
     assert not page.at("#table-take").is_enabled()
     for row in [2, 3, 4]:
         page.click(f"#leave-{row}")
-    page.click("#table-take")
-    page.until(lambda: page.text("#study-name") == "Pasted table", "the study")
+    take(page)
     script = page.act("exported", "export-script").splitlines()
     assert script[1:3] == ["CCC,12", "EEE,8"]
     assert all(f"Row {row} was left out." in page.text("#choices") for row in [2, 3, 4])
@@ -144,3 +147,33 @@ def test_limits(page: Page, words: str) -> None:
     # Catches: a table beyond what the program takes, of which a part is counted.
     paste(page, inputs.BEYOND[words])
     assert words in page.text("#table-faults") and not page.at("#table-take").is_enabled()
+
+
+def test_as_much_as_there_may_be(page: Page, small: Oracle) -> None:
+    # Catches: a sum or a product of votes that a floating number rounds, or a card for a 33rd chair.
+    page.run(DROP, "most.csv", inputs.MOST)
+    page.until(lambda: page.all("#table-dialog"), "the preview")
+    take(page, "most")
+    small.table = small.table_of(inputs.MOST.encode())
+    check_figures(page, small, [])
+    assert page.text("#summary").startswith("base: 256 members, 32 chairs, ") and not page.all("#open-new")
+
+
+def test_odd_names(page: Page, small: Oracle, tmp_path: Path) -> None:
+    # Catches: a name that is taken for code of the page, or that breaks a CSV, a picture or an exported page.
+    page.run(DROP, "odd.csv", inputs.ODD)
+    page.until(lambda: page.all("#table-dialog"), "the preview")
+    take(page, "odd")
+    small.table = small.table_of(inputs.ODD.encode())
+    assert page.act("votes", "AAA", "30") and not page.all("#page b, #page i")
+    check_figures(page, small, ["votes,AAA,30"])
+    wanted = small.study({"changed": ["votes,AAA,30"]}, shown_majorities(page))
+    assert table_of(page.act("exported", "export-csv")) == wanted
+    assert "Łódź" not in wanted and "Ünter & Söhne" in wanted
+    picture = ElementTree.fromstring(page.act("exported", "export-svg"))
+    assert any('1 =1+1, "C"' in (it.text or "") for it in picture.iter())
+    (tmp_path / "odd.html").write_text(page.act("exported", "export-page"))
+    shown = page.texts("#changes .change-words")
+    page.open(tmp_path / "odd.html")
+    assert page.texts("#changes .change-words") == shown == ['AAA A, "B" </script><b>&amp;: 40 → 30']
+    check_figures(page, small, ["votes,AAA,30"])

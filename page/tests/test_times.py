@@ -18,7 +18,9 @@ SLIDE = """
 
 
 def test_times(page: Page, times: list[str]) -> None:
-    # Catches: nothing. It prints the times for who changes the page.
+    # Catches: nothing. It prints the times, for whoever changes the page.
+    first = page.run('const [it] = performance.getEntriesByName("edit to numbers"); return it.startTime + it.duration;')
+    times.append(f"opened to first numbers: {first:.0f} ms")
     for majority in ["70", "quorum"]:
         page.click(f"#at-{majority}")
     assert page.act("votes", "XAD", "300000")

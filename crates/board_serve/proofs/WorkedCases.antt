@@ -53,12 +53,12 @@ no_other_fault h =
 no_lines_before : EndsAfter (Err (fault_at why.BadRecord 2)) (work_lines one_reading) (fault_at why.BadRecord 2) → ⊥
 no_lines_before h = has_lines h.0
 
--- readings that differ are not told as legal, nor legal ones as a mismatch
-differs_is_told : (old new : Option (List ℕ)) (ls : List Line) → Tells old new false (Ok tt) ls → ⊥
-differs_is_told old new ls h = true≢false (sym h.0)
+-- readings that differ do not pass as legal, nor legal ones as a mismatch
+differing_not_passed : (old new : Option (List ℕ)) (ls : List Line) → Tells old new false (Ok tt) ls → ⊥
+differing_not_passed old new ls h = true≢false (sym h.0)
 
-legal_is_told : (old new : Option (List ℕ)) (ls : List Line) → Tells old new true (Err (stop.Told (fault_at why.Mismatch 0))) ls → ⊥
-legal_is_told old new ls h = true≢false h.0
+legal_not_refused : (old new : Option (List ℕ)) (ls : List Line) → Tells old new true (Err (stop.Told (fault_at why.Mismatch 0))) ls → ⊥
+legal_not_refused old new ls h = true≢false h.0
 
 -- the audit of a legal journal finds no fault of members, journal or cuts
 found_of_readings : (CanBeFound (found.Start why.DuplicateMember) → ⊥) × (CanBeFound (found.BadJournal 1) → ⊥) × (CanBeFound (found.BadCuts 1) → ⊥)

@@ -106,9 +106,9 @@ written_after_a_failure h = absurd (omega (arith, h))
 abbrev reader : ℕ → ℕ → Giving
 reader vain interruptions = record { left = None; gave = []; ended = false; asks = vain; vain = vain; interruptions = interruptions }
 
--- one read told the end, or failed, behind an interruption
-end_told : NoReadInVain {A = Unit {0}} (reader 0 0) (reader 2 1) (Ok tt)
-end_told = omega arith
+-- one read found the end, or failed, behind an interruption
+end_found : NoReadInVain {A = Unit {0}} (reader 0 0) (reader 2 1) (Ok tt)
+end_found = omega arith
 
 read_behind_the_end : NoReadInVain {A = Unit {0}} (reader 0 0) (reader 2 0) (Ok tt) → ⊥
 read_behind_the_end h = absurd (omega (arith, h))
@@ -182,7 +182,7 @@ record_of_a_device : IsOfDevice (fault_at ReadFault 5) → ⊥
 record_of_a_device (inl e) = absurd (omega (arith, place e))
 record_of_a_device (inr e) = absurd (omega (arith, place e))
 
--- limits out of range are told as such
+-- limits out of range are answered as BadLimit
 another_limit : IsBadLimit {A = Unit {0}} (Err (fault_at BadHeader 0)) → ⊥
 another_limit (inl e) = absurd (omega (arith, code (told e)))
 another_limit (inr e) = absurd (omega (arith, code (told e)))

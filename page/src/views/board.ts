@@ -40,9 +40,10 @@ function tableOf(majority: Majority, readings: readonly Reading[], digits: numbe
 
 export function paintBoard(app: App): void {
   if (!app.shown) return;
-  const { before, after } = app.shown.counted;
+  const { before, after, outcomes } = app.shown.counted;
+  const isChanged = [...outcomes.values()].some((it) => it.kind === "accepted");
   const tables = [...before].map(([majority, reading]) => {
-    const changed = after.get(majority);
+    const changed = isChanged ? after.get(majority) : undefined;
     return tableOf(majority, changed ? [reading, changed] : [reading], app.view.digits);
   });
   paint(byId("board"), tables);

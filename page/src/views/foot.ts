@@ -27,10 +27,10 @@ function definitions({ view }: App): HTMLElement {
 const MARKS: readonly (readonly [string, string])[] = [
   [
     "counted",
-    "from a line of the proved program. The source says which line and which fraction. What is proved: the " +
-      "lines are the definitions' answers for the script, over all coalitions. The module is the program's code " +
-      "compiled for another machine, and was compared with the program on all cases. Not proved: the drawing, the " +
-      "reading of tables, this browser.",
+    "from a line of the proved program. The source says which line and which fraction. What is proved: each line that " +
+      "the program prints is what the definitions say of the script, over all coalitions. The module is the program's " +
+      "code compiled for another machine, and is tested against the program. Not proved: that compilation, the " +
+      "drawing, the reading of tables, this browser.",
   ],
   [
     "made here",
@@ -133,8 +133,8 @@ export function openSeal(app: App): void {
         "p",
         {},
         "The page makes no request: its Content-Security-Policy forbids every one. It keeps nothing when it is " +
-          "closed. It doesn't know whether the repository's own gate passed at its commit: a check of that is to " +
-          "build and test it.",
+          "closed. It doesn't know whether the repository's own tests passed at its commit: build and test that " +
+          "commit to see.",
       ),
     ];
   });

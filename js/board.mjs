@@ -1,0 +1,1 @@
+../wasm/board.mjs

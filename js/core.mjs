@@ -1,0 +1,7 @@
+// What the package exports; index.d.ts says what each is.
+export { MAJORITIES, Refused } from "./board.mjs";
+export { counts, countsOfAll, countsOfMembers, replay } from "./calls.mjs";
+export { Fraction } from "./fractions.mjs";
+export { Register } from "./register.mjs";
+
+export const version = "0.3.0";

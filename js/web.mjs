@@ -1,0 +1,6 @@
+// The package in a browser, which fetches board.wasm from beside this file.
+import { load } from "./calls.mjs";
+
+load(await WebAssembly.compileStreaming(fetch(new URL("./board.wasm", import.meta.url))));
+
+export * from "./core.mjs";

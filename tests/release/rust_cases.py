@@ -1,0 +1,47 @@
+"""The crate for Rust in an unpacked release: its tests and those of its documents, also against the program."""
+from __future__ import annotations
+
+import os
+import shutil
+import subprocess
+from collections.abc import Callable
+from pathlib import Path
+
+from answers import answers_in
+
+HERE = Path(__file__).resolve().parent
+SECONDS = 600
+Case = tuple[str, Callable[[], object]]
+
+
+def check_crate(room: Path) -> None:
+    """The crate's tests, the blocks of its documents, and the tests against the program pass, without a warning."""
+    crate = room / "rust"
+    shutil.copy(HERE / "answers.rs", crate / "tests")
+    more = {"CARGO_TARGET_DIR": str(room / "target"), "BOARD_ANSWERS": str(answers_in(room))}
+    kept = {"stdout": subprocess.PIPE, "stderr": subprocess.STDOUT, "text": True, "timeout": SECONDS}
+    environment = {name: value for name, value in os.environ.items() if name != "BOARD_LIBRARY_DIR"} | more
+    environment["RUSTFLAGS"] = "-D warnings"
+    words = ["cargo", "test", "--offline", "--jobs", "2", "--manifest-path", str(crate / "Cargo.toml")]
+    done = subprocess.run(words, cwd=room, env=environment, **kept)
+    assert done.returncode == 0, done.stdout
+    blocks = (crate / "src" / "lib.rs").read_text().count("\n//! ```") // 2
+    assert f"{blocks} passed" in done.stdout, f"the {blocks} blocks of its documents don't all pass:\n{done.stdout}"
+    assert "1 ignored" not in done.stdout, "tests are ignored"
+
+
+def check_version(room: Path) -> None:
+    """The crate has the version of the release."""
+    version = (room / "VERSION").read_text().split()[1]
+    assert f'\nversion = "{version}"\n' in (room / "rust" / "Cargo.toml").read_text(), f"it isn't {version}"
+
+
+def cases(room: Path) -> list[Case]:
+    """The cases, where cargo is here; it says where it isn't."""
+    if not shutil.which("cargo"):
+        print("tests/release: cargo isn't here, so the crate for Rust isn't tested (tools/install)")
+        return []
+    return [
+        ("the version of the crate for Rust", lambda: check_version(room)),
+        ("the crate for Rust", lambda: check_crate(room)),
+    ]
