@@ -72,23 +72,34 @@ class Crate:
         """Where the library of a name is."""
         return (self.room if name in self.own else kit() / "rlibs") / f"{name}.rlib"
 
-    def rattle(self, verb, jobs, *more):
+    def rattle(self, verb, jobs, *more, logic=None):
         """Has the prover check or build the crate by so many processes, and by one where memory was too small for them: its status,
-        and what it said."""
+        and what it said. The logic's own modules are those that the kit has checked, unless other words say where they come from."""
         words = [kit() / "bin" / "rattle", verb, "--crate-name", self.name, f"src/{'main' if self.is_program() else 'lib'}.rt"]
         for it in ["std", *self.uses]:
             words += ["--extern", f"{it}={self.library(it)}"]
         words += ["-L", f"dependency={self.room}", "-L", f"dependency={kit()}/rlibs", "--links", f"{self.name}="]
         words += ["--crate-type", "staticlib"] * self.is_static
-        words += ["--antt-project", kit() / "rattle/logic/antt-project.json", "--logic-built", kit() / "logic_built", *more]
+        words += ["--antt-project", kit() / "rattle/logic/antt-project.json"]
+        words += [*(logic or ["--logic-built", kit() / "logic_built"]), *more]
         status, out, err = self.call(*words, "--jobs", jobs, where=self.folder)
         if status == -signal.SIGKILL and jobs > 1:
-            return self.rattle(verb, 1, *more)
+            return self.rattle(verb, 1, *more, logic=logic)
         return status, err + out
 
     def check(self, jobs, kept):
         """Checks the crate over what was kept of checks before, and keeps what it proves: the prover's status, and what it said."""
         return self.rattle("check", jobs, "--incremental", kept)
+
+    def check_deeply(self):
+        """Checks the crate, and in the same run each module of the logic and of the libraries that it reads, and takes nothing that was
+        checked before: the prover's status, and what it said."""
+        return self.rattle("check", 1, *["--test"] * self.is_of_tests(), logic=["--no-cache"])
+
+    def build_whole(self, jobs):
+        """Proves a library and builds it with its proofs: whether that went well, and what was said."""
+        status, said = self.rattle("build", jobs, "-o", self.room / f"{self.name}.rlib")
+        return status == 0, said
 
     def build(self, jobs, *more):
         """Proves the crate and builds it: whether that went well, and what was said."""

@@ -9,7 +9,8 @@
  * A call keeps nothing, starts no thread and takes no lock. Calls on several threads are independent where each has its
  * own room, counts and other places to write to.
  *
- * The library is proved to do what this header says. Nothing checks its callers, who have to see to this:
+ * What a call answers and what it writes is proved to be what this header says, except for board_version and
+ * board_refusal_name. Nothing checks its callers, who have to see to this:
  *
  * - `words`, `weights` and `members` point to `len` items, `room` to a board_room and `counts` to what the call writes.
  *   No pointer is null, except that of a list with `len` 0.
@@ -132,6 +133,14 @@ uint8_t board_counts_of_members(const struct board_member *members, size_t len, 
  * The memory that a call takes from malloc is given back before it answers. */
 uint8_t board_replay(const uint8_t *input, size_t len, uint32_t readers, uint32_t journal, uint8_t *out, size_t out_len,
                      uint64_t *written, uint32_t *record);
+
+/* The version of the library, which is that of the program. This call and the next one are not proved: they read a table, which is
+ * tested. What they answer stays, and is not freed. */
+const char *board_version(void);
+
+/* The name of a refusal or a fault by its number, such as "BadSheet" for 32: the names of docs/FORMATS.md. It is "" for
+ * 0 and for every other number without a name. */
+const char *board_refusal_name(uint32_t number);
 
 #ifdef __cplusplus
 }

@@ -30,7 +30,7 @@ def started(*words: str, is_offline: bool = True) -> webdriver.Chrome:
     options.binary_location = "/usr/bin/chromium"
     for word in ["--headless=new", "--no-sandbox", "--hide-scrollbars", "--disable-dev-shm-usage", *words]:
         options.add_argument(word)
-    options.set_capability("goog:loggingPrefs", {"browser": "ALL"})
+    options.set_capability("goog:loggingPrefs", {"browser": "ALL", "performance": "ALL"})
     browser = webdriver.Chrome(service=Service("/usr/bin/chromedriver"), options=options)
     browser.execute_cdp_cmd("Network.enable", {})
     offline = {"offline": is_offline, "latency": 0, "downloadThroughput": 0, "uploadThroughput": 0}

@@ -11,7 +11,10 @@
  *   block back ends this.
  * - Where the environment has REFUSE_GROWTH=N, the Nth growth of the whole run is refused, once.
  *
- * Each of the last two writes a line to descriptor 99, where that is open, when it refuses. */
+ * Each of the last two writes a line to descriptor 99, where that is open, when it refuses.
+ *
+ * Where the environment has TELL_KEPT, standard error gets a line at the end of main: how many blocks more were given than
+ * given back since main began. */
 #define _GNU_SOURCE
 #include <dlfcn.h>
 #include <errno.h>
@@ -39,6 +42,14 @@ static atomic_long refused;
 static _Atomic(void *) counting;
 static atomic_long until;
 
+/* How many blocks more were given than given back since main began. */
+static atomic_long kept;
+
+static void *given(void *block) {
+    if (block && atomic_load(&in_main)) atomic_fetch_add(&kept, 1);
+    return block;
+}
+
 static void tell(void) {
     static const char line[] = "a growth was refused\n";
     ssize_t told = write(TOLD, line, sizeof line - 1);
@@ -60,7 +71,7 @@ static int refuses(void) {
 
 void *malloc(size_t size) {
     if (refuses()) return NULL;
-    void *block = __libc_malloc(size);
+    void *block = given(__libc_malloc(size));
     if (block && size == REFUSING) {
         atomic_store(&refused, 0);
         atomic_store(&refusing, block);
@@ -71,9 +82,12 @@ void *malloc(size_t size) {
     return block;
 }
 
-void *realloc(void *block, size_t size) { return refuses() ? NULL : __libc_realloc(block, size); }
+void *realloc(void *block, size_t size) {
+    if (refuses()) return NULL;
+    return block ? __libc_realloc(block, size) : given(__libc_realloc(block, size));
+}
 
-void *calloc(size_t count, size_t size) { return refuses() ? NULL : __libc_calloc(count, size); }
+void *calloc(size_t count, size_t size) { return refuses() ? NULL : given(__libc_calloc(count, size)); }
 
 void free(void *block) {
     if (block && block == atomic_load(&refusing)) {
@@ -84,6 +98,7 @@ void free(void *block) {
         atomic_store(&counting, NULL);
         atomic_store(&until, 0);
     }
+    if (block && atomic_load(&in_main)) atomic_fetch_sub(&kept, 1);
     __libc_free(block);
 }
 
@@ -96,6 +111,7 @@ static int counted(int words, char **texts, char **environment) {
     atomic_store(&in_main, 1);
     int status = program(words, texts, environment);
     atomic_store(&in_main, 0);
+    if (getenv("TELL_KEPT")) fprintf(stderr, "blocks kept: %ld\n", atomic_load(&kept));
     return status;
 }
 

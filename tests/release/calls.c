@@ -1,5 +1,6 @@
 /* The four calls of board.h: against a count over all coalitions of small boards, on input that is refused, over a room
- * with other content, and on a thread with 64 KB of stack. Ends in a line 'N passed, M failed', and in that status. */
+ * with other content, on a thread with 64 KB of stack, and on threads at once. Ends in a line 'N passed, M failed', and
+ * in that status. */
 #include "board.h"
 #include <pthread.h>
 #include <stdio.h>
@@ -8,7 +9,7 @@
 /* The set of all chairs. */
 #define ALL UINT64_MAX
 
-enum { CHAIRS = 8, BOARDS = 300, MAJORITIES = 4, STACK = 65536 };
+enum { CHAIRS = 8, BOARDS = 300, MAJORITIES = 4, STACK = 65536, THREADS = 8, CALLS = 100 };
 
 static struct board_room room;
 static int passed, failed;
@@ -192,6 +193,43 @@ static void count_largest(void) {
     }
 }
 
+/* A thread's board and room, and how often it counted what it counted first. */
+struct work {
+    uint64_t weights[BOARD_CHAIRS / 2];
+    struct board_room room;
+    int same;
+};
+
+static void *count_beside(void *given) {
+    struct work *work = given;
+    struct board_counts first, counts;
+    uint64_t total = 0;
+    for (int at = 0; at < BOARD_CHAIRS / 2; at++) total += work->weights[at];
+    for (int call = 0; call < CALLS; call++) {
+        struct board_counts *to = call ? &counts : &first;
+        if (board_counts_of_weights(work->weights, BOARD_CHAIRS / 2, total, BOARD_HALF, &work->room, to)) return NULL;
+        work->same += call == 0 || memcmp(&first, &counts, sizeof first) == 0;
+    }
+    return NULL;
+}
+
+/* Threads count at once, each another board in a room of its own, and then all boards are counted one after another. */
+static void count_in_threads(void) {
+    static struct work works[THREADS], again[THREADS];
+    pthread_t threads[THREADS];
+    for (int at = 0; at < THREADS; at++) {
+        for (int chair = 0; chair < BOARD_CHAIRS / 2; chair++) works[at].weights[chair] = lot(1000) + 1;
+        again[at] = works[at];
+        judge(pthread_create(&threads[at], NULL, count_beside, &works[at]) == 0, "a thread isn't started");
+    }
+    for (int at = 0; at < THREADS; at++) {
+        pthread_join(threads[at], NULL);
+        count_beside(&again[at]);
+        judge(works[at].same == CALLS && again[at].same == CALLS, "calls in threads");
+        judge(memcmp(&works[at].room, &again[at].room, sizeof works[at].room) == 0, "the lists of a thread");
+    }
+}
+
 static void *all_calls(void *nothing) {
     count_boards();
     refuse();
@@ -204,6 +242,7 @@ int main(void) {
     pthread_t thread;
     if (pthread_attr_init(&attributes) || pthread_attr_setstacksize(&attributes, STACK)) return 1;
     if (pthread_create(&thread, &attributes, all_calls, NULL) || pthread_join(thread, NULL)) return 1;
+    count_in_threads();
     printf("%d passed, %d failed\n", passed, failed);
     return failed != 0;
 }

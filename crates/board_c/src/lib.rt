@@ -79,7 +79,7 @@ fn counts_of_members(
     counts_by_number(&sheet, number, room)
 }
 
-// Writes the counts and answers 0, or writes nothing and answers the number of the refusal.
+// Writes the counts and answers 0, or leaves them as they were and answers the number of the refusal.
 fn answer(found: Result<BoardCounts, Refusal>, counts: &mut BoardCounts) -> u8
     ensures done { (result ≡ DONE) ↔ IsOk found }
     ensures written { IfOk found (λ c. counts.new ≡ c) }
@@ -103,7 +103,7 @@ fn answer(found: Result<BoardCounts, Refusal>, counts: &mut BoardCounts) -> u8
 /// effect, and is lost.
 ///
 /// `BadSheet` (32): the words are not a sheet's, or not 34. Else `BadRecord` (17): there is no majority of this number.
-/// Nothing is written to `counts` then.
+/// `counts` is then as it was.
 #[unsafe(no_mangle)]
 pub extern "C" fn board_counts(
     words: &[u64],
@@ -120,7 +120,7 @@ pub extern "C" fn board_counts(
 
 /// As `board_counts`, by each of the four majorities: the lists are made once.
 ///
-/// `BadSheet` (32): the words are not a sheet's, or not 34. Nothing is written to `counts` then.
+/// `BadSheet` (32): the words are not a sheet's, or not 34. `counts` is then as it was.
 #[unsafe(no_mangle)]
 pub extern "C" fn board_all_counts(
     words: &[u64],
@@ -143,7 +143,7 @@ pub extern "C" fn board_all_counts(
 /// total, in votes too, is at least their sum and at most 2^48.
 ///
 /// `BadSheet` (32): there are more than 32 weights, their sum is above the total, or that is above 2^48. Else
-/// `BadRecord` (17): there is no majority of this number. Nothing is written to `counts` then.
+/// `BadRecord` (17): there is no majority of this number. `counts` is then as it was.
 #[unsafe(no_mangle)]
 pub extern "C" fn board_counts_of_weights(
     weights: &[u64],
@@ -164,7 +164,7 @@ pub extern "C" fn board_counts_of_weights(
 /// are not suspended, and the total is the votes of all members that are not suspended, in a chair or in none.
 ///
 /// `BadSheet` (32): a member's chair is above 32, or the total is above 2^48. Else `BadRecord` (17): there is no
-/// majority of this number. Nothing is written to `counts` then.
+/// majority of this number. `counts` is then as it was.
 #[unsafe(no_mangle)]
 pub extern "C" fn board_counts_of_members(
     members: &[BoardMember],

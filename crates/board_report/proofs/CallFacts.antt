@@ -1,8 +1,17 @@
--- The call that was answered.
-use Rattle.std.proofs.Common.{◌≡◌, inl, inr, Ok}
+-- The call that was answered, and how often it was interrupted.
+use Rattle.std.proofs.Common.{◌≡◌, ◌≤◌, ◌+◌, ℕ, inl, inr, Result, Ok, Err, arith}
+use Rattle.told_streams.specs.Tapes.{Giving}
+use Rattle.board_text.specs.Inputs.{InterruptedAtMost, RunRetriesAtMost}
+use Rattle.board_text.specs.declared.faults.Fault.{Fault}
 use Rattle.board_words.specs.Calls.{IsAnswered}
 use Rattle.board_words.specs.declared.calls.Call.{Call}
 
 pub answered-as : (given call : Call) → IsAnswered (Ok given) call → given ≡ call
 answered-as given call (inl same) = cc
 answered-as given call (inr lacks) = cc lacks
+
+-- a run was interrupted once more at most than interruptions are retried
+pub run-interrupted : (count : ℕ) (from to : Giving) (r : Result (Unit {0}) Fault) → RunRetriesAtMost count from to r → InterruptedAtMost (count + 1) from to
+run-interrupted count from to (Ok u) p = omega (arith, p)
+run-interrupted count from to (Err f) (inl few) = omega (arith, few)
+run-interrupted count from to (Err f) (inr (device, more)) = more

@@ -1,7 +1,15 @@
 -- What the definitions of how the program ends take and refuse.
-use Rattle.std.proofs.Common.{ℕ, List, [], ◌∷◌, Some, inl, inr}
+use Rattle.std.proofs.Common.{◌≡◌, ℕ, List, [], ◌∷◌, ◌++◌, get_or, Some, codes, inl, inr, refl, sym, ap, ◌∙◌, subst, arith}
+use Rattle.council_core.specs.Refusals.{code_of}
+use Rattle.council_core.specs.declared.refusals.Refusal.TheVariants.{BadHeader, BadLimit, BadRecord, OutOfMemory, ReadFault, WriteFault}
+use Rattle.board_text.specs.Output.{AppendsFront}
+use Rattle.board_text.specs.Text.{begun_of, fault_at, stops}
+use Rattle.board_text.specs.declared.faults.Fault.{Fault}
+use Rattle.board_runs.specs.Replays.{run_of}
+use Rattle.board_words.proofs.WorkedCases.{plain, replay_asks_no_text, replay_has_no_fault}
 use Rattle.board_words.specs.declared.calls.Call.{Call}
-use Rattle.board_report.specs.Programs.{AnswersWords, CallExits, LacksMemory, Written, written}
+use Rattle.board_words.specs.declared.calls.Call.TheVariants.{Replay}
+use Rattle.board_report.specs.Programs.{AnswersWords, CallExits, LacksMemory, Written, failure_text, limits, written}
 
 abbrev one : List ℕ
 one = 7 ∷ []
@@ -36,3 +44,72 @@ good_end_to_error : (call : Call) (bytes : List ℕ) → CallExits call bytes 0 
 good_end_to_error call bytes (inl well) = let e = well.2 in cc e
 good_end_to_error call bytes (inr (inl fault)) = let e = fault.0 in cc e
 good_end_to_error call bytes (inr (inr lacks)) = let e = lacks.status_is in cc e
+
+-- words that ask for a call ask for no text, and no fault is in them
+replay_taken_for_help : AnswersWords (plain (codes "replay")) 0 to_output → ⊥
+replay_taken_for_help (inl shown) = replay_asks_no_text shown.2
+replay_taken_for_help (inr (inl refused)) = let e = refused.0 in cc e
+replay_taken_for_help (inr (inr lacks)) = let e = lacks.status_is in cc e
+
+replay_refused : AnswersWords (plain (codes "replay")) 2 to_error → ⊥
+replay_refused (inl shown) = let e = shown.0 in cc e
+replay_refused (inr (inl refused)) = replay_has_no_fault refused.2
+replay_refused (inr (inr lacks)) = let e = lacks.status_is in cc e
+
+-- what standard error gets
+name_of_a_fault : failure_text (code_of BadRecord) ≡ codes "board: BadRecord" ++ 10 ∷ []
+name_of_a_fault = refl
+
+-- with no reader a run stops before it reads
+no_reader : (bytes : List ℕ) → run_of (limits 0 1) bytes ≡ stops (fault_at BadLimit 0)
+unfolding begun_of
+no_reader bytes = refl
+
+-- then the status is not 0
+abbrev told_well : Written
+told_well = written (Some []) (Some (codes "fault,0,BadLimit" ++ 10 ∷ [])) (Some []) (Some [])
+
+stopped_run_exits_well : (bytes : List ℕ) → CallExits (Replay 0 1) bytes 0 told_well → ⊥
+unfolding begun_of
+stopped_run_exits_well bytes (inl well) = let e = well.1.0 in cc e
+stopped_run_exits_well bytes (inr (inl fault)) = let e = fault.0 in cc e
+stopped_run_exits_well bytes (inr (inr lacks)) = let e = lacks.status_is in cc e
+
+-- and another fault's name is not what standard error gets
+abbrev another_name : List ℕ
+another_name = codes "board: BadHeader" ++ 10 ∷ []
+
+abbrev told_another : Written
+told_another = written (Some []) (Some (codes "fault,0,BadLimit" ++ 10 ∷ [])) (Some []) (Some another_name)
+
+begins : (x text : List ℕ) → AppendsFront (Some []) (Some x) text → (rest : List ℕ) × (text ≡ x ++ rest)
+begins x text (front, whole, new) = (whole.0, whole.1 ∙ ap (λ l. l ++ whole.0) (sym new))
+
+-- the byte of a text at a place
+at : (n : ℕ) {a b : List ℕ} → a ≡ b → get_or a n 0 ≡ get_or b n 0
+at n e = ap (λ (bytes : List ℕ). get_or bytes n 0) e
+
+abbrev IsSaid : Fault → Type 0
+IsSaid f = AppendsFront (Some []) (Some another_name) (failure_text f.code)
+
+not_of_the_limit : IsSaid (fault_at BadLimit 0) → ⊥
+not_of_the_limit h = absurd (omega (arith, at 10 (begins another_name _ h).1))
+
+not_of_memory : IsSaid (fault_at OutOfMemory 0) → ⊥
+not_of_memory h = absurd (omega (arith, at 7 (begins another_name _ h).1))
+
+not_of_a_read : IsSaid (fault_at ReadFault 0) → ⊥
+not_of_a_read h = absurd (omega (arith, at 7 (begins another_name _ h).1))
+
+not_of_a_write : IsSaid (fault_at WriteFault 0) → ⊥
+not_of_a_write h = absurd (omega (arith, at 7 (begins another_name _ h).1))
+
+another_fault_named : (bytes : List ℕ) → CallExits (Replay 0 1) bytes 1 told_another → ⊥
+unfolding begun_of
+another_fault_named bytes (inl well) = let e = well.0 in cc e
+another_fault_named bytes (inr (inl (one, (f, inl (end, new), said)))) =
+    let same : f ≡ fault_at BadLimit 0 = cc end in not_of_the_limit (subst IsSaid same said)
+another_fault_named bytes (inr (inl (one, (f, inr (inl (inl same, new)), said)))) = not_of_memory (subst IsSaid same said)
+another_fault_named bytes (inr (inl (one, (f, inr (inl (inr same, new)), said)))) = not_of_a_read (subst IsSaid same said)
+another_fault_named bytes (inr (inl (one, (f, inr (inr (same, new)), said)))) = not_of_a_write (subst IsSaid same said)
+another_fault_named bytes (inr (inr lacks)) = not_of_memory lacks.said

@@ -1,5 +1,5 @@
 //! The program: what it does on its words, and its exit status.
-ghost use Rattle.std.specs.Prelude.{◌≡◌, ◌≤◌, ℕ, List, map};
+ghost use Rattle.std.specs.Prelude.{◌≡◌, ◌≤◌, ◌+◌, ℕ, List, map};
 ghost use Rattle.told_streams.specs.Tapes.{OfInput};
 ghost use Rattle.std.specs.String.{string_bytes};
 ghost use Rattle.council_core.specs.Refusals.{code_of};
@@ -10,12 +10,13 @@ ghost use Rattle.board_words.specs.declared.calls.Call.TheVariants.{Serve};
 ghost use Rattle.board_words.specs.declared.calls.NoCall.TheVariants as none;
 ghost use Rattle.board_report.specs.Programs.{AnswersWords, CallEnds, CallExits, LacksMemory, failure_text};
 ghost use Rattle.board_report.specs.Programs.{no_text, written};
+ghost use Rattle.board_text.specs.Inputs.{InterruptedAtMost, RunRetriesAtMost, WastesAtMost};
 ghost use Rattle.board_text.specs.Output.{AppendsFront};
 
 use crate::streams::Streams;
 use board_runs::{replay, trace};
 use board_serve::{FreeGate, serve};
-use board_text::{Fault, Limits, Line, say};
+use board_text::{Fault, INTERRUPTIONS, Limits, Line, READS, say};
 use board_words::{Call, NoCall};
 use council_core::Refusal;
 use std::alloc::Global;
@@ -77,6 +78,9 @@ fn run_serve<T: Threads + Wait + Sync, R: Read + Drop, W: Write>(
 ) -> Result<(), Fault>
     ensures ends { OfInput input.old input.new
         (λ bytes. CallEnds (Serve journal) bytes (W.contents out.old) (W.contents out.new) result) }
+    ensures asks { input.new.asks ≤ input.old.asks + READS }
+    ensures vain { WastesAtMost 1 input.old input.new }
+    ensures retried { RunRetriesAtMost INTERRUPTIONS input.old input.new result }
 {
     match serve(rt, alloc, &FreeGate, input, out, journal) {
         Ok(_served) => Ok(()),
@@ -94,6 +98,9 @@ fn run<T: Threads + Wait + Sync, R: Read + Drop, W: Write>(
 ) -> Result<(), Fault>
     ensures ends { OfInput input.old input.new
         (λ bytes. CallEnds call bytes (W.contents out.old) (W.contents out.new) result) }
+    ensures asks { input.new.asks ≤ input.old.asks + READS }
+    ensures vain { WastesAtMost 1 input.old input.new }
+    ensures retried { RunRetriesAtMost INTERRUPTIONS input.old input.new result }
 {
     match call {
         Call::Replay { readers, journal } => replay(alloc, input, out, Limits { readers, journal }),
@@ -110,7 +117,10 @@ fn run<T: Threads + Wait + Sync, R: Read + Drop, W: Write>(
 ///
 /// Where the words ask for a call, what is written and the status are those of `replay`, `trace` or
 /// `serve` with the limits that the words say. Where clap finds a fault in them, or is asked for help
-/// or the version, one of the two streams gets its text and the other stays.
+/// or the version, one of the two streams gets its text and the other stays, and nothing is asked of the input.
+///
+/// At most `READS` reads of the input are asked for, and none after the one that finds its end or fails. At most
+/// `INTERRUPTIONS` interrupted reads are retried.
 pub fn program<T: Threads + Wait + Sync, R: Read + Drop, W: Write + Drop, E: Write + Drop>(
     rt: &T,
     alloc: Global,
@@ -126,6 +136,11 @@ pub fn program<T: Threads + Wait + Sync, R: Read + Drop, W: Write + Drop, E: Wri
         → AnswersWords (map string_bytes words.now) result
         (written (W.contents streams.old.out) (W.contents streams.new.out) (E.contents streams.old.err)
         (E.contents streams.new.err)) }
+    ensures unread { AreNotTaken (map string_bytes words.now) → streams.new.input ≡ streams.old.input }
+    ensures asks { streams.new.input.asks ≤ streams.old.input.asks + READS }
+    ensures vain { WastesAtMost 1 streams.old.input streams.new.input }
+    ensures retried { result ≡ 0 → InterruptedAtMost INTERRUPTIONS streams.old.input streams.new.input }
+    ensures interrupted { InterruptedAtMost (INTERRUPTIONS + 1) streams.old.input streams.new.input }
 {
     let call = match Call::from_words(alloc, words) {
         Ok(call) => call,

@@ -116,7 +116,7 @@ impl Interpreter for Desk {
 /// the record's number. `OutOfMemory` may come at any time, `WriteFault` at any write. The lines
 /// written before a fault stay, and its own line is the last, but after a `WriteFault`.
 ///
-/// The input is asked for at most `READS` reads, and for none after the one that told its end or failed. At most
+/// The input is asked for at most `READS` reads, and for none after the one that found its end or failed. At most
 /// `INTERRUPTIONS` interrupted reads are retried: the next one is a failed read.
 pub fn replay<R: Read + Drop, W: Write>(
     alloc: Global,

@@ -116,8 +116,8 @@ impl Interpreter for Machine {
 /// event that only moves prints nothing. What is written and answered is what `trace_of` says of the
 /// bytes that the reader gave, whichever way the run ends, as in `replay`.
 ///
-/// The faults are those of `replay`, in the same order, and so are the reads that the input is asked for. `OutOfMemory` as a command is handed over
-/// is `OutOfMemory` and ends the run: it is no line of the machine's.
+/// The faults are those of `replay`, in the same order, and so are the reads that the input is asked for. `OutOfMemory`
+/// as a command is submitted is `OutOfMemory` and ends the run: it is no line of the machine's.
 pub fn trace<R: Read + Drop, W: Write>(
     alloc: Global,
     input: &mut Given<R>,

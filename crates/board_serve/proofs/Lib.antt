@@ -5,3 +5,4 @@ pub mod WorkFacts
 pub mod OutcomeFacts
 pub mod AuditFacts
 pub mod ServeFacts
+pub mod WorkedCases

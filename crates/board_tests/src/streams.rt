@@ -253,7 +253,8 @@ impl Halt {
 struct Counted<'a> {
     bytes: &'a [u8],
     place: usize,
-    halts: [Halt; 2],
+    first: Halt,
+    second: Halt,
     fails_behind: usize,
     calls: &'a AtomicU64,
 }
@@ -261,8 +262,7 @@ struct Counted<'a> {
 impl<'a> Read for Counted<'a> {
     fn read(&mut self, buf: &mut [u8]) -> io::Result<usize> {
         self.calls.fetch_add(1, Ordering::SeqCst);
-        let [first, second] = &mut self.halts;
-        if first.interrupts(self.place) || second.interrupts(self.place) {
+        if self.first.interrupts(self.place) || self.second.interrupts(self.place) {
             return Err(io::Error::from(ErrorKind::Interrupted));
         }
         if self.place == self.fails_behind {
@@ -293,7 +293,8 @@ fn reads_counted<T: Threads + Wait + Sync>(
     let reader = Counted {
         bytes: input_of(call),
         place: 0,
-        halts,
+        first: halts[0],
+        second: halts[1],
         fails_behind,
         calls: &calls,
     };
@@ -354,18 +355,18 @@ fn a_failed_device_is_not_read_again(rt: HostRuntime) -> Result<(), Fail> {
     Ok(())
 }
 
-// A writer that takes whatever it is handed, and is interrupted at two places.
+// A writer that takes whatever it gets, and is interrupted at two places.
 #[derive(Drop)]
 struct Halting {
     taken: Vec<u8>,
-    halts: [Halt; 2],
+    first: Halt,
+    second: Halt,
 }
 
 impl Write for Halting {
     fn write(&mut self, buf: &[u8]) -> io::Result<usize> {
         let place = self.taken.len();
-        let [first, second] = &mut self.halts;
-        if first.interrupts(place) || second.interrupts(place) {
+        if self.first.interrupts(place) || self.second.interrupts(place) {
             return Err(io::Error::from(ErrorKind::Interrupted));
         }
         match self.taken.extend_from_slice(buf) {
@@ -398,19 +399,16 @@ fn writes_two_lines<T: Threads + Wait + Sync>(
     wanted: &[u8],
 ) -> (u8, bool) {
     let first_line = b"accepted,1\n".len();
-    let halts = [
-        Halt {
+    let mut out = Halting {
+        taken: Vec::new(alloc),
+        first: Halt {
             behind: 0,
             count: 600,
         },
-        Halt {
+        second: Halt {
             behind: first_line,
             count,
         },
-    ];
-    let mut out = Halting {
-        taken: Vec::new(alloc),
-        halts,
     };
     let fault = run(rt, alloc, call, LIMITS, two_lines_of(call), &mut out);
     (number_of(fault), out.taken.as_slice() == wanted)

@@ -1,4 +1,6 @@
 //! The wrappers of streams: each call makes one call below, and answers what that one answers.
+ghost use Rattle.std.specs.Prelude.{◌≤◌, IfOk};
+
 use board_report::{Given, Told};
 use std::io;
 use std::io::{ErrorKind, Read, Write};
@@ -39,7 +41,9 @@ struct Device<'a> {
 
 impl<'a> Device<'a> {
     // The answer to a call with this much room.
-    fn answer(&self, room: usize) -> io::Result<usize> {
+    fn answer(&self, room: usize) -> io::Result<usize>
+        ensures bound { IfOk result (λ n. n ≤ room) }
+    {
         let answer = if self.calls.fetch_add(1, Ordering::SeqCst) == 0 {
             self.first
         } else {

@@ -11,6 +11,7 @@ use Rattle.board_text.specs.Output.{Fails, IsBadLimit, IsBroken, Plays, Starts}
 use Rattle.board_text.specs.Text.{fault_at, prints, stops}
 use Rattle.board_text.specs.declared.bounds.Limits.{Limits}
 use Rattle.board_text.specs.declared.faults.Fault.{Fault}
+use Rattle.board_text.specs.declared.input.TheConstants.{INTERRUPTIONS, READS}
 use Rattle.board_text.specs.declared.stops.Stop.TheVariants as stop
 use Rattle.board_text.specs.Requests.{member_of, request_of}
 use Rattle.board_text.specs.Lines.{accepted_line, refused_line, published_line, chair_line}
@@ -105,9 +106,9 @@ written_after_a_failure h = absurd (omega (arith, h))
 abbrev reader : ℕ → ℕ → Giving
 reader vain interruptions = record { left = None; gave = []; ended = false; asks = vain; vain = vain; interruptions = interruptions }
 
--- one read told the end, or failed, behind an interruption
-end_told : NoReadInVain {A = Unit {0}} (reader 0 0) (reader 2 1) (Ok tt)
-end_told = omega arith
+-- one read found the end, or failed, behind an interruption
+end_found : NoReadInVain {A = Unit {0}} (reader 0 0) (reader 2 1) (Ok tt)
+end_found = omega arith
 
 read_behind_the_end : NoReadInVain {A = Unit {0}} (reader 0 0) (reader 2 0) (Ok tt) → ⊥
 read_behind_the_end h = absurd (omega (arith, h))
@@ -181,7 +182,7 @@ record_of_a_device : IsOfDevice (fault_at ReadFault 5) → ⊥
 record_of_a_device (inl e) = absurd (omega (arith, place e))
 record_of_a_device (inr e) = absurd (omega (arith, place e))
 
--- limits out of range are told as such
+-- limits out of range are answered as BadLimit
 another_limit : IsBadLimit {A = Unit {0}} (Err (fault_at BadHeader 0)) → ⊥
 another_limit (inl e) = absurd (omega (arith, code (told e)))
 another_limit (inr e) = absurd (omega (arith, code (told e)))
@@ -229,3 +230,10 @@ stopped_by_another h = let e : fault_at BadRecord 5 ≡ fault_at BadRecord 6 = l
 
 line_left_out : Plays (Some []) (Some []) (Ok tt) (prints (codes "began" ∷ [])) → ⊥
 line_left_out h = let e = h.1 in cc e
+
+-- the limits of a run's reads and retries by number
+retries : INTERRUPTIONS ≡ 1000
+retries = refl
+
+reads : READS ≡ 4195305
+reads = refl

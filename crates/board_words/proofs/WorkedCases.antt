@@ -1,14 +1,14 @@
 -- Words that ask for each call, with the limits that they say; and words that ask for none.
-use Rattle.std.proofs.Common.{◌≡◌, List, [], ◌∷◌, false, Some, codes, inl, refl, rules}
+use Rattle.std.proofs.Common.{◌≡◌, List, [], ◌∷◌, false, Some, codes, inl, inr, refl, rules}
 use Rattle.clap.proofs.OnLiterals.{clap_on_literals}
 use Rattle.clap.specs.Words.{Row, Text, one_of, subcommand_of, takes}
 use Rattle.std.specs.Option.{option_map_or}
 use Rattle.clap.specs.declared.error.kind.ErrorKind.TheVariants.{DisplayHelp}
-use Rattle.board_words.specs.Calls.{AreNotTaken, AskText, Asks, Says}
+use Rattle.board_words.specs.Calls.{AreNotTaken, AskText, Asks, HaveFault, Says}
 use Rattle.board_words.specs.Commands.{IsTaken, board_app}
 use Rattle.board_words.specs.declared.calls.Call.TheVariants.{Replay, Serve, Trace}
 
-abbrev plain : Text → List Text
+abbrev pub plain : Text → List Text
 plain name = codes "board" ∷ name ∷ []
 
 abbrev with_limits : Text → List Text
@@ -96,3 +96,26 @@ help_asked = (DisplayHelp, inl refl, inl refl)
 help_not_taken : AreNotTaken (codes "board" ∷ codes "--help" ∷ [])
 unfolding clap_on_literals
 help_not_taken = λ none. cc none
+
+-- words that ask for a call ask for no text, and no fault is in them
+pub replay_asks_no_text : AskText (plain (codes "replay")) → ⊥
+unfolding clap_on_literals
+replay_asks_no_text h = h.1
+
+pub replay_has_no_fault : HaveFault (plain (codes "replay")) → ⊥
+unfolding clap_on_literals
+replay_has_no_fault h = h.1
+
+-- help is no fault, and a wrong word asks for no text
+help_has_no_fault : HaveFault (codes "board" ∷ codes "--help" ∷ []) → ⊥
+unfolding clap_on_literals
+help_has_no_fault (k, inl same, other) = other (inl same)
+help_has_no_fault (k, inr none, other) = none
+
+unknown_word_asks_no_text : AskText (codes "board" ∷ codes "replays" ∷ []) → ⊥
+unfolding clap_on_literals
+unknown_word_asks_no_text (k, inl same, inl help) = cc (same, help)
+unknown_word_asks_no_text (k, inl same, inr version) = cc (same, version)
+unknown_word_asks_no_text (k, inr (inl same), inl help) = cc (same, help)
+unknown_word_asks_no_text (k, inr (inl same), inr version) = cc (same, version)
+unknown_word_asks_no_text (k, inr (inr none), shown) = none

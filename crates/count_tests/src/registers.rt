@@ -1,7 +1,8 @@
 //! The register, its sheet and what it refuses.
 use crate::lent::with_register;
 use council_core::{
-    ChairId, Command, FRONT, MemberCode, Refusal, Register, SHEET_WORDS, Sheet, TOTAL, Votes,
+    ChairId, Command, FRONT, MAX_COMMANDS, MemberCode, Refusal, Register, SHEET_WORDS, Sheet,
+    TOTAL, Votes,
 };
 use std::alloc::Global;
 use std::process::Abort;
@@ -160,6 +161,77 @@ fn all_members(alloc: Global) -> Result<Vec<(MemberCode, Votes)>, Refusal> {
         members.push(numbered(number)?)?;
     }
     Ok(members)
+}
+
+// Why a register of these members doesn't start.
+fn refusal_of(alloc: Global, members: &[(MemberCode, Votes)]) -> Option<Refusal> {
+    match Register::start(alloc, members, 1) {
+        Ok(_) => None,
+        Err(why) => Some(why),
+    }
+}
+
+// Of the first members, none at first and one more each time: with how many the register first doesn't start, and why.
+fn first_refused(alloc: Global, members: &[(MemberCode, Votes)]) -> Option<(usize, Refusal)> {
+    for count in 0..=members.len() {
+        if let Some(why) = refusal_of(alloc, &members[..count]) {
+            return Some((count, why));
+        }
+    }
+    None
+}
+
+#[test]
+fn starts_with_each_number_of_members(rt: HostRuntime) -> Result<(), Fail> {
+    let mut members = all_members(rt.alloc())?;
+    members.push((MemberCode::new(b"ZZZ")?, Votes::new(1)?))?;
+    let refused = first_refused(rt.alloc(), members.as_slice());
+    assert!(rt; refused == Some((257, Refusal::TooManyMembers)));
+    Ok(())
+}
+
+// Each of the eight kinds of command, after which the register is as it was: AAA, in no chair, with 50 votes.
+fn round() -> Result<[Command; 9], Refusal> {
+    let chair = ChairId::new(1)?;
+    let code = MemberCode::new(b"AAA")?;
+    Ok([
+        Command::Open(chair),
+        Command::Move(code, Some(chair)),
+        Command::SetVotes(code, Votes::new(7)?),
+        Command::Suspend(code),
+        Command::Restore(code),
+        Command::Move(code, None),
+        Command::Close(chair),
+        Command::Withdraw(code),
+        Command::Admit(code, Votes::new(50)?),
+    ])
+}
+
+// How often the round is taken: 100,008 commands.
+const ROUNDS: u32 = 11_112;
+
+// Hands over the commands in turn, and answers how many were accepted at last.
+fn apply_all(register: &mut Register, commands: &[Command]) -> Result<u32, Refusal> {
+    for command in commands {
+        register.apply(*command)?;
+    }
+    Ok(register.accepted())
+}
+
+fn go_round(register: &mut Register) -> Result<u32, Refusal> {
+    let commands = round()?;
+    let mut accepted = 0;
+    for _ in 0..ROUNDS {
+        accepted = apply_all(register, &commands)?;
+    }
+    Ok(accepted)
+}
+
+#[test]
+fn accepts_many_commands(rt: HostRuntime) -> Result<(), Fail> {
+    let accepted = with_register(rt.alloc(), &three_members()?, MAX_COMMANDS, go_round)?;
+    assert_eq!(rt; accepted, 9 * ROUNDS);
+    Ok(())
 }
 
 // How commands are refused once chair 1 is opened, of a register that then has as many members and commands as there

@@ -1,11 +1,14 @@
 //! The calls of the running board.
+use crate::calls_without_memory::with_commands;
 use crate::growth_calls::{NONE, begun, command_at, open, opens, two_members};
 use crate::refused_growths::Call;
 use crate::seen::{add_journal, add_number, add_register, add_sheet};
 use board_share::{Analyst, AuditFault, Reader, Writer, audit, start};
 use council_core::{Command, MemberCode, Register, Sheet, Votes};
+use majority_rule::Majority;
 use std::alloc::Global;
 use std::sync::Wait;
+use std::test::Fail;
 use std::thread::Threads;
 
 fn board(alloc: Global) -> Option<(Writer, Vec<Reader>)> {
@@ -245,4 +248,40 @@ impl Call for Auditing {
     fn wanted(&self) -> u8 {
         if self.older { 24 } else { 0 }
     }
+}
+
+// Whether an analyst of a reader answers that of 16 coalitions those 8 win that have chair 1, which has all votes cast.
+fn answers(alloc: Global, reader: Reader) -> bool {
+    match Analyst::new(alloc, reader) {
+        Ok(mut analyst) => analyst.ask(Majority::Half).winning == 8,
+        Err(_) => false,
+    }
+}
+
+// Takes all readers, and answers how many of them have an analyst that answers so.
+fn answering(alloc: Global, readers: &mut Vec<Reader>) -> usize {
+    let mut count = 0;
+    for _ in 0..readers.len() {
+        if let Some(reader) = readers.pop() {
+            count += usize::from(answers(alloc, reader));
+        }
+    }
+    count
+}
+
+// Begins a board with this number of readers over a register of five commands: how many of them answer so.
+fn answering_of(alloc: Global, readers: u8) -> Option<usize> {
+    let (_writer, mut readers) = start(alloc, with_commands(alloc, 5)?, readers).ok()?;
+    Some(answering(alloc, &mut readers))
+}
+
+#[test]
+fn each_number_of_readers(rt: HostRuntime) -> Result<(), Fail> {
+    for readers in 1..=4 {
+        assert!(rt;
+            answering_of(rt.alloc(), readers) == Some(usize::from(readers)),
+            "{readers} readers"
+        );
+    }
+    Ok(())
 }

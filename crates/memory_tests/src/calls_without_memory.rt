@@ -105,9 +105,12 @@ impl Call for Valuing {
     }
 }
 
-/// `check`, `sheet`, `journal`, `accepted` and `member_at` of a register.
+/// `check`, `sheet`, `journal`, `accepted` and `member_at` of a register that has accepted this number of commands,
+/// at least two: the first room of the journal is full with four.
 #[derive(Clone, Copy)]
-pub(crate) struct Viewing;
+pub(crate) struct Viewing {
+    pub(crate) commands: u8,
+}
 
 #[derive(Drop)]
 pub(crate) struct Viewed {
@@ -125,12 +128,38 @@ fn is_checked(register: &Register) -> bool {
     }
 }
 
+// Opens chair 3 and each one up to the last, and answers whether all that was accepted.
+fn opens_up_to(register: &mut Register, last: u8) -> bool {
+    let mut opened = true;
+    for chair in 3..=last {
+        opened = opened && opens(register, chair);
+    }
+    opened
+}
+
+/// A register that has accepted this number of commands, at least two: AAA is in chair 1, and chairs 3 and up are open.
+pub(crate) fn with_commands(alloc: Global, commands: u8) -> Option<Register> {
+    let mut register = seated(alloc)?;
+    if opens_up_to(&mut register, commands) {
+        Some(register)
+    } else {
+        None
+    }
+}
+
+// Whether a register has accepted this number of commands, by each call that says so.
+fn has_accepted(register: &Register, commands: u8) -> bool {
+    let counted = register.accepted() == u32::from(commands);
+    let listed = register.journal().len() == usize::from(commands);
+    counted && listed && register.sheet_word(FRONT) == u64::from(commands)
+}
+
 impl Call for Viewing {
     type State = Viewed;
 
     fn prepare(&self, alloc: Global) -> Option<Viewed> {
         Some(Viewed {
-            register: seated(alloc)?,
+            register: with_commands(alloc, self.commands)?,
             words: [0; SHEET_WORDS],
             votes: 0,
         })
@@ -142,9 +171,8 @@ impl Call for Viewing {
             Some(row) => row.votes.number(),
             None => 0,
         };
-        let counted = state.register.accepted() == 2 && state.register.journal().len() == 2;
-        let worded = state.register.sheet_word(FRONT) == 2;
-        if counted && worded && state.votes == 20 && is_checked(&state.register) {
+        let accepted = has_accepted(&state.register, self.commands);
+        if accepted && state.votes == 20 && is_checked(&state.register) {
             0
         } else {
             NONE

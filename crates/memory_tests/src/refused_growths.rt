@@ -268,7 +268,12 @@ fn whole_runs(rt: HostRuntime) -> Result<(), Fail> {
 #[test]
 fn calls_without_memory(rt: HostRuntime) -> Result<(), Fail> {
     assert!(rt; asks_for_none(&rt, rt.alloc(), &Valuing));
-    assert!(rt; asks_for_none(&rt, rt.alloc(), &Viewing));
+    for commands in [2, 4, 5] {
+        assert!(rt;
+            asks_for_none(&rt, rt.alloc(), &Viewing { commands }),
+            "{commands} commands"
+        );
+    }
     assert!(rt; asks_for_none(&rt, rt.alloc(), &Evaluating));
     assert!(rt; asks_for_none(&rt, rt.alloc(), &Listing));
     assert!(rt; asks_for_none(&rt, rt.alloc(), &Turning));

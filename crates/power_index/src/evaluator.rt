@@ -38,8 +38,7 @@ impl Model for Evaluator {
 impl Evaluator {
     /// Holds the sheet of zeros: no chair open, no votes, no command accepted.
     ///
-    /// `OutOfMemory`, the only refusal, comes where the room for the two halves was not granted. Nothing is left
-    /// behind then.
+    /// `OutOfMemory`, the only refusal, comes where the room for the two halves was not granted.
     pub fn new(alloc: Global) -> Result<Evaluator, Refusal>
         ensures blank { IfOk result (λ e. e ≡ replicate SHEET_WORDS 0) }
         ensures memory { IsOkUnless result OutOfMemory }

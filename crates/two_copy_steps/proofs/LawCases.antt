@@ -1,20 +1,23 @@
 -- What the laws say of worked cases, whose premises hold there; and which causes and publications the definitions exclude.
-use Rattle.std.proofs.Common.{◌≡◌, ◌≤◌, ◌++◌, replicate, true, false, List, [], ◌∷◌, slice_get, ⊎_elim, Some, Ok, refl, sym, arith, true≢false}
+use Rattle.std.proofs.Common.{◌≡◌, ◌≤◌, ℕ, ◌++◌, replicate, true, false, List, [], ◌∷◌, slice_get, ⊎_elim, Some, Ok, refl, sym, arith, true≢false, suc, take}
 use Rattle.council_core.specs.Ledgers.{IsLedger, verdict_of}
 use Rattle.council_core.specs.Sheets.{front_of}
 use Rattle.council_core.specs.declared.commands.Command.TheVariants.{Open, Close, SetVotes}
 use Rattle.council_core.specs.declared.refusals.Refusal.TheVariants.{BadLimit, OutOfMemory}
 use Rattle.two_copy_steps.specs.declared.events.Event.{Event}
 use Rattle.two_copy_steps.specs.declared.events.Event.TheVariants.{Submit, Publish, Writer, Reader}
-use Rattle.two_copy_steps.specs.declared.views.Stage.TheVariants.{AtRest}
+use Rattle.two_copy_steps.specs.declared.views.Stage.TheVariants.{AtRest, Arrived, Reading}
 use Rattle.two_copy_steps.specs.declared.views.Phase.TheVariants.{Filling}
 use Rattle.two_copy_steps.specs.Lawful.{IsPublishable}
-use Rattle.two_copy_steps.specs.Laws.{AtOnceLaw, FreshLaw, RangeLaw, RecordsLaw, RepliesLaw, StayLaw, UnderLaw}
-use Rattle.two_copy_steps.specs.Auxiliary.{HasLegalRecords, NoneUnder}
+use Rattle.two_copy_steps.specs.Laws.{AtOnceLaw, BusyLaw, CountLaw, FreshLaw, GrowthLaw, NeverOlderLaw, RangeLaw, RecordsLaw, RepliesLaw, StayLaw, UnderLaw}
+use Rattle.two_copy_steps.specs.Auxiliary.{Auxiliary, HasLegalRecords, IsLawful, NoneUnder}
+use Rattle.two_copy_steps.specs.Actions.{reader_action, stage_action}
+use Rattle.two_copy_steps.specs.Records.{FrontsNeverFall}
+use Rattle.two_copy_steps.specs.Stages.{steps_taken}
 use Rattle.two_copy_steps.specs.Machines.{IsFew, WantsMemory}
 use Rattle.two_copy_steps.specs.Publications.{IsLeastUnseen, StaySeen}
 use Rattle.two_copy_steps.specs.Runs.{HasCause, IsFault, TellsReplies, auxiliary_after, machine_after}
-use Rattle.two_copy_steps.specs.Transitions.{MachineState, started, transition}
+use Rattle.two_copy_steps.specs.Transitions.{MachineState, notes, started, transition}
 use Rattle.two_copy_steps.proofs.WorkedCases.{code, filling_under, hands_three_votes, in_the_way, one_member, votes_in_range}
 
 -- an accepted command can want memory; a refused one, one that comes while a publication is under way, and every other
@@ -69,14 +72,14 @@ three_votes_stay_in_range : RangeLaw → IsPublishable one_member.opening (SetVo
 three_votes_stay_in_range law = (law (started one_member 1) ledger votes_in_range (Submit (SetVotes code 3)) hands_three_votes).1
 
 -- over the events in which a reader holds up a publication
-records_of_the_way : RecordsLaw → HasLegalRecords (machine_after one_member 1 in_the_way) (auxiliary_after one_member 1 in_the_way)
-records_of_the_way law = law one_member 1 ledger in_the_way
+records_while_held_up : RecordsLaw → HasLegalRecords (machine_after one_member 1 in_the_way) (auxiliary_after one_member 1 in_the_way)
+records_while_held_up law = law one_member 1 ledger in_the_way
 
-apart_in_the_way : UnderLaw → NoneUnder (machine_after one_member 1 in_the_way)
-apart_in_the_way law = law one_member 1 ledger in_the_way
+apart_while_held_up : UnderLaw → NoneUnder (machine_after one_member 1 in_the_way)
+apart_while_held_up law = law one_member 1 ledger in_the_way
 
-replies_in_the_way : RepliesLaw → TellsReplies one_member 1 in_the_way
-replies_in_the_way law = law one_member 1 ledger in_the_way
+replies_while_held_up : RepliesLaw → TellsReplies one_member 1 in_the_way
+replies_while_held_up law = law one_member 1 ledger in_the_way
 
 -- a step that stores a word leaves who is seen out, and with everybody seen out a publication fills at once
 stay_used : StayLaw → StaySeen (filling_under AtRest).writer.seen_out (transition (filling_under AtRest) Writer).0.writer.seen_out
@@ -91,3 +94,22 @@ one_published = Submit (Open 1) ∷ Publish ∷ replicate 35 Writer
 
 fresh_used : FreshLaw → 1 ≤ front_of (1 ∷ replicate 31 0 ++ 10 ∷ 1 ∷ [])
 fresh_used law = law one_member 1 ledger one_published (replicate 36 (Reader 1)) 0 _ refl refl
+
+never_older_while_held_up : NeverOlderLaw → FrontsNeverFall (notes (started one_member 1) in_the_way)
+never_older_while_held_up law = law one_member 1 ledger in_the_way
+
+-- the publication that the reader holds up, at the 42nd event, names the least reader that isn't seen out
+abbrev held_up : MachineState
+held_up = machine_after one_member 1 (take 41 in_the_way)
+
+busy_used : BusyLaw → (a : Auxiliary) → IsLawful IsPublishable held_up a → (r : ℕ) × (1 ≡ suc r) × IsLeastUnseen held_up.writer.seen_out r
+busy_used law a lawful =
+    let found = law held_up a lawful Writer 1 refl in
+    (found.0, found.1, found.2)
+
+-- the load of side is the second step of a reading, and that of a first word adds nothing to the record
+count_used : CountLaw → steps_taken ((stage_action 0 Arrived).after 1) ≡ 2
+count_used law = (law 0 1 Arrived tt).1
+
+growth_used : GrowthLaw → ((reader_action 0 (record { stage = Reading 0 []; readings = [] })).after 7).readings ≡ []
+growth_used law = (law 0 7 (record { stage = Reading 0 []; readings = [] }) (omega arith)).0 (λ e. omega (arith, e))

@@ -3,7 +3,8 @@ use Rattle.std.proofs.KnownBytes.{Keeps-refl}
 use Rattle.std.specs.String.{string_bytes}
 use Rattle.board_words.specs.declared.calls.Call.{Call}
 use Rattle.board_report.specs.Programs.{CallEnds}
-use Rattle.board_report.proofs.CallFacts.{answered-as}
+use Rattle.board_text.specs.declared.input.TheConstants.{INTERRUPTIONS}
+use Rattle.board_report.proofs.CallFacts.{answered-as, run-interrupted}
 use Rattle.board_report.proofs.programs.program.Goals as goal
 
 pub returns-in-Err-clause-refuses : goal.returns-in-Err-clause-refuses
@@ -20,3 +21,9 @@ returns-in-Err-run-clause-calls g c = λ call asks bytes is.
     let same = answered-as c.in-Ok.call call (c.in-Ok.ensures.asked call asks) in
     let P : Call → Type 0 = λ x. CallEnds x bytes (g.W.Write.contents c.args.streams.now.out) (g.W.Write.contents c.run.new.out) (Err c.in-Err-run.fault) in
     inr (inl (c.fail.ensures.status, (c.in-Err-run.fault, subst P same (c.in-Err-run.ensures.ends bytes is), c.fail.ensures.said)))
+
+pub returns-in-Ok-run-clause-interrupted : goal.returns-in-Ok-run-clause-interrupted
+returns-in-Ok-run-clause-interrupted g c = run-interrupted INTERRUPTIONS c.args.streams.now.input c.run.new.input c.run.result c.run.ensures.retried
+
+pub returns-in-Err-run-clause-interrupted : goal.returns-in-Err-run-clause-interrupted
+returns-in-Err-run-clause-interrupted g c = run-interrupted INTERRUPTIONS c.args.streams.now.input c.run.new.input c.run.result c.run.ensures.retried

@@ -1,0 +1,197 @@
+/** What all charts share: colours for light and dark, the shapes of majorities, the frame with its legend. */
+import { select, type Selection } from "d3-selection";
+import { symbol, symbolCircle, symbolDiamond, symbolSquare, symbolTriangle, type SymbolType } from "d3-shape";
+import { MAJORITIES, MAJORITY, type Majority } from "./words";
+
+export interface Palette {
+  readonly ink: string;
+  readonly faint: string;
+  readonly rule: string;
+  readonly paper: string;
+  readonly band: string;
+  readonly bar: string;
+  readonly of: Readonly<Record<Majority, string>>;
+}
+
+export const LIGHT: Palette = {
+  ink: "#1b1b1b",
+  faint: "#555555",
+  rule: "#cfcfcf",
+  paper: "#ffffff",
+  band: "#f3f4f6",
+  bar: "#8a8f98",
+  of: { half: "#00568a", "70": "#b34700", "85": "#00694c", quorum: "#8a2f78" },
+};
+
+export const DARK: Palette = {
+  ink: "#ececec",
+  faint: "#b4b4b4",
+  rule: "#454a53",
+  paper: "#16181c",
+  band: "#1f2228",
+  bar: "#8f96a3",
+  of: { half: "#6cb8f0", "70": "#ffa45c", "85": "#4fd0a5", quorum: "#e39ad3" },
+};
+
+/** How a chart is drawn. A title and a source line are drawn where they are given. */
+export interface Look {
+  readonly width: number;
+  readonly palette: Palette;
+  readonly title: string;
+  readonly source: readonly string[];
+}
+
+const SHAPES: Readonly<Record<Majority, SymbolType>> = {
+  half: symbolCircle,
+  "70": symbolSquare,
+  "85": symbolTriangle,
+  quorum: symbolDiamond,
+};
+
+/** Room for a letter, at the size of the charts' text. */
+export const TEXT = 12;
+const LETTER = 6.6;
+
+/** The paths of the majorities' dots, each made once. */
+const PATHS = new Map(MAJORITIES.map((it) => [it, symbol().type(SHAPES[it]).size(44)()]));
+
+/** A text that fits into a width. */
+export function fitted(text: string, width: number): string {
+  const most = Math.max(3, Math.floor(width / LETTER));
+  return text.length <= most ? text : `${text.slice(0, most - 1)}…`;
+}
+
+/** A drawing: its root, and the height that is taken so far. */
+export interface Frame {
+  readonly root: Selection;
+  readonly top: number;
+}
+
+export interface LegendItem {
+  readonly words: string;
+  draw(place: Selection, palette: Palette): void;
+}
+
+/** A dot of a majority, hollow for the base. */
+export function dot(place: Selection, majority: Majority, isHollow: boolean, palette: Palette): Selection {
+  return place
+    .append("path")
+    .attr("d", PATHS.get(majority) ?? "")
+    .attr("fill", isHollow ? palette.paper : palette.of[majority])
+    .attr("stroke", palette.of[majority])
+    .attr("stroke-width", 1.5);
+}
+
+/** The legend's bar. */
+export function legendBar(place: Selection): Selection {
+  return place.append("rect").attr("x", -7).attr("y", -4).attr("width", 14).attr("height", 8);
+}
+
+/** The legend's items for majorities: the dot, filled. */
+export function majorityItems(majorities: readonly Majority[]): LegendItem[] {
+  return majorities.map((majority) => ({
+    words: MAJORITY[majority].label,
+    draw: (place, palette) => void dot(place, majority, false, palette),
+  }));
+}
+
+/** Begins a drawing: title, then the legend in as many lines as it takes. */
+export function framed(place: Element, look: Look, items: readonly LegendItem[], name: string): Frame {
+  const { width, palette } = look;
+  const root = select(place).append("svg").attr("xmlns", "http://www.w3.org/2000/svg");
+  root.attr("font-family", "system-ui, sans-serif").attr("font-size", TEXT).attr("width", width);
+  root.attr("role", "img").attr("aria-label", name);
+  root.append("rect").attr("width", "100%").attr("height", "100%").attr("fill", palette.paper);
+  let top = 6;
+  if (look.title) {
+    const title = fitted(look.title, (width - 16) * 0.8);
+    root.append("text").attr("x", 8).attr("y", 20).attr("fill", palette.ink).attr("font-size", 15).text(title);
+    top = 32;
+  }
+  let left = 8;
+  for (const item of items) {
+    const room = 26 + item.words.length * LETTER;
+    if (left > 8 && left + room > width) [left, top] = [8, top + 18];
+    const at = root.append("g").attr("transform", `translate(${left + 7},${top + 9})`);
+    item.draw(at, palette);
+    at.append("text").attr("x", 11).attr("y", 4).attr("fill", palette.ink).text(item.words);
+    left += room;
+  }
+  return { root, top: top + 24 };
+}
+
+/** Ends a drawing: the source lines, and the height. */
+export function ended({ root }: Frame, look: Look, bottom: number): void {
+  let height = bottom + 6;
+  for (const line of look.source) {
+    height += 14;
+    const words = fitted(line, (look.width - 16) * 1.2);
+    root.append("text").attr("x", 8).attr("y", height).attr(
+      "fill",
+      look.palette.faint,
+    ).attr("font-size", 10).text(words);
+  }
+  height += 6;
+  root.attr("height", height).attr("viewBox", `0 0 ${look.width} ${height}`);
+}
+
+/** Where rows begin: names stand left of them, or above them where there is little room. */
+export function labelRoom(rows: readonly Named[], { width }: Look): { left: number; head: number } {
+  const longest = Math.max(0, ...rows.map((row) => nameOf(row).length)) * LETTER + 18;
+  return width < 480 || longest > width / 2 ? { left: 10, head: 17 } : {
+    left: Math.max(60, Math.min(longest, width / 3)),
+    head: 0,
+  };
+}
+
+interface Named {
+  readonly chair: number;
+  readonly name: string;
+}
+
+function nameOf({ chair, name }: Named): string {
+  return `${chair} ${name}`;
+}
+
+/** The group of a row: with its chair's number in `data-chair`, and every second one on a band. */
+export function rowGroup(
+  { root }: Frame,
+  row: Named,
+  look: Look,
+  top: number,
+  height: number,
+  isOnBand: boolean,
+): Selection {
+  const group = root.append("g").attr("transform", `translate(0,${top})`).attr("data-chair", row.chair);
+  const band = group.append("rect").attr("width", look.width).attr("height", height);
+  band.attr("fill", isOnBand ? look.palette.band : "transparent").attr("fill-opacity", 0.55);
+  return group;
+}
+
+/** Writes a row's name. */
+export function labelled(group: Selection, row: Named, look: Look, head: number, left: number, height: number): void {
+  const label = group.append("text").attr("fill", look.palette.ink);
+  label.text(fitted(nameOf(row), head ? look.width - 20 : left - 10));
+  if (head) label.attr("x", 8).attr("y", 13);
+  else label.attr("x", left - 10).attr("y", height / 2 + 4).attr("text-anchor", "end");
+}
+
+/** A small text beside an axis. */
+export function caption(
+  root: Selection,
+  words: string,
+  x: number,
+  y: number,
+  palette: Palette,
+  anchor = "start",
+): void {
+  const text = root.append("text").attr("x", x).attr("y", y).attr("text-anchor", anchor);
+  text.attr("fill", palette.faint).attr("font-size", 11).text(words);
+}
+
+/** Colours of an axis, whose lines and texts d3 draws. */
+export function tinted(axis: Selection, { faint, rule }: Palette): void {
+  axis.selectAll("text").attr("fill", faint).attr("font-size", 11);
+  axis.selectAll("line").attr("stroke", rule);
+  axis.selectAll("path").attr("stroke", rule);
+}

@@ -1,0 +1,67 @@
+/** Changes in words: what each one does, with old and new. */
+import type { Outcome } from "./count";
+import { grouped } from "./fractions";
+import { recordOf } from "./script";
+import type { Standing } from "./standing";
+import type { Change, Command } from "./study";
+import { reasonOf } from "./words";
+
+/** A chair in words. */
+export function chairWords(chair: number | null | undefined): string {
+  return chair === null || chair === undefined ? "none" : `chair ${chair}`;
+}
+
+/** A member's code and name. */
+export function memberWords(code: string, name: string | undefined): string {
+  return name ? `${code} ${name}` : code;
+}
+
+/** What was asked for in per cent. */
+function askedWords({ what }: Change): string {
+  if (what.word !== "percent") return "";
+  return what.of === "own" ? ` (${what.percent} %)` : ` (${what.percent} % of the total)`;
+}
+
+function commandWords(
+  command: Command,
+  who: string,
+  before: { votes: number; chair: number | null } | undefined,
+): string {
+  switch (command.word) {
+    case "open":
+      return `Chair ${command.chair} is opened`;
+    case "close":
+      return `Chair ${command.chair} is closed`;
+    case "move":
+      return `${who}${before ? `: ${chairWords(before.chair)}` : ""} → ${chairWords(command.chair)}`;
+    case "votes":
+      return `${who}: ${before ? `${grouped(before.votes)} → ` : ""}${grouped(command.votes)}`;
+    case "suspend":
+      return `${who} is suspended`;
+    case "restore":
+      return `${who} is restored`;
+    case "admit":
+      return `${who} is admitted with ${grouped(command.votes)} votes`;
+    case "withdraw":
+      return `${who} withdraws`;
+  }
+}
+
+/** A change in words, with its old and new values where it was accepted. */
+export function changeWords(change: Change, outcome: Outcome | undefined, names: Standing): string {
+  const { what } = change;
+  const code = "code" in what ? what.code : "";
+  const name = change.name ?? names.place(code)?.name;
+  const who = memberWords(code, name);
+  const command = outcome && "command" in outcome ? outcome.command : what;
+  if (command.word === "percent") return `${who}: votes${askedWords(change)}`;
+  const before = outcome?.kind === "accepted" ? outcome.before : undefined;
+  return commandWords(command, who, before) + askedWords(change);
+}
+
+/** Why a change wasn't carried out, or nothing. */
+export function refusalWords(outcome: Outcome | undefined): string {
+  if (outcome?.kind === "impossible") return outcome.why;
+  if (outcome?.kind !== "refused") return "";
+  return `refused ${outcome.number} ${outcome.name}: ${reasonOf(outcome.name)} (${recordOf(outcome.command)})`;
+}

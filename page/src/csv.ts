@@ -1,0 +1,58 @@
+/** The table of a study as CSV, with the columns of board_study: a row for each scenario, majority and chair. */
+import type { Readings } from "./count";
+import { difference, rounded, type Ratio } from "./fractions";
+import { chairIn, measureOf, voteShare, type ChairLine, type Reading } from "./lines";
+import type { Measure } from "./words";
+
+const PLACES = 10;
+const FRACTIONS = ["vote_share", "banzhaf", "power_share", "prevent", "initiate"] as const;
+const MEASURES: readonly Measure[] = ["banzhaf", "share", "prevent", "initiate"];
+const BOARD = ["open_chairs", "quota", "cast", "total", "winning", "coalitions"];
+const COLUMNS = ["scenario", "sweep", "sweep_percent", "majority", ...BOARD, "chair", "name", "votes", "swings"];
+const ALL = [
+  ...COLUMNS,
+  ...FRACTIONS.flatMap((it) => [`${it}_numerator`, `${it}_denominator`, it, `${it}_difference`]),
+];
+
+/** A register that was read: its label, and the sweep and its per cent where it is a step of one. */
+export interface Labelled {
+  readonly label: string;
+  readonly sweep?: string;
+  readonly percent?: string;
+  readonly readings: Readings;
+}
+
+function quoted(cell: string): string {
+  return /[",\r\n]/.test(cell) ? `"${cell.replace(/"/g, '""')}"` : cell;
+}
+
+function fractionsOf(reading: Reading, chair: ChairLine): (Ratio | null)[] {
+  return [voteShare(reading, chair), ...MEASURES.map((it) => measureOf(chair, it))];
+}
+
+function fractionCells(ratio: Ratio | null, before: Ratio | null): string[] {
+  const added = difference(ratio, before);
+  const own = ratio ? [String(ratio.numerator), String(ratio.denominator), rounded(ratio, PLACES)] : ["", "", ""];
+  return [...own, added ? rounded(added, PLACES) : ""];
+}
+
+function rowOf(of: Labelled, reading: Reading, chair: ChairLine, name: string, base: Readings): string[] {
+  const earlier = base.get(reading.majority);
+  const line = chairIn(earlier, chair.chair);
+  const before = earlier && line ? fractionsOf(earlier, line) : [];
+  const board = [reading.open, reading.quota, reading.cast, reading.total, reading.winning, reading.coalitions];
+  const fractions = fractionsOf(reading, chair).flatMap((it, at) => fractionCells(it, before[at] ?? null));
+  const own = [chair.chair, name, chair.weight, chair.swings].map(String);
+  return [of.label, of.sweep ?? "", of.percent ?? "", reading.majority, ...board.map(String), ...own, ...fractions];
+}
+
+/** The table of registers, of which the first is the base. */
+export function csvOf(all: readonly Labelled[], nameOf: (chair: number) => string): string {
+  const base = all[0]?.readings ?? new Map();
+  const rows = all.flatMap((it) =>
+    [...it.readings.values()].flatMap((reading) =>
+      reading.chairs.map((chair) => rowOf(it, reading, chair, nameOf(chair.chair), base)),
+    ),
+  );
+  return [ALL, ...rows].map((row) => `${row.map(quoted).join(",")}\n`).join("");
+}

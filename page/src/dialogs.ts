@@ -1,0 +1,40 @@
+/** Dialogs: each is made when it opens and taken away when it closes. */
+import { button, h, type Child } from "./dom";
+
+/** Opens a dialog with a heading. It closes by its button, by Escape and by what `close` returns. */
+export function openDialog(
+  id: string,
+  title: string,
+  content: (close: () => void) => Child,
+  onClose = () => {},
+): HTMLDialogElement {
+  document.getElementById(id)?.remove();
+  const back = document.activeElement instanceof HTMLElement ? document.activeElement.id : "";
+  const dialog = h("dialog", { id, "aria-labelledby": `${id}-title` });
+  const close = () => dialog.close();
+  dialog.append(
+    h(
+      "header",
+      {},
+      h("h2", { id: `${id}-title` }, title),
+      button("Close", close, { class: "close", "aria-label": `Close: ${title}` }),
+    ),
+    h("div", { class: "dialog-body" }),
+  );
+  const body = dialog.lastElementChild;
+  const children = content(close);
+  if (body) appendTo(body, children);
+  dialog.addEventListener("close", () => {
+    dialog.remove();
+    onClose();
+    document.getElementById(back)?.focus();
+  });
+  document.body.append(dialog);
+  dialog.showModal();
+  return dialog;
+}
+
+function appendTo(place: Element, child: Child): void {
+  if (Array.isArray(child)) for (const one of child as readonly Child[]) appendTo(place, one);
+  else if (child !== null && child !== false) place.append(child instanceof Node ? child : String(child));
+}

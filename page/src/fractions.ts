@@ -1,0 +1,78 @@
+/** Exact fractions, and decimals of them: each is rounded once, half to even, in whole-number arithmetic. */
+
+/** A fraction. Its denominator is above 0. */
+export interface Ratio {
+  readonly numerator: bigint;
+  readonly denominator: bigint;
+}
+
+/** The fraction, or null where the denominator is 0. */
+export function over(numerator: number | bigint, denominator: number | bigint): Ratio | null {
+  return BigInt(denominator) === 0n ? null : { numerator: BigInt(numerator), denominator: BigInt(denominator) };
+}
+
+/** A fraction as the program prints it, or `-`. */
+export function fractionText(ratio: Ratio | null): string {
+  return ratio === null ? "-" : `${ratio.numerator}/${ratio.denominator}`;
+}
+
+/** What is added to `before` to make `after`, or null where one is missing. */
+export function difference(after: Ratio | null, before: Ratio | null): Ratio | null {
+  if (after === null || before === null) return null;
+  const numerator = after.numerator * before.denominator - before.numerator * after.denominator;
+  return { numerator, denominator: after.denominator * before.denominator };
+}
+
+/** Less than 0, 0 or more: as `left` is less than, equal to or more than `right`. */
+export function compared(left: Ratio, right: Ratio): number {
+  const [here, there] = [left.numerator * right.denominator, right.numerator * left.denominator];
+  return here < there ? -1 : here > there ? 1 : 0;
+}
+
+/** A fraction times a whole number. */
+export function times(ratio: Ratio, by: bigint): Ratio {
+  return { numerator: ratio.numerator * by, denominator: ratio.denominator };
+}
+
+/** The whole number nearest to a fraction, half to even. */
+export function nearest({ numerator, denominator }: Ratio): bigint {
+  let [whole, rest] = [numerator / denominator, numerator % denominator];
+  if (rest < 0n) [whole, rest] = [whole - 1n, rest + denominator];
+  const twice = 2n * rest;
+  return twice > denominator || (twice === denominator && whole % 2n !== 0n) ? whole + 1n : whole;
+}
+
+/** A fraction as a decimal with some places. */
+export function rounded(ratio: Ratio, places: number): string {
+  const unit = 10n ** BigInt(places);
+  const units = nearest(times(ratio, unit));
+  const size = units < 0n ? -units : units;
+  const part = places === 0 ? "" : `.${(size % unit).toString().padStart(places, "0")}`;
+  return `${units < 0n ? "-" : ""}${size / unit}${part}`;
+}
+
+/** A fraction in per cent. */
+export function percent(ratio: Ratio, places: number): string {
+  return rounded(times(ratio, 100n), places);
+}
+
+/** A decimal with its sign also where it is above 0. */
+export function signed(decimal: string): string {
+  return decimal.startsWith("-") || !/[1-9]/.test(decimal) ? decimal : `+${decimal}`;
+}
+
+/** The fraction that a plain decimal such as `12.5` says. */
+export function decimalRatio(text: string): Ratio {
+  const [whole = "", part = ""] = text.split(".");
+  return { numerator: BigInt(whole + part), denominator: 10n ** BigInt(part.length) };
+}
+
+/** Where a fraction is drawn: the one place where a number becomes a floating one. */
+export function drawn(ratio: Ratio): number {
+  return Number((ratio.numerator * 10n ** 12n) / ratio.denominator) / 1e12;
+}
+
+/** A whole number with commas between thousands. */
+export function grouped(whole: number | bigint): string {
+  return whole.toString().replace(/\B(?=(?:\d{3})+$)/g, ",");
+}

@@ -1,0 +1,25 @@
+/** What the build wrote into the page: the version, the commit, and the module with its hash. */
+import made from "../out/made.json";
+
+export const VERSION = made.version;
+export const COMMIT = made.commit;
+export const MODULE_HASH = made.module;
+/** The commit for the eye. */
+export const SHORT_COMMIT = made.commit.slice(0, 7) + (made.commit.length > 40 ? "+" : "");
+
+/** The module's bytes. */
+export function moduleBytes(): Uint8Array {
+  const text = document.getElementById("module")?.textContent ?? "";
+  return Uint8Array.from(atob(text.trim()), (letter) => letter.charCodeAt(0));
+}
+
+/** What stands in place of a hash where the browser gives none. */
+export const NO_HASH = "not available in this browser";
+
+/** The SHA-256 of bytes or of a text, in hexadecimal; or words where the browser gives none. */
+export async function hashOf(content: Uint8Array | string): Promise<string> {
+  if (!globalThis.crypto?.subtle) return NO_HASH;
+  const bytes = typeof content === "string" ? new TextEncoder().encode(content) : content;
+  const digest = new Uint8Array(await crypto.subtle.digest("SHA-256", bytes));
+  return Array.from(digest, (byte) => byte.toString(16).padStart(2, "0")).join("");
+}

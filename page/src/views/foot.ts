@@ -1,0 +1,176 @@
+/** The foot: definitions of what is shown, marks, sources, how to cite, script and lines, and licences. */
+import type { App } from "../app";
+import { openDialog } from "../dialogs";
+import { byId, button, h, paint, type Child } from "../dom";
+import licences from "../licences.txt";
+import { citation, provenance } from "../provenance";
+import { MAJORITY, MEASURE } from "../words";
+
+function definitions({ view }: App): HTMLElement {
+  const { column, definition, label, source } = MEASURE[view.measure];
+  const majorities = view.majorities.map((it) => [
+    h("dt", {}, MAJORITY[it].label),
+    h("dd", {}, `${MAJORITY[it].rule}. Articles of Agreement, ${MAJORITY[it].article}.`),
+  ]);
+  return h("dl", {},
+    h("dt", {}, label), h("dd", {}, `${definition} (${source}; ${column} of the line).`),
+    h("dt", {}, "Votes"), h(
+      "dd",
+      {},
+      "a chair casts the votes of its members, without suspended ones, as one block; its share is of the votes " +
+        "that all open chairs cast.",
+    ),
+    majorities,
+  );
+}
+
+const MARKS: readonly (readonly [string, string])[] = [
+  [
+    "counted",
+    "from a line of the proved program. The source says which line and which fraction. What is proved: each line " +
+      "that the program prints is what the definitions say of the script, over all coalitions. The module is the " +
+      "program's code compiled for another machine, and is tested against the program. Not proved: that " +
+      "compilation, the drawing, the reading of tables, this browser.",
+  ],
+  [
+    "made here",
+    "by this page: per cent, differences, rounding, order, and which member or chair a name means. Each decimal " +
+      "is its exact fraction, rounded once, half to even, in whole-number arithmetic. An exact difference is a " +
+      "fraction, too.",
+  ],
+  ["given", "from the table, with its row and column."],
+];
+
+const SOURCES = [
+  "Banzhaf, John F., III (1965). Weighted voting doesn't work: a mathematical analysis. Rutgers Law Review " +
+    "19(2), 317-343.",
+  "Coleman, James S. (1971). Control of collectivities and the power of a collectivity to act. In Bernhardt " +
+    "Lieberman (ed.), Social Choice. Gordon and Breach, New York, 269-300.",
+  "Felsenthal, Dan S., and Moshé Machover (1998). The Measurement of Voting Power: Theory and Practice, " +
+    "Problems and Paradoxes. Edward Elgar, Cheltenham.",
+  "International Monetary Fund. Articles of Agreement. Article III, Section 2(c); Article XII, Sections 3(h), " +
+    "3(i), 5(a) and 5(c); Article XXVI, Section 2(b); Schedule L.",
+  "Penrose, Lionel S. (1946). The elementary statistics of majority voting. Journal of the Royal Statistical " +
+    "Society 109(1), 53-57.",
+];
+
+function given({ study }: App): Child {
+  const columns = Object.entries(study.base.columns).map(([meaning, column]) => `${meaning}: column ${column}`);
+  return columns.length ? h("p", {}, `The table's columns: ${columns.join("; ")}.`) : null;
+}
+
+/** The script and its lines, filled when they are opened. */
+function source(app: App): HTMLElement {
+  const wasOpen = document.querySelector<HTMLDetailsElement>("#source")?.open ?? false;
+  const script = h("pre", { id: "script-text", tabindex: 0, role: "region", "aria-label": "Script" });
+  const lines = h("pre", { id: "lines-text", tabindex: 0, role: "region", "aria-label": "Lines" });
+  const details = h(
+    "details",
+    { id: "source" },
+    h("summary", {}, "Script and lines"),
+    h("h3", {}, "Script"),
+    script,
+    h("h3", {}, "Lines of board replay"),
+    lines,
+  );
+  const fill = () => {
+    if (!details.open) return;
+    script.textContent = app.shown?.counted.script ?? "";
+    lines.textContent = app.shown?.counted.lines ?? "";
+  };
+  details.addEventListener("toggle", fill);
+  details.open = wasOpen;
+  fill();
+  return details;
+}
+
+function openCitation(app: App): void {
+  const { shown } = app;
+  if (!shown) return;
+  openDialog("cite", "How to cite", () => {
+    const place = h("div", {});
+    void citation(shown).then(({ text, bibtex }) => {
+      place.append(
+        h("h3", {}, "Text"),
+        h("pre", { id: "cite-text" }, text),
+        h("h3", {}, "BibTeX"),
+        h("pre", { id: "cite-bibtex" }, bibtex),
+      );
+    });
+    return place;
+  });
+}
+
+/** What the seal says: where the numbers come from, and which checks were made. */
+export function openSeal(app: App): void {
+  const { shown } = app;
+  if (!shown) return;
+  openDialog("seal-dialog", "Where the numbers come from", () => {
+    const list = h("ul", { id: "provenance" });
+    void provenance(shown).then((lines) => list.append(...lines.map((it) => h("li", {}, it))));
+    const other = app.isOwnModule ? [] : ["The module isn't the one that this page was built with."];
+    const wrong = [...other, ...shown.counted.misfits];
+    const checks = wrong.length ? wrong.map((it) => h("li", { class: "wrong" }, it)) : [
+      h(
+        "li",
+        {},
+        "All passed: the module has the hash that the build wrote down; in each reading fractions, votes and " +
+          "coalitions fit together, and each chair's votes are those of the members shown in it.",
+      ),
+    ];
+    return [
+      list,
+      h("h3", {}, "Checks that this page made of these numbers"),
+      h("ul", {}, checks),
+      h("h3", {}, "Three marks"),
+      h("dl", {}, MARKS.map(([mark, words]) => [h("dt", {}, mark), h("dd", {}, words)])),
+      h(
+        "p",
+        {},
+        `The module runs in ${app.replays.place === "worker" ? "a worker beside the page" : "the page itself"}.`,
+      ),
+      h(
+        "p",
+        {},
+        "The page makes no request: its Content-Security-Policy forbids every one. It keeps nothing when it is " +
+          "closed. It doesn't know whether the repository's own tests passed at its commit: build and test that " +
+          "commit to see.",
+      ),
+    ];
+  });
+}
+
+export function paintFoot(app: App): void {
+  const open = new Set([...document.querySelectorAll<HTMLDetailsElement>("#foot details[open]")].map((it) => it.id));
+  paint(byId("foot"),
+    h("h2", {}, "Definitions of what is shown"),
+    definitions(app),
+    h(
+      "details",
+      { id: "marks", open: open.has("marks") },
+      h("summary", {}, "Counted, made here, given: three marks"),
+      h("dl", {}, MARKS.map(([mark, words]) => [h("dt", {}, mark), h("dd", {}, words)])),
+      given(app),
+    ),
+    source(app),
+    h(
+      "details",
+      { id: "sources", open: open.has("sources") },
+      h("summary", {}, "Sources"),
+      h("ul", {}, SOURCES.map((it) => h("li", {}, it))),
+    ),
+    h(
+      "details",
+      { id: "licences", open: open.has("licences") },
+      h("summary", {}, "Licences of what is inlined"),
+      h("pre", {}, licences),
+    ),
+    h("div", { class: "buttons" }, button("How to cite…", () => openCitation(app), { id: "cite-open" })),
+    h(
+      "p",
+      { class: "note" },
+      "This page makes no request to any network, and keeps nothing. The figures at 85 per cent say what blocks " +
+        "of votes would be worth under that majority.",
+    ),
+  );
+}

@@ -1,0 +1,62 @@
+/** The dialog of the independent count: over all coalitions, from the members shown, and compared with the lines. */
+import type { App } from "../app";
+import { openDialog } from "../dialogs";
+import { button, h, paint } from "../dom";
+import { grouped } from "../fractions";
+import type { Reading } from "../lines";
+import { MOST_PLAIN } from "../plain";
+import type { Standing } from "../standing";
+import { MAJORITY } from "../words";
+
+/** How many numbers of a reading the plain count gives otherwise. */
+async function differing(app: App, standing: Standing, reading: Reading): Promise<number> {
+  const chairs = standing.open();
+  const votes = chairs.map((it) => standing.weight(it));
+  const [winning, ...swings] = await app.replays.plain({ votes, total: standing.total(), majority: reading.majority });
+  const wrong = reading.chairs.filter((it, at) => it.chair !== chairs[at] || it.swings !== swings[at]).length;
+  return wrong + (winning === reading.winning ? 0 : 1);
+}
+
+/** Counts a reading again: an item with what was found. */
+async function compare(app: App, standing: Standing, reading: Reading, item: HTMLElement): Promise<void> {
+  const { label } = MAJORITY[reading.majority];
+  item.textContent = `${label}: counting…`;
+  const begun = performance.now();
+  const wrong = await differing(app, standing, reading);
+  const seconds = ((performance.now() - begun) / 1000).toFixed(1);
+  const numbers = `${1 + reading.chairs.length} numbers`;
+  const found = wrong ? `${wrong} of ${numbers} DIFFER` : `all ${numbers} are the same`;
+  item.textContent = `${label}: ${found}, ${grouped(reading.coalitions)} coalitions in ${seconds} s.`;
+  item.classList.toggle("wrong", wrong > 0);
+}
+
+const WORDS =
+  "This counts the changed board's swings and winning coalitions once more, one coalition after the other, straight " +
+  "from the definitions and from the members shown. It is an independent check in this page's own code, and the " +
+  "source of no number.";
+
+/** Opens the dialog. */
+export function openRecount(app: App): void {
+  const { shown } = app;
+  if (!shown) return;
+  const { standing, after } = shown.counted;
+  const many = standing.open().length;
+  const isTooMany = many > MOST_PLAIN;
+  const list = h("ul", { id: "recount-results", role: "status" });
+  const run = async () => {
+    paint(list);
+    for (const reading of after.values()) {
+      const item = h("li", { "data-majority": reading.majority });
+      list.append(item);
+      await compare(app, standing, reading, item);
+    }
+  };
+  const act = () => void run().catch((why: unknown) => list.append(h("li", { class: "wrong" }, String(why))));
+  const limit = `${many} chairs have ${grouped(2 ** many)} coalitions: this check takes at most ${MOST_PLAIN} chairs.`;
+  openDialog("recount", "Count again another way: an independent check", () => [
+    h("p", {}, WORDS),
+    isTooMany ? h("p", { class: "wrong" }, limit) : null,
+    button("Count again", act, { id: "recount-run", disabled: isTooMany }),
+    list,
+  ]);
+}

@@ -1,0 +1,98 @@
+// What a page shows, looked at for people who don't see it well. Run in the page, it gives an object of checks.
+const shapes = "rect, path, circle, ellipse, polygon";
+const canvas = Object.assign(document.createElement("canvas"), { width: 1, height: 1 });
+const pen = canvas.getContext("2d", { willReadFrequently: true });
+
+/** A colour of a style as red, green, blue and opacity, each from 0 to 1. */
+function channels(colour) {
+  pen.clearRect(0, 0, 1, 1);
+  pen.fillStyle = "#000";
+  pen.fillStyle = colour;
+  pen.fillRect(0, 0, 1, 1);
+  return [...pen.getImageData(0, 0, 1, 1).data].map((it) => it / 255);
+}
+
+/** A colour laid over another one. */
+const over = ([r, g, b, a], below) => [r, g, b].map((it, at) => it * a + below[at] * (1 - a));
+
+/** The relative luminance, by WCAG. */
+const luminance = (colour) => {
+  const [r, g, b] = colour.map((it) => (it <= 0.04045 ? it / 12.92 : ((it + 0.055) / 1.055) ** 2.4));
+  return 0.2126 * r + 0.7152 * g + 0.0722 * b;
+};
+
+/** The contrast of two colours, by WCAG, from 1 to 21. */
+function contrast(one, other) {
+  const [light, dark] = [luminance(one), luminance(other)].sort((a, b) => b - a);
+  return (light + 0.05) / (dark + 0.05);
+}
+
+/** The colour that a thing paints behind what stands on it. */
+function paint(thing) {
+  const style = getComputedStyle(thing);
+  if (!thing.matches(shapes)) return channels(style.backgroundColor);
+  if (style.fill === "none" || style.fill.startsWith("url")) return [0, 0, 0, 0];
+  const [r, g, b, a] = channels(style.fill);
+  return [r, g, b, a * Number(style.fillOpacity) * Number(style.opacity)];
+}
+
+/** How opaque a thing is with all that it stands in. */
+const opacity = (thing) => (thing ? Number(getComputedStyle(thing).opacity) * opacity(thing.parentElement) : 1);
+
+/** The texts of a page, each with its element and its middle on the screen. */
+function texts() {
+  const found = [];
+  const walk = document.createTreeWalker(document.body, NodeFilter.SHOW_TEXT);
+  for (let node = walk.nextNode(); node; node = walk.nextNode()) {
+    const thing = node.parentElement;
+    if (!node.data.trim() || thing.closest("script, style, noscript, :disabled, [aria-disabled=true]")) continue;
+    const range = document.createRange();
+    range.selectNodeContents(node);
+    const { left, top, width, height } = range.getBoundingClientRect();
+    if (width > 1 && height > 1 && thing.checkVisibility({ visibilityProperty: true, opacityProperty: true })) {
+      found.push({ text: node.data.trim(), thing, x: left + width / 2, y: top + height / 2 });
+    }
+  }
+  return found;
+}
+
+/** The contrast of a text with what is painted behind its middle. */
+function contrastOf({ thing, x, y }) {
+  const stack = document.elementsFromPoint(x, y);
+  const at = stack.indexOf(thing);
+  if (at < 0) return 21; // It is scrolled away, or clipped.
+  const ground = stack.slice(at).reverse().reduce((below, it) => over(paint(it), below), [1, 1, 1]);
+  const style = getComputedStyle(thing);
+  const [r, g, b, a] = channels(thing.closest("svg") ? style.fill : style.color);
+  return contrast(over([r, g, b, a * opacity(thing)], ground), ground);
+}
+
+/** The texts that contrast with their ground by less than `least`. */
+function faint(least) {
+  const sheet = new CSSStyleSheet();
+  sheet.replaceSync("* { pointer-events: auto !important; }");
+  document.adoptedStyleSheets = [sheet];
+  const found = texts().map((it) => [it.text, Math.round(contrastOf(it) * 100) / 100]);
+  document.adoptedStyleSheets = [];
+  return found.filter(([, much]) => much < least);
+}
+
+/** What Tab leads to now: what it is, its place on the screen, and whether one sees that it has the focus. */
+function focused() {
+  const thing = document.activeElement;
+  const { outlineStyle, outlineWidth, boxShadow } = getComputedStyle(thing);
+  const { left, top, width, height } = thing.getBoundingClientRect();
+  const isRinged = (outlineStyle !== "none" && parseFloat(outlineWidth) > 0) || boxShadow !== "none";
+  return { what: thing.outerHTML.slice(0, 120), left, top, width, height, isRinged, isBody: thing === document.body };
+}
+
+/** What is wider than the page, but for what scrolls within a box of its own. */
+function wide(most) {
+  const isBox = (it) => /auto|scroll|hidden/.test(getComputedStyle(it).overflowX);
+  const scrolls = (it) => it && (isBox(it) || scrolls(it.parentElement));
+  return [...document.querySelectorAll("body *")]
+    .filter((it) => it.checkVisibility() && it.getBoundingClientRect().right > most + 0.5 && !scrolls(it.parentElement))
+    .map((it) => it.outerHTML.slice(0, 120));
+}
+
+return { faint, focused, wide }[arguments[0]](...[...arguments].slice(1));

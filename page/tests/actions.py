@@ -1,0 +1,97 @@
+"""Random acts of a user, from a seed, and the commands that they must come to."""
+from __future__ import annotations
+
+from contextlib import suppress
+from dataclasses import dataclass, field, replace
+from random import Random
+
+from board_python.errors import BadInput
+from board_python.scenarios import Votes
+from oracle import Oracle
+
+# A word of acts.js, and what it needs: the fields of a command, or a place in the list of changes.
+Act = list[str]
+
+
+@dataclass(frozen=True)
+class Change:
+    """A change in the list: its command, where per cent may stand for votes as in board_study."""
+
+    command: str
+    is_on: bool = True
+
+
+@dataclass
+class Model:
+    """The list of changes, as the page must keep it, with what can be undone and redone."""
+
+    changes: list[Change] = field(default_factory=list)
+    past: list[list[Change]] = field(default_factory=list)
+    future: list[list[Change]] = field(default_factory=list)
+
+    def take(self, act: Act) -> None:
+        """Takes in an act that the page offered."""
+        if act[0] in ("undo", "redo"):
+            origin, to = (self.past, self.future) if act[0] == "undo" else (self.future, self.past)
+            to.append(self.changes)
+            self.changes = origin.pop()
+            return
+        self.past.append(self.changes)
+        self.future = []
+        self.changes = self.after(act)
+
+    def after(self, act: Act) -> list[Change]:
+        """The list of changes after an act that is no undo and no redo."""
+        word, *rest = act
+        changes = [*self.changes]
+        if word not in ("switch", "remove", "earlier"):
+            return [*changes, Change(",".join(act))]
+        at = int(rest[0])
+        if word == "switch":
+            changes[at] = replace(changes[at], is_on=not changes[at].is_on)
+        else:
+            change = changes.pop(at)
+            changes[at - 1 : at - 1] = [change] * (word == "earlier")
+        return changes
+
+    def commands(self, oracle: Oracle) -> list[str]:
+        """The commands of all changes that are on, with numbers of votes where they say per cent. Where there is no
+        such number, there is no command; a refused command changes no votes."""
+        votes = Votes({member.code: member.votes for member in oracle.table.members})
+        commands: list[str] = []
+        for change in self.changes:
+            with suppress(BadInput):
+                commands += [votes.with_number(change.command)] * change.is_on
+                if change.is_on and oracle.answers(commands)[-1].startswith("accepted,"):
+                    votes.carry_out(commands[-1])
+        return commands
+
+
+def drawn_command(some: Random, oracle: Oracle) -> Act:
+    """A command on one of a few members, so that commands meet, and some are refused."""
+    codes = [member.code for member in oracle.table.members]
+    code, admitted = some.choice([*codes[:2], *codes[-2:], some.choice(codes)]), some.choice(["ZAA", "ZAB"])
+    percent = f"{some.randint(0, 60)}{some.choice(['', '.5', '.25', '.125'])}%"
+    votes = str(some.choice([0, 1, some.randint(1, 2_000_000), 2**40]))
+    drawn: list[Act] = [
+        ["move", code, str(some.randint(1, 24))],
+        ["move", code, "none"],
+        ["votes", code, votes],
+        ["votes", code, some.choice("+-") + percent],
+        ["votes", code, percent],
+        [some.choice(["suspend", "restore", "withdraw"]), some.choice([code, admitted])],
+        ["admit", admitted, votes],
+    ]
+    return some.choice(drawn)
+
+
+def drawn_act(some: Random, model: Model, oracle: Oracle) -> Act:
+    """The next thing that a user does."""
+    words = ["command"] * 4 + ["undo"] * bool(model.past) + ["redo"] * 2 * bool(model.future)
+    words += ["switch", "remove"] * bool(model.changes) + ["earlier"] * (len(model.changes) > 1)
+    word = some.choice(words)
+    if word == "command":
+        return drawn_command(some, oracle)
+    if word in ("undo", "redo"):
+        return [word]
+    return [word, str(some.randrange(word == "earlier", len(model.changes)))]

@@ -1,0 +1,81 @@
+// What a user does, by the page's own controls but in one call: the arguments are the act and its words. The answer,
+// once the figures are there, is whether the page offers it, or what an export would save.
+const [act, ...words] = [...arguments].slice(0, -1);
+const [answer] = [...arguments].slice(-1);
+const at = (id) => document.getElementById(id);
+
+/** Writes into a field as a keyboard does. */
+function fill(field, text) {
+  field.value = text;
+  for (const kind of ["input", "change"]) field.dispatchEvent(new Event(kind, { bubbles: true }));
+}
+
+/** Presses a button, where it is there and can be pressed. */
+function press(button) {
+  if (!button || button.disabled) return false;
+  button.click();
+  return true;
+}
+
+/** Opens a member's menu: the filter finds the member. */
+function opened(code) {
+  fill(at("filter"), code);
+  const isThere = press(at(`chip-${code}`));
+  fill(at("filter"), "");
+  return isThere;
+}
+
+/** Writes into a field of a menu and presses its button; where the field doesn't offer that, it closes the menu. */
+function taken(field, text, button) {
+  fill(at(field), text);
+  const isOffered = at(field).value === text && at(field).checkValidity();
+  return press(isOffered ? at(button) : document.querySelector("dialog .close")) && isOffered;
+}
+
+/** The change in the list at a place, from 0. */
+const change = (place) => document.querySelectorAll("#changes > li")[place].dataset.id;
+
+/** The text that a button of the exports would save; it isn't saved. */
+async function exported(id) {
+  const [{ createObjectURL }, { click }] = [URL, HTMLAnchorElement.prototype];
+  HTMLAnchorElement.prototype.click = () => {};
+  const blob = await new Promise((take) => {
+    URL.createObjectURL = (it) => (take(it), createObjectURL.call(URL, it));
+    press(at("export"));
+    press(at(id));
+  });
+  URL.createObjectURL = createObjectURL;
+  HTMLAnchorElement.prototype.click = click;
+  press(document.querySelector("dialog .close"));
+  return blob.text();
+}
+
+const acts = {
+  exported,
+  move: (code, place) => opened(code) && taken("move-to", place, "move-take"),
+  votes: (code, text) => {
+    const field = text.endsWith("%") ? (/^[+-]/.test(text) ? "votes-own" : "votes-total") : "votes-number";
+    return opened(code) && taken(field, text.replace("%", ""), `${field}-take`);
+  },
+  suspend: (code) => opened(code) && press(at("suspend")),
+  restore: (code) => opened(code) && press(at("restore")),
+  withdraw: (code) => opened(code) && press(at("withdraw")),
+  admit: (code, votes) => {
+    press(at("admit-open"));
+    fill(at("admit-code"), code);
+    return taken("admit-votes", votes, "admit-take");
+  },
+  open: () => press(at("open-new")),
+  close: (chair) => press(at(`close-${chair}`)),
+  undo: () => press(at("undo")),
+  redo: () => press(at("redo")),
+  switch: (place) => press(at(`on-${change(place)}`)),
+  remove: (place) => press(at(`remove-${change(place)}`)),
+  earlier: (place) => press(at(`up-${change(place)}`)),
+};
+
+const found = acts[act](...words);
+(function settle() {
+  if (document.documentElement.dataset.state === "counting") setTimeout(settle, 1);
+  else Promise.resolve(found).then(answer);
+})();

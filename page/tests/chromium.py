@@ -1,0 +1,128 @@
+"""Chromium with board.html in it. page/README.md says how the page's places are named."""
+from __future__ import annotations
+
+import time
+from collections.abc import Callable
+from pathlib import Path
+from typing import Any
+
+from board_checks.browser_visit import set_width, started
+from selenium.webdriver.common.by import By
+from selenium.webdriver.common.keys import Keys
+from selenium.webdriver.remote.webelement import WebElement
+from selenium.webdriver.support.select import Select
+
+SECONDS = 20.0
+WIDE, NARROW = 1280, 390
+HERE = Path(__file__).parent
+ACCESS, ACTS = ((HERE / name).read_text() for name in ["access.js", "acts.js"])
+
+
+class Page:
+    """The page, opened from disk in a browser without a network."""
+
+    def __init__(self, file: Path, downloads: Path):
+        self.file, self.downloads = file, downloads
+        # Selenium's own types are partial.
+        self.driver: Any = started()
+        to = {"behavior": "allow", "downloadPath": str(downloads)}
+        self.driver.execute_cdp_cmd("Browser.setDownloadBehavior", to)
+
+    def open(self, file: Path | None = None, *without: str) -> None:
+        """Opens the page from scratch, or another file, in a browser that lacks what is named."""
+        self.load(file, *without)
+        self.settle()
+
+    def load(self, file: Path | None = None, *without: str) -> None:
+        """The same, without waiting for figures."""
+        self.show()
+        wanted = {"source": "".join(f"delete window.{it};" for it in without)}
+        script = self.driver.execute_cdp_cmd("Page.addScriptToEvaluateOnNewDocument", wanted)
+        self.driver.get((file or self.file).as_uri())
+        self.driver.execute_cdp_cmd("Page.removeScriptToEvaluateOnNewDocument", script)
+
+    def show(self, width: int = WIDE, height: int = 900, scheme: str = "light") -> None:
+        """Sets the size of the screen, and whether it is light or dark."""
+        set_width(self.driver, width, height)
+        features = [{"name": "prefers-color-scheme", "value": scheme}]
+        self.driver.execute_cdp_cmd("Emulation.setEmulatedMedia", {"features": features})
+
+    def run(self, script: str, *words: object) -> Any:
+        """What a script returns in the page."""
+        return self.driver.execute_script(script, *words)
+
+    def wait_for(self, script: str, *words: object) -> Any:
+        """What a script in the page passes to its last argument, a function."""
+        return self.driver.execute_async_script(script, *words)
+
+    def look(self, check: str, *words: object) -> Any:
+        """What a check of access.js finds."""
+        return self.run(ACCESS, check, *words)
+
+    def until(self, holds: Callable[[], Any], what: str) -> Any:
+        """Waits until something holds, and gives it."""
+        end = time.monotonic() + SECONDS
+        while not (found := holds()):
+            assert time.monotonic() < end, f"it never came: {what}"
+            time.sleep(0.01)
+        return found
+
+    def settle(self) -> str:
+        """Waits until the figures on the screen are those of the last edit: `ready`, or `fault`."""
+        state = "const state = document.documentElement.dataset.state; return state !== 'counting' && state;"
+        return str(self.until(lambda: self.run(state), "figures"))
+
+    def all(self, place: str) -> list[WebElement]:
+        """What a CSS selector finds."""
+        return list(self.driver.find_elements(By.CSS_SELECTOR, place))
+
+    def at(self, place: str) -> WebElement:
+        """The one thing that a CSS selector finds."""
+        found = self.all(place)
+        assert len(found) == 1, f"{len(found)} things are at {place}"
+        return found[0]
+
+    def text(self, place: str) -> str:
+        return self.at(place).text
+
+    def texts(self, place: str) -> list[str]:
+        return [it.text for it in self.all(place)]
+
+    def click(self, place: str) -> None:
+        self.at(place).click()
+        self.settle()
+
+    def choose(self, place: str, value: str) -> None:
+        """Chooses from a list."""
+        chosen: Any = Select(self.at(place))
+        chosen.select_by_value(value)
+        self.settle()
+
+    def write(self, place: str, text: str) -> None:
+        """Types a text into a field, in the place of what stands there, and Enter."""
+        self.at(place).send_keys(Keys.CONTROL, "a", Keys.NULL, text, Keys.ENTER)
+        self.settle()
+
+    def press(self, *keys: str) -> None:
+        """Presses keys where the focus is."""
+        self.driver.switch_to.active_element.send_keys(*keys)
+        self.settle()
+
+    def act(self, *words: object) -> Any:
+        """Does what acts.js has, much faster than by mouse and keyboard, and gives its answer."""
+        return self.wait_for(ACTS, *words)
+
+    def downloaded(self, place: str) -> tuple[str, bytes]:
+        """The file that a button downloads: its name and its bytes."""
+        for file in self.downloads.iterdir():
+            file.unlink()
+        self.at(place).click()
+
+        def ended() -> Path | None:
+            """The file, once it is whole: before that it is empty, and stands beside a part of it."""
+            file, *others = [*self.downloads.iterdir(), None]
+            is_whole = file and others == [None] and file.suffix != ".crdownload" and file.stat().st_size
+            return file if is_whole else None
+
+        file = self.until(ended, f"what {place} downloads")
+        return file.name, file.read_bytes()

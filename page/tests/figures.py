@@ -1,0 +1,69 @@
+"""What the page shows, compared with what the program prints."""
+from __future__ import annotations
+
+from fractions import Fraction
+
+from board_python.replay_output import Chair, Ratio
+from board_python.rounding import exact
+from chromium import Page
+from oracle import MAJORITIES, Oracle
+
+# For each row of the table behind the chart, or on the tab Table: its chair, and its cells' texts and fractions.
+ROWS = """
+  const [done] = [...arguments].slice(-1), behind = document.getElementById("behind");
+  if (behind) behind.open = true;
+  (function read() {
+    const rows = [...document.querySelectorAll("#chair-table tbody tr")];
+    if (!rows.length) return setTimeout(read, 1);
+    const fraction = ({ title }) => (title.includes("isn't open") ? "" : title.split(" ")[0]);
+    const cells = (row) => [...row.querySelectorAll("td")].map((it) => [it.textContent, fraction(it)]);
+    done(rows.map((row) => [Number(row.dataset.chair), cells(row)]));
+  })();
+"""
+# The cells of a row before those of the majorities: the name, and votes.
+BEFORE = 6
+# The cells of a majority: base, changed, and what is added.
+EACH = 3
+
+
+def rows(page: Page) -> dict[int, list[tuple[str, str]]]:
+    """The table's cells by chair: what stands there, and the exact fraction."""
+    return {chair: [(text, fraction) for text, fraction in cells] for chair, cells in page.wait_for(ROWS)}
+
+
+def shown_majorities(page: Page) -> list[str]:
+    return [it for it in MAJORITIES if page.at(f"#at-{it}").is_selected()]
+
+
+def measure_of(chair: Chair, measure: str) -> Ratio | None:
+    return Ratio(chair.swings, 1) if measure == "swings" else getattr(chair, measure)
+
+
+def fraction_text(ratio: Ratio | None, measure: str) -> str:
+    """A fraction as the page has it: as the program prints it, and swings as a number."""
+    return "-" if ratio is None else str(ratio.numerator) if measure == "swings" else str(ratio)
+
+
+def check_figures(page: Page, oracle: Oracle, commands: list[str], measure: str = "share") -> None:
+    """The fractions of base and changed are those that the program prints, and so are the votes."""
+    majorities, cells = shown_majorities(page), rows(page)
+    for which, some in enumerate((list[str](), commands)):
+        for at, reading in enumerate(oracle.output(some, majorities).readings):
+            found = {chair: of[BEFORE + EACH * at + which][1] for chair, of in cells.items()}
+            wanted = {it.chair: fraction_text(measure_of(it, measure), measure) for it in reading.chairs}
+            assert {chair: it for chair, it in found.items() if it} == wanted, (reading.majority, some)
+            votes = {chair: of[1 + which][1] for chair, of in cells.items() if of[1 + which][1]}
+            assert votes == {it.chair: str(it.weight) for it in reading.chairs}
+
+
+def gains(oracle: Oracle, commands: list[str], majority: str) -> dict[int, Fraction]:
+    """What each chair's share of power gains by commands that close no chair and open none."""
+    before, after = (oracle.output(it, [majority]).readings[0].chairs for it in (list[str](), commands))
+    shares = [{it.chair: exact(it.share) for it in chairs if it.share} for chairs in (before, after)]
+    return {chair: share - shares[0][chair] for chair, share in shares[1].items()}
+
+
+def open_menu(page: Page, code: str) -> None:
+    """Opens a member's menu by mouse and keyboard."""
+    page.write("#filter", code)
+    page.click(f"#chip-{code}")

@@ -1,0 +1,65 @@
+"""What the program and the scripts of figures answer: the page is compared with that."""
+from __future__ import annotations
+
+import subprocess
+from collections.abc import Callable
+from pathlib import Path
+
+from board_python.member_tables import Columns, MemberTable, input_lines, read_table
+from board_python.programs import Program
+from board_python.replay_output import Output, read_output
+from board_python.scenarios import Scenario, sweep_of
+from board_python.studies import run_study
+from board_python.tables import study_table
+
+TOP = Path(__file__).resolve().parents[2]
+EXAMPLE = TOP / "examples" / "members.csv"
+MAJORITIES = ["half", "70", "85", "quorum"]
+
+
+def text_of(records: list[str]) -> str:
+    return "".join(f"{it}\n" for it in records)
+
+
+class Oracle:
+    """The built program, and the table of members that the page begins with."""
+
+    def __init__(self, program: Path):
+        self.program = program
+        self.table = self.table_of(EXAMPLE.read_bytes())
+
+    def table_of(self, data: bytes) -> MemberTable:
+        return read_table(data, Columns())
+
+    def lines(self, script: bytes) -> bytes:
+        """What `board replay` prints of a script, also where it ends in a fault."""
+        return subprocess.run([self.program, "replay"], input=script, stdout=subprocess.PIPE).stdout
+
+    def script(self, commands: list[str], majorities: list[str]) -> str:
+        """The script of a study as the page writes it: the base, its readings, the commands, and readings again."""
+        reads = ["publish", *(f"read,1,{it}" for it in majorities)]
+        return text_of([*input_lines(self.table), *reads, *commands, *reads])
+
+    def output(self, commands: list[str], majorities: list[str]) -> Output:
+        """The readings after commands on the table's register."""
+        records = [*input_lines(self.table), *commands, "publish", *(f"read,1,{it}" for it in majorities)]
+        return read_output(self.lines(text_of(records).encode()))
+
+    def answers(self, commands: list[str]) -> list[str]:
+        """The line that answers each command on the table's register."""
+        lines = self.lines(text_of([*input_lines(self.table), *commands]).encode()).decode().splitlines()
+        return lines[len(lines) - len(commands) :]
+
+    def study(self, scenarios: dict[str, list[str]], majorities: list[str], *sweeps: str) -> str:
+        """The table of a study, as figures/board_study writes it: commands by their label, and sweeps."""
+        labelled = [Scenario(label, tuple(commands)) for label, commands in scenarios.items()]
+        study = run_study(Program(str(self.program)), self.table, majorities, labelled, list(map(sweep_of, sweeps)))
+        return str(study_table(study).to_csv(index=False))
+
+
+def least(holds: Callable[[int], bool], low: int, high: int) -> int:
+    """The least number from `low` to `high` for which something holds that holds from some number on, by bisection."""
+    while low < high:
+        middle = (low + high) // 2
+        low, high = (low, middle) if holds(middle) else (middle + 1, high)
+    return low

@@ -1,0 +1,174 @@
+"""The page for people who use a keyboard, a screen reader, a phone or a dark screen."""
+from __future__ import annotations
+
+from itertools import pairwise
+from typing import Any
+
+import inputs
+import pytest
+from chromium import NARROW, Page
+from figures import check_figures, open_menu, rows
+from oracle import Oracle
+from selenium.webdriver.common.keys import Keys
+from test_exports import DROP
+
+LEAST_CONTRAST = 4.5
+# More presses of Tab than the page has controls.
+MOST_STOPS = 400
+# Higher than the page, so that nothing is scrolled away.
+TALL = 12_000
+OPENERS = ["#export", "#paste", "#seal", "#admit-open", "#best-open", "#recount-open", "#cite-open"]
+TABS = ["#tab-power", "#tab-change", "#tab-curve", "#tab-table"]
+
+
+def controls(page: Page) -> list[dict[str, Any]]:
+    """What may have the focus, in the browser's accessibility tree."""
+    nodes = page.driver.execute_cdp_cmd("Accessibility.getFullAXTree", {})["nodes"]
+    can: dict[str, Any] = {"name": "focusable", "value": {"type": "booleanOrUndefined", "value": True}}
+    return [it for it in nodes if can in it.get("properties", []) and it["role"]["value"] != "RootWebArea"]
+
+
+def check_names(page: Page, where: str) -> None:
+    """Whatever may have the focus has a role and a name."""
+    found = [(it["role"]["value"], it.get("name", {}).get("value", "")) for it in controls(page)]
+    assert found and not [it for it in found if it[0] in ("generic", "none") or not it[1].strip()], (where, found)
+
+
+def test_names_and_roles(page: Page) -> None:
+    # Catches: a button with a picture alone, a field without a label, a box that is clicked and isn't a button.
+    assert page.act("votes", "XAD", "300000") and page.act("suspend", "XAD") and page.act("suspend", "XAD")
+    page.write("#scenario-name", "Kept")
+    page.click("#card-1")
+    for tab in TABS:
+        page.click(tab)
+        check_names(page, tab)
+
+
+@pytest.mark.parametrize("opener", ["#chip-XAA", *OPENERS])
+def test_names_in_dialogs(page: Page, opener: str) -> None:
+    # Catches: a dialog without a name, with a field that has none, or that can't be left by keyboard.
+    page.click("#card-1")
+    page.click(opener)
+    check_names(page, opener)
+    nodes = page.driver.execute_cdp_cmd("Accessibility.getFullAXTree", {})["nodes"]
+    dialogs = [it["name"]["value"] for it in nodes if it["role"]["value"] == "dialog"]
+    assert len(dialogs) == 1 and dialogs[0].strip()
+    page.press(Keys.ESCAPE)
+    assert not page.all("dialog") and page.run("return `#${document.activeElement.id}`;") == opener
+
+
+def check_contrast(page: Page, where: str) -> None:
+    faint = page.look("faint", LEAST_CONTRAST)
+    assert not faint, f"{where}: {faint}"
+
+
+@pytest.mark.parametrize("scheme", ["light", "dark"])
+def test_contrast(page: Page, scheme: str) -> None:
+    # Catches: grey letters on white, red ones on grey, and letters that stay black in the dark.
+    page.show(height=TALL, scheme=scheme)
+    for act in [["suspend", "XAA"], ["move", "XAA", "2"], ["votes", "XAD", "+40%"], ["switch", "2"]]:
+        assert page.act(*act)
+    page.click("#card-1")
+    for tab in TABS:
+        page.click(tab)
+        check_contrast(page, tab)
+    for opener in ["#chip-XAA", *OPENERS]:
+        page.click(opener)
+        check_contrast(page, opener)
+        page.press(Keys.ESCAPE)
+    page.run(DROP, "faulty.csv", inputs.FAULTY)
+    page.until(lambda: page.all("#table-dialog"), "the preview")
+    check_contrast(page, "the preview")
+
+
+def test_width_of_a_phone(page: Page) -> None:
+    # Catches: a page that must be scrolled sideways on a phone, since something in it is wider than the screen.
+    page.show(NARROW, 844)
+    for tab in TABS:
+        page.click(tab)
+        assert not page.look("wide", NARROW), tab
+
+
+def stops(page: Page) -> list[dict[str, Any]]:
+    """What Tab leads to, one after the other, from the page's start to its end."""
+    page.run("document.activeElement.blur(); scrollTo(0, 0);")
+    found = list[dict[str, Any]]()
+    for _ in range(MOST_STOPS):
+        page.driver.switch_to.active_element.send_keys(Keys.TAB)
+        stop = page.look("focused")
+        if stop["isBody"] or stop in found:
+            return found
+        found.append(stop)
+    raise AssertionError(f"Tab doesn't come to an end: {found[-3:]}")
+
+
+def test_order_of_tab(page: Page) -> None:
+    # Catches: a focus that isn't seen, or that jumps back to what stands above in the same column.
+    page.show(height=TALL)
+    found = stops(page)
+    assert len(found) > 20 and not [it for it in found if not it["isRinged"] or not it["width"] * it["height"]]
+    back = [
+        (one["what"], next["what"])
+        for one, next in pairwise(found)
+        if next["top"] + next["height"] <= one["top"] and next["left"] < one["left"] + one["width"]
+    ]
+    assert not back, back
+
+
+def tab_to(page: Page, place: str) -> None:
+    """Presses Tab until a place has the focus."""
+    for _ in range(MOST_STOPS):
+        if page.run("return document.activeElement.matches(arguments[0]);", place):
+            return
+        page.driver.switch_to.active_element.send_keys(Keys.TAB)
+    raise AssertionError(f"Tab doesn't lead to {place}")
+
+
+def test_keyboard_alone(page: Page, oracle: Oracle) -> None:
+    # Catches: a step of a study that needs a mouse.
+    tab_to(page, "#filter")
+    page.press("XAD")
+    tab_to(page, "#chip-XAD")
+    page.press(Keys.ENTER)
+    tab_to(page, "#votes-own")
+    page.press("+40", Keys.ENTER)
+    check_figures(page, oracle, ["votes,XAD,318104"])
+    tab_to(page, "#order")
+    page.press("gain")
+    assert page.at("#order").get_property("value") == "gain"
+    tab_to(page, "#tab-power")
+    page.press(Keys.ARROW_RIGHT, Keys.ARROW_RIGHT)
+    tab_to(page, "#sweep-run")
+    page.press(Keys.ENTER)
+    page.until(lambda: page.all("#sweep-table"), "the sweep")
+    tab_to(page, "#changes input[type=checkbox]")
+    page.press(Keys.SPACE)
+    tab_to(page, "#tab-curve")
+    page.press(Keys.ARROW_RIGHT)
+    check_figures(page, oracle, [])
+
+
+def test_charts_have_tables(page: Page) -> None:
+    # Catches: a chart that a screen reader can't read: it has a name, and its numbers stand in a table.
+    assert page.act("move", "XAA", "2")
+    for tab in TABS[:2]:
+        page.click(tab)
+        drawn = [int(str(it.get_attribute("data-chair"))) for it in page.all(".chart svg g[data-chair]")]
+        assert list(rows(page)) == drawn and len(drawn) == 24
+        nodes = page.driver.execute_cdp_cmd("Accessibility.getFullAXTree", {})["nodes"]
+        pictures = [it["name"]["value"] for it in nodes if it["role"]["value"] in ("image", "img", "graphics-document")]
+        assert pictures and all(pictures), tab
+
+
+def test_phone(page: Page, oracle: Oracle) -> None:
+    # Catches: chairs and changes that can't be reached on a phone, which has no room for three columns.
+    page.show(NARROW, 844)
+    page.click('.sheets [data-sheet="chairs"]')
+    open_menu(page, "XAA")
+    page.choose("#move-to", "2")
+    page.click("#move-take")
+    page.click("#chairs .sheet-close")
+    page.click('.sheets [data-sheet="right"]')
+    assert page.texts("#changes .change-words") == ["XAA Marenia: chair 1 → chair 2"]
+    page.click("#right .sheet-close")
+    check_figures(page, oracle, ["move,XAA,2"])

@@ -1,0 +1,111 @@
+"""The figures in the middle: measures, majorities, order, sentences, digits."""
+from __future__ import annotations
+
+import pytest
+from board_python.replay_output import Ratio
+from board_python.rounding import exact, rounded
+from chromium import Page
+from figures import BEFORE, EACH, check_figures, gains, measure_of, rows, shown_majorities
+from oracle import MAJORITIES, Oracle
+
+COMMANDS = ["votes,XAD,318104", "move,XAA,2"]
+MEASURES = ["share", "banzhaf", "prevent", "initiate", "swings"]
+
+
+@pytest.fixture
+def changed(page: Page) -> Page:
+    """The page with two changes."""
+    assert page.act("votes", "XAD", "318104") and page.act("move", "XAA", "2")
+    return page
+
+
+def test_first_look(page: Page, oracle: Oracle) -> None:
+    # Catches: a page that begins empty, or with figures that aren't its example's.
+    assert page.text("#summary").startswith("base: 190 members, 24 chairs, ")
+    check_figures(page, oracle, [])
+
+
+@pytest.mark.parametrize("measure", MEASURES)
+def test_measure(changed: Page, oracle: Oracle, measure: str) -> None:
+    # Catches: one measure's numbers under another one's name.
+    for majority in ["70", "quorum"]:
+        changed.click(f"#at-{majority}")
+    changed.choose("#measure", measure)
+    assert shown_majorities(changed) == MAJORITIES
+    check_figures(changed, oracle, COMMANDS, measure)
+
+
+def decimal(ratio: Ratio | None, measure: str, digits: int) -> str:
+    """A measure as the page must round it."""
+    if ratio is None:
+        return "-"
+    if measure == "share":
+        return f"{rounded(100 * exact(ratio), digits)} %"
+    return f"{ratio.numerator:,}" if measure == "swings" else rounded(exact(ratio), digits + 2)
+
+
+@pytest.mark.parametrize(("measure", "digits"), [("share", 1), ("share", 10), ("prevent", 3), ("swings", 3)])
+def test_decimals(changed: Page, oracle: Oracle, measure: str, digits: int) -> None:
+    # Catches: a decimal that is rounded twice, or through a floating number.
+    changed.choose("#measure", measure)
+    changed.choose("#digits", str(digits))
+    cells = rows(changed)
+    for at, reading in enumerate(oracle.output(COMMANDS, shown_majorities(changed)).readings):
+        wanted = {it.chair: decimal(measure_of(it, measure), measure, digits) for it in reading.chairs}
+        assert {chair: of[BEFORE + EACH * at + 1][0] for chair, of in cells.items()} == wanted
+
+
+def test_order_by_gain(changed: Page, oracle: Oracle) -> None:
+    # Catches: an order by number's text, by the absolute gain, or at another majority than the one that is named.
+    changed.choose("#order", "gain")
+    changed.choose("#order-at", "85")
+    by_gain = sorted(gains(oracle, COMMANDS, "85").items(), key=lambda it: (-it[1], it[0]))
+    assert list(rows(changed)) == [chair for chair, _ in by_gain]
+    drawn = [int(it.get_attribute("data-chair")) for it in changed.all(".chart svg g[data-chair]")]
+    assert drawn == list(rows(changed))
+
+
+def test_sentence(changed: Page, oracle: Oracle) -> None:
+    # Catches: a sentence that names the greatest loser as the winner, or the gain of another majority.
+    of = gains(oracle, COMMANDS, "85")
+    best, worst = max(of, key=lambda it: of[it]), min(of, key=lambda it: of[it])
+    names = oracle.table.chair_names
+    points = {it: rounded(100 * of[it], 3) for it in (best, worst)}
+    wanted = f"At 85 per cent chair {best} {names[best]} gains most (+{points[best]} points), "
+    wanted += f"chair {worst} {names[worst]} loses most ({points[worst]})."
+    assert wanted in changed.texts("#sentences p")
+
+
+def test_no_coalition_wins(page: Page, oracle: Oracle) -> None:
+    # Catches: a chart of zeros where the sentence must say that nothing can pass.
+    commands = ["move,XAA,none", "move,XAB,none", "move,XAC,none"]
+    for command in commands:
+        assert page.act(*command.split(","))
+    reading = oracle.output(commands, ["85"]).readings[0]
+    assert reading.winning == 0
+    wanted = f"At 85 per cent no coalition wins: 24 chairs cast {reading.cast:,} of {reading.total:,}."
+    assert wanted in page.texts("#sentences p")
+    page.click("#at-half")
+    assert not page.all(".chart svg g[data-chair]")
+
+
+def test_fraction_at_each_number(page: Page, oracle: Oracle) -> None:
+    # Catches: a row of the chart whose exact numbers can't be seen.
+    page.run("""
+      const row = document.querySelector('.chart g[data-chair="5"]');
+      row.dispatchEvent(new MouseEvent("pointerover", { bubbles: true }));
+    """)
+    for reading in oracle.output([], shown_majorities(page)).readings:
+        assert str(reading.chairs[4].share) in page.text("#readout")
+    page.click("#tab-table")
+    page.click("#toggle-fractions")
+    assert rows(page)[5][BEFORE][0] == rows(page)[5][BEFORE][1]
+
+
+def test_published_total(page: Page, oracle: Oracle) -> None:
+    # Catches: a table that lacks a row, which nobody sees.
+    total = oracle.output([], ["half"]).readings[0].total
+    page.write("#published", f"{total + 12_000:,}")
+    assert page.text("#published-words") == "the base has 12,000 votes less"
+    page.write("#published", f"{total:,}")
+    assert page.text("#published-words") == "equals the base's votes"

@@ -1,0 +1,60 @@
+"""Random lists of acts: whatever a user does, the script that is exported gives the numbers that are shown."""
+from __future__ import annotations
+
+import random
+
+import pytest
+from actions import Model, drawn_act
+from chromium import NARROW, Page
+from figures import shown_majorities
+from oracle import Oracle
+
+SEED = 20_260_101
+PARTS, LISTS, MOST_ACTS = 10, 20, 9
+# Opens the script and the lines, reads both, and closes them.
+TEXTS = """
+  const [done] = [...arguments].slice(-1), source = document.getElementById("source");
+  const texts = () => ["script", "lines"].map((it) => document.getElementById(`${it}-text`).textContent);
+  source.open = true;
+  (function read() {
+    if (!texts()[1]) return setTimeout(read, 1);
+    done(texts());
+    source.open = false;
+  })();
+"""
+
+
+def acted(page: Page, oracle: Oracle, some: random.Random) -> Model:
+    """Does a list of acts from the base on, and keeps what they must come to."""
+    page.run('document.getElementById("clear-changes").click();')
+    model = Model()
+    for _ in range(some.randint(2, MOST_ACTS)):
+        act = drawn_act(some, model, oracle)
+        if page.act(*act):
+            model.take(act)
+    return model
+
+
+def table_of(csv: str) -> str:
+    """A table that is exported, without the lines of its provenance."""
+    return "".join(line for line in csv.splitlines(keepends=True) if not line.startswith("# "))
+
+
+@pytest.mark.parametrize("part", range(PARTS))
+def test_random_lists(page: Page, oracle: Oracle, part: int) -> None:
+    # Catches: any act, in whatever order, after which the page shows other numbers than its script gives.
+    some = random.Random(SEED + part)
+    for majority in some.sample(["70", "quorum"], part % 3):
+        page.click(f"#at-{majority}")
+    majorities = shown_majorities(page)
+    # Painting takes most of the time, and there is least of it here.
+    page.click("#tab-curve")
+    page.show(NARROW, 200)
+    for number in range(LISTS):
+        commands = acted(page, oracle, some).commands(oracle)
+        script, lines = page.wait_for(TEXTS)
+        assert script == page.act("exported", "export-script") == oracle.script(commands, majorities), f"list {number}"
+        assert lines.encode() == oracle.lines(script.encode()), f"list {number}: {commands}"
+        accepted = [command for command, line in zip(commands, oracle.answers(commands)) if line.startswith("acc")]
+        wanted = oracle.study({"changed": accepted} if commands else {}, majorities)
+        assert table_of(page.act("exported", "export-csv")) == wanted, f"list {number}: {commands}"

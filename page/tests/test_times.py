@@ -1,0 +1,33 @@
+"""How long the page takes. The times are printed and not asserted: they depend on the machine."""
+from __future__ import annotations
+
+from statistics import median
+
+from chromium import Page
+from oracle import MAJORITIES
+from test_studies import sweep
+
+EDITS = 100
+SLIDE = """
+  const [votes, done] = arguments, box = document.querySelector("#changes input[type=number]");
+  box.value = votes;
+  box.dispatchEvent(new Event("input", { bubbles: true }));
+  const count = () => performance.getEntriesByName("edit to numbers").length, before = count();
+  (function settle() { if (count() > before) done(); else setTimeout(settle, 1); })();
+"""
+
+
+def test_times(page: Page, times: list[str]) -> None:
+    # Catches: nothing. It prints the times, for whoever changes the page.
+    first = page.run('const [it] = performance.getEntriesByName("edit to numbers"); return it.startTime + it.duration;')
+    times.append(f"opened to first numbers: {first:.0f} ms")
+    for majority in ["70", "quorum"]:
+        page.click(f"#at-{majority}")
+    assert page.act("votes", "XAD", "300000")
+    for step in range(EDITS):
+        page.wait_for(SLIDE, 300_001 + step)
+    all_times = page.run('return performance.getEntriesByName("edit to numbers").map((it) => it.duration);')
+    what = f"190 members in 24 chairs at {len(MAJORITIES)} majorities"
+    times.append(f"edit to numbers: {median(all_times[-EDITS:]):.0f} ms, median of {EDITS}; {what}")
+    sweep(page, "XAD", "base", "0.1", "20", "0.1")
+    times.append(f"{page.text('#sweep-words')}")

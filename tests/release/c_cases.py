@@ -1,0 +1,107 @@
+"""The library for C: its calls, its two kinds of library, its version, and the names of its refusals."""
+from __future__ import annotations
+
+import re
+import shutil
+from pathlib import Path
+
+from answers import answers_in
+from steps import TOP, Case, ran
+
+STRICT = ["-std=c11", "-Wall", "-Wextra", "-Wconversion", "-pedantic", "-Werror", "-pthread", "-Iinclude"]
+SOURCES = TOP / "tests" / "release"
+
+
+def check_calls(room: Path) -> None:
+    """The calls of board.h: against a count over all coalitions, and on input that is refused."""
+    ran(["cc", *STRICT, str(SOURCES / "calls.c"), "lib/libboard.a", "-o", "calls"], room)
+    ran(["./calls"], room)
+
+
+def check_answers(room: Path, what: str) -> None:
+    """The library answers to boards or scripts what the program answers."""
+    folder = answers_in(room)
+    ran(["cc", "-O2", *STRICT, str(SOURCES / "answers.c"), "lib/libboard.a", "-o", "answers_c"], room)
+    got = ran(["sh", "-c", f"./answers_c {what} < {folder}/{what}.txt"], room)
+    assert got == (folder / f"{what}.txt").read_text(), f"the answers to {what} differ"
+
+
+def check_needs(room: Path) -> None:
+    """The proved object asks the C library to copy and to fill memory, and for nothing else: it has no heap."""
+    part = ran(["nm", "-u", "lib/libboard.a"], room).partition("board_c.o:")[2].strip().partition("\n\n")[0]
+    needs = {line.split()[-1] for line in part.splitlines()}
+    assert needs == {"memcpy", "memset"}, f"it asks for {needs}"
+
+
+def version_of(room: Path) -> str:
+    return (room / "VERSION").read_text().split()[1]
+
+
+def check_names(room: Path) -> None:
+    """The version, and the name of each number, are those of VERSION and docs/FORMATS.md, from both libraries."""
+    rows = re.findall(r"^\| (\d+) \| (\w+) \| .* \|$", (room / "docs/FORMATS.md").read_text(), re.MULTILINE)
+    wanted = "".join(f"{number} {name}\n" for number, name in rows)
+    for library in [["lib/libboard.a"], ["-Llib", "-lboard", f"-Wl,-rpath,{room}/lib"]]:
+        ran(["cc", *STRICT, str(SOURCES / "names.c"), *library, "-o", "names"], room)
+        got = ran(["./names"], room)
+        assert got == f"{version_of(room)}\n{wanted}", f"{library}: {got}"
+
+
+def check_shared(room: Path) -> None:
+    """The shared library names itself by two numbers of the version, exports the calls of board.h and R's alone, and
+    needs the C library alone, none newer than 2.17."""
+    name = f"libboard.so.{version_of(room).rpartition('.')[0]}"
+    link = room / "lib" / "libboard.so"
+    assert link.is_symlink() and str(link.readlink()) == name, "libboard.so is no link to the shared library"
+    told = ran(["readelf", "--dynamic", "--wide", f"lib/{name}"], room)
+    assert f"soname: [{name}]" in told, told
+    assert re.findall(r"Shared library: \[(.*)\]", told) == ["libc.so.6"], told
+    symbols = ran(["nm", "--dynamic", f"lib/{name}"], room)
+    newest = max(tuple(map(int, it.split("."))) for it in re.findall(r"@GLIBC_([\d.]+)", symbols))
+    assert newest <= (2, 17), f"it needs glibc {newest}"
+    declared = set(re.findall(r"\b(board_\w+)\(", (room / "include/board.h").read_text()))
+    assert set(re.findall(r" T (\w+)", symbols)) == declared | {"board_r"}, symbols
+
+
+def check_package_config(room: Path) -> None:
+    """pkg-config says how to compile and link, wherever the release lies, and the program counts."""
+    elsewhere = room.parent / "else where"
+    elsewhere.mkdir()
+    config = {"PKG_CONFIG_PATH": str(room / "lib" / "pkgconfig")}
+    assert ran(["pkg-config", "--modversion", "board"], elsewhere, **config).strip() == version_of(room)
+    flags = ran(["pkg-config", "--cflags", "--libs", "board"], elsewhere, **config).split()
+    ran(["cc", f"{room}/examples/embed/three_chairs.c", *flags, f"-Wl,-rpath,{room}/lib", "-o", "three"], elsewhere)
+    assert ran(["./three"], elsewhere).startswith("51 votes win, 3 of 8 coalitions\n")
+
+
+def check_other_languages(room: Path) -> None:
+    """The header compiles as C99, C11, C++11 and C++20."""
+    (room / "header.c").write_text('#include "board.h"\nint main(void) { return 0; }\n')
+    warnings = ["-Wall", "-Wextra", "-pedantic", "-Werror", "-fsyntax-only", "-Iinclude"]
+    standards = [("c", it) for it in ("c99", "c11")] + [("c++", it) for it in ("c++11", "c++20") if shutil.which("g++")]
+    for language, standard in standards:
+        ran(["cc", "-x", language, f"-std={standard}", *warnings, "header.c"], room)
+
+
+def check_aarch64(room: Path) -> None:
+    """The library for aarch64 has the same calls."""
+    told = ran(["nm", "--print-armap", "lib/aarch64/libboard.a"], room)
+    declared = set(re.findall(r"\b(board_\w+)\(", (room / "include/board.h").read_text()))
+    assert set(re.findall(r"^(board_\w+) in ", told, re.MULTILINE)) == declared, told
+
+
+def cases(room: Path) -> list[Case]:
+    found = [
+        ("the calls from C", lambda: check_calls(room)),
+        ("2,000 boards from C", lambda: check_answers(room, "boards")),
+        ("500 scripts from C", lambda: check_answers(room, "scripts")),
+        ("what the library for C needs", lambda: check_needs(room)),
+        ("the names of C's refusals, and the version", lambda: check_names(room)),
+        ("the shared library", lambda: check_shared(room)),
+        ("board.h in C and C++", lambda: check_other_languages(room)),
+        ("the library for aarch64", lambda: check_aarch64(room)),
+    ]
+    if shutil.which("pkg-config"):
+        return [*found, ("pkg-config", lambda: check_package_config(room))]
+    print("tests/release: pkg-config isn't here, so its file is left out")
+    return found
