@@ -15,6 +15,8 @@ console.log(Number(share), quota, omega, accepted, winning, names, code, majorit
 
 // @ts-expect-error a majority is required
 counts([50]);
+// @ts-expect-error the same, beside a total
+counts([50], { total: 50 });
 // @ts-expect-error there is no such majority
 counts([50], { majority: "HALF" });
 // @ts-expect-error votes are numbers
