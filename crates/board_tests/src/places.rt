@@ -120,14 +120,10 @@ impl<'a, C: Clock + Sync> Gate for OrderedGate<'a, C> {
 // Whether each reader's k-th sheet is that of the k-th publication.
 fn read_in_order(served: &Served) -> bool {
     for sheets in &served.readings {
-        let mut wanted = 1;
-        for sheet in sheets {
-            if sheet.front() != wanted {
-                return false;
-            }
-            wanted += 1;
-        }
-        if wanted != LAST + 1 {
+        let [a, b, c, d, e] = sheets.as_slice() else {
+            return false;
+        };
+        if [a.front(), b.front(), c.front(), d.front(), e.front()] != [1, 2, 3, 4, 5] {
             return false;
         }
     }
