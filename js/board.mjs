@@ -1,1 +1,0 @@
-../wasm/board.mjs
