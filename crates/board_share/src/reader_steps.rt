@@ -23,8 +23,8 @@ pub(crate) fn advance(
 ) -> Option<Reading>
     requires reader { IsReader board.now.shared.table_id seat.old.table_id seat.old.me
         (reader_at board.now.shared.table_id seat.old.me.0 r stage.old) }
-    ensures seat { Stepped board.now.shared.table_id (reader_at board.now.shared.table_id seat.old.me.0 r stage.old) seat.new.table_id seat.new.me
-        stage.new }
+    ensures seat { Stepped board.now.shared.table_id (reader_at board.now.shared.table_id seat.old.me.0 r stage.old)
+        seat.new.table_id seat.new.me stage.new }
     ensures sheet { option_map (λ x. x.sheet) result ≡ sheet_read stage.old }
 {
     let found = touch(board, seat, r, stage);
@@ -53,8 +53,8 @@ fn touch(board: &Board, seat: &mut Seat<(), View>, r: u8, stage: &ReaderStage) -
 pub(crate) fn read_all(board: &Board, seat: &mut Seat<(), View>, r: u8) -> Reading
     requires rest { IsReader board.now.shared.table_id seat.old.table_id seat.old.me
         (reader_at board.now.shared.table_id seat.old.me.0 r AtRest) }
-    ensures read { HasRead board.now.shared.table_id (reader_at board.now.shared.table_id seat.old.me.0 r AtRest) seat.new.table_id seat.new.me
-        result.sheet }
+    ensures read { HasRead board.now.shared.table_id (reader_at board.now.shared.table_id seat.old.me.0 r AtRest)
+        seat.new.table_id seat.new.me result.sheet }
 {
     let mut words = [0; COPY_WORDS];
     arrive(board, seat, r);
@@ -70,18 +70,20 @@ pub(crate) fn read_all(board: &Board, seat: &mut Seat<(), View>, r: u8) -> Readi
 
 // The first step: its pin goes to 1.
 fn arrive(board: &Board, seat: &mut Seat<(), View>, r: u8)
-    requires { IsReader board.now.shared.table_id seat.old.table_id seat.old.me (reader_at board.now.shared.table_id seat.old.me.0 r AtRest) }
-    ensures { Stepped board.now.shared.table_id (reader_at board.now.shared.table_id seat.old.me.0 r AtRest) seat.new.table_id seat.new.me
-        Arrived }
+    requires { IsReader board.now.shared.table_id seat.old.table_id seat.old.me
+        (reader_at board.now.shared.table_id seat.old.me.0 r AtRest) }
+    ensures { Stepped board.now.shared.table_id (reader_at board.now.shared.table_id seat.old.me.0 r AtRest)
+        seat.new.table_id seat.new.me Arrived }
 {
     board.shared.store::<Reads>(seat, pin(r as usize), 1);
 }
 
 // The second step: the side that is published.
 fn load_side(board: &Board, seat: &mut Seat<(), View>, r: u8) -> u64
-    requires { IsReader board.now.shared.table_id seat.old.table_id seat.old.me (reader_at board.now.shared.table_id seat.old.me.0 r Arrived) }
-    ensures { Stepped board.now.shared.table_id (reader_at board.now.shared.table_id seat.old.me.0 r Arrived) seat.new.table_id seat.new.me
-        (Stage.Reading result []) }
+    requires { IsReader board.now.shared.table_id seat.old.table_id seat.old.me
+        (reader_at board.now.shared.table_id seat.old.me.0 r Arrived) }
+    ensures { Stepped board.now.shared.table_id (reader_at board.now.shared.table_id seat.old.me.0 r Arrived)
+        seat.new.table_id seat.new.me (Stage.Reading result []) }
 {
     board.shared.load::<Reads>(seat, SIDE)
 }
@@ -98,7 +100,8 @@ fn load_word(
     requires reader { IsReader board.now.shared.table_id seat.old.table_id seat.old.me
         (reader_at board.now.shared.table_id seat.old.me.0 r (Stage.Reading side (take k words.old))) }
     requires few { k < COPY_WORDS }
-    ensures { Stepped board.now.shared.table_id (reader_at board.now.shared.table_id seat.old.me.0 r (Stage.Reading side (take k words.old)))
+    ensures { Stepped board.now.shared.table_id
+        (reader_at board.now.shared.table_id seat.old.me.0 r (Stage.Reading side (take k words.old)))
         seat.new.table_id seat.new.me (loaded side (take (k + 1) words.new)) }
 {
     words[k] = board.shared.load::<Reads>(seat, place(side, k));
@@ -108,8 +111,9 @@ fn load_word(
 fn leave(board: &Board, seat: &mut Seat<(), View>, r: u8, side: u64, words: &[u64; COPY_WORDS])
     requires { IsReader board.now.shared.table_id seat.old.table_id seat.old.me
         (reader_at board.now.shared.table_id seat.old.me.0 r (Leaving side words.now)) }
-    ensures { Stepped board.now.shared.table_id (reader_at board.now.shared.table_id seat.old.me.0 r (Leaving side words.now)) seat.new.table_id
-        seat.new.me AtRest }
+    ensures { Stepped board.now.shared.table_id
+        (reader_at board.now.shared.table_id seat.old.me.0 r (Leaving side words.now))
+        seat.new.table_id seat.new.me AtRest }
 {
     board.shared.store::<Reads>(seat, pin(r as usize), 0);
 }
