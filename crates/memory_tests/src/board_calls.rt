@@ -252,27 +252,30 @@ impl Call for Auditing {
 
 // Whether an analyst of a reader answers that of 16 coalitions those 8 win that have chair 1, which has all votes cast.
 fn answers(alloc: Global, reader: Reader) -> bool {
+    if !reader.at_rest() {
+        return false;
+    }
     match Analyst::new(alloc, reader) {
         Ok(mut analyst) => analyst.ask(Majority::Half).winning == 8,
         Err(_) => false,
     }
 }
 
-// Takes all readers, and answers how many of them have an analyst that answers so.
-fn answering(alloc: Global, readers: &mut Vec<Reader>) -> usize {
-    let mut count = 0;
-    for _ in 0..readers.len() {
-        if let Some(reader) = readers.pop() {
-            count += usize::from(answers(alloc, reader));
+// Takes all readers, and answers how many they were, where each of them has an analyst that answers so.
+fn answering(alloc: Global, readers: &mut Vec<Reader>) -> Option<usize> {
+    let count = readers.len();
+    for _ in 0..count {
+        if !answers(alloc, readers.pop()?) {
+            return None;
         }
     }
-    count
+    Some(count)
 }
 
-// Begins a board with this number of readers over a register of five commands: how many of them answer so.
+// Begins a board with this number of readers over a register of five commands: how many they are, where all answer so.
 fn answering_of(alloc: Global, readers: u8) -> Option<usize> {
     let (_writer, mut readers) = start(alloc, with_commands(alloc, 5)?, readers).ok()?;
-    Some(answering(alloc, &mut readers))
+    answering(alloc, &mut readers)
 }
 
 #[test]
