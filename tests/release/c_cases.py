@@ -60,7 +60,8 @@ def check_shared(room: Path) -> None:
     newest = max(tuple(map(int, it.split("."))) for it in re.findall(r"@GLIBC_([\d.]+)", symbols))
     assert newest <= (2, 17), f"it needs glibc {newest}"
     declared = set(re.findall(r"\b(board_\w+)\(", (room / "include/board.h").read_text()))
-    assert set(re.findall(r" T (\w+)", symbols)) == declared | {"board_r"}, symbols
+    for_r = set(re.findall(r"\bvoid (board_r_\w+)\(", (room / "r/board_r.c").read_text()))
+    assert set(re.findall(r" T (\w+)", symbols)) == declared | for_r, symbols
 
 
 def check_package_config(room: Path) -> None:
