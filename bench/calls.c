@@ -2,7 +2,7 @@
  * the board, what was counted, the least nanoseconds of a call over rounds through sixteen sheets, and a digest of the
  * counts.
  *
- *     cc -O2 -Icrates/board_c bench/calls.c crates/board_c/out/libboard_c.a -o calls && ./calls
+ *     cc -O2 -Icrates/board_c bench/calls.c out/libboard_c.a -o calls && ./calls
  *
  * Nothing here is part of the checks. */
 #include "board.h"

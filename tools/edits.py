@@ -1,15 +1,29 @@
-"""The edits that must fail: reads them, and says of each whether the prover refuses it.
+#!/usr/bin/env python3
+"""Tries the edits that must fail of a crate: tools/edits.py FOLDER KEPT COMMAND..
+
+FOLDER is the crate's, KEPT holds what a check of it kept, and COMMAND is such a check. Says of each edit whether the prover refuses
+it, and last 'N passed, M failed'. `make edits` calls it for each crate.
 
 An edit changes the code of a crate. Since a proof reads of another function its contract alone, edits of different functions are
-tried in one check, and each is refused where its own function isn't proved, for a reason that is no lacking name. What one check
-doesn't settle so is tried alone."""
+tried in one check, and each is refused where its own function isn't proved, for a reason that is no lacking name. Where one check
+doesn't settle an edit in this way, the edit is tried alone."""
+import os
 import re
+import shutil
+import subprocess
+import sys
+import tempfile
+from concurrent.futures import ThreadPoolExecutor
 from dataclasses import dataclass, field
+from functools import partial
+from pathlib import Path
 
 # What the prover says of a proof that names what an edit took away: that tells nothing of a contract.
 NAMES = re.compile(r"has no field|is not in scope|has no `|was not admitted|that depends on `[^`]*`, which was rejected")
 # The longest reason that is shown.
 SHOWN = 160
+# What the prover reads of a crate.
+READ = ["src", "specs", "proofs"]
 
 
 class BadEdit(Exception):
@@ -150,3 +164,43 @@ def tried(edits, check):
     status, and what it said."""
     why = reasons(edits, *check(edits)) if len(edits) > 1 else {}
     return [(edit, why.get(edit.name) or reason_alone(*check([edit]))) for edit in edits]
+
+
+def link(source, target):
+    """Gives a file that the prover kept another name. The prover replaces such a file and never writes into it, but for its notes."""
+    (os.link if source.endswith(".oantt") else shutil.copy2)(source, target)
+
+
+def check_edited(folder, kept, command, edits):
+    """Checks a crate with some edits made, over a copy of what was kept of it: the prover's status, and what it said."""
+    with tempfile.TemporaryDirectory(prefix="edits-", dir=kept.parent) as place:
+        for part in (it for it in READ if (folder / it).is_dir()):
+            shutil.copytree(folder / part, Path(place, part))
+        apply(edits, Path(place))
+        own = shutil.copytree(kept, Path(place, "kept"), copy_function=link)
+        words = [*command, "--incremental", own, "--jobs", "1"]
+        ran = subprocess.run(words, cwd=place, capture_output=True, text=True, errors="replace", stdin=subprocess.DEVNULL)
+        return ran.returncode, ran.stderr + ran.stdout
+
+
+def main(folder, kept, *command):
+    """Tries a crate's edits, several lists at once: the status to end in."""
+    passed = failed = 0
+    lists = together(read(Path(folder)))
+    check = partial(check_edited, Path(folder), Path(kept), command)
+    with ThreadPoolExecutor(max(1, len(os.sched_getaffinity(0)) // 2)) as pool:
+        for results in pool.map(partial(tried, check=check), lists):
+            for edit, why in results:
+                said = f"is refused: {why}" if why else f"IS NOT REFUSED: rt must-fail {edit.crate} says more"
+                print(f"{edit.crate}/{edit.name} {said}", flush=True)
+                passed, failed = passed + (why is not None), failed + (why is None)
+    print(f"{passed} passed, {failed} failed")
+    return 1 if failed else 0
+
+
+if __name__ == "__main__":
+    try:
+        sys.exit(main(*sys.argv[1:]))
+    except BadEdit as why:
+        print(f"an edit that can't be applied: {why}\n0 passed, 1 failed")
+        sys.exit(1)

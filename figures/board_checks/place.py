@@ -35,7 +35,7 @@ def program_path() -> str:
     """The program that is checked: the first word, else $BOARD, else the built one, else ./board."""
     if len(sys.argv) > 1:
         return os.path.realpath(sys.argv[1])
-    built = TOP / "crates" / "board" / "out" / "board"
+    built = TOP / "out" / "board"
     return os.path.realpath(os.environ.get("BOARD") or (built if built.exists() else TOP / "board"))
 
 

@@ -18,12 +18,12 @@ from pathlib import Path
 
 sys.path.insert(0, str(Path(__file__).resolve().parents[1] / "targets"))
 from boards import weights_of  # noqa: E402
-from inputs import Call, mutated, of_rows  # noqa: E402
+from inputs import Call, mutated, of_cases  # noqa: E402
 
 SEED = 20_261_126
 BOARDS = 2_000
 SCRIPTS = 500
-# A case of tests/rows with more bytes stays out.
+# A case with more bytes stays out.
 MOST = 20_000
 WORKERS = 2
 CHAIRS = 32
@@ -82,7 +82,7 @@ def script_line(program: Path, call: Call) -> str:
 
 def write(program: Path, folder: Path) -> None:
     """Writes both files."""
-    scripts = [*(it for it in of_rows() if len(it.text) <= MOST), *mutated(SEED, SCRIPTS)]
+    scripts = [*(it for it in of_cases() if len(it.text) <= MOST), *mutated(SEED, SCRIPTS)]
     with ThreadPoolExecutor(WORKERS) as pool:
         counted = pool.map(lambda it: board_lines(program, it), boards(SEED, BOARDS))
         (folder / "boards.txt").write_text("".join(counted))

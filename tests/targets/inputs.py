@@ -1,14 +1,17 @@
-"""Inputs of a replay: those of tests/rows, some at the limits, and files that are changed at random, from a seed."""
+"""Inputs of a replay: those of tests/cases, some at the limits, and files that are changed at random, from a seed."""
 from __future__ import annotations
 
 import random
 import re
+import sys
 from collections.abc import Callable
 from dataclasses import dataclass
 from pathlib import Path
 
 TOP = Path(__file__).resolve().parents[2]
-ROWS = TOP / "tests" / "rows"
+sys.path.insert(0, str(TOP / "tests" / "cases"))
+from case_files import Case, all_cases  # noqa: E402
+
 LONGEST = 4_194_304
 READERS = 4
 JOURNAL = 1_000_000
@@ -94,8 +97,8 @@ def mutated(seed: int, many: int) -> list[Call]:
     record, and with limits at random."""
     some = random.Random(seed)
     examples = [it.read_bytes() for it in sorted((TOP / "examples").glob("*.csv"))]
-    texts = [it for it in [*(call.text for call in of_rows()), *examples] if len(it) <= MOST]
-    well = [it.text for it in of_rows() if not (ROWS / it.name / "status").exists() and len(it.text) <= MOST]
+    texts = [it for it in [*(case.given for case in replays()), *examples] if len(it) <= MOST]
+    well = [case.given for case in replays() if case.status == 0 and len(case.given) <= MOST]
     found = []
     for number in range(many):
         text = some.choice(well if some.random() < 0.8 else texts)
@@ -107,16 +110,17 @@ def mutated(seed: int, many: int) -> list[Call]:
     return found
 
 
-def of_rows() -> list[Call]:
-    """The cases of `replay` in tests/rows, but for those whose words are refused or ask for help."""
-    found = []
-    for row in sorted(it.parent for it in ROWS.glob("*/*/args")):
-        words = (row / "args").read_text().split()
-        is_refused = (row / "status").exists() and (row / "status").read_text().strip() == "2"
-        if words[:1] == ["replay"] and not is_refused and "--help" not in words:
-            limits = {name.removeprefix("--"): int(value) for name, value in zip(words[1::2], words[2::2])}
-            found.append(Call(str(row.relative_to(ROWS)), (row / "stdin").read_bytes(), **limits))
-    return found
+def replays() -> list[Case]:
+    """The cases of `replay`, except those whose words are refused or ask for help."""
+    return [it for it in all_cases() if it.words[:1] == ["replay"] and it.status != 2 and "--help" not in it.words]
+
+
+def of_cases() -> list[Call]:
+    """The calls that the cases of `replay` make."""
+    return [
+        Call(it.name, it.given, **{name.removeprefix("--"): int(value) for name, value in zip(it.words[1::2], it.words[2::2])})
+        for it in replays()
+    ]
 
 
 def at_limits() -> list[Call]:

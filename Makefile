@@ -1,0 +1,202 @@
+# Proves, builds and tests: `make` builds the program, out/board, and `make help` lists the rest.
+#
+# A crate is proved over the statements of the crates that crates.txt names for it, and again where a source of its own, or of a
+# crate below it, has changed. All results stand in out/; `make clean` removes them.
+SHELL       := bash
+.SHELLFLAGS := -eu -o pipefail -c
+.ONESHELL:
+.DELETE_ON_ERROR:
+.SECONDEXPANSION:
+.DEFAULT_GOAL := board
+
+O    := $(CURDIR)/out
+KIT  := $(patsubst %/bin/rt,%,$(realpath $(shell command -v rt)))
+ifeq ($(KIT),)
+$(error rt, which proves the crates, is not on the PATH: README.md says which toolchain the repository needs)
+endif
+# out/kit names the toolchain that the results stand on.
+$(shell mkdir -p $O; cmp -s $(KIT)/KIT-ID $O/kit || cp $(KIT)/KIT-ID $O/kit)
+
+# Processes for one crate, since more than four gain nothing, and crates side by side, as far as memory holds them.
+JOBS := $(shell n=$$(nproc); echo $$((n < 4 ? n : 4)))
+SIDE := $(shell awk -v jobs=$(JOBS) '/^MemTotal/ {n = int($$2 / 1500000 / jobs); print n < 1 ? 1 : n < jobs ? n : jobs}' /proc/meminfo)
+ifeq ($(MAKELEVEL)$(findstring -j,$(MAKEFLAGS)),0)
+MAKEFLAGS += -j$(SIDE)
+endif
+MAKEFLAGS += --no-print-directory
+
+# uses_NAME := the crates that a crate stands on
+$O/crates.mk: crates.txt
+	@mkdir -p $O
+	sed -nE 's/^([a-z][a-z0-9_]*)[^:]*: *(.*)$$/uses_\1 := \2/p' $< >$@
+-include $O/crates.mk
+
+CRATES   := $(patsubst uses_%,%,$(filter uses_%,$(.VARIABLES)))
+TESTS    := $(filter %_tests,$(CRATES))
+STATIC   := $(shell sed -nE 's/^([a-z0-9_]+) .*\bstaticlib\b.*/\1/p' crates.txt)
+PROGRAMS := $(patsubst crates/%/src/main.rt,%,$(wildcard crates/*/src/main.rt))
+EDITED   := $(patsubst crates/%/must-fail,%,$(wildcard crates/*/must-fail))
+
+# Programs over the libraries that are timed alone.
+BENCH        := timing auditing reading
+uses_timing  := anyhow council_core majority_rule half_sums swing_walk power_index
+uses_auditing := $(uses_timing) board_audits
+uses_reading := $(uses_timing) left_right board_audits two_copy_steps board_share
+LINKED       := $(PROGRAMS) $(TESTS) $(BENCH)
+
+# What stands below a crate, and itself.
+whole     = $(sort $1 $(foreach it,$(filter $(CRATES),$(uses_$1)),$(call whole,$(it))))
+below     = $(patsubst %,$O/%.proved,$(filter $(CRATES),$(uses_$1)))
+folder    = $(if $(filter $1,$(BENCH)),$O/bench/$1,crates/$1)
+sources   = $O/kit crates.txt $(shell find /dev/null $(wildcard $(addprefix crates/$1/,src specs proofs args stdin stdout)) -type f)
+# How far a goal is, among the crates that it needs.
+needed    = $(if $(filter-out board,$(or $(MAKECMDGOALS),board)),$(CRATES),$(call whole,board))
+
+# What the prover reads of a crate, and how the crate is built.
+extern    = --extern $1=$(if $(filter $1,$(CRATES)),$O$2,$(KIT)/rlibs)/$1.rlib
+over      = --crate-name $1 src/$(if $(filter $1,$(PROGRAMS) $(BENCH)),main,lib).rt \
+            $(foreach it,std $(uses_$1),$(call extern,$(it),$2)) -L dependency=$O$2 -L dependency=$(KIT)/rlibs --links $1= \
+            $(if $(filter $1,$(STATIC)),--crate-type staticlib) --antt-project $(KIT)/rattle/logic/antt-project.json
+checked   := --logic-built $(KIT)/logic_built
+linked    = --toolchain $(KIT)/toolchain --backend llvm $(if $(filter $1,$(TESTS)),--test) -o $O/$1.o
+static    = --toolchain $O/$1.toolchain --backend llvm --incremental $O/$1.kept -o $O/lib$1.a
+how       = $(if $(filter $1,$(LINKED)),$(linked),$(if $(filter $1,$(STATIC)),$(static),--statements -o $O/$1.rlib))
+
+# Calls the prover in a crate's folder, by one process where memory is too small for more, and shows what it says where it fails.
+define rattle
+cd $(call folder,$1)
+prove() { $(KIT)/bin/rattle $2 $(call over,$1,$3) $(checked) "$$@" >$O/$1.log 2>&1; }
+proves() {
+  local status=0
+  prove "$$@" --jobs $(JOBS) || status=$$?
+  [[ $$status != 137 ]] || { status=0; prove "$$@" --jobs 1 || status=$$?; }
+  [[ $$status == 0 ]] || { cat $O/$1.log >&2; exit 1; }
+}
+endef
+
+# Links a program and runs it: tests by the kit's runner, another program as its files args, stdin and stdout say.
+define run
+$(KIT)/bin/rattle-link --target x86_64-unknown-linux-gnu --toolchain $(KIT)/toolchain -o $O/$1 $O/$1.o \
+  $(KIT)/c/libos_c.a $(KIT)/c/liblibc_c.a
+$(if $(filter $1,$(TESTS)),$(KIT)/bin/rattle-test --seconds 60 $O/$1 >$O/$1.log 2>&1 || { cat $O/$1.log >&2; exit 1; })
+$(if $(filter $1,$(PROGRAMS)),touch $O/empty; given() { [[ -f $$1 ]] && echo $$1 || echo $O/empty; }
+xargs -d '\n' -a $$(given args) $O/$1 <$$(given stdin) | diff $$(given stdout) -)
+endef
+
+# Makes a toolchain like the kit's, whose clang also keeps the LLVM module that the prover hands to it. The prover starts clang
+# without an environment, so the name of that file is written into it.
+define toolchain
+mkdir -p $O/$1.toolchain/bin && ln -sfn $(KIT)/toolchain/lib $O/$1.toolchain/lib
+ln -sf $(KIT)/toolchain/bin/{ld.lld,llvm-ar,rattle-x64} $O/$1.toolchain/bin
+printf '#!/bin/sh -eu\ncp module.bc "%s"\nexec "%s" "$$@"\n' $O/$1.bc $(KIT)/toolchain/bin/clang >$O/$1.toolchain/bin/clang
+chmod +x $O/$1.toolchain/bin/clang
+endef
+
+# The kit's own module for WebAssembly, of a library that needs no heap.
+define kit_module
+proves $(subst $O/$1.toolchain,$(KIT)/toolchain,$(subst lib$1.a,$1.wasm.a,$(static))) --target wasm64-unknown-unknown
+$(KIT)/bin/rattle-link --target wasm64-unknown-unknown --toolchain $(KIT)/toolchain -o $O/$1.wasm $O/$1.wasm.a
+endef
+
+.PHONY: board all check gate module aarch64 page release deep clean help
+board: $O/board.proved  ## the program, out/board
+all: $(CRATES:%=$O/%.proved)  ## proofs of all crates, and their tests
+check: all cases memory  ## proofs and tests, cases on the program, and calls with memory refused
+
+$O/%.proved: $$(call sources,$$*) $$(call below,$$*)
+	@touch $O/$*.begun
+	$(if $(filter $*,$(STATIC)),$(call toolchain,$*))
+	$(call rattle,$*,build)
+	proves $(call how,$*)
+	$(if $(filter $*,$(LINKED)),$(call run,$*))
+	$(if $(filter $*,board_c),$(call kit_module,$*))
+	mv $O/$*.begun $@
+	echo "$* proved, $$(ls $(patsubst %,$O/%.proved,$(needed)) 2>/dev/null | wc -l) of $(words $(needed))" >&2
+$(BENCH:%=$O/%.proved): $O/%.proved: $O/bench/%/src/main.rt
+$O/bench/%/src/main.rt: bench/%.rt.txt
+	@mkdir -p $(@D) && cp $< $@
+
+# Work that is kept of a crate, and its edits that must fail, each tried over a copy of it.
+$O/%.checked: $$(call sources,$$*) $$(call below,$$*) $$(if $$(filter $$*,$(STATIC)),$O/$$*.proved)
+	@touch $O/$*.begun-check
+	$(call rattle,$*,check)
+	proves --incremental $O/$*.kept
+	mv $O/$*.begun-check $@
+$O/%.edits: $O/%.checked $$(wildcard crates/$$*/must-fail/*.edit) tools/edits.py
+	@mkdir -p $O/said
+	tools/edits.py crates/$* $O/$*.kept $(KIT)/bin/rattle check $(call over,$*) $(checked) | tee $O/said/edits-$*
+	touch $@
+
+# Deep checks, for doubters: libraries with their proofs, and then each crate with all that it reads, nothing of it checked before.
+$O/deep/%.proved: $$(call sources,$$*) $$(patsubst $O/%,$O/deep/%,$$(call below,$$*))
+	@mkdir -p $O/deep
+	$(call rattle,$*,build,/deep)
+	proves -o $O/deep/$*.rlib
+	touch $@
+$O/deep/%.checked: $$(patsubst $O/%,$O/deep/%,$$(call below,$$*))
+	@cd crates/$*
+	$(KIT)/bin/rattle check $(call over,$*,/deep) $(if $(filter $*,$(TESTS)),--test) --no-cache --jobs 1 2>&1 | tee $@ | tail -n 1
+deep: $(CRATES:%=$O/deep/%.checked)  ## each crate with all that it reads, nothing taken as checked before: hours
+
+# The WebAssembly modules, the library for aarch64, the page.
+modules := $(STATIC:%=$O/%.proved) tools/retarget
+module: wasm/out/board.wasm  ## the WebAssembly module, wasm/out/board.wasm
+wasm/out/board.wasm: $(modules) wasm/build wasm/heap.c
+	@wasm/build
+aarch64: aarch64/out/libboard.a  ## the library for aarch64
+aarch64/out/libboard.a: $(modules) aarch64/build aarch64/heap.c
+	@aarch64/build
+page: module  ## the page, page/out/board.html
+	@page/build
+release: board module aarch64 page  ## a release, out/board-VERSION-x86_64-linux.tar.gz
+	@./release
+
+# The gate's parts. Each prints a line for each test and, last, 'N passed, M failed', and what it prints is kept in out/said.
+total = awk -v status=$$status '/^[0-9]+ passed, [0-9]+ failed$$/ {passed += $$1; failed += $$3; next} {failed++} \
+  END {print passed + 0 " passed, " (status && !failed ? 1 : failed + 0) " failed"}'
+said = @mkdir -p $O/said; $1 2>&1 | tee $O/said/$@
+.PHONY: docs tools ci edits cases memory figures targets page-tests release-tests kit-gate
+docs:  ## names and links in the documents
+	$(call said,docs/check)
+ci: $O/kit  ## the kit's gate over a copy without the edits, and what it proves and builds taken over
+	@rm -rf $O/ci && mkdir -p $O/ci $O/said && touch $O/ci.begun
+	tar --create --exclude=.git --exclude=out --exclude=must-fail . | tar --extract --directory $O/ci
+	(cd $O/ci && rt ci 2>&1) | tee $O/said/ci
+	for it in $(filter-out $(STATIC),$(CRATES)); do
+	  built=$O/ci/crates/$$it/out
+	  if [[ -f $$built/$${it}_tests ]]; then cp $$built/$${it}_tests $O/$$it
+	  elif [[ -f $$built/$$it ]]; then cp $$built/$$it $O
+	  else cp $$built/rlib/$$it.rlib $O; fi
+	  touch -r $O/ci.begun $O/$$it.proved
+	done
+	rm -rf $O/ci
+kit-gate:  ## the kit's gate with nothing left out, on a clean clone: it tries each edit alone
+	@rm -rf $O/kit-gate && git clone --quiet . $O/kit-gate && cd $O/kit-gate && rt ci
+tools:  ## what counts an edit as refused
+	$(call said,tests/tools/run)
+edits: $(EDITED:%=$O/%.edits)  ## the edits that must fail
+cases: board  ## worked cases, and the examples of the documents, on the program
+	$(call said,tests/cases/run $O/board)
+memory: board $(addprefix $O/,$(addsuffix .proved,memory_tests share_tests board_replay))  ## each growth of memory refused in turn
+	$(call said,tests/memory/run $O)
+figures: board  ## the scripts of figures
+	$(call said,figures/check $O/board)
+targets: board module aarch64  ## the library, also for aarch64 and WebAssembly, against the program
+	$(call said,tests/targets/run $O/board)
+page-tests: board page  ## board.html in Chromium and Firefox
+	$(call said,page/tests/run)
+release-tests: release  ## a release, unpacked and run without the toolchain
+	$(call said,tests/release/run)
+
+gate:  ## all that must pass before a change lands
+	@rm -rf $O/said && status=0
+	for parts in "docs tools" ci "edits cases figures memory" targets page-tests release-tests; do
+	  $(MAKE) --keep-going $$parts || status=1
+	done
+	tail -qn 1 $O/said/* | $(total)
+	exit $$status
+
+clean:  ## removes all that was made
+	@rm -rf $O {wasm,aarch64,page}/out
+help:  ## this list
+	@sed -nE 's/^([a-z-]+):.*  ## (.*)/make \1\t\2/p' Makefile | expand -t 20

@@ -1,0 +1,78 @@
+"""Worked cases of the program, as the files *.txt beside this module have them.
+
+A case begins with '== NAME'. '$ board WORDS' is the command, '<' stands before each line of its input, '>' before each line of
+its output, '!' before each line of standard error, and 'status N' says with what it ends where that isn't 0. '! ...' is any text.
+Other lines are comments. In an input '\\xHH' and '\\r' are bytes, and '\\' at the end of a line takes away the line's end."""
+from __future__ import annotations
+
+import re
+from dataclasses import dataclass
+from pathlib import Path
+
+HERE = Path(__file__).resolve().parent
+ANY_TEXT = b"...\n"
+
+
+@dataclass
+class Case:
+    """A case: its name, the words after `board`, its input, and what it prints, complains and ends with."""
+
+    name: str
+    words: list[str]
+    given: bytes = b""
+    printed: bytes = b""
+    complained: bytes = b""
+    status: int = 0
+
+    def fault(self, status: int, printed: bytes, complained: bytes) -> str:
+        """What is wrong with a run of the case, or nothing where all is as it must be."""
+        is_text = bool(complained) if self.complained == ANY_TEXT else complained == self.complained
+        faults = [
+            f"status {status}, not {self.status}" if status != self.status else "",
+            "" if printed == self.printed else f"standard output is {printed.decode(errors='replace')[:2000]}",
+            "" if is_text else f"standard error is {complained.decode(errors='replace')[:2000]}",
+        ]
+        return "; ".join(filter(None, faults))
+
+
+def bytes_of(line: str) -> bytes:
+    """The bytes of a line of an input."""
+    text = line[:-1] if line.endswith("\\") else line + "\n"
+    unescaped = re.sub(r"\\x([0-9a-f]{2})", lambda found: chr(int(found[1], 16)), text.replace("\\r", "\r"))
+    return unescaped.encode("latin-1")
+
+
+def add_line(case: Case, mark: str, line: str) -> None:
+    """Takes in a line of a case's text behind its mark."""
+    if mark == "$":
+        case.words = line.removeprefix("board").split()
+    elif mark == "<":
+        case.given += bytes_of(line)
+    elif mark == ">":
+        case.printed += f"{line}\n".encode()
+    elif mark == "!":
+        case.complained += f"{line}\n".encode()
+
+
+def cases_of(file: Path) -> list[Case]:
+    """The cases of a file; the name of each begins with the file's."""
+    found: list[Case] = []
+    for line in file.read_text(encoding="latin-1").splitlines():
+        mark, _, rest = line.partition(" ")
+        if mark == "==":
+            found.append(Case(f"{file.stem}/{rest}", []))
+        elif mark == "status":
+            found[-1].status = int(rest)
+        elif found:
+            add_line(found[-1], mark, rest)
+    return found
+
+
+def all_cases() -> list[Case]:
+    """The cases of all files."""
+    return [case for file in sorted(HERE.glob("*.txt")) for case in cases_of(file)]
+
+
+def case_named(name: str) -> Case:
+    """The case of a name such as boards/three-chairs-half."""
+    return next(case for case in all_cases() if case.name == name)
