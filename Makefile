@@ -1,12 +1,14 @@
 # Proves, builds and tests: `make` builds the program, out/board, and `make help` lists the rest.
 #
 # A crate is proved over the statements of the crates that crates.txt names for it, and again where a source of its own, or of a
-# crate below it, has changed. All results stand in out/; `make clean` removes them.
+# crate below it, has changed. Crates are begun in the order in which crates.txt names them, so the ones for which most others
+# wait come first there. All results stand in out/; `make clean` removes them.
 SHELL       := bash
 .SHELLFLAGS := -eu -o pipefail -c
 .ONESHELL:
 .DELETE_ON_ERROR:
 .SECONDEXPANSION:
+.SECONDARY:
 .DEFAULT_GOAL := board
 
 O    := $(CURDIR)/out
@@ -163,11 +165,11 @@ ci: $O/kit  ## the kit's gate over a copy without the edits, and what it proves 
 	tar --create --exclude=.git --exclude=out --exclude=must-fail . | tar --extract --directory $O/ci
 	(cd $O/ci && rt ci 2>&1) | tee $O/said/ci
 	for it in $(filter-out $(STATIC),$(CRATES)); do
-	  built=$O/ci/crates/$$it/out
-	  if [[ -f $$built/$${it}_tests ]]; then cp $$built/$${it}_tests $O/$$it
-	  elif [[ -f $$built/$$it ]]; then cp $$built/$$it $O
-	  else cp $$built/rlib/$$it.rlib $O; fi
-	  touch -r $O/ci.begun $O/$$it.proved
+	  made=$O/ci/crates/$$it/out to=$O/$$it
+	  if [[ -d $$made/rlib ]]; then made=$$made/rlib/$$it.rlib to=$$to.rlib
+	  elif [[ $$it == *_tests ]]; then made=$$made/$${it}_tests
+	  else made=$$made/$$it; fi
+	  rm -rf $$to && cp -r $$made $$to && touch -r $O/ci.begun $O/$$it.proved
 	done
 	rm -rf $O/ci
 kit-gate:  ## the kit's gate with nothing left out, on a clean clone: it tries each edit alone

@@ -1,8 +1,9 @@
 """Worked cases of the program, as the files *.txt beside this module have them.
 
-A case begins with '== NAME'. '$ board WORDS' is the command, '<' stands before each line of its input, '>' before each line of
-its output, '!' before each line of standard error, and 'status N' says with what it ends where that isn't 0. '! ...' is any text.
-Other lines are comments. In an input '\\xHH' and '\\r' are bytes, and '\\' at the end of a line takes away the line's end."""
+A case begins with '== NAME'. '$ board WORDS' is the command, '<' stands before each line of its input, '>' before each
+line of its output, '!' before each line of standard error, and 'status N' says with what it ends where that isn't 0.
+'! ...' is any text. Other lines are comments. In an input '\\xHH' and '\\r' are bytes, and '\\' at the end of a line
+takes away the line's end."""
 from __future__ import annotations
 
 import re

@@ -117,10 +117,11 @@ def replays() -> list[Case]:
 
 def of_cases() -> list[Call]:
     """The calls that the cases of `replay` make."""
-    return [
-        Call(it.name, it.given, **{name.removeprefix("--"): int(value) for name, value in zip(it.words[1::2], it.words[2::2])})
-        for it in replays()
-    ]
+    found = []
+    for it in replays():
+        limits = {name.removeprefix("--"): int(value) for name, value in zip(it.words[1::2], it.words[2::2])}
+        found.append(Call(it.name, it.given, **limits))
+    return found
 
 
 def at_limits() -> list[Call]:
