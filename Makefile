@@ -103,7 +103,9 @@ endef
 .PHONY: board all check gate module aarch64 page release deep clean help
 board: $O/board.proved  ## the program, out/board
 all: $(CRATES:%=$O/%.proved)  ## proofs of all crates, and their tests
-check: all cases memory  ## proofs and tests, cases on the program, and calls with memory refused
+	@mkdir -p $O/said; echo "$(words $(CRATES)) passed, 0 failed" | tee $O/said/$@
+check:  ## proofs and tests, cases on the program, and calls with memory refused
+	+@$(call judged,all "cases memory")
 
 $O/%.proved: $$(call sources,$$*) $$(call below,$$*)
 	@touch $O/$*.begun
@@ -154,9 +156,15 @@ release: board module aarch64 page  ## a release, out/board-VERSION-x86_64-linux
 	@./release
 
 # The gate's parts. Each prints a line for each test and, last, 'N passed, M failed', and what it prints is kept in out/said.
-total = awk -v status=$$status '/^[0-9]+ passed, [0-9]+ failed$$/ {passed += $$1; failed += $$3; next} {failed++} \
-  END {print passed + 0 " passed, " (status && !failed ? 1 : failed + 0) " failed"}'
 said = @mkdir -p $O/said; $1 2>&1 | tee $O/said/$@
+# Makes groups of parts one after another, and adds up what they passed and failed.
+define judged
+rm -rf $O/said && mkdir -p $O/said && status=0
+for parts in $1; do $(MAKE) --keep-going $$parts || status=1; done
+tail -qn 1 $O/said/* | awk -v status=$$status '/^[0-9]+ passed, [0-9]+ failed$$/ {passed += $$1; failed += $$3; next} {failed++}
+  END {print passed + 0 " passed, " (status && !failed ? 1 : failed + 0) " failed"}'
+exit $$status
+endef
 .PHONY: docs tools ci edits cases memory figures targets page-tests release-tests kit-gate
 docs:  ## names and links in the documents
 	$(call said,docs/check)
@@ -191,13 +199,7 @@ release-tests: release  ## a release, unpacked and run without the toolchain
 	$(call said,tests/release/run)
 
 gate:  ## all that must pass before a change lands
-	@rm -rf $O/said && status=0
-	for parts in "docs tools" ci "edits cases figures memory" targets page-tests release-tests; do
-	  $(MAKE) --keep-going $$parts || status=1
-	done
-	tail -qn 1 $O/said/* | $(total)
-	exit $$status
-
+	+@$(call judged,"docs tools" ci "edits cases figures memory" targets page-tests release-tests)
 clean:  ## removes all that was made
 	@rm -rf $O {wasm,aarch64,page}/out
 help:  ## this list
