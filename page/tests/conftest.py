@@ -43,7 +43,7 @@ def times() -> list[str]:
 
 
 def pytest_terminal_summary(terminalreporter: TerminalReporter) -> None:
-    """Prints the times, and the line that `check` looks for."""
+    """Prints the times, and the line that the gate adds up."""
     counts = {name: len(terminalreporter.stats.get(name, [])) for name in ["passed", "failed", "error"]}
     for line in [*TIMES, f"{counts['passed']} passed, {counts['failed'] + counts['error']} failed"]:
         terminalreporter.write_line(line)
