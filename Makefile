@@ -21,7 +21,7 @@ $(shell mkdir -p $O; cmp -s $(KIT)/KIT-ID $O/kit || cp $(KIT)/KIT-ID $O/kit)
 
 # Processes for one crate, since more than four gain nothing, and crates side by side, as far as memory holds them.
 JOBS := $(shell n=$$(nproc); echo $$((n < 4 ? n : 4)))
-SIDE := $(shell awk -v jobs=$(JOBS) '/^MemTotal/ {n = int($$2 / 1500000 / jobs); print n < 1 ? 1 : n < jobs ? n : jobs}' /proc/meminfo)
+SIDE := $(shell awk -v jobs=$(JOBS) '/^MemTotal/ {n = int($$2 / 2e6 / jobs); print n < 1 ? 1 : n < jobs ? n : jobs}' /proc/meminfo)
 ifeq ($(MAKELEVEL)$(findstring -j,$(MAKEFLAGS)),0)
 MAKEFLAGS += -j$(SIDE)
 endif
@@ -40,11 +40,11 @@ PROGRAMS := $(patsubst crates/%/src/main.rt,%,$(wildcard crates/*/src/main.rt))
 EDITED   := $(patsubst crates/%/must-fail,%,$(wildcard crates/*/must-fail))
 
 # Programs over the libraries that are timed alone.
-BENCH        := timing auditing reading
-uses_timing  := anyhow council_core majority_rule half_sums swing_walk power_index
+BENCH         := timing auditing reading
+uses_timing   := anyhow council_core majority_rule half_sums swing_walk power_index
 uses_auditing := $(uses_timing) board_audits
-uses_reading := $(uses_timing) left_right board_audits two_copy_steps board_share
-LINKED       := $(PROGRAMS) $(TESTS) $(BENCH)
+uses_reading  := $(uses_timing) left_right board_audits two_copy_steps board_share
+LINKED        := $(PROGRAMS) $(TESTS) $(BENCH)
 
 # What stands below a crate, and itself.
 whole     = $(sort $1 $(foreach it,$(filter $(CRATES),$(uses_$1)),$(call whole,$(it))))
@@ -187,8 +187,8 @@ tools:  ## what counts an edit as refused
 edits: $(EDITED:%=$O/%.edits)  ## the edits that must fail
 cases: board  ## worked cases, and the examples of the documents, on the program
 	$(call said,tests/cases/run $O/board)
-memory: board $(addprefix $O/,$(addsuffix .proved,memory_tests share_tests board_replay))  ## each growth of memory refused in turn
-	$(call said,tests/memory/run $O)
+memory: $(patsubst %,$O/%.proved,board memory_tests share_tests board_replay)  ## each growth of memory refused in turn
+	$(call said,tests/memory/run)
 figures: board  ## the scripts of figures
 	$(call said,figures/check $O/board)
 targets: board module aarch64  ## the library, also for aarch64 and WebAssembly, against the program
