@@ -69,6 +69,19 @@ def cases_of(file: Path) -> list[Case]:
     return found
 
 
+def readme_cases(top: Path) -> list[Case]:
+    """The example of README.md: its records and the file that it names, and the lines on its right."""
+    text = (top / "README.md").read_text()
+    block = re.search(r"^    member,votes .*\n(?:    .*\n)+", text, re.MULTILINE)
+    lines = block[0].splitlines() if block else []
+    records = "".join(f"{line.split()[0]}\n" for line in lines if line[4] != " ")
+    answers = [line.partition("-> ")[2] if line[4] != " " else line for line in lines]
+    printed = "".join(f"{answer.split()[0]}\n" for answer in answers if answer)
+    example = (top / "examples" / "three-chairs.csv").read_bytes()
+    given = {"README/records": records.encode(), "README/examples-three-chairs": example}
+    return [Case(name, ["replay"], data, printed.encode()) for name, data in given.items()]
+
+
 def all_cases() -> list[Case]:
     """The cases of all files."""
     return [case for file in sorted(HERE.glob("*.txt")) for case in cases_of(file)]
