@@ -95,10 +95,10 @@ def expect_good(done: subprocess.CompletedProcess) -> None:
 
 
 def expect_refused(done: subprocess.CompletedProcess, script: str, message: str, folder: str) -> None:
-    """Fails where a script didn't answer with a message and status 1, or left a file."""
+    """Fails where a script didn't answer with a message, below what it read, and status 1, or left a file."""
     said = done.stderr.decode()
     expect(done.returncode == 1 and not done.stdout, f"status {done.returncode}: {said}")
-    expect(said.startswith(f"{script}: {message}"), f"standard error: {said}")
+    expect(f"\n{script}: {message}" in f"\n{said}", f"standard error: {said}")
     expect(said.endswith(f"\n{script}: nothing was written\n"), f"standard error: {said}")
     expect(not os.listdir(folder), f"files are left: {os.listdir(folder)}")
 
