@@ -70,15 +70,17 @@ class MemberTable:
         return [f"{members}; {counted(len(self.chairs()), 'chair')}; {seats}", *self.choices]
 
 
-def conversions_of(rows: Sequence[Row], by_name: bool) -> list[str]:
-    """What was converted in good rows, in sentences."""
-    zeros = sum(bool(ZEROS.search(row.votes) or not by_name and ZEROS.search(row.chair)) for row in rows)
+def conversions_of(rows: Sequence[Row], names: Sequence[str]) -> list[str]:
+    """What was converted in good rows, in sentences; the names are those of chairs that got a number."""
+    zeros = sum(bool(ZEROS.search(row.votes) or not names and ZEROS.search(row.chair)) for row in rows)
     marks = sum(not ZEROS.sub("", row.votes).isdigit() for row in rows)
     small = sum(row.code != row.code.upper() for row in rows)
+    numbered = "; ".join(f"{number} {name}" for number, name in enumerate(names, 1))
     sentences = {
         f"Numbers such as 1.0 were taken as whole numbers in {counted(zeros, 'row')}": zeros,
         f"Marks between thousands were passed over in {counted(marks, 'row')}": marks,
         f"Small letters of codes were taken as capitals in {counted(small, 'row')}": small,
+        f"Chairs stand there by name: they were numbered in the order in which they come: {numbered}": len(names),
     }
     return [sentence for sentence, count in sentences.items() if count]
 
@@ -90,7 +92,6 @@ class TableReader:
         self.marks = marks
         self.layout = layout
         self.table = MemberTable()
-        self.by_name = False
         self.lines: dict[str, int] = {}
         self.numbers: dict[str, tuple[int, str]] = {}
         self.problems: list[tuple[int, str]] = []
@@ -133,16 +134,16 @@ class TableReader:
         """The rows without a total, which is left out, kept or asked about."""
         totals = totals_of(rows, self.marks)
         for row in totals:
-            who = f"{row.code or row.name}, which equals the sum of the others"
+            who = ", ".join(filter(None, [row.code or row.name, f"{row.votes} votes"]))
             if self.layout.keep_total:
-                self.choose(f"Line {row.line}, {who}, is a member")
+                self.choose(f"Line {row.line} ({who}), which equals the sum of the others, is a member")
             elif self.layout.leave_out_total:
-                self.choose(f"Line {row.line}, {who}, was left out as a total")
+                self.choose(f"Line {row.line} ({who}), which equals the sum of the others, was left out as a total")
             else:
                 self.refuse(
                     row.line,
-                    f"line {row.line}: a total? {row.code or row.name}, {row.votes} votes, equals the sum of the "
-                    "others: leave it out by --leave-out-total, or keep it as a member by --keep-total",
+                    f"line {row.line}: a total? This row ({who}) equals the sum of the others: leave it out by "
+                    "--leave-out-total, or keep it as a member by --keep-total",
                 )
         if self.layout.leave_out_total and len(totals) != 1:
             each = f"lines {lines_of(totals)} each have" if totals else "no row has"
@@ -150,7 +151,7 @@ class TableReader:
         return rows if self.layout.keep_total else [row for row in rows if row not in totals]
 
     def with_chairs(self, rows: list[Row]) -> list[Row]:
-        """The rows with their chairs, where blank ones are filled down, taken as they are, or asked about."""
+        """The rows with blank chairs filled down, or as they are; where they are asked about, one problem says all."""
         blanks = blanks_of(rows)
         if self.layout.fill_down:
             self.choose(f"Merged cells: the chair was filled down in {counted(len(blanks), 'row')}")
@@ -163,7 +164,9 @@ class TableReader:
                 f"{lines_of(blanks)}): fill the chair down by --fill-down, or say by --blank-is-no-chair that these "
                 "members are in no chair",
             )
-        return filled_down(rows) if self.layout.fill_down else rows
+        else:
+            return rows
+        return rows if self.layout.blank_is_no_chair else filled_down(rows)
 
     def with_codes(self, rows: list[Row]) -> list[Row]:
         """The rows with codes made from their names."""
@@ -178,17 +181,17 @@ class TableReader:
     def add_all(self, rows: list[Row]) -> None:
         """Takes in the rows; chairs are names where most of them have letters."""
         filled = [row.chair for row in rows if row.chair]
-        self.by_name = 2 * sum(map(is_name, filled)) > len(filled)
+        by_name = 2 * sum(map(is_name, filled)) > len(filled)
         for row in rows:
-            self.add(row)
+            self.add(row, self.numbered if by_name else chair_of)
         for number, name in self.numbers.values():
             self.table.chair_names.setdefault(number, name)
 
-    def add(self, row: Row) -> None:
+    def add(self, row: Row, chair_number: Callable[[str], int | None]) -> None:
         """Takes in a row."""
         code = self.read(row.line, "", code_of, row.code)
         votes = self.read(row.line, ", votes", votes_of, row.votes, self.marks)
-        chair = self.read(row.line, "", self.numbered if self.by_name else chair_of, row.chair)
+        chair = self.read(row.line, "", chair_number, row.chair)
         if code in self.lines:
             self.refuse(row.line, f"line {row.line}: the code {code} stands on line {self.lines[code]} already")
         if code is not None:
@@ -236,11 +239,11 @@ class TableReader:
 
 def how_read(sheet: Sheet, text: str, layout: Layout) -> list[str]:
     """The rows that were skipped, and the encoding where it isn't UTF-8, in sentences."""
-    skipped = f"The header is row {layout.header_row}: {counted(sheet.above, 'row')} above it skipped"
+    skipped = [f"Rows above the header were skipped: {sheet.above}"] if layout.header_row and sheet.above else []
     word = accented(text)
     look = f": look at letters with accents, such as those of {word!r}" if word else ""
     encoding = f"The table was read as {layout.encoding}{look}"
-    return [*([skipped] if layout.header_row else []), *([encoding] if layout.encoding != "utf-8" else [])]
+    return [*skipped, *([encoding] if layout.encoding != "utf-8" else [])]
 
 
 def read_table(
@@ -258,7 +261,8 @@ def read_table(
     rows = reader.with_chairs(reader.limited(reader.without_total(reader.rows_of(sheet, places))))
     reader.add_all(rows if "code" in places else reader.with_codes(rows))
     table = reader.whole()
-    table.choices = [*how_read(sheet, text, layout), *conversions_of(rows, reader.by_name), *table.choices]
+    names = [name for _, name in reader.numbers.values()]
+    table.choices = [*how_read(sheet, text, layout), *conversions_of(rows, names), *table.choices]
     return table
 
 

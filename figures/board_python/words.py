@@ -74,7 +74,7 @@ def add_layout_words(parser: argparse.ArgumentParser) -> None:
     chairs.add_argument("--blank-is-no-chair", action="store_true", help="a member with a blank chair is in no chair")
     totals.add_argument("--leave-out-total", action="store_true", help="leave out the row that equals the others' sum")
     totals.add_argument("--keep-total", action="store_true", help="the row that equals the others' sum is a member")
-    add("--total", metavar="N", type=whole_number, help="the published sum of votes, with which the table's is compared")
+    add("--total", metavar="N", type=whole_number, help="the published sum of votes, which the table's must equal")
 
 
 def columns_of(given: argparse.Namespace) -> Columns:
