@@ -3,6 +3,7 @@ from __future__ import annotations
 
 import csv
 import io
+from functools import partial
 from pathlib import Path
 
 from .place import TOP, Case, Place, expect, expect_good, expect_refused, expect_text
@@ -19,8 +20,8 @@ move,AAA,2
 move,BBB,1
 publish
 """
-# Tables that become the same input: the words beside the table, and its bytes.
-GOOD = {
+# Tables that become the same input: the words beside the table, and its text.
+GOOD: dict[str, tuple[list[str], str]] = {
     "plain": ([], HEAD + "AAA,40000,2\nBBB,25000,1\nCCC,8000,\n"),
     "commas between thousands": ([], HEAD + 'AAA,"40,000",2\nBBB,"25,000",1\nCCC,"8,000",\n'),
     "apostrophes and blanks": ([], HEAD + "AAA,40'000,2\nBBB,25 000,1\nCCC,8\u202f000,\n"),
@@ -200,8 +201,15 @@ READ: dict[str, tuple[list[str], bytes, str, list[str]]] = {
     ),
 }
 NAMED = "name,votes,chair\n"
-# Bad tables with words of the script, and the problems that are named.
+NO_WORDS: list[str] = []
+# Bad tables with words of the script, or of other bytes than UTF-8, and the problems that are named.
 BAD_WITH_WORDS: dict[str, tuple[list[str], bytes, list[str]]] = {
+    "letters of two bytes": ([], (HEAD + "AAA,1,1\n").encode("utf-16"), ["line 1: two bytes for each letter"]),
+    "a letter that isn't UTF-8": (
+        [],
+        HEAD.encode() + b"AAA,1,1\n\xc5ND,1,1\n",
+        ["line 3: a letter that isn't UTF-8"],
+    ),
     "merged cells": ([], MERGED.encode(), [f"line 4: {BLANK} 4, 6): fill the chair down by --fill-down, or say by "]),
     "merged cells, and most chairs with one member": (
         [],
@@ -377,7 +385,7 @@ READ_EXAMPLE = "190 members, 5,496,435 votes; 24 chairs; 1 member in no chair: X
 
 
 def merged_example() -> str:
-    """The example with merged cells: the member in no chair, then each chair's members, the chair in the first alone."""
+    """The example with merged cells: the member in no chair, then the others, each chair in its first row alone."""
     with open(EXAMPLE, newline="") as file:
         header, *rows = csv.reader(file)
     rows.sort(key=lambda row: int(row[3] or 0))
@@ -443,13 +451,10 @@ def check_figures(place: Place) -> None:
     expect_text(done.stderr.decode(), "board_figures: 3 readings of 2 readers, at 85, half; 2 chairs\n")
 
 
-# Runs a script as a Python without libraries does, where the system's Python has none either.
-LACKING = """
+# Runs a script where the system's Python can't take over.
+ALONE = """
 import runpy, sys
 sys.path.insert(0, "figures")
-sys.modules.update(dict.fromkeys(["pandas", "matplotlib", "numpy"]))
-import importlib.util
-importlib.util.find_spec = lambda name: None
 from board_python import interpreter
 interpreter.SYSTEM = interpreter.Path("/none")
 sys.argv = sys.argv[1:]
@@ -458,23 +463,30 @@ runpy.run_path(sys.argv[0], run_name="__main__")
 
 
 def check_help(place: Place) -> None:
-    """Each script has its help where neither this Python nor the system's has a library; other words name them."""
-    for script, words in [
-        ("board_input", None),
+    """Each script gives its help to a Python without libraries; those that need some name them for other words."""
+    made = place.run(place.python, "-m", "venv", "--without-pip", str(place.top / "bare"))
+    expect(made.returncode == 0, f"no environment without libraries: {made.stderr.decode()}")
+    alone = [str(place.top / "bare" / "bin" / "python"), "-c", ALONE]
+    scripts: list[tuple[str, list[str]]] = [
+        ("board_input", []),
         ("board_study", ["examples/members.csv", "out"]),
         ("board_figures", ["out"]),
         ("board_recount", ["examples/members.csv"]),
-    ]:
-        done = place.run(place.python, "-c", LACKING, f"figures/{script}", "--help")
-        expect_good(done)
-        expect(b"For example:" in done.stdout, f"{script}: no help: {done.stdout.decode()}")
+    ]
+    for script, words in scripts:
+        done = place.run(*alone, f"figures/{script}", "--help")
+        expect(done.returncode == 0 and b"For example:" in done.stdout, f"{script}: {done.stderr.decode()}")
         if words:
-            done = place.run(place.python, "-c", LACKING, f"figures/{script}", *words)
-            expect(done.returncode == 1 and b"has no " in done.stderr, f"{script}: {done.stderr.decode()}")
+            done = place.run(*alone, f"figures/{script}", *words)
+            named = b"bare/bin/python has no " in done.stderr
+            expect(done.returncode == 1 and named, f"{script}: {done.stderr.decode()}")
 
 
-# Words that are wrong beside a table.
-WRONG = [
+WRONG: list[list[str]] = [
+    [],
+    ["a.csv", "b.csv"],
+    ["a.csv", "--thousands", "ab"],
+    ["a.csv", "--thousands", "5"],
     ["a.csv", "--fill-down", "--blank-is-no-chair"],
     ["a.csv", "--leave-out-total", "--keep-total"],
     ["a.csv", "--header-row", "0"],
@@ -485,7 +497,7 @@ WRONG = [
 
 def check_words(place: Place) -> None:
     """Wrong words are status 2; the help is there; a file that isn't there is named."""
-    for wrong in [[], ["a.csv", "b.csv"], ["a.csv", "--thousands", "ab"], ["a.csv", "--thousands", "5"], *WRONG]:
+    for wrong in WRONG:
         expect(place.script("board_input", *wrong).returncode == 2, f"{wrong}: not status 2")
     expect(b"For example:" in place.script("board_input", "--help").stdout, "no help")
     done = place.script("board_input", "not-there.csv")
@@ -494,29 +506,17 @@ def check_words(place: Place) -> None:
 
 def cases(place: Place) -> list[Case]:
     """Each case by a name."""
-    found: list[Case] = []
-    for name, (words, table) in GOOD.items():
-        found.append((f"board_input: {name}", lambda it=(words, table): check_good(place, *it)))
-    for name, case in READ.items():
-        found.append((f"board_input reads: {name}", lambda it=case: check_read(place, *it)))
-    bad = {name: ([], table.encode(), problems) for name, (table, problems) in BAD.items()} | BAD_WITH_WORDS
-    bad["letters of two bytes"] = ([], (HEAD + "AAA,1,1\n").encode("utf-16"), ["line 1: two bytes for each letter"])
-    bad["a letter that isn't UTF-8"] = (
-        [],
-        HEAD.encode() + b"AAA,1,1\n\xc5ND,1,1\n",
-        ["line 3: a letter that isn't UTF-8"],
-    )
-    for name, row in bad.items():
-        found.append((f"board_input, bad table: {name}", lambda it=row: check_bad(place, *it)))
-    for name, check in [
-        ("board_input: names", check_names),
-        ("board_input: the script's words", check_words),
-        ("board_input: the example, with merged cells filled down", check_example),
-        ("board_input: many members in no chair", check_many),
-        ("board_input and board_study: merged cells and a total in the example", check_silent_faults),
-        ("board_study: the table's layout", check_study),
-        ("board_figures: what was read", check_figures),
-        ("scripts without libraries: the help", check_help),
-    ]:
-        found.append((name, lambda it=check: it(place)))
-    return found
+    bad = {name: (NO_WORDS, table.encode(), problems) for name, (table, problems) in BAD.items()} | BAD_WITH_WORDS
+    return [
+        *((f"board_input: {name}", partial(check_good, place, *case)) for name, case in GOOD.items()),
+        *((f"board_input reads: {name}", partial(check_read, place, *case)) for name, case in READ.items()),
+        *((f"board_input, bad table: {name}", partial(check_bad, place, *case)) for name, case in bad.items()),
+        ("board_input: names", partial(check_names, place)),
+        ("board_input: the script's words", partial(check_words, place)),
+        ("board_input: the example, and with merged cells filled down", partial(check_example, place)),
+        ("board_input: many members in no chair", partial(check_many, place)),
+        ("board_input and board_study: merged cells, and a total", partial(check_silent_faults, place)),
+        ("board_study: the table's layout", partial(check_study, place)),
+        ("board_figures: what was read", partial(check_figures, place)),
+        ("scripts without libraries: the help", partial(check_help, place)),
+    ]
