@@ -51,10 +51,9 @@ def seem_merged(rows: Sequence[Row]) -> bool:
 
 
 def filled_down(rows: Sequence[Row]) -> list[Row]:
-    """The rows, with the chair of the row above where theirs is blank, and its name where theirs is blank too."""
-    chair, chair_name, filled = "", "", []
+    """The rows, with the chair of the row above where theirs is blank. A chair's name stands for all of its rows."""
+    chair, filled = "", []
     for row in rows:
-        if row.chair:
-            chair, chair_name = row.chair, row.chair_name
-        filled.append(replace(row, chair=row.chair or chair, chair_name=row.chair_name or chair_name))
+        chair = row.chair or chair
+        filled.append(replace(row, chair=chair))
     return filled
