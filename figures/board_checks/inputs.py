@@ -5,6 +5,7 @@ import csv
 import io
 from functools import partial
 from pathlib import Path
+from string import ascii_uppercase
 
 from .place import TOP, Case, Place, expect, expect_good, expect_refused, expect_text
 
@@ -201,6 +202,27 @@ READ: dict[str, tuple[list[str], bytes, str, list[str]]] = {
     ),
 }
 NAMED = "name,votes,chair\n"
+# A name's two letters and any third one give 26 codes; then come those that are free, from AAA on.
+AL_CODES = [*(f"AL{letter}" for letter in ascii_uppercase), "AAA", "AAB"]
+READ["codes of 28 members of one name"] = (
+    [],
+    (NAMED + "Al,1,1\n" * 28).encode(),
+    " ".join([*(f"{code},1" for code in AL_CODES), *(f"move,{code},1" for code in AL_CODES)]),
+    [
+        "28 members, 28 votes; 1 chair; every member is in a chair",
+        f"The table has no codes: they were made from names: {'; '.join(f'{code} Al' for code in AL_CODES)}",
+    ],
+)
+MOST = [f"{chr(65 + k // 26)}{chr(65 + k % 26)}A" for k in range(256)]
+READ["256 members and a total"] = (
+    ["--leave-out-total"],
+    (HEAD + "".join(f"{code},1,1\n" for code in MOST) + "TOT,256,\n").encode(),
+    " ".join([*(f"{code},1" for code in MOST), *(f"move,{code},1" for code in MOST)]),
+    [
+        "256 members, 256 votes; 1 chair; every member is in a chair",
+        "Line 258 (TOT, 256 votes), which equals the sum of the others, was left out as a total",
+    ],
+)
 NO_WORDS: list[str] = []
 # Bad tables with words of the script, or of other bytes than UTF-8, and the problems that are named.
 BAD_WITH_WORDS: dict[str, tuple[list[str], bytes, list[str]]] = {
@@ -306,6 +328,11 @@ BAD_WITH_WORDS: dict[str, tuple[list[str], bytes, list[str]]] = {
         ["line 3: the chair 'the  hills' is written 'The Hills' above"],
     ),
     "neither code nor name": ([], NAMED.encode() + b"Alland,1,1\n,1,1\n", ["line 3: there is no name to make a code"]),
+    "more members of one name than there are codes": (
+        [],
+        (NAMED + "Al,1,1\n" * 18000).encode(),
+        ["line 258: a member too many: there are 18,000, and 256 at most"],
+    ),
     "codes in another column": (
         [],
         b"ISO,name,votes,chair\nAAA,Alland,1,1\nBBB,Belland,1,1\n",

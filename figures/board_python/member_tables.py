@@ -126,7 +126,7 @@ class TableReader:
         """The rows, as many as there may be members, and a problem where there are more."""
         if len(rows) > MOST_MEMBERS:
             line = rows[MOST_MEMBERS].line
-            many = f"there are {len(rows)}, and {MOST_MEMBERS} at most"
+            many = f"there are {len(rows):,}, and {MOST_MEMBERS} at most"
             self.refuse(line, f"line {line}: a member too many: {many}")
         return rows[:MOST_MEMBERS]
 
