@@ -287,7 +287,10 @@ BAD_WITH_WORDS: dict[str, tuple[list[str], bytes, list[str]]] = {
     "a title above the header": (
         [],
         b"Votes of 2026\n" + TOTAL.encode(),
-        ["line 1: no column is named 'code'; there are Votes of 2026. Say which by --code, or which row is the header"],
+        [
+            "line 1: no column is named 'code'; there are Votes of 2026. Say which by --code (or by --name, to have "
+            "codes made from names), or which row is the header by --header-row"
+        ],
     ),
     "a header in an empty row": (["--header-row", "2"], HEAD.encode() + b"\nAAA,1,1\n", ["--header-row 2: there is"]),
     "a header below the table": (["--header-row", "9"], HEAD.encode() + b"AAA,1,1\n", ["--header-row 9: there is"]),
@@ -336,7 +339,7 @@ BAD_WITH_WORDS: dict[str, tuple[list[str], bytes, list[str]]] = {
     "codes in another column": (
         [],
         b"ISO,name,votes,chair\nAAA,Alland,1,1\nBBB,Belland,1,1\n",
-        ["line 1: no column is named 'code', and 'ISO' looks like codes: say so by --code"],
+        ["line 1: no column is named 'code', and 'ISO' seems to have them: name it by --code"],
     ),
     "a byte that cp1252 hasn't": (
         ["--encoding", "cp1252"],

@@ -246,9 +246,7 @@ def how_read(sheet: Sheet, text: str, layout: Layout) -> list[str]:
     return [*skipped, *([encoding] if layout.encoding != "utf-8" else [])]
 
 
-def read_table(
-    data: bytes, columns: Columns, thousands: str | None = None, layout: Layout = Layout()
-) -> MemberTable:
+def read_table(data: bytes, columns: Columns, thousands: str | None = None, layout: Layout = Layout()) -> MemberTable:
     """The members of a table, saved with commas, semicolons or tabs.
 
     Thousands may be parted by apostrophes, blanks, and `thousands`: without it, by a comma, or by a point where cells

@@ -139,8 +139,9 @@ def places_of(sheet: Sheet, columns: Columns) -> dict[str, int]:
             places[wanted.name] = heads.index(name.casefold())
         elif wanted.name not in may_miss or name != wanted.default:
             option = "--" + wanted.name.replace("_", "-")
-            there = f"no column is named {name!r}; there are {', '.join(sheet.header)}"
-            raise BadInput(f"{there}. Say which by {option}, or which row is the header by --header-row", sheet.line)
+            made = " (or by --name, to have codes made from names)" if wanted.name == "code" else ""
+            there = f"no column is named {name!r}; there are {', '.join(sheet.header)}. Say which by {option}{made}"
+            raise BadInput(f"{there}, or which row is the header by --header-row", sheet.line)
     if "code" not in places:
         check_no_codes(sheet)
     return places
@@ -151,7 +152,7 @@ def check_no_codes(sheet: Sheet) -> None:
     for at, head in enumerate(sheet.header):
         cells = [cells[at] for _, cells in sheet.rows if at < len(cells) and re.fullmatch("[A-Z]{3}", cells[at])]
         if 2 * len(cells) > len(sheet.rows) and len(set(cells)) == len(cells):
-            raise BadInput(f"no column is named 'code', and {head!r} looks like codes: say so by --code", sheet.line)
+            raise BadInput(f"no column is named 'code', and {head!r} seems to have them: name it by --code", sheet.line)
 
 
 def row_of(sheet: Sheet, places: dict[str, int], line: int, cells: list[str]) -> Row:
