@@ -48,7 +48,7 @@ LINKED        := $(PROGRAMS) $(TESTS) $(BENCH)
 
 # What stands below a crate, and itself.
 whole     = $(sort $1 $(foreach it,$(filter $(CRATES),$(uses_$1)),$(call whole,$(it))))
-below     = $(patsubst %,$O/%.proved,$(filter $(CRATES),$(uses_$1)))
+below     = $(patsubst %,$O$2/%.proved,$(filter $(CRATES),$(uses_$1)))
 folder    = $(if $(filter $1,$(BENCH)),$O/bench/$1,crates/$1)
 sources   = $O/kit crates.txt $(shell find /dev/null $(wildcard $(addprefix crates/$1/,src specs proofs args stdin stdout)) -type f)
 # How far a goal is, among the crates that it needs.
@@ -132,12 +132,12 @@ $O/%.edits: $O/%.checked $$(wildcard crates/$$*/must-fail/*.edit) tools/edits.py
 	touch $@
 
 # Deep checks, for doubters: libraries with their proofs, and then each crate with all that it reads, nothing of it checked before.
-$O/deep/%.proved: $$(call sources,$$*) $$(patsubst $O/%,$O/deep/%,$$(call below,$$*))
+$O/deep/%.proved: $$(call sources,$$*) $$(call below,$$*,/deep)
 	@mkdir -p $O/deep
 	$(call rattle,$*,build,/deep)
 	proves -o $O/deep/$*.rlib
 	touch $@
-$O/deep/%.checked: $$(patsubst $O/%,$O/deep/%,$$(call below,$$*))
+$O/deep/%.checked: $$(call below,$$*,/deep)
 	@cd crates/$*
 	$(KIT)/bin/rattle check $(call over,$*,/deep) $(if $(filter $*,$(TESTS)),--test) --no-cache --jobs 1 2>&1 | tee $@ | tail -n 1
 deep: $(CRATES:%=$O/deep/%.checked)  ## each crate with all that it reads, nothing taken as checked before: hours
