@@ -4,7 +4,7 @@ from __future__ import annotations
 import base64
 import io
 import textwrap
-from collections.abc import Sequence
+from collections.abc import Callable, Sequence
 from dataclasses import dataclass
 
 import matplotlib
@@ -59,6 +59,17 @@ def short(name: str) -> str:
     return name if len(name) <= NAME_LETTERS else name[: NAME_LETTERS - 1].rstrip() + "…"
 
 
+@dataclass(frozen=True)
+class Picture:
+    """A drawing: a name for its files, its title, a text for readers who don't see it, its caption, and what draws it."""
+
+    name: str
+    title: str
+    text: str
+    caption: str
+    draw: Callable[[], Figure]
+
+
 @dataclass
 class Chart:
     """A figure with its axes, and how high its legend begins."""
@@ -67,8 +78,8 @@ class Chart:
     axes: Axes
     legend_top: float
 
-    def svg(self) -> str:
-        """The picture with its legend, for the address of an image in a page."""
+    def with_legend(self) -> Figure:
+        """The whole figure, with its legend."""
         handles, labels = self.axes.get_legend_handles_labels()
         sizes = {"fontsize": 9.5, "handlelength": 1.5, "handletextpad": 0.4, "columnspacing": 1.0, "labelspacing": 0.25}
         place = {"loc": "upper left", "bbox_to_anchor": (0, self.legend_top), "borderaxespad": 0}
@@ -77,9 +88,14 @@ class Chart:
         )
         for handle in legend.legendHandles:
             handle.set_linewidth(min(handle.get_linewidth(), 6) if isinstance(handle, Line2D) else 6)
-        picture = io.BytesIO()
-        self.figure.savefig(picture, format="svg", transparent=True, metadata={"Date": None, "Creator": None})
-        return base64.b64encode(picture.getvalue()).decode("ascii")
+        return self.figure
+
+
+def svg_address(figure: Figure) -> str:
+    """A figure as SVG, for the address of an image in a page."""
+    picture = io.BytesIO()
+    figure.savefig(picture, format="svg", transparent=True, metadata={"Date": None, "Creator": None})
+    return base64.b64encode(picture.getvalue()).decode("ascii")
 
 
 def new_chart(title: str, series: int, height: float, left: float, bottom: float) -> Chart:
@@ -111,7 +127,7 @@ def offsets(count: int, step: float) -> list[float]:
     return [step * (number - (count - 1) / 2) for number in range(count)]
 
 
-def dot_plot(title: str, names: Sequence[str], votes: Series, powers: Sequence[Series]) -> str:
+def dot_plot(title: str, names: Sequence[str], votes: Series, powers: Sequence[Series]) -> Figure:
     """Each chair's share of the votes as a bar, and its shares of power as dots on it."""
     row = 13 + 2.5 * len(powers)
     chart = new_chart(title, 1 + len(powers), 10 + row * len(names), names_width(names), 46)
@@ -123,10 +139,10 @@ def dot_plot(title: str, names: Sequence[str], votes: Series, powers: Sequence[S
     add_names(chart.axes, names)
     chart.axes.set_xlim(left=0)
     chart.axes.set_xlabel("per cent: the bar of the votes cast,\nthe dots of the swings of all chairs")
-    return chart.svg()
+    return chart.with_legend()
 
 
-def difference_bars(title: str, names: Sequence[str], series: Sequence[Series]) -> str:
+def difference_bars(title: str, names: Sequence[str], series: Sequence[Series]) -> Figure:
     """What a scenario adds to each chair's shares, in percentage points: a bar for the votes and for each majority."""
     row = 6 + 4 * len(series)
     chart = new_chart(title, len(series), 10 + row * len(names), names_width(names), 46)
@@ -141,10 +157,10 @@ def difference_bars(title: str, names: Sequence[str], series: Sequence[Series]) 
     chart.axes.set_xlabel(
         "percentage points added to the base: votes of the\nvotes cast, power of the swings of all chairs"
     )
-    return chart.svg()
+    return chart.with_legend()
 
 
-def sweep_lines(title: str, member: str, measure: str, percents: Sequence[float], series: Sequence[Series]) -> str:
+def sweep_lines(title: str, member: str, measure: str, percents: Sequence[float], series: Sequence[Series]) -> Figure:
     """How shares go as a member's votes go from one share of the total to another."""
     chart = new_chart(title, len(series), 230, 46, 34)
     often = max(1, len(percents) // 8)
@@ -153,4 +169,4 @@ def sweep_lines(title: str, member: str, measure: str, percents: Sequence[float]
         chart.axes.plot(percents, one.values, **look, markersize=4.5, markevery=often, linewidth=1.4, label=one.label)
     chart.axes.set_xlabel(f"votes of {member}, per cent of the total voting power")
     chart.axes.set_ylabel(measure, fontsize=9.5)
-    return chart.svg()
+    return chart.with_legend()

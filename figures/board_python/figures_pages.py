@@ -5,7 +5,7 @@ import html
 from collections.abc import Mapping
 
 from .chart_series import by_votes, power_shares, vote_shares
-from .charts import dot_plot
+from .charts import Picture, dot_plot
 from .pages import BOARD_HEADERS, MAJORITIES, POWER_HEADERS, board_cells, capital, figure_of, majorities_of
 from .pages import page_of, power_cells, table_of
 from .replay_output import Output, Ratio, Reading
@@ -52,17 +52,18 @@ def alternative(reading: Reading) -> str:
     )
 
 
-def chart_of(number: int, reading: Reading, names: Mapping[int, str]) -> str:
-    """A reading's chart with its caption."""
+def reading_picture(number: int, reading: Reading, names: Mapping[int, str]) -> Picture:
+    """A reading's chart: each chair's share of power on its share of the votes."""
     order = [chair.chair for chair in by_votes(reading)]
     labels = [f"{it} {names[it]}" if it in names else f"chair {it}" for it in order]
     stale = f", {reading.pending:,} pending" if reading.pending else ""
     title = f"{capital(MAJORITIES[reading.majority])}, after {commands(reading.front)}{stale}: quota {reading.quota:,}"
-    picture = dot_plot(title, labels, vote_shares(reading, order), [power_shares(reading, order)])
+    votes, powers = vote_shares(reading, order), [power_shares(reading, order)]
     absent = "" if reading.swings() else " No chair has a swing, so none has a share of power."
     caption = f"Reading {number}: share of power (dots) on the share of votes (bars).{absent}"
     caption += " Power: normalised Banzhaf index (Banzhaf 1965)."
-    return figure_of(picture, alternative(reading), caption)
+    draw = lambda: dot_plot(title, labels, votes, powers)  # noqa: E731
+    return Picture(f"reading-{number}", title, alternative(reading), caption, draw)
 
 
 def reading_section(number: int, reading: Reading, names: Mapping[int, str]) -> str:
@@ -72,7 +73,7 @@ def reading_section(number: int, reading: Reading, names: Mapping[int, str]) -> 
         return f"<section>\n{facts}<p>No chair is open, so there is neither a chart nor a table.</p>\n</section>\n"
     rows = [[it.chair, names.get(it.chair, ""), *power_cells(reading, it)] for it in reading.chairs]
     table = table_of(f"Reading {number}: the chairs", ["Chair", "Name", *POWER_HEADERS], rows, 2)
-    return f'<section>\n<div class="kept">\n{facts}{chart_of(number, reading, names)}</div>\n{table}</section>\n'
+    return f'<section>\n<div class="kept">\n{facts}{figure_of(reading_picture(number, reading, names))}</div>\n{table}</section>\n'
 
 
 def overview(output: Output) -> str:

@@ -5,6 +5,7 @@ import html
 from collections.abc import Iterable, Sequence
 from pathlib import Path
 
+from .charts import Picture, svg_address
 from .replay_output import Chair, Ratio, Reading
 from .rounding import PAGE_PLACES, PERCENT_PLACES, TABLE_PLACES, decimal, difference, percent, points
 
@@ -93,11 +94,11 @@ def table_of(caption: str, headers: Sequence[str], rows: Iterable[Sequence[objec
     )
 
 
-def figure_of(picture: str, text: str, caption: str) -> str:
+def figure_of(picture: Picture) -> str:
     """A chart, with a text in its place for readers who don't see it, and its caption."""
     return (
-        f'<figure><img src="data:image/svg+xml;base64,{picture}" alt="{html.escape(text)}">\n'
-        f"<figcaption>{html.escape(caption)}</figcaption></figure>\n"
+        f'<figure><img src="data:image/svg+xml;base64,{svg_address(picture.draw())}" alt="{html.escape(picture.text)}">\n'
+        f"<figcaption>{html.escape(picture.caption)}</figcaption></figure>\n"
     )
 
 
