@@ -21,7 +21,7 @@ SCENARIOS = [
     ("a new chair: open,4; move,EEE,4", "a new chair", ["open,4", "move,EEE,4"]),
     ("closed: move,DDD,none; close,3", "closed", ["move,DDD,none", "close,3"]),
     # Of 100 votes without EEE's 8 and DDD's 12, 25 per cent of the total are a third of the others' 40.
-    ("share: suspend,DDD; votes,AAA,25%", "share", ["suspend,DDD", "votes,AAA,16"]),
+    ("share: suspend,DDD; votes,AAA,25% of total", "share", ["suspend,DDD", "votes,AAA,16"]),
 ]
 # AAA from 20 to 40 per cent: p/(100-p) of the others' 60 votes: 15, 20, 25.714.., 32.307.., 40.
 SWEEP, STEPS = "AAA 20..40 by 5 %", {"20": 15, "25": 20, "30": 26, "35": 32, "40": 40}
@@ -152,7 +152,7 @@ BAD = [
         ["--scenario", "x: votes,ZZZ,+5%"],
         "scenario 'x': the command votes,ZZZ,+5%: no " "member has the code ZZZ",
     ),
-    ("all of the total", ["--scenario", "x: votes,AAA,100%"], "scenario 'x': the command votes,AAA,100%: no number"),
+    ("all of the total", ["--scenario", "x: votes,AAA,100% of total"], "scenario 'x': the command votes,AAA,100% of total: no number"),
     ("less than nothing", ["--scenario", "x: votes,AAA,-200%"], "scenario 'x': the command votes,AAA,-200%: -40 votes"),
     ("no sweep", ["--sweep", "AAA 10-20"], "--sweep 'AAA 10-20' isn't of the form"),
     ("steps that don't reach", ["--sweep", "AAA 10..20 by 3 %"], "--sweep 'AAA 10..20 by 3 %': whole steps lead"),

@@ -8,12 +8,16 @@ from .errors import BadInput
 
 
 def check_replaceable(path: Path, start: str) -> None:
-    """Sees that a file can be put there: that there is the folder, and no file that begins in another way."""
+    """Sees that a file can be put there: that there is the folder, and no file that begins in another way.
+
+    Comments at the beginning of a table, lines with a # first, are passed over.
+    """
     if not path.parent.is_dir():
         raise BadInput(f"there is no folder {path.parent}")
     if path.exists():
         with open(path, "rb") as there:
-            if there.read(len(start.encode())) != start.encode():
+            line = next((line for line in there if not line.startswith(b"# ")), b"")
+            if (line + there.read(len(start.encode())))[: len(start.encode())] != start.encode():
                 raise BadInput(f"{path} is there already and isn't a file of this script: choose another name")
 
 

@@ -4,10 +4,13 @@ from __future__ import annotations
 import html
 from collections.abc import Iterable, Sequence
 from pathlib import Path
+from typing import TYPE_CHECKING
 
-from .charts import Picture, svg_address
 from .replay_output import Chair, Ratio, Reading
 from .rounding import PAGE_PLACES, PERCENT_PLACES, TABLE_PLACES, decimal, difference, percent, points
+
+if TYPE_CHECKING:
+    from .charts import Picture
 
 HERE = Path(__file__).resolve().parent
 MAJORITIES = {
@@ -96,6 +99,8 @@ def table_of(caption: str, headers: Sequence[str], rows: Iterable[Sequence[objec
 
 def figure_of(picture: Picture) -> str:
     """A chart, with a text in its place for readers who don't see it, and its caption."""
+    from .charts import svg_address
+
     return (
         f'<figure><img src="data:image/svg+xml;base64,{svg_address(picture.draw())}" alt="{html.escape(picture.text)}">\n'
         f"<figcaption>{html.escape(picture.caption)}</figcaption></figure>\n"

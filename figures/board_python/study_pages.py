@@ -2,129 +2,97 @@
 from __future__ import annotations
 
 import html
-from collections.abc import Iterator
+from collections.abc import Sequence
+from typing import TYPE_CHECKING
 
-from .pages import BOARD_HEADERS, POWER_HEADERS, added_points, board_cells, figure_of, majorities_of
-from .pages import page_of, page_start, power_cells, table_of
-from .replay_output import Reading
-from .rounding import difference, percent, points
-from .scenarios import Sweep, plain
+from .measures import Measure
+from .pages import figure_of, majorities_of, page_of, page_start
+from .provenance import provenance_section
+from .scenarios import BASE, Sweep, plain
 from .studies import Result, Study
-from .study_charts import Drawn, axis_name, base_picture, scenario_picture, sweep_pictures
+from .study_answers import UNSEEN, answers, sweep_answers
+from .study_tables import tables_section
+
+if TYPE_CHECKING:
+    from .charts import Picture
 
 SCRIPT = "board_study"
 
 
-def commands_of(result: Result) -> str:
-    """A scenario's commands, as the program took them."""
-    commands = ", ".join(f"<code>{html.escape(command)}</code>" for command in result.commands)
-    return f"<p>On the base register: {commands}.</p>\n"
+def list_of(lines: Sequence[str]) -> str:
+    """Lines as a list."""
+    return "<ul>\n" + "".join(f"<li>{html.escape(line)}</li>\n" for line in lines) + "</ul>\n"
 
 
-def base_section(study: Study, drawn: Drawn) -> str:
+def pictures_in(pictures: Sequence[Picture], part: str) -> list[str]:
+    """The charts of a part of the page: those whose names are the part's or begin with it."""
+    return [figure_of(it) for it in pictures if it.name == part or it.name.startswith(f"{part}-")]
+
+
+def section_of(text: str, figures: Sequence[str]) -> str:
+    """A part of the page: its text in one box with its first chart, then the others."""
+    first = "".join(figures[:1])
+    return f'<section>\n<div class="kept">\n{text}{first}</div>\n{"".join(figures[1:])}</section>\n'
+
+
+def base_section(study: Study, pictures: Sequence[Picture]) -> str:
     """The base: each chair's power at each majority beside its share of the votes."""
-    picture = base_picture(study, drawn.measure)
-    if picture is None:
-        return "<section>\n<h2>The base</h2>\n<p>No chair is open.</p>\n</section>\n"
-    return f'<section class="kept">\n<h2>The base</h2>\n{figure_of(picture)}</section>\n'
+    is_empty = not study.base.readings[study.majorities[0]].chairs
+    text = "<h2>The base</h2>\n" + "<p>No chair is open.</p>\n" * is_empty
+    return section_of(text, pictures_in(pictures, "base"))
 
 
-def scenario_section(study: Study, number: int, result: Result, drawn: Drawn) -> str:
-    """A scenario: what it adds to each chair's shares and powers."""
-    heading = f'<h2 id="scenario-{number}">{html.escape(result.scenario.label)}</h2>\n{commands_of(result)}'
-    picture = scenario_picture(study, number, result, drawn.measure)
-    if picture is None:
-        return f"<section>\n{heading}<p>No chair of the base is open.</p>\n</section>\n"
-    return f'<section class="kept">\n{heading}{figure_of(picture)}</section>\n'
+def scenario_section(study: Study, number: int, result: Result, measure: Measure, pictures: Sequence[Picture]) -> str:
+    """A scenario: what it changes, who gains and who loses most, and what it adds to each chair's shares and powers."""
+    commands = ", ".join(f"<code>{html.escape(command)}</code>" for command in result.commands)
+    text = (
+        f'<h2 id="scenario-{number}">{html.escape(result.scenario.label)}</h2>\n'
+        f"{list_of(result.changes)}<p>The commands: {commands}.</p>\n"
+        f"{list_of(answers(study, result, measure))}"
+    )
+    return section_of(text, pictures_in(pictures, f"scenario-{number}"))
 
 
-def sweep_section(study: Study, sweep: Sweep, steps: list[Result], drawn: Drawn) -> str:
-    """A sweep: the chair of its member at all majorities, then the others at each."""
-    thresholds = drawn.thresholds.get(sweep.text, ())
-    own, *others = map(figure_of, sweep_pictures(study, sweep, steps, drawn.measure, thresholds))
-    first, last = steps[0].commands[0], steps[-1].commands[0]
-    ends = f"<p>{len(steps)} steps, from <code>{first}</code> to <code>{last}</code> on the base register.</p>\n"
-    heading = f"<h2>{html.escape(sweep.text)}</h2>\n"
-    return f'<section>\n<div class="kept">\n{heading}{ends}{own}</div>\n{"".join(others)}</section>\n'
+def swept_words(study: Study, sweep: Sweep) -> str:
+    """Whose votes a sweep changes, with names."""
+    swept, names = study.swept[sweep.text], {member.code: member.name for member in study.table.members}
+    if sweep.member.startswith("chair "):
+        count = len(swept.codes)
+        return f"chair {study.named(swept.seats[0])}, {'1 member' if count == 1 else f'{count} members'},"
+    return " and ".join(f"{code} {names.get(code, '')}".strip() for code in swept.codes)
 
 
-def side_by_side(study: Study, result: Result) -> str:
-    """A scenario's shares at all majorities side by side, and what is added to those of the base."""
-    first = study.majorities[0]
-    headers = ["Chair", "Name", "Votes", "Share of votes, %", "Added to it, points"]
-    for majority in study.majorities:
-        headers += [f"Share of power at {majority}, %", f"Added at {majority}, points"]
-    rows = []
-    for chair in result.readings[first].chairs:
-        before = study.base.chair(first, chair.chair)
-        votes = result.readings[first].share_of_votes(chair)
-        earlier = study.base.readings[first].share_of_votes(before) if before else None
-        row = [chair.chair, study.names[chair.chair], chair.weight, percent(votes), points(difference(votes, earlier))]
-        for majority in study.majorities:
-            here = result.chair(majority, chair.chair)
-            row += [percent(here.share), added_points(here, study.base.chair(majority, chair.chair))]
-        rows.append(row)
-    return table_of(f"{result.scenario.label}: all majorities side by side", headers, rows, 2)
+def sweep_text(study: Study, sweep: Sweep, steps: list[Result]) -> str:
+    """A sweep: what it changes, and the thresholds."""
+    swept, where = study.swept[sweep.text], "base" if sweep.start == BASE else f"scenario {sweep.start!r}"
+    ends = [plain(it.scenario.percent) for it in (steps[0], steps[-1]) if it.scenario.percent is not None]
+    keep = "; members keep their proportions" * (len(swept.codes) > 1)
+    said = (
+        f"The votes of {swept_words(study, sweep)} from {ends[0]} to {ends[1]} per cent of the total voting power in "
+        f"{len(steps)} steps{keep}. In the {where} they are {swept.start.votes_of(swept.codes):,}."
+    )
+    return (
+        f"<h2>{html.escape(sweep.text)}</h2>\n<p>{html.escape(said)}</p>\n"
+        f'{list_of(sweep_answers(study, sweep, steps))}<p class="note">{UNSEEN}</p>\n'
+    )
 
 
-def power_rows(study: Study, reading: Reading) -> Iterator[list[object]]:
-    """The rows of a reading's chairs, with what is added to the base."""
-    for chair in reading.chairs:
-        before = study.base.chair(reading.majority, chair.chair)
-        yield [chair.chair, study.names[chair.chair], added_points(chair, before), *power_cells(reading, chair)]
-
-
-def power_table(study: Study, result: Result, majority: str) -> str:
-    """All powers of a scenario at a majority."""
-    caption = f"{result.scenario.label} at {majority}: all powers"
-    headers = ["Chair", "Name", "Added to the share of power, points", *POWER_HEADERS]
-    return table_of(caption, headers, power_rows(study, result.readings[majority]), 2)
-
-
-def sweep_table(study: Study, sweep: Sweep, steps: list[Result], majority: str) -> str:
-    """The powers of the chair of a sweep's member at a majority, a row for each step."""
-    seat, rows = study.seat(sweep), []
-    before = study.base.chair(majority, seat)
-    for result in steps:
-        reading, chair = result.readings[majority], result.chair(majority, seat)
-        rows.append([plain(result.scenario.percent), added_points(chair, before), *power_cells(reading, chair)])
-    caption = f"{sweep.text} at {majority}: chair {axis_name(study, seat)}"
-    headers = [f"Votes of {sweep.member}, % of the total", "Added to the share of power, points", *POWER_HEADERS]
-    return table_of(caption, headers, rows, 0)
-
-
-def board_table(study: Study) -> str:
-    """What each reading says of the board as a whole."""
-    rows = [
-        [result.scenario.label, majority, *board_cells(reading)]
-        for result in study.results()
-        for majority, reading in result.readings.items()
-    ]
-    return table_of("The board in each scenario", ["Scenario", "Majority", *BOARD_HEADERS], rows, 2)
-
-
-def tables_section(study: Study) -> str:
-    """All tables: the board, then each scenario's, then each sweep's."""
-    parts = [board_table(study)]
-    for result in [study.base, *study.scenarios]:
-        parts.append(f"<h3>{html.escape(result.scenario.label)}</h3>\n{side_by_side(study, result)}")
-        parts += [power_table(study, result, majority) for majority in study.majorities]
-    for sweep, steps in study.sweeps:
-        parts.append(f"<h3>{html.escape(sweep.text)}</h3>\n")
-        parts += [sweep_table(study, sweep, steps, majority) for majority in study.majorities]
-    note = '<p class="note">A click on a heading sorts a table. Copied, its cells fall into the cells of a sheet.</p>\n'
-    return f'<section>\n<h2 id="tables">Tables</h2>\n{note}{"".join(parts)}</section>\n'
-
-
-def study_page(study: Study, title: str, beside: str, drawn: Drawn = Drawn()) -> str:
-    """The whole page of a study."""
+def study_page(
+    study: Study, title: str, beside: str, measure: Measure, lines: Sequence[str], pictures: Sequence[Picture]
+) -> str:
+    """The whole page of a study, with the lines of its provenance, and with charts where there are any."""
     count = len(study.results()) * len(study.majorities)
     about = (
         f"<p>The register of {len(study.table.members)} members and what changes it, at the majorities "
         f"{', '.join(study.majorities)}: {count} readings of <code>board</code>, counted over all coalitions of open "
         f"chairs. All rows, also those of each step of a sweep, are in <code>{html.escape(beside)}</code>.</p>\n"
     )
-    scenarios = "".join(scenario_section(study, number, it, drawn) for number, it in enumerate(study.scenarios, 1))
-    sweeps = "".join(sweep_section(study, sweep, steps, drawn) for sweep, steps in study.sweeps)
-    charts = base_section(study, drawn) + scenarios + sweeps
-    return page_of(SCRIPT, title, about + charts + tables_section(study) + majorities_of(study.majorities))
+    scenarios = [
+        scenario_section(study, number, it, measure, pictures) for number, it in enumerate(study.scenarios, 1)
+    ]
+    sweeps = [
+        section_of(sweep_text(study, sweep, steps), pictures_in(pictures, f"sweep-{number}"))
+        for number, (sweep, steps) in enumerate(study.sweeps, 1)
+    ]
+    parts = [about, base_section(study, pictures), *scenarios, *sweeps, tables_section(study, measure)]
+    return page_of(SCRIPT, title, "".join([*parts, provenance_section(lines), majorities_of(study.majorities)]))

@@ -1,7 +1,9 @@
 """Tidy tables: a row for each reading and chair, with exact numerators and denominators beside decimals."""
 from __future__ import annotations
 
-from collections.abc import Mapping
+import csv
+import io
+from collections.abc import Mapping, Sequence
 
 import pandas
 
@@ -107,3 +109,18 @@ def study_table(study: Study) -> pandas.DataFrame:
         for chair in reading.chairs
     ]
     return table_of(rows, STUDY_COLUMNS)
+
+
+def rows_in_quotes(text: str) -> str:
+    """A table with each row that has a # in quotes, so that a reader who skips comments doesn't cut it there."""
+    written = io.StringIO()
+    for cells in csv.reader(io.StringIO(text, newline="")):
+        quoting = csv.QUOTE_ALL if any("#" in cell for cell in cells) else csv.QUOTE_MINIMAL
+        csv.writer(written, quoting=quoting, lineterminator="\n").writerow(cells)
+    return written.getvalue()
+
+
+def csv_text(lines: Sequence[str], table: pandas.DataFrame) -> str:
+    """A table as a file: first the lines that say where it comes from, each a comment, then header and rows."""
+    text = table.to_csv(index=False)
+    return "".join(f"# {line}\n" for line in lines) + (rows_in_quotes(text) if "#" in text else text)
