@@ -117,6 +117,7 @@ def check_good(place: Place) -> None:
     expect([row[0] for row in side[1:]] == ["1", "2", "3"] and side[1][5:7] == ["33.333", "0.000"], f"{side[:2]}")
 
 
+SPELL = "say 40% of total for a share of the total voting power, or +40% for a change of the member's own votes"
 # What goes wrong, the words, and how the message begins.
 BAD = [
     (
@@ -155,6 +156,25 @@ BAD = [
     ("all of the total", ["--scenario", "x: votes,AAA,100% of total"], "scenario 'x': the command votes,AAA,100% of total: no number"),
     ("less than nothing", ["--scenario", "x: votes,AAA,-200%"], "scenario 'x': the command votes,AAA,-200%: -40 votes"),
     ("no sweep", ["--sweep", "AAA 10-20"], "--sweep 'AAA 10-20' isn't of the form"),
+    ("per cent of what", ["--scenario", "x: votes,AAA,40%"], f"--scenario 'x: votes,AAA,40%': 'votes,AAA,40%': {SPELL}"),
+    ("a change of the total", ["--scenario", "x: votes,AAA,+40% of total"], "--scenario 'x: votes,AAA,+40% of total': "),
+    ("members twice", ["--sweep", "AAA+AAA 1..2 by 1 %"], "--sweep 'AAA+AAA 1..2 by 1 %': AAA+AAA names a member twice"),
+    ("a member of two in no chair", ["--sweep", "AAA+EEE 1..2 by 1 %"], "--sweep 'AAA+EEE 1..2 by 1 %': EEE sits in no"),
+    ("a chair that isn't open", ["--sweep", "chair 9 1..2 by 1 %"], "--sweep 'chair 9 1..2 by 1 %': chair 9 has no mem"),
+    ("no such start", ["--sweep", "from x: AAA 1..2 by 1 %"], "--sweep 'from x: AAA 1..2 by 1 %': no scenario has the l"),
+    (
+        "everything at once",
+        ["--scenario", "one: move,AAA,9", "--scenario", "good: suspend,AAA", "--scenario", "two: close,1"],
+        "scenario 'one': the command move,AAA,9 was refused: ChairNotOpen, the chair is not open (docs/FORMATS.md)\n"
+        "board_study: scenario 'two': the command close,1 was refused: ChairHasMembers, the chair has members",
+    ),
+    (
+        "each word that is wrong",
+        ["--scenario", "x: votes,ZZZ,+5%", "--scenario", "y: votes,YYY,+5%", "--sweep", "XXX 1..2 by 1 %"],
+        "scenario 'x': the command votes,ZZZ,+5%: no member has the code ZZZ\n"
+        "board_study: scenario 'y': the command votes,YYY,+5%: no member has the code YYY\n"
+        "board_study: --sweep 'XXX 1..2 by 1 %': no member has the code XXX",
+    ),
     ("steps that don't reach", ["--sweep", "AAA 10..20 by 3 %"], "--sweep 'AAA 10..20 by 3 %': whole steps lead"),
     ("a sweep to 100", ["--sweep", "AAA 10..100 by 10 %"], "--sweep 'AAA 10..100 by 10 %': whole steps lead"),
     ("too many steps", ["--sweep", "AAA 0..99 by 0.01 %"], "--sweep 'AAA 0..99 by 0.01 %' has 9901 steps"),
@@ -183,15 +203,16 @@ def check_bad_table(place: Place) -> None:
 
 
 def check_progress(place: Place) -> None:
-    """Where the program is slow, standard error says how far a sweep is."""
+    """Where the program is slow, standard error says how many readings there are."""
     slow = Path(place.top, "slow")
-    slow.write_text(f'#!/bin/sh\nsleep 0.6\nexec "{place.program}" "$@"\n')
+    lines = "while read -r line; do case $line in reading*) sleep 0.6 ;; esac; echo \"$line\"; done"
+    slow.write_text(f'#!/bin/sh\n"{place.program}" "$@" | {lines}\n')
     slow.chmod(0o755)
     with place.folder() as folder:
-        done = study(place, folder, "--at", "half", "--sweep", "AAA 10..20 by 1 %", "--board", "./slow")
+        done = study(place, folder, "--at", "half", "--no-charts", "--sweep", "AAA 10..20 by 1 %", "--board", "./slow")
         expect_good(done)
         said = done.stderr.decode()
-        expect(" of 12 scenarios are run, " in said, f"standard error: {said!r}")
+        expect(" of 12 readings, " in said, f"standard error: {said!r}")
 
 
 def check_words(place: Place) -> None:

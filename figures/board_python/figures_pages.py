@@ -2,12 +2,13 @@
 from __future__ import annotations
 
 import html
-from collections.abc import Mapping
+from collections.abc import Mapping, Sequence
 
 from .chart_series import by_votes, power_shares, vote_shares
 from .charts import Picture, dot_plot
 from .pages import BOARD_HEADERS, MAJORITIES, POWER_HEADERS, board_cells, capital, figure_of, majorities_of
 from .pages import page_of, power_cells, table_of
+from .provenance import provenance_section
 from .replay_output import Output, Ratio, Reading
 from .rounding import decimal, percent
 
@@ -98,8 +99,8 @@ def warnings_of(output: Output) -> str:
     return said
 
 
-def figures_page(output: Output, names: Mapping[int, str], title: str, beside: str) -> str:
-    """The whole page of an output."""
+def figures_page(output: Output, names: Mapping[int, str], title: str, beside: str, lines: Sequence[str]) -> str:
+    """The whole page of an output, with the lines of its provenance."""
     about = (
         "<p>Each reading of an output of <code>board replay</code>: the votes of the chairs beside their voting power, "
         "counted over all coalitions of open chairs. The same numbers, a row for each reading and chair, are in "
@@ -107,4 +108,5 @@ def figures_page(output: Output, names: Mapping[int, str], title: str, beside: s
     )
     sections = "".join(reading_section(number, it, names) for number, it in enumerate(output.readings, 1))
     majorities = majorities_of({reading.majority for reading in output.readings})
-    return page_of(SCRIPT, title, about + warnings_of(output) + overview(output) + sections + majorities)
+    parts = [about, warnings_of(output), overview(output), sections, provenance_section(lines), majorities]
+    return page_of(SCRIPT, title, "".join(parts))

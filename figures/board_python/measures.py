@@ -74,3 +74,8 @@ MEASURES = {
         ),
     ]
 }
+
+
+def with_share(measure: Measure) -> list[Measure]:
+    """The share of power, and the measure where it is another one."""
+    return [MEASURES[word] for word in dict.fromkeys(["share", measure.word])]

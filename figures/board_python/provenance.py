@@ -72,4 +72,4 @@ def output_lines(data: bytes, more: Sequence[str]) -> list[str]:
 def provenance_section(lines: Sequence[str]) -> str:
     """The part of a page that says where its figures come from."""
     items = "".join(f"<li>{html.escape(line)}</li>\n" for line in lines)
-    return f'<section>\n<h2 id="provenance">Where the numbers come from</h2>\n<ul>\n{items}</ul>\n</section>\n'
+    return f'<h2 id="provenance">Where the numbers come from</h2>\n<ul>\n{items}</ul>\n'

@@ -3,8 +3,11 @@ from __future__ import annotations
 
 from collections.abc import Mapping, Sequence
 from dataclasses import dataclass, field
+from fractions import Fraction
+from functools import cached_property
 
 from .errors import BadInput
+from .measures import Measure
 from .member_tables import CHAIRS, MemberTable, input_lines
 from .plans import Plan, Swept, changes_of, plan_of
 from .programs import Program
@@ -12,6 +15,9 @@ from .replay_output import Chair, Reading
 from .runs import Progress, Run, Script, Stage, read_stages, run_script
 from .scenarios import BASE, Scenario, Sweep
 from .thresholds import Gap, Point, Points, Readings, Threshold, both_sides, gaps_of, narrowed
+
+# What is added to a chair's measure, by the chairs' numbers.
+Gains = dict[int, "Fraction | None"]
 
 
 @dataclass
@@ -22,10 +28,16 @@ class Result:
     commands: Sequence[str]
     readings: dict[str, Reading]
     changes: list[str] = field(default_factory=list)
+    gains: dict[tuple[str, str], Gains] = field(default_factory=dict)
+
+    @cached_property
+    def by_number(self) -> dict[str, dict[int, Chair]]:
+        """The chairs at each majority, by their numbers."""
+        return {at: {chair.chair: chair for chair in reading.chairs} for at, reading in self.readings.items()}
 
     def chair(self, majority: str, number: int) -> Chair | None:
         """A chair at a majority, or None where it isn't open."""
-        return next((chair for chair in self.readings[majority].chairs if chair.chair == number), None)
+        return self.by_number[majority].get(number)
 
 
 @dataclass
@@ -52,6 +64,15 @@ class Study:
     def seat(self, sweep: Sweep) -> int:
         """The chair of a sweep's member; of several members the first one's."""
         return self.swept[sweep.text].seats[0]
+
+    def gains(self, result: Result, measure: Measure, majority: str) -> Gains:
+        """What is added to each chair's measure at a majority, exactly; None where it can't be compared."""
+        key = measure.word, majority
+        if key not in result.gains:
+            before = self.base.by_number[majority]
+            chairs = result.readings[majority].chairs
+            result.gains[key] = {it.chair: measure.gain(it, before.get(it.chair)) for it in chairs}
+        return result.gains[key]
 
     def named(self, number: int) -> str:
         """A chair by its number and its name."""

@@ -5,7 +5,7 @@ from collections.abc import Mapping, Sequence
 from fractions import Fraction
 from itertools import groupby
 
-from .measures import MEASURES, Measure
+from .measures import Measure, with_share
 from .replay_output import Chair, Reading
 from .rounding import PERCENT_PLACES, rounded
 from .scenarios import Sweep
@@ -42,13 +42,6 @@ def most_words(study: Study, measure: Measure, gains: Mapping[int, Fraction], ve
     return f"{chairs_words(study, chairs)} {verb}{ending} most, {measure.gain_words(sign * most)}{each}"
 
 
-def gains_of(measure: Measure, before: Reading, after: Reading) -> dict[int, Fraction]:
-    """What is added to each chair's measure, where it can be compared."""
-    earlier = {chair.chair: chair for chair in before.chairs}
-    gains = {chair.chair: measure.gain(chair, earlier.get(chair.chair)) for chair in after.chairs}
-    return {chair: gain for chair, gain in gains.items() if gain is not None}
-
-
 def absent(one: Reading, other: Reading) -> list[Chair]:
     """The chairs of a reading that another one hasn't."""
     there = {chair.chair for chair in other.chairs}
@@ -74,7 +67,7 @@ def answer(study: Study, result: Result, majority: str, measure: Measure) -> str
         return f"{AT[majority]} no coalition wins."
     if not before.winning:
         return f"{AT[majority]} no coalition wins in the base, so nothing can be compared."
-    gains = gains_of(measure, before, after)
+    gains = {chair: gain for chair, gain in study.gains(result, measure, majority).items() if gain is not None}
     gain, loss = (most_words(study, measure, gains, verb) for verb in ["gain", "lose"])
     both = f"{gain}; {loss}" if any(gains.values()) else "no chair gains, and no chair loses"
     return f"{AT[majority]}, in {measure.name}: {both}.{opened_words(study, measure, before, after)}"
@@ -82,8 +75,8 @@ def answer(study: Study, result: Result, majority: str, measure: Measure) -> str
 
 def answers(study: Study, result: Result, measure: Measure) -> list[str]:
     """Who gains most and who loses most by a scenario: at each majority, in share of power and in the measure."""
-    measures = dict.fromkeys([MEASURES["share"], measure])
-    return [*dict.fromkeys(answer(study, result, at, it) for at in study.majorities for it in measures)]
+    said = [answer(study, result, at, it) for at in study.majorities for it in with_share(measure)]
+    return [*dict.fromkeys(said)]
 
 
 def kind_words(study: Study, chairs: Sequence[int], words: str) -> str:

@@ -3,25 +3,20 @@ from __future__ import annotations
 
 import html
 from collections.abc import Iterator
-from fractions import Fraction
 
-from .measures import MEASURES, Measure
+from .measures import Measure, with_share
 from .pages import BOARD_HEADERS, POWER_HEADERS, board_cells, power_cells, table_of
-from .replay_output import Chair, Reading
+from .replay_output import Chair
 from .rounding import difference, percent, points
 from .scenarios import Sweep, plain
 from .studies import Result, Study
 
 
-def gain_at(study: Study, measure: Measure, majority: str, chair: Chair) -> Fraction | None:
-    """What is added to a chair's measure at a majority, exactly; None where the base hasn't the chair."""
-    return measure.gain(chair, study.base.chair(majority, chair.chair))
-
-
-def by_gain(study: Study, measure: Measure, reading: Reading) -> list[Chair]:
-    """The chairs of a reading, the one that gains most first; those that can't be compared come last."""
-    gains = {chair.chair: gain_at(study, measure, reading.majority, chair) for chair in reading.chairs}
-    return sorted(reading.chairs, key=lambda it: (gains[it.chair] is None, -(gains[it.chair] or 0), it.chair))
+def by_gain(study: Study, result: Result, measure: Measure, majority: str) -> list[Chair]:
+    """The chairs at a majority, the one that gains most first; those that can't be compared come last."""
+    gains, chairs = study.gains(result, measure, majority), result.by_number[majority]
+    order = sorted(gains, key=lambda it: (gains[it] is None, -(gains[it] or 0), it)) if any(gains.values()) else gains
+    return [chairs[number] for number in order]
 
 
 def share_cells(study: Study, result: Result, chair: Chair) -> list[object]:
@@ -38,25 +33,24 @@ def side_by_side(study: Study, result: Result, measure: Measure) -> str:
     for majority in study.majorities:
         name = measure.name[0].upper() + measure.name[1:]
         headers += [f"{name} at {majority}{measure.unit()}", f"Added at {majority}{measure.gain_unit()}"]
-    for chair in by_gain(study, measure, result.readings[study.majorities[0]]):
+    for chair in by_gain(study, result, measure, study.majorities[0]):
         row = [chair.chair, study.names[chair.chair], *share_cells(study, result, chair)]
         for majority in study.majorities:
-            here = result.chair(majority, chair.chair)
-            if here:
-                row += [measure.cell(measure.of(here)), measure.gain_cell(gain_at(study, measure, majority, here))]
+            here = result.by_number[majority][chair.chair]
+            gain = study.gains(result, measure, majority)[chair.chair]
+            row += [measure.cell(measure.of(here)), measure.gain_cell(gain)]
         rows.append(row)
     return table_of(f"{result.scenario.label}: all majorities side by side", headers, rows, 2)
 
 
 def added_headers(measure: Measure) -> list[str]:
     """The headings of what is added: to the share of power, and to the measure where that is another one."""
-    return [f"Added to the {it.name}{it.gain_unit()}" for it in dict.fromkeys([MEASURES["share"], measure])]
+    return [f"Added to the {it.name}{it.gain_unit()}" for it in with_share(measure)]
 
 
-def added_cells(study: Study, measure: Measure, majority: str, chair: Chair) -> list[object]:
+def added_cells(study: Study, result: Result, measure: Measure, majority: str, chair: Chair) -> list[object]:
     """The cells below these headings."""
-    measures = dict.fromkeys([MEASURES["share"], measure])
-    return [it.gain_cell(gain_at(study, it, majority, chair)) for it in measures]
+    return [it.gain_cell(study.gains(result, it, majority)[chair.chair]) for it in with_share(measure)]
 
 
 def power_table(study: Study, result: Result, majority: str, measure: Measure) -> str:
@@ -66,10 +60,10 @@ def power_table(study: Study, result: Result, majority: str, measure: Measure) -
         [
             chair.chair,
             study.names[chair.chair],
-            *added_cells(study, measure, majority, chair),
+            *added_cells(study, result, measure, majority, chair),
             *power_cells(reading, chair),
         ]
-        for chair in by_gain(study, measure, reading)
+        for chair in by_gain(study, result, measure, majority)
     ]
     caption = f"{result.scenario.label} at {majority}: all powers"
     return table_of(caption, ["Chair", "Name", *added_headers(measure), *POWER_HEADERS], rows, 2)
@@ -80,7 +74,7 @@ def sweep_rows(study: Study, steps: list[Result], majority: str, seat: int, meas
     for result in steps:
         reading, chair = result.readings[majority], result.chair(majority, seat)
         if chair and result.scenario.percent is not None:
-            added = added_cells(study, measure, majority, chair)
+            added = added_cells(study, result, measure, majority, chair)
             yield [plain(result.scenario.percent), *added, *power_cells(reading, chair)]
 
 

@@ -8,7 +8,7 @@ from collections.abc import Mapping, Sequence
 import pandas
 
 from .replay_output import Chair, Output, Ratio, Reading
-from .rounding import TABLE_PLACES, difference, exact, rounded
+from .rounding import TABLE_PLACES, difference, rounded
 from .studies import Result, Study
 
 # The fractions of a chair by the names of their columns, and what they are called in a reading.
@@ -27,7 +27,7 @@ def fraction_cells(name: str, ratio: Ratio | None) -> dict[str, object]:
     """A fraction's three cells; all are missing where the program printed `-`."""
     if ratio is None:
         return {f"{name}_numerator": pandas.NA, f"{name}_denominator": pandas.NA, name: pandas.NA}
-    decimal = rounded(exact(ratio), TABLE_PLACES)
+    decimal = rounded(ratio, TABLE_PLACES)
     return {f"{name}_numerator": ratio.numerator, f"{name}_denominator": ratio.denominator, name: decimal}
 
 

@@ -1,0 +1,382 @@
+"""figures/board_study: what it answers, where its numbers come from, and how often it runs the program."""
+from __future__ import annotations
+
+import hashlib
+import html
+import re
+import resource
+import time
+from collections.abc import Sequence
+from fractions import Fraction
+from pathlib import Path
+
+from .place import Case, Place, expect, expect_good, expect_refused, expect_text, rows_of
+from .studies import AT, BASE, TABLE, study
+
+# 10 million additions take half a second on the machine for which the time of a study is set.
+CALIBRATION, SECONDS = 0.5, 3.0
+LIMITS = {"half": (1, 2, "At a simple majority"), "70": (7, 10, "At 70 per cent"), "85": (17, 20, "At 85 per cent")}
+
+
+def items_of(page: Path) -> list[str]:
+    """The items of a page's lists."""
+    return [html.unescape(it) for it in re.findall("<li>(.*?)</li>", page.read_text())]
+
+
+def answered(place: Place, *words: str, table: str = TABLE) -> list[str]:
+    """The items of the page of a study without charts."""
+    with place.folder() as folder:
+        expect_good(study(place, folder, "--no-charts", *words, table=table))
+        return items_of(Path(folder, "it.html"))
+
+
+def expect_items(found: Sequence[str], wanted: Sequence[str]) -> None:
+    """Fails where one of the sentences isn't on the page."""
+    for sentence in wanted:
+        expect(sentence in found, f"not on the page: {sentence!r}, but {found}")
+
+
+# Chairs with 40, 40 and 12 of 100 votes: any two win at half and at quorum, 1 and 2 at 70, all three at 85. With 52
+# votes of AAA, of 112, chair 1 wins at half and at quorum with any other one, and nobody without it: 3/5, 1/5 and 1/5
+# of the swings, and all, a third and a third of the coalitions that win, each half of them in the base.
+GAINS = "chair 1 Alland gains most, +26.667 percentage points; chairs 2 Hills & Dales and 3 Plains lose most, "
+GAINS += "-13.333 percentage points each."
+PREVENTS = "At a simple majority, in power to prevent action: chair 1 Alland gains most, +0.500000; "
+PREVENTS += "chairs 2 Hills & Dales and 3 Plains lose most, -0.166667 each."
+
+
+def check_gains(place: Place) -> None:
+    """Who gains and who loses most, ties among them, in share of power and in another measure."""
+    found = answered(place, "--scenario", "AAA +30%: votes,AAA,+30%", "--measure", "prevent")
+    nobody = "no chair gains, and no chair loses."
+    expect_items(found, [f"At a simple majority, in share of power: {GAINS}", PREVENTS])
+    expect_items(found, [f"At 70 per cent, in share of power: {nobody}", f"For the quorum, in share of power: {GAINS}"])
+    expect_items(found, ["AAA Alland: 40 → 52 votes (+30%)"])
+    expect("in power to" not in " ".join(answered(place, "--scenario", "x: votes,AAA,52")), "a measure not asked for")
+
+
+def check_opened(place: Place) -> None:
+    """A new chair, a closed one, and a majority at which no coalition wins any more."""
+    words = ["--scenario", "new: open,4; move,EEE,4", "--scenario", "closed: move,DDD,none; close,3"]
+    found = answered(place, *words)
+    # 8 votes turn no coalition of 40, 40 and 12 into one that wins, more than 50. Without chair 3 all need both others.
+    new = "no chair gains, and no chair loses. Chair 4 is new: 0.000 per cent."
+    both = "chairs 1 Alland and 2 Hills & Dales gain most, +16.667 percentage points each; no chair loses."
+    closed = "Chair 3 Plains is closed; in the base it had 33.333 per cent."
+    expect_items(found, [f"At a simple majority, in share of power: {new}", "At 85 per cent no coalition wins."])
+    expect_items(found, [f"At a simple majority, in share of power: {both} {closed}"])
+    expect_items(found, ["EEE Elland: no chair → chair 4", "DDD Delland: chair 3 → no chair", "chair 3 is closed"])
+    found = answered(place, "--scenario", "less: votes,AAA,8", "--at", "85", table="code,votes,chair\nAAA,8,1\nBBB,92,\n")
+    expect_items(found, ["At 85 per cent no coalition wins."])
+    found = answered(place, "--scenario", "less: votes,BBB,1", "--at", "85", table="code,votes,chair\nAAA,8,1\nBBB,92,\n")
+    expect_items(found, ["At 85 per cent no coalition wins in the base, so nothing can be compared."])
+
+
+def check_small_gain(place: Place) -> None:
+    """A gain that is rounded to nothing isn't said to be nothing, and the greatest gain is on top of each table."""
+    table = "code,votes,chair\n" + "".join(f"X{letter}A,1,{number}\n" for number, letter in enumerate("ABCDEFGHIJKLMNOP", 1))
+    with place.folder() as folder:
+        expect_good(study(place, folder, "--no-charts", "--at", "half", "--scenario", "x: votes,XDA,2", table=table))
+        page = Path(folder, "it.html")
+        words = [it for it in items_of(page) if "in share of power" in it]
+        rows = re.findall(r'<tr><th scope="row" class="text">([0-9]+)</th>', page.read_text().split("x: all majorities")[-1])
+    expect(len(words) == 1 and "chair 4 XDA gains most" in words[0], f"sentences: {words}")
+    expect(rows[:3] == ["4", "1", "2"], f"the order of the rows: {rows}")
+
+
+def flags(place: Place, least: int, most: int) -> dict[str, dict[int, dict[tuple[int, str], bool]]]:
+    """What holds of each chair at each number of votes of AAA, by the program's lines: read by majority and votes."""
+    votes = range(least, most + 1)
+    records = [f"votes,AAA,{number}\npublish\n" + "".join(f"read,1,{at}\n" for at in AT) for number in votes]
+    found: dict[str, dict[int, dict[tuple[int, str], bool]]] = {at: {} for at in AT}
+    number, order = least, iter([(at, number) for number in votes for at in AT])
+    for line in place.board((BASE + "".join(records)).encode()).decode().splitlines():
+        word, *fields = line.split(",")
+        if word == "reading":
+            majority, number = next(order)
+            found[majority][number] = {}
+        elif word == "chair":
+            here, chair = found[majority][number], int(fields[0])
+            here[chair, "power"] = fields[2] != "0"
+            if chair == 1:
+                swings, winning = fields[5].split("/") if "/" in fields[5] else ("0", "1")
+                here[chair, "prevents"] = swings == winning
+    return found
+
+
+def wanted_thresholds(place: Place, steps: list[int]) -> set[tuple[str, int, int, str, bool]]:
+    """Where something changes between two steps, found by looking at each number of votes."""
+    wanted = set()
+    for majority, at in flags(place, steps[0], steps[-1]).items():
+        for low, high in zip(steps, steps[1:]):
+            for key in at[low]:
+                changes = [it for it in range(low + 1, high + 1) if at[it][key] != at[it - 1][key]]
+                expect(len(changes) < 2, f"{key} changes more than once from {low} to {high} at {majority}")
+                wanted |= {(majority, it, *key, at[it][key]) for it in changes}
+    return wanted
+
+
+SENTENCE = re.compile("(.*), from ([0-9,]+) votes of AAA on, ([0-9.]+) per cent of the total voting power: (.*)[.] With (.*) that")
+KINDS = {
+    "can prevent every decision alone": ("prevents", True),
+    "can no longer prevent every decision alone": ("prevents", False),
+    "(?:has|have) no power": ("power", False),
+    "(?:has|have) power": ("power", True),
+}
+
+
+def said_thresholds(items: list[str]) -> set[tuple[str, int, int, str, bool]]:
+    """The thresholds that a page says."""
+    ats = {"At a simple majority": "half", "At 70 per cent": "70", "At 85 per cent": "85", "For the quorum": "quorum"}
+    found = set()
+    for text in items:
+        if not (sentence := SENTENCE.match(text)):
+            continue
+        votes = int(sentence[2].replace(",", ""))
+        exact = Fraction(100 * votes, votes + 60)
+        expect(abs(Fraction(sentence[3]) - exact) <= Fraction(1, 2000), f"{text}: {float(exact)} per cent")
+        expect(sentence[5] == f"{votes - 1:,}", text)
+        for part in sentence[4].split("; "):
+            [(pattern, kind)] = [it for it in KINDS.items() if re.search(f" {it[0]}$", part)]
+            chairs = re.sub(f" {pattern}$", "", part)
+            found |= {(ats[sentence[1]], votes, int(it), *kind) for it in re.findall("(?:chairs?|,|and) ([1-3]) ", chairs + " ")}
+    return found
+
+
+def check_thresholds(place: Place) -> None:
+    """Thresholds are those that a look at each number of votes finds, at all majorities."""
+    percents = [1, *range(6, 72, 5)]
+    steps = [round(Fraction(percent, 100 - percent) * 60) for percent in percents]
+    items = answered(place, "--sweep", "AAA 1..71 by 5 %")
+    wanted = wanted_thresholds(place, steps)
+    expect(said_thresholds(items) == wanted, f"{sorted(said_thresholds(items))} where there are {sorted(wanted)}")
+    # By hand: without chair 1 there are 52 of 60 + v votes. At half they win where v < 52; chair 1 alone where v > 52.
+    expect(("half", 52, 1, "prevents", True) in wanted and ("half", 53, 2, "power", False) in wanted, f"{wanted}")
+    # At 70 they win where 520 >= 7 * (60 + v), so up to 14; at 85 where 1040 >= 17 * (60 + v), so up to 1.
+    expect(("70", 15, 1, "prevents", True) in wanted and ("85", 2, 1, "prevents", True) in wanted, f"{wanted}")
+    whole = "At a simple majority, from 53 votes of AAA on, 46.903 per cent of the total voting power: "
+    whole += "chairs 2 Hills & Dales and 3 Plains have no power. With 52 that doesn't hold."
+    expect_items(items, [whole])
+    never = "For the quorum: chair 1 Alland cannot prevent every decision alone at any step."
+    always = "At 85 per cent: chair 1 Alland can prevent every decision alone at each step."
+    # With 7 to 15 votes of 59 to 67 that are cast, the 40 of chair 2 win alone.
+    without = f"{never[:-1].replace('For the quorum', 'At a simple majority')}; chairs 1 Alland and 3 Plains have no power "
+    expect_items(answered(place, "--sweep", "AAA 10..20 by 5 %"), [never, always, f"{without}at any step."])
+
+
+def votes_at(place: Place, *words: str) -> dict[str, list[int]]:
+    """The votes of chairs 1 to 3 in each scenario and step of a study."""
+    with place.folder() as folder:
+        expect_good(study(place, folder, "--no-charts", "--at", "half", *words))
+        votes: dict[str, list[int]] = {}
+        for row in rows_of(Path(folder, "it.csv")):
+            votes.setdefault(row["scenario"], []).append(int(row["votes"]))
+        return votes
+
+
+def check_groups(place: Place) -> None:
+    """Sweeps of a chair, of two members, and from a scenario; votes of several members in a scenario."""
+    words = ["--sweep", "chair 2 10..50 by 20 %", "--sweep", "AAA+DDD 20..60 by 40 %"]
+    words += ["--scenario", "no CCC: suspend,CCC", "--sweep", "from no CCC: AAA 25..50 by 25 %"]
+    words += ["--scenario", "both: votes,BBB+CCC,+10%", "--scenario", "number: votes,AAA+DDD,26"]
+    found = votes_at(place, *words)
+    # Chair 2 has 25 + 15 votes, all others 60: 1/9, 3/7 and all of 60 are 6.67, 25.71 and 60.
+    steps = {10: 7, 30: 26, 50: 60}
+    wanted = {f"chair 2 {percent} %": [40, votes, 12] for percent, votes in steps.items()}
+    # AAA and DDD have 40 + 12, all others 48: 12 and 72 votes, 9.23 + 2.77 and 55.38 + 16.62.
+    wanted |= {"AAA+DDD 20 %": [9, 40, 3], "AAA+DDD 60 %": [55, 40, 17]}
+    # Without CCC's 15 and AAA's 40 there are 45: a third is 15, and all of it is 45.
+    wanted |= {"from no CCC: AAA 25 %": [15, 25, 12], "from no CCC: AAA 50 %": [45, 25, 12]}
+    # 44 of 40 votes: 27.5 and 16.5, of which the first is rounded up. 26 of 52 votes: 20 and 6.
+    wanted |= {"both": [40, 44, 12], "number": [20, 40, 6]}
+    for label, votes in wanted.items():
+        expect(found.get(label) == votes, f"{label}: {found.get(label)}, and not {votes}")
+    items = answered(place, *words)
+    expect_items(items, ["BBB Belland: 25 → 28 votes (BBB+CCC: +10%)", "CCC Celland: 15 → 16 votes (BBB+CCC: +10%)"])
+
+
+def head_of(table: Path) -> list[str]:
+    """The lines that say where a table comes from."""
+    return [line[2:] for line in table.read_text().splitlines() if line.startswith("# ")]
+
+
+def sha256(data: bytes) -> str:
+    """The SHA-256 of bytes."""
+    return hashlib.sha256(data).hexdigest()
+
+
+def check_provenance(place: Place) -> None:
+    """Table and page say the program, the table, the hashes of script and lines, and the words; a cell may have a #."""
+    words = ["--scenario", "plan #2: votes,AAA,41", "--sweep", "AAA 10..60 by 10 %", "--replay", "again.csv"]
+    with place.folder() as folder:
+        expect_good(study(place, folder, "--no-charts", *words))
+        script = Path(place.top, "again.csv").read_bytes()
+        head, version = head_of(Path(folder, "it.csv")), place.run(place.program, "--version").stdout.decode().strip()
+        wanted = [
+            f"counted by {version}",
+            f"program board sha256 {sha256(Path(place.program).read_bytes())}",
+            f"table members.csv sha256 {sha256(TABLE.encode())}",
+            f"script sha256 {sha256(script)}",
+            f"lines sha256 {sha256(place.board(script))}",
+            "to check: board replay < SCRIPT.csv | sha256sum prints the hash of the lines",
+            "command: board_study members.csv --no-charts --scenario 'plan #2: votes,AAA,41' --sweep 'AAA 10..60 by "
+            f"10 %' --replay again.csv {folder}/it",
+        ]
+        expect_text("\n".join(head[: len(wanted)]), "\n".join(wanted))
+        expect_items(items_of(Path(folder, "it.html")), head)
+        lines = Path(folder, "it.csv").read_text().splitlines()
+        expect(all('"' in line for line in lines if "plan #2" in line and line[0] != "#"), "a # that cuts a row")
+        check_replayed(place, script, rows_of(Path(folder, "it.csv")))
+
+
+def check_replayed(place: Place, script: bytes, rows: list[dict[str, str]]) -> None:
+    """The script that is written gives the readings of the table, in its order."""
+    printed = [line.split(",")[1:4] for line in place.board(script).decode().splitlines() if line[:6] == "chair,"]
+    table = [[row["chair"], row["votes"], row["swings"]] for row in rows]
+    expect(printed[: len(table)] == table and len(printed) > len(table), "the script gives other readings")
+
+
+def check_figures(place: Place) -> None:
+    """Table and page of board_figures say the hash of the lines and the words."""
+    output = place.board((BASE + "publish\nread,1,half\n").encode())
+    with place.folder() as folder:
+        expect_good(place.script("board_figures", f"{folder}/it", "--title", "Votes", given=output))
+        head = head_of(Path(folder, "it.readings.csv"))
+        expect(f"lines sha256 {sha256(output)}" in head, f"{head}")
+        expect(f"command: board_figures {folder}/it --title Votes" in head, f"{head}")
+        expect_items(items_of(Path(folder, "it.html")), head)
+        expect_good(place.script("board_figures", f"{folder}/it", "--title", "Votes", given=output))
+
+
+def counted_starts(place: Place, words: list[str]) -> tuple[int, int]:
+    """How often a study starts the program to replay, and how many readings it gets."""
+    log, wrapper = Path(place.top, "starts"), Path(place.top, "counted")
+    wrapper.write_text(f'#!/bin/sh\necho "$1" >> "{log}"\nexec "{place.program}" "$@"\n')
+    wrapper.chmod(0o755)
+    log.unlink(missing_ok=True)
+    with place.folder() as folder:
+        expect_good(study(place, folder, "--no-charts", "--board", str(wrapper), *words))
+        rows = rows_of(Path(folder, "it.csv"))
+    return log.read_text().split().count("replay"), len({(row["scenario"], row["majority"]) for row in rows})
+
+
+def check_starts(place: Place) -> None:
+    """All readings of a study are of one run of the program; each search for thresholds takes few more."""
+    commands = ["suspend,AAA", "open,4; move,EEE,4", "move,DDD,none; withdraw,DDD; close,3", "admit,FFF,9; move,FFF,1"]
+    words = [it for number, text in enumerate(commands) for it in ["--scenario", f"{number}: {text}"]]
+    expect(counted_starts(place, words) == (1, 20), "scenarios take more than one run")
+    starts, readings = counted_starts(place, ["--sweep", "AAA 36..40 by 0.4 %"])
+    expect((starts, readings) == (1, 48), f"a sweep without a threshold takes {starts} runs for {readings} readings")
+    starts, _ = counted_starts(place, ["--sweep", "AAA 1..70 by 3 %"])
+    expect(starts <= 8, f"a sweep takes {starts} runs")
+
+
+def check_undone(place: Place) -> None:
+    """Each scenario starts from the base register, whatever the one before it did."""
+    commands = [
+        "suspend,AAA",
+        "move,AAA,2; suspend,AAA; votes,AAA,7",
+        "move,DDD,none; withdraw,DDD; close,3; open,5",
+        "open,4; admit,FFF,9; move,FFF,4; suspend,FFF",
+        "move,EEE,3; move,DDD,none; suspend,DDD; withdraw,DDD; admit,DDD,50; move,DDD,1; suspend,EEE",
+        "suspend,AAA; suspend,BBB; suspend,CCC; suspend,DDD; suspend,EEE",
+        "restore,AAA",
+    ]
+    commands[-1] = "suspend,AAA; restore,AAA; votes,AAA,0"
+    words = [it for number, text in enumerate(commands) for it in ["--scenario", f"{number}: {text}"]]
+    with place.folder() as folder:
+        expect_good(study(place, folder, "--no-charts", *words))
+        rows = rows_of(Path(folder, "it.csv"))
+    for number, text in enumerate(commands):
+        script = BASE + "\n".join([*text.split("; "), "publish", *(f"read,1,{at}" for at in AT)]) + "\n"
+        printed = [line.split(",")[1:4] for line in place.board(script.encode()).decode().splitlines() if line[:6] == "chair,"]
+        table = [[row["chair"], row["votes"], row["swings"]] for row in rows if row["scenario"] == str(number)]
+        expect(printed == table, f"{text}: {table}, and by itself {printed}")
+
+
+FILES = [
+    ("it.csv", "label,commands\nAAA more,\"votes,AAA,+30%\"\ntwo,open,4\n,open;4\nx,\n\"40\",\"votes,AAA,40%\"\n", [
+        "it.csv: line 3: 3 cells, and not a label and commands: commands with a comma stand in quotes",
+        "it.csv: line 4: a scenario without a label",
+        "it.csv: line 5: the scenario 'x' has no command",
+        "it.csv: line 6: 'votes,AAA,40%': say 40% of total for a share",
+    ]),
+    ("it.csv", "name,commands\nx,\"open,4\"\n", ["it.csv: line 1: the header of a table of scenarios is label,commands"]),
+    ("it.csv", "label,commands\n", ["it.csv: there is no scenario in the file"]),
+    ("it.csv", "", ["it.csv: line 1: the header of a table of scenarios is label,commands"]),
+    ("it.toml", "[[scenario]]\nlabel = 'x'\ncommands = 'open,4'\n\n[[scenario]]\nlabel = 'y'\n", [
+        "it.toml: line 5: a scenario has a label, a text, and commands, a text or a list of texts, and nothing else",
+    ]),
+    ("it.toml", "[[scenario]]\nlabel = 'x'\ncommands = ['open,4', 'publish']\n", ["it.toml: line 1: 'publish' is no comm"]),
+    ("it.toml", "[[scenario]]\nlabel = x\n", ["it.toml: no TOML: Invalid value (at line 2, column 9)"]),
+    ("it.toml", "label = 'x'\n", ["it.toml: a table [[scenario]] for each scenario is asked for, and nothing else"]),
+]
+
+
+def check_bad_files(place: Place) -> None:
+    """Files of scenarios that are wrong are refused, each line that is."""
+    for name, text, wanted in FILES:
+        Path(place.top, name).write_text(text)
+        with place.folder() as folder:
+            done = study(place, folder, "--scenarios", name)
+            expect_refused(done, "board_study", wanted[0], folder)
+            said = done.stderr.decode().splitlines()
+            expect(len(said) == len(wanted) + 1, f"standard error: {said}")
+            for line, start in zip(said, wanted):
+                expect(line.startswith(f"board_study: {start}"), f"{line}, and not {start}")
+
+
+def check_files(place: Place) -> None:
+    """Scenarios in CSV and in TOML are those of the command line; their files are named, with their hashes."""
+    toml = "[[scenario]]\nlabel = 'two'\ncommands = ['open,4', 'move,EEE,4']\n"
+    Path(place.top, "it.csv").write_text('Label,Commands\r\n"AAA, more","votes,AAA,+30%"\r\n,\r\n')
+    Path(place.top, "it.toml").write_text(toml)
+    both = ["--scenario", "AAA, more: votes,AAA,+30%", "--scenario", "two: open,4; move,EEE,4"]
+    tables = []
+    with place.folder() as folder:
+        for words in [["--scenarios", "it.csv", "--scenarios", "it.toml"], both]:
+            expect_good(study(place, folder, "--no-charts", *words))
+            tables.append(rows_of(Path(folder, "it.csv")))
+            if words is not both:
+                hashed = f"scenarios it.toml sha256 {sha256(toml.encode())}"
+                expect(hashed in head_of(Path(folder, "it.csv")), f"{head_of(Path(folder, 'it.csv'))}")
+    expect(tables[0] == tables[1], "a file gives other scenarios")
+
+
+def spent() -> float:
+    """The seconds of processors that ended children took."""
+    return sum(resource.getrusage(resource.RUSAGE_CHILDREN)[:2])
+
+
+def check_time(place: Place) -> None:
+    """A study of 179 scenarios without charts takes at most 3 seconds on a machine that isn't busy."""
+    begun = time.process_time()
+    sum(1 for _ in range(10_000_000))
+    scale = max(1.0, (time.process_time() - begun) / CALIBRATION)
+    codes = [row["code"] for row in rows_of(Path(place.top, "examples", "members.csv")) if row["chair"]][:179]
+    Path(place.top, "many.csv").write_text("label,commands\n" + "".join(f'{it} +30%,"votes,{it},+30%"\n' for it in codes))
+    with place.folder() as folder:
+        begun = spent()
+        words = ["--scenarios", "many.csv", "--no-charts", f"{folder}/it"]
+        expect_good(place.script("board_study", "examples/members.csv", *words))
+        seconds = (spent() - begun) / scale
+        expect(len(rows_of(Path(folder, "it.csv"))) == 180 * 4 * 24, "rows are missing")
+    expect(seconds <= SECONDS, f"{seconds:.1f} s, at {scale:.1f} times the time of a machine that isn't busy")
+
+
+def cases(place: Place) -> list[Case]:
+    """Each case by a name."""
+    return [
+        ("board_study: who gains and who loses most", lambda: check_gains(place)),
+        ("board_study: chairs that are opened and closed", lambda: check_opened(place)),
+        ("board_study: the order of a table", lambda: check_small_gain(place)),
+        ("board_study: thresholds", lambda: check_thresholds(place)),
+        ("board_study: several members, chairs and starts", lambda: check_groups(place)),
+        ("board_study: provenance and --replay", lambda: check_provenance(place)),
+        ("board_figures: provenance", lambda: check_figures(place)),
+        ("board_study: one run of the program", lambda: check_starts(place)),
+        ("board_study: each scenario from the base", lambda: check_undone(place)),
+        ("board_study: files of scenarios", lambda: check_files(place)),
+        ("board_study: bad files of scenarios", lambda: check_bad_files(place)),
+        ("board_study: 179 scenarios", lambda: check_time(place)),
+    ]
