@@ -200,12 +200,13 @@ def check_interpreter(place: Place) -> None:
     expect(venv.returncode == 0, f"no environment without libraries: {venv.stderr}")
     good = place.board((TOP / "examples" / "three-chairs.csv").read_bytes())
     with place.folder() as folder:
-        done = place.run(
-            str(lone / "bin" / "python"), "figures/board_figures", f"{folder}/it", "--no-charts", given=good
-        )
-        if has("/usr/bin/python3", "pandas"):
+        script = [str(lone / "bin" / "python"), "figures/board_figures", f"{folder}/it"]
+        expect_good(place.run(*script, "--no-charts", given=good))
+        expect(os.listdir(folder) == ["it.readings.csv"], f"files: {os.listdir(folder)}")
+        done = place.run(*script, given=good)
+        if has("/usr/bin/python3", "matplotlib"):
             expect_good(done)
-            expect(os.listdir(folder) == ["it.readings.csv"], f"files: {os.listdir(folder)}")
+            expect(sorted(os.listdir(folder)) == ["it.html", "it.readings.csv"], f"files: {os.listdir(folder)}")
         else:
             expect(done.returncode == 1 and str(lone).encode() in done.stderr, done.stderr.decode())
     code = "from pathlib import Path; from board_python import interpreter; interpreter.SYSTEM = Path('/none'); "

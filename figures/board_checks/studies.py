@@ -1,7 +1,9 @@
 """figures/board_study: its table against runs of the program by hand, its page, and studies that go wrong."""
 from __future__ import annotations
 
+import subprocess
 from fractions import Fraction
+from functools import partial
 from pathlib import Path
 
 from .page_files import check_frame, pictures_of
@@ -28,7 +30,7 @@ SWEEP, STEPS = "AAA 20..40 by 5 %", {"20": 15, "25": 20, "30": 26, "35": 32, "40
 FRACTIONS = ["vote_share", "banzhaf", "power_share", "prevent", "initiate"]
 
 
-def study(place: Place, folder: str, *words: str, table: str = TABLE):
+def study(place: Place, folder: str, *words: str, table: str = TABLE) -> subprocess.CompletedProcess[bytes]:
     """Runs the script on a table."""
     Path(place.top, "members.csv").write_text(table)
     return place.script("board_study", "members.csv", *words, f"{folder}/it")
@@ -217,7 +219,8 @@ def check_progress(place: Place) -> None:
 
 def check_words(place: Place) -> None:
     """Wrong words are status 2; the help has an example."""
-    for wrong in [[], ["members.csv"], ["members.csv", "it.csv"], ["members.csv", "it", "--at", "50"]]:
+    words: list[list[str]] = [[], ["members.csv"], ["members.csv", "it.csv"], ["members.csv", "it", "--at", "50"]]
+    for wrong in [*words, ["members.csv", "it", "--measure", "power"]]:
         expect(place.script("board_study", *wrong).returncode == 2, f"{wrong}: not status 2")
     expect(b"For example:" in place.script("board_study", "--help").stdout, "no help")
 
@@ -226,7 +229,7 @@ def cases(place: Place) -> list[Case]:
     """Each case by a name."""
     found: list[Case] = [("board_study: table and page", lambda: check_good(place))]
     for name, words, message in BAD:
-        found.append((f"board_study, what goes wrong: {name}", lambda it=(words, message): check_bad(place, *it)))
+        found.append((f"board_study, what goes wrong: {name}", partial(check_bad, place, words, message)))
     found.append(("board_study: a bad table", lambda: check_bad_table(place)))
     found.append(("board_study: progress", lambda: check_progress(place)))
     found.append(("board_study: the script's words", lambda: check_words(place)))

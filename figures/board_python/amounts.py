@@ -2,6 +2,7 @@
 from __future__ import annotations
 
 import re
+from collections.abc import Sequence
 from dataclasses import dataclass
 from fractions import Fraction
 
@@ -23,7 +24,7 @@ class Percent:
     sign: str
     number: Fraction
 
-    def votes(self, standing: Standing, codes: list[str]) -> Fraction:
+    def votes(self, standing: Standing, codes: Sequence[str]) -> Fraction:
         """The votes that some members come to together, exactly."""
         own = standing.votes_of(codes)
         if self.sign:
@@ -84,7 +85,7 @@ def shared_out(votes: int, weights: dict[str, int]) -> dict[str, int]:
     return parts
 
 
-def parts_of(standing: Standing, codes: list[str], votes: int) -> dict[str, int]:
+def parts_of(standing: Standing, codes: Sequence[str], votes: int) -> dict[str, int]:
     """The votes of each of some members that have so many together, in the proportions that they have."""
     if len(codes) == 1 or votes < 0:
         parts = {codes[0]: votes}

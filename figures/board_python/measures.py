@@ -19,7 +19,8 @@ class Measure:
 
     def of(self, chair: Chair) -> Ratio | None:
         """The chair's measure as an exact fraction, or None where the program prints `-`."""
-        return getattr(chair, self.word)
+        powers = {"share": chair.share, "banzhaf": chair.banzhaf, "prevent": chair.prevent, "initiate": chair.initiate}
+        return powers[self.word]
 
     def gain(self, after: Chair, before: Chair | None) -> Fraction | None:
         """What is added to a chair's measure, exactly; None where one of both is missing."""

@@ -2,7 +2,7 @@
 from __future__ import annotations
 
 from collections import Counter
-from collections.abc import Callable, Mapping, Sequence
+from collections.abc import Mapping, Sequence
 from dataclasses import dataclass, field
 from fractions import Fraction
 
@@ -10,6 +10,7 @@ from .amounts import codes_of, parts_of, with_numbers
 from .changes import change_words
 from .errors import BadInput
 from .member_tables import MemberTable
+from .problems import Problems
 from .runs import Stage
 from .scenarios import BASE, Scenario, Sweep
 from .standing import Standing, standing_of
@@ -101,22 +102,16 @@ def label_problems(scenarios: Sequence[Scenario], sweeps: Sequence[Sweep]) -> li
         for label, count in counts.items()
         if count > 1
     ]
-    return twice + [f"--sweep {it.text!r}: no scenario has the label {it.start!r}" for it in sweeps if it.start not in starts]
+    lost = [sweep for sweep in sweeps if sweep.start not in starts]
+    return twice + [f"--sweep {sweep.text!r}: no scenario has the label {sweep.start!r}" for sweep in lost]
 
 
 def plan_of(
     table: MemberTable, majorities: Sequence[str], scenarios: Sequence[Scenario], sweeps: Sequence[Sweep]
 ) -> Plan:
     """The registers of the base, of the scenarios, then of each sweep's steps; BadInput with everything that is wrong."""
-    plan, base, problems = Plan(), standing_of(table), label_problems(scenarios, sweeps)
-    work: list[Callable[[], None]] = []
-    work += [lambda it=it: plan.add(it, base, majorities) for it in [Scenario(BASE), *scenarios]]
-    work += [lambda it=it: plan.add_sweep(it, majorities) for it in sweeps]
-    for part in work:
-        try:
-            part()
-        except BadInput as why:
-            problems.append(str(why))
-    if problems:
-        raise BadInput("\n".join(problems))
+    plan, base, problems = Plan(), standing_of(table), Problems(label_problems(scenarios, sweeps))
+    problems.read(lambda it: plan.add(it, base, majorities), [Scenario(BASE), *scenarios])
+    problems.read(lambda it: plan.add_sweep(it, majorities), sweeps)
+    problems.end()
     return plan

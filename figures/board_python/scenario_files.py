@@ -5,10 +5,12 @@ import re
 from collections.abc import Callable, Iterator
 from dataclasses import dataclass
 from functools import partial
+from itertools import chain
 from pathlib import Path
 
 from .errors import BadInput
 from .member_tables import delimiter_of, records_of, text_of
+from .problems import Problems
 from .scenarios import Scenario, labelled
 
 HEADER = ["label", "commands"]
@@ -66,6 +68,15 @@ def toml_rows(text: str) -> Iterator[Row]:
         yield place, partial(toml_scenario, one)
 
 
+def scenario_at(row: Row) -> Scenario:
+    """The scenario that is read there."""
+    place, read = row
+    try:
+        return read()
+    except BadInput as why:
+        raise BadInput(f"{place}: {why}") from why
+
+
 @dataclass(frozen=True)
 class ScenarioFile:
     """A file of scenarios: its name and its bytes."""
@@ -73,25 +84,18 @@ class ScenarioFile:
     name: str
     data: bytes
 
-    def rows(self) -> Iterator[Row]:
+    def rows(self) -> list[Row]:
         """The scenarios, each where it stands."""
         text = text_of(self.data)
-        return toml_rows(text) if Path(self.name).suffix == ".toml" else csv_rows(text)
+        rows = [*(toml_rows(text) if Path(self.name).suffix == ".toml" else csv_rows(text))]
+        if not rows:
+            raise BadInput("there is no scenario in the file")
+        return rows
 
     def scenarios(self) -> list[Scenario]:
         """The scenarios; BadInput with each that is wrong, and where it stands."""
-        found: list[Scenario] = []
-        problems: list[str] = []
-        try:
-            for place, read in self.rows():
-                try:
-                    found.append(read())
-                except BadInput as why:
-                    problems.append(f"{place}: {why}")
-        except BadInput as why:
-            problems.append(str(why))
-        if not found and not problems:
-            problems.append("there is no scenario in the file")
-        if problems:
-            raise BadInput("\n".join(f"{self.name}: {problem}" for problem in problems))
+        problems, place = Problems(), f"{self.name}: "
+        rows = chain(*problems.read(ScenarioFile.rows, [self], place))
+        found = problems.read(scenario_at, rows, place)
+        problems.end()
         return found

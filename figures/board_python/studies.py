@@ -10,6 +10,7 @@ from .errors import BadInput
 from .measures import Measure
 from .member_tables import CHAIRS, MemberTable, input_lines
 from .plans import Plan, Swept, changes_of, plan_of
+from .problems import Problems
 from .programs import Program
 from .replay_output import Chair, Reading
 from .runs import Progress, Run, Script, Stage, read_stages, run_script
@@ -92,17 +93,17 @@ class Counter:
         """The readings of registers, in one run of the program."""
         return read_stages(self.program, self.table, stages)
 
-    def refusals(self) -> list[str]:
-        """What the program refuses: each register by itself is led to from the table's."""
-        problems = []
-        for stage in self.plan.stages.values():
-            script = Script(input_lines(self.table))
-            script.add(stage, [*stage.commands])
-            try:
-                run_script(self.program, script, Progress(0))
-            except BadInput as why:
-                problems.append(str(why))
-        return problems
+    def refusals(self, scenarios: Sequence[Scenario]) -> list[str]:
+        """What the program refuses of scenarios, each of which is carried out by itself."""
+        problems = Problems()
+        problems.read(self.carry_out, [self.plan.stages[scenario.label] for scenario in scenarios])
+        return problems.lines
+
+    def carry_out(self, stage: Stage) -> None:
+        """Carries out the commands of a scenario on the register of the table, and reads nothing."""
+        script = Script(input_lines(self.table))
+        script.add(stage, [*stage.commands])
+        run_script(self.program, script, Progress(0))
 
     def stages_at(self, points: Points) -> list[Stage]:
         """The registers of points of sweeps."""
@@ -149,7 +150,7 @@ def run_study(
     try:
         run = count.read(stages)
     except BadInput as why:
-        raise BadInput("\n".join(count.refusals()) or str(why)) from why
+        raise BadInput("\n".join(count.refusals(scenarios)) or str(why)) from why
     readings = dict(zip(plan.stages, run.readings))
     gaps = narrowed([gap for sweep in sweeps for gap in count.gaps(sweep, readings)], count.read_at)
     if gaps:

@@ -6,7 +6,7 @@ from collections.abc import Sequence
 from typing import TYPE_CHECKING
 
 from .measures import Measure
-from .pages import figure_of, majorities_of, page_of, page_start
+from .pages import figure_of, majorities_of, page_of
 from .provenance import provenance_section
 from .scenarios import BASE, Sweep, plain
 from .studies import Result, Study
