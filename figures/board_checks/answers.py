@@ -116,7 +116,8 @@ def wanted_thresholds(place: Place, steps: list[int]) -> set[tuple[str, int, int
     return wanted
 
 
-SENTENCE = re.compile("(.*), from ([0-9,]+) votes of AAA on, ([0-9.]+) per cent of the total voting power: (.*)[.] With (.*) that")
+TOTAL = "per cent of the total voting power"
+SENTENCE = re.compile(f"(.*), from ([0-9,]+) votes? of AAA on, ([0-9.]+) {TOTAL}: (.*)[.] With (.*) votes? it is not so[.]")
 KINDS = {
     "can prevent every decision alone": ("prevents", True),
     "can no longer prevent every decision alone": ("prevents", False),
@@ -155,7 +156,7 @@ def check_thresholds(place: Place) -> None:
     # At 70 they win where 520 >= 7 * (60 + v), so up to 14; at 85 where 1040 >= 17 * (60 + v), so up to 1.
     expect(("70", 15, 1, "prevents", True) in wanted and ("85", 2, 1, "prevents", True) in wanted, f"{wanted}")
     whole = "At a simple majority, from 53 votes of AAA on, 46.903 per cent of the total voting power: "
-    whole += "chairs 2 Hills & Dales and 3 Plains have no power. With 52 that doesn't hold."
+    whole += "chairs 2 Hills & Dales and 3 Plains have no power. With 52 votes it is not so."
     expect_items(items, [whole])
     never = "For the quorum: chair 1 Alland cannot prevent every decision alone at any step."
     always = "At 85 per cent: chair 1 Alland can prevent every decision alone at each step."

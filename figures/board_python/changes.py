@@ -3,7 +3,12 @@ from __future__ import annotations
 
 from collections.abc import Mapping, Sequence
 
-from .standing import Standing
+from .standing import Place, Standing
+
+
+def votes_words(votes: int) -> str:
+    """A number of votes in words."""
+    return f"{votes:,} vote{'s' * (votes != 1)}"
 
 
 def chair_words(chair: int | None) -> str:
@@ -21,16 +26,15 @@ def asked_words(command: str, taken: Sequence[str]) -> str:
 
 def member_words(standing: Standing, word: str, code: str, value: str) -> str:
     """What a command does with a member, behind its name."""
-    place = standing.places.get(code)
-    votes = f"{place.votes:,} votes" if place else "no member"
+    place = standing.places.get(code, Place(0))
     if word == "votes":
-        return f": {place.votes if place else 0:,} → {int(value):,} votes"
+        return f": {place.votes:,} → {votes_words(int(value))}"
     if word == "move":
-        return f": {chair_words(place.chair if place else None)} → {'no chair' if value == 'none' else f'chair {value}'}"
+        return f": {chair_words(place.chair)} → {chair_words(None if value == 'none' else int(value))}"
     if word == "admit":
-        return f" is admitted with {int(value):,} votes"
+        return f" is admitted with {votes_words(int(value))}"
     done = {"suspend": "is suspended", "restore": "is no longer suspended", "withdraw": "withdraws"}
-    return f", {votes}, {done[word]}"
+    return f", {votes_words(place.votes)}, {done[word]}"
 
 
 def change_words(standing: Standing, command: str, taken: Sequence[str], names: Mapping[str, str]) -> list[str]:

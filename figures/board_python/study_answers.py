@@ -5,6 +5,7 @@ from collections.abc import Mapping, Sequence
 from fractions import Fraction
 from itertools import groupby
 
+from .changes import votes_words
 from .measures import Measure, with_share
 from .replay_output import Chair, Reading
 from .rounding import PERCENT_PLACES, rounded
@@ -92,8 +93,8 @@ def threshold_words(study: Study, who: str, found: Sequence[Threshold]) -> str:
     said = "; ".join(kind_words(study, chairs, words) for words, chairs in kinds.items())
     share = rounded(first.percent, PERCENT_PLACES)
     return (
-        f"{AT[first.majority]}, from {first.votes:,} votes of {who} on, {share} per cent of the total voting power: "
-        f"{said}. With {first.votes - 1:,} that doesn't hold."
+        f"{AT[first.majority]}, from {votes_words(first.votes)} of {who} on, {share} per cent of the total voting power: "
+        f"{said}. With {votes_words(first.votes - 1)} it is not so."
     )
 
 
