@@ -230,6 +230,15 @@ def check_provenance(place: Place) -> None:
         check_replayed(place, script, rows_of(Path(folder, "it.csv")))
 
 
+def check_replay_place(place: Place) -> None:
+    """The script isn't written over a table of members, nor over what the study writes."""
+    with place.folder() as folder:
+        done = study(place, folder, "--no-charts", "--replay", "members.csv")
+        expect_refused(done, "board_study", "members.csv is there already and isn't a file of this script", folder)
+        done = study(place, folder, "--no-charts", "--replay", f"{folder}/it.csv")
+        expect_refused(done, "board_study", f"--replay {folder}/it.csv: the study itself writes", folder)
+
+
 def check_replayed(place: Place, script: bytes, rows: list[dict[str, str]]) -> None:
     """The script that is written gives the readings of the table, in its order."""
     printed = [line.split(",")[1:4] for line in place.board(script).decode().splitlines() if line[:6] == "chair,"]
@@ -293,6 +302,35 @@ def check_undone(place: Place) -> None:
         printed = [line.split(",")[1:4] for line in place.board(script.encode()).decode().splitlines() if line[:6] == "chair,"]
         table = [[row["chair"], row["votes"], row["swings"]] for row in rows if row["scenario"] == str(number)]
         expect(printed == table, f"{text}: {table}, and by itself {printed}")
+
+
+def check_other_register(place: Place) -> None:
+    """A reading of another register than the one that was asked for isn't taken."""
+    wrapper = Path(place.top, "other")
+    wrapper.write_text(f'#!/bin/sh\nsed s/votes,AAA,40/votes,AAA,39/ | "{place.program}" "$@"\n')
+    wrapper.chmod(0o755)
+    words = ["--scenario", "one: votes,AAA,41", "--scenario", "two: suspend,DDD", "--board", str(wrapper)]
+    with place.folder() as folder:
+        message = "scenario 'two': the reading at half isn't of the register asked for"
+        expect_refused(study(place, folder, *words), "board_study", message, folder)
+
+
+def check_long(place: Place) -> None:
+    """A study that is too long for one input of the program takes two, and both are written."""
+    codes = [f"X{one}{other}" for one in "ABCDEFGHIJKLMNOP" for other in "ABCDEFGHIJKLMNOP"]
+    table = "code,votes,chair\n" + "".join(f"{code},{1000 + at},{max(1, at - 252)}\n" for at, code in enumerate(codes))
+    with place.folder() as folder:
+        words = ["--no-charts", "--at", "half", "--sweep", "chair 1 0..50 by 0.08 %", "--replay", f"{folder}/script.csv"]
+        expect_good(study(place, folder, *words, table=table))
+        scripts = [Path(folder, name).read_bytes() for name in ["script.csv", "script-2.csv"]]
+        expect(all(len(script) <= 4_194_304 for script in scripts), "a script is too long")
+        head, outputs = head_of(Path(folder, "it.csv")), [place.board(script) for script in scripts]
+        for number, output in enumerate(outputs, 1):
+            expect(f"lines {number} of 2 sha256 {sha256(output)}" in head, f"{head}")
+        readings = sum(output.count(b"\nreading,") for output in outputs)
+        # 626 steps and the base, of three chairs each, and both sides of thresholds.
+        rows = len(rows_of(Path(folder, "it.csv")))
+        expect(rows == 3 * 627 and readings > 627, f"{rows} rows, {readings} readings")
 
 
 FILES = [
@@ -374,9 +412,12 @@ def cases(place: Place) -> list[Case]:
         ("board_study: thresholds", lambda: check_thresholds(place)),
         ("board_study: several members, chairs and starts", lambda: check_groups(place)),
         ("board_study: provenance and --replay", lambda: check_provenance(place)),
+        ("board_study: where --replay writes", lambda: check_replay_place(place)),
         ("board_figures: provenance", lambda: check_figures(place)),
         ("board_study: one run of the program", lambda: check_starts(place)),
         ("board_study: each scenario from the base", lambda: check_undone(place)),
+        ("board_study: a reading of another register", lambda: check_other_register(place)),
+        ("board_study: a study of two inputs", lambda: check_long(place)),
         ("board_study: files of scenarios", lambda: check_files(place)),
         ("board_study: bad files of scenarios", lambda: check_bad_files(place)),
         ("board_study: 179 scenarios", lambda: check_time(place)),

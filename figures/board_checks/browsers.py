@@ -31,6 +31,8 @@ def check_page(place: Place, path: Path, megabytes: float) -> None:
     expect([float(text) for text in seen["order"]["up"]] == sorted(numbers), f"a click doesn't sort: {seen['order']}")
     down = [float(text) for text in seen["order"]["down"]]
     expect(down == sorted(numbers)[::-1] and seen["order"]["says"] == "descending", f"a second click: {seen['order']}")
+    gains = [float(text) for text in seen["gains"]]
+    expect(gains == sorted(gains)[::-1], f"a first click doesn't put the greatest gain on top: {gains}")
     expect(
         seen["light"] == "rgb(255, 255, 255)" and seen["dark"] == "rgb(22, 24, 28)", f"{seen['light']} {seen['dark']}"
     )
@@ -68,6 +70,7 @@ def check_study(place: Place) -> None:
     words = ["--scenario", "XAB +30 %: votes,XAB,+30%", "--sweep", "XAA 10..20 by 5 %"]
     with place.folder() as folder:
         expect_good(place.script("board_study", "examples/members.csv", *words, f"{folder}/it"))
+        expect("Added to the share of power" in Path(folder, "it.html").read_text(), "no column of gains")
         check_page(place, Path(folder, "it.html"), 3)
         expect_good(place.script("board_study", "examples/members.csv", f"{folder}/four"))
         check_page(place, Path(folder, "four.html"), 1)

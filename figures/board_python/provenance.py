@@ -58,7 +58,7 @@ def numbered(what: str, parts: Sequence[bytes]) -> list[str]:
 
 def provenance_lines(program: Program, files: Sequence[str], run: Run, more: Sequence[str]) -> list[str]:
     """The lines that say where a study comes from: its program, its files, its scripts and their lines, and more."""
-    scripts = [script.encode() for script in run.scripts]
+    scripts = [script.text().encode() for script in run.scripts]
     hashes = [*numbered("script", scripts), *numbered("lines", run.lines)]
     return [*map(one_line, [*program_lines(program), *files, *hashes, TO_CHECK, *more])]
 

@@ -61,13 +61,22 @@ class Script:
         return "".join(f"{record}\n" for record in self.records)
 
 
-@dataclass
+@dataclass(frozen=True)
 class Run:
-    """What was read of each register, and the scripts and lines of that: one, unless it was too long for one input."""
+    """Inputs of `board replay` and the lines they give: one, unless it was too long for one input."""
 
-    readings: list[Readings]
-    scripts: list[str]
+    scripts: list[Script]
     lines: list[bytes]
+
+    def readings(self) -> list[Readings]:
+        """What was read of each register; BadInput where a reading isn't of its register."""
+        found = []
+        for script, lines in zip(self.scripts, self.lines):
+            readings = iter(read_output(lines).readings)
+            for stage in script.stages:
+                found.append(dict(zip(stage.majorities, readings)))
+                stage.check(found[-1])
+        return found
 
 
 class Progress:
@@ -116,15 +125,7 @@ def run_script(program: Program, script: Script, progress: Progress) -> bytes:
 
 
 def read_stages(program: Program, table: MemberTable, stages: Sequence[Stage]) -> Run:
-    """Reads registers one after another."""
-    run, progress = Run([], [], []), Progress(sum(len(stage.majorities) for stage in stages))
-    for script in scripts_of(table, stages):
-        lines = run_script(program, script, progress)
-        readings = iter(read_output(lines).readings)
-        for stage in script.stages:
-            found = dict(zip(stage.majorities, readings))
-            stage.check(found)
-            run.readings.append(found)
-        run.scripts.append(script.text())
-        run.lines.append(lines)
-    return run
+    """Leads the program from one register to the next, and has it read each."""
+    progress = Progress(sum(len(stage.majorities) for stage in stages))
+    scripts = [*scripts_of(table, stages)]
+    return Run(scripts, [run_script(program, script, progress) for script in scripts])

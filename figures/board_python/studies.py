@@ -90,7 +90,7 @@ class Counter:
     plan: Plan
 
     def read(self, stages: Sequence[Stage]) -> Run:
-        """The readings of registers, in one run of the program."""
+        """The lines of registers, in one run of the program."""
         return read_stages(self.program, self.table, stages)
 
     def refusals(self, scenarios: Sequence[Scenario]) -> list[str]:
@@ -111,7 +111,7 @@ class Counter:
 
     def read_at(self, points: Points) -> dict[Point, Readings]:
         """The readings of points of sweeps."""
-        return dict(zip(points, self.read(self.stages_at(points)).readings))
+        return dict(zip(points, self.read(self.stages_at(points)).readings()))
 
     def gaps(self, sweep: Sweep, readings: Mapping[str, Readings]) -> list[Gap]:
         """Between which steps of a sweep the kind of a chair's power changes."""
@@ -142,16 +142,16 @@ def run_study(
 ) -> Study:
     """Runs the program on the base, on every scenario and on every step of a sweep; BadInput says what goes wrong.
 
-    Further runs find thresholds. Where there are any, a last run reads all again, and both sides of each threshold.
+    Further runs find thresholds. Where there are any, the run that is kept reads both sides of each of them, too.
     """
     plan = plan_of(table, majorities, scenarios, sweeps)
     count, stages = Counter(program, table, plan), [*plan.stages.values()]
     program.start()
     try:
         run = count.read(stages)
+        readings = dict(zip(plan.stages, run.readings()))
     except BadInput as why:
         raise BadInput("\n".join(count.refusals(scenarios)) or str(why)) from why
-    readings = dict(zip(plan.stages, run.readings))
     gaps = narrowed([gap for sweep in sweeps for gap in count.gaps(sweep, readings)], count.read_at)
     if gaps:
         run = count.read([*stages, *count.stages_at(both_sides(gaps))])

@@ -67,17 +67,19 @@ def study_rows(study: Study) -> Iterator[Row]:
             yield from result_rows(study, result, reading)
 
 
-def csv_text(lines: Iterable[str], columns: Sequence[str], rows: Iterable[Row]) -> str:
-    """A table as a file: first the lines that say where it comes from, each a comment, then header and rows.
-
-    A row that has a # is in quotes, so that a reader who skips comments doesn't cut it there.
-    """
+def rows_text(rows: Iterable[Sequence[object]]) -> str:
+    """Rows as CSV. A row that has a # is in quotes, so that a reader who skips comments doesn't cut it there."""
     text = io.StringIO()
-    text.writelines(f"# {line}\n" for line in lines)
-    plain = csv.writer(text, lineterminator="\n")
-    quoted = csv.writer(text, lineterminator="\n", quoting=csv.QUOTE_ALL)
-    plain.writerow(columns)
-    for row in rows:
-        has_mark = any("#" in cell for cell in row if isinstance(cell, str))
-        (quoted if has_mark else plain).writerow(row)
-    return text.getvalue()
+    csv.writer(text, lineterminator="\n").writerows(rows)
+    if "#" not in text.getvalue():
+        return text.getvalue()
+    marked = io.StringIO()
+    for cells in csv.reader(io.StringIO(text.getvalue(), newline="")):
+        quoting = csv.QUOTE_ALL if any("#" in cell for cell in cells) else csv.QUOTE_MINIMAL
+        csv.writer(marked, lineterminator="\n", quoting=quoting).writerow(cells)
+    return marked.getvalue()
+
+
+def csv_text(lines: Iterable[str], columns: Sequence[str], rows: Iterable[Row]) -> str:
+    """A table as a file: first the lines that say where it comes from, each a comment, then header and rows."""
+    return "".join(f"# {line}\n" for line in lines) + rows_text([columns, *rows])
