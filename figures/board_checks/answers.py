@@ -363,8 +363,8 @@ def check_bad_files(place: Place) -> None:
         with place.folder() as folder:
             done = study(place, folder, "--scenarios", name)
             expect_refused(done, "board_study", wanted[0], folder)
-            said = done.stderr.decode().splitlines()
-            expect(len(said) == len(wanted) + 1, f"standard error: {said}")
+            said = [line for line in done.stderr.decode().splitlines() if line.startswith(f"board_study: {name}: ")]
+            expect(len(said) == len(wanted), f"standard error: {said}")
             for line, start in zip(said, wanted):
                 expect(line.startswith(f"board_study: {start}"), f"{line}, and not {start}")
 

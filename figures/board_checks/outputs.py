@@ -28,7 +28,7 @@ def made(place: Place, output: bytes, *words: str, times: int = 1) -> dict[str, 
         for _ in range(times):
             done = place.script("board_figures", f"{folder}/it", *words, given=output)
             expect_good(done)
-            expect(not done.stdout and not done.stderr, f"{done.stdout.decode()}{done.stderr.decode()}")
+            expect(not done.stdout and done.stderr.count(b"\n") == 1, f"{done.stdout.decode()}{done.stderr.decode()}")
             texts.append({name: Path(folder, name).read_text() for name in sorted(os.listdir(folder))})
         expect(all(it == texts[0] for it in texts), "another run over the files doesn't give the same")
         return texts[0]

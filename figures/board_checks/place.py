@@ -15,6 +15,7 @@ from pathlib import Path
 TOP = Path(__file__).resolve().parents[2]
 SECONDS = 300
 Case = tuple[str, Callable[[], None]]
+Done = subprocess.CompletedProcess[bytes]
 
 
 class Failed(Exception):
@@ -70,16 +71,16 @@ class Place:
             "MPLCONFIGDIR": str(self.top / "bin"),
         }
 
-    def run(self, *words: str, given: bytes = b"") -> subprocess.CompletedProcess:
+    def run(self, *words: str, given: bytes = b"") -> Done:
         """Runs a command in the folder."""
-        places = {"cwd": self.top, "env": self.environment}
-        return subprocess.run(words, input=given, capture_output=True, timeout=SECONDS, **places)
+        around = self.environment
+        return subprocess.run(words, input=given, capture_output=True, timeout=SECONDS, cwd=self.top, env=around)
 
     def board(self, given: bytes) -> bytes:
         """What `board replay` prints of an input."""
         return self.run(self.program, "replay", given=given).stdout
 
-    def script(self, name: str, *words: str, given: bytes = b"") -> subprocess.CompletedProcess:
+    def script(self, name: str, *words: str, given: bytes = b"") -> Done:
         """Runs a script of figures."""
         return self.run(f"figures/{name}", *words, given=given)
 
@@ -90,16 +91,16 @@ class Place:
             yield folder
 
 
-def expect_good(done: subprocess.CompletedProcess) -> None:
+def expect_good(done: Done) -> None:
     """Fails where a script didn't end well."""
     expect(done.returncode == 0, f"status {done.returncode}: {done.stderr.decode()}")
 
 
-def expect_refused(done: subprocess.CompletedProcess, script: str, message: str, folder: str) -> None:
-    """Fails where a script didn't answer with a message and status 1, or left a file."""
+def expect_refused(done: Done, script: str, message: str, folder: str) -> None:
+    """Fails where a script didn't answer with a message, below what it read, and status 1, or left a file."""
     said = done.stderr.decode()
     expect(done.returncode == 1 and not done.stdout, f"status {done.returncode}: {said}")
-    expect(said.startswith(f"{script}: {message}"), f"standard error: {said}")
+    expect(f"\n{script}: {message}" in f"\n{said}", f"standard error: {said}")
     expect(said.endswith(f"\n{script}: nothing was written\n"), f"standard error: {said}")
     expect(not os.listdir(folder), f"files are left: {os.listdir(folder)}")
 

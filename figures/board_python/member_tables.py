@@ -1,30 +1,21 @@
 """Tables of members as a spreadsheet saves them, and the input of `board replay` that they become."""
 from __future__ import annotations
 
-import csv
-import io
 import re
-from collections.abc import Iterator
-from dataclasses import dataclass, field, fields
+from collections.abc import Callable, Sequence
+from dataclasses import dataclass, field, replace
+from typing import TypeVar
 
+from .cells import APOSTROPHES, BLANKS, ZEROS, chair_of, code_of, is_name, made_codes, votes_of
+from .cells import CHAIRS as CHAIRS, MOST_VOTES as MOST_VOTES
 from .errors import BadInput
+from .sheets import Columns as Columns, Layout as Layout
+from .sheets import Row, Sheet, accented, places_of, row_of, sheet_of, text_of
+from .table_questions import blanks_of, filled_down, lines_of, seem_merged, totals_of
 
 MOST_MEMBERS = 256
-MOST_VOTES = 2**40
-CHAIRS = range(1, 33)
-BLANKS = " \u00a0\u2009\u202f"
-APOSTROPHES = "'\u2019"
-
-
-@dataclass(frozen=True)
-class Columns:
-    """The names of a table's columns; the last two needn't be there."""
-
-    code: str = "code"
-    votes: str = "votes"
-    chair: str = "chair"
-    name: str = "name"
-    chair_name: str = "chair_name"
+MOST_NAMED = 12
+T = TypeVar("T")
 
 
 @dataclass(frozen=True)
@@ -38,12 +29,18 @@ class Member:
     name: str
 
 
+def counted(count: int, noun: str) -> str:
+    """A number of things in words."""
+    return f"{count:,} {noun}" + ("" if count == 1 else "s")
+
+
 @dataclass
 class MemberTable:
-    """The members in the table's order, and the names of chairs that the table has."""
+    """The members in the table's order, the names of chairs that the table has, and what was chosen and converted."""
 
     members: list[Member] = field(default_factory=list)
     chair_names: dict[int, str] = field(default_factory=dict)
+    choices: list[str] = field(default_factory=list)
 
     def chairs(self) -> list[int]:
         """The chairs that have members, by number."""
@@ -60,161 +57,211 @@ class MemberTable:
         others = f" and {len(seated) - 1} more" if len(seated) > 1 else ""
         return (most.name or most.code) + others
 
+    def votes(self) -> int:
+        """The votes of all members, those in no chair too."""
+        return sum(member.votes for member in self.members)
 
-def text_of(data: bytes) -> str:
-    """A table's text, without a byte order mark."""
-    if data.startswith((b"\xff\xfe", b"\xfe\xff")):
-        raise BadInput("two bytes for each letter ('Unicode text'): save the table as CSV in UTF-8", 1)
-    try:
-        return data.decode("utf-8-sig")
-    except UnicodeDecodeError as why:
-        line = data.count(b"\n", 0, why.start) + 1
-        raise BadInput("a letter that isn't UTF-8: save the table as CSV in UTF-8", line) from why
-
-
-def records_of(text: str, delimiter: str) -> Iterator[tuple[int, list[str]]]:
-    """The records that aren't empty, each with the line on which it begins; blanks round a cell are dropped."""
-    reader = csv.reader(io.StringIO(text, newline=""), delimiter=delimiter, strict=True)
-    line = 1
-    try:
-        for cells in reader:
-            cells = [cell.strip() for cell in cells]
-            if any(cells):
-                yield line, cells
-            line = reader.line_num + 1
-    except csv.Error as why:
-        raise BadInput(f"a record that begins here isn't well formed: {why}", line) from why
+    def said(self) -> list[str]:
+        """What was read, in sentences: members, votes and chairs, then each choice and each conversion."""
+        none = [f"{it.code} ({counted(it.votes, 'vote')})" for it in self.members if it.chair is None]
+        named = ", ".join(none[:MOST_NAMED]) + (f" and {len(none) - MOST_NAMED} more" if none[MOST_NAMED:] else "")
+        seats = f"{counted(len(none), 'member')} in no chair: {named}" if none else "every member is in a chair"
+        members = f"{counted(len(self.members), 'member')}, {counted(self.votes(), 'vote')}"
+        return [f"{members}; {counted(len(self.chairs()), 'chair')}; {seats}", *self.choices]
 
 
-def delimiter_of(text: str) -> str:
-    """What parts the cells: of comma, semicolon and tab the one that cuts the first record into the most."""
-    first = next((line for line in text.splitlines() if line.strip()), "")
-    return max(",;\t", key=lambda delimiter: len(next(csv.reader([first], delimiter=delimiter), [])))
-
-
-def places_of(line: int, header: list[str], columns: Columns) -> dict[str, int]:
-    """Where each column stands in a row; capitals make no difference."""
-    heads = [head.casefold() for head in header]
-    places = {}
-    for wanted in fields(columns):
-        name = getattr(columns, wanted.name)
-        count = heads.count(name.casefold())
-        if count > 1:
-            raise BadInput(f"{count} columns are named {name!r}", line)
-        if count:
-            places[wanted.name] = heads.index(name.casefold())
-        elif wanted.name not in ("name", "chair_name") or name != wanted.default:
-            option = "--" + wanted.name.replace("_", "-")
-            raise BadInput(f"no column is named {name!r}; there are {', '.join(header)}. Say which by {option}", line)
-    return places
-
-
-def number_of(text: str, marks: str) -> int:
-    """A whole number; one of the marks may stand between its thousands, the same one each time."""
-    mark = f"([{re.escape(marks)}])"
-    if not re.fullmatch(rf"[0-9]{{1,20}}|[0-9]{{1,3}}{mark}[0-9]{{3}}(\1[0-9]{{3}})*", text):
-        raise ValueError(f"{text[:40]!r} is no whole number")
-    return int(re.sub("[^0-9]", "", text))
-
-
-def code_of(text: str) -> str:
-    """A member's code in capitals."""
-    if not re.fullmatch("[A-Za-z]{3}", text):
-        raise ValueError(f"{text[:40]!r} is no code of three letters from A to Z")
-    return text.upper()
-
-
-def votes_of(text: str, marks: str) -> int:
-    """A member's votes."""
-    votes = number_of(text, marks)
-    if votes > MOST_VOTES:
-        raise ValueError(f"{text!r} is more than 2^40 votes")
-    return votes
-
-
-def chair_of(text: str) -> int | None:
-    """A chair's number, or None where the cell is empty."""
-    if not text:
-        return None
-    if not re.fullmatch("[0-9]{1,9}", text) or int(text) not in CHAIRS:
-        raise ValueError(f"{text[:40]!r} is no chair: chairs are numbered from 1 to 32")
-    return int(text)
+def conversions_of(rows: Sequence[Row], names: Sequence[str]) -> list[str]:
+    """What was converted in good rows, in sentences; the names are those of chairs that got a number."""
+    zeros = sum(bool(ZEROS.search(row.votes) or not names and ZEROS.search(row.chair)) for row in rows)
+    marks = sum(not ZEROS.sub("", row.votes).isdigit() for row in rows)
+    small = sum(row.code != row.code.upper() for row in rows)
+    numbered = "; ".join(f"{number} {name}" for number, name in enumerate(names, 1))
+    sentences = {
+        f"Numbers such as 1.0 were taken as whole numbers in {counted(zeros, 'row')}": zeros,
+        f"Marks between thousands were passed over in {counted(marks, 'row')}": marks,
+        f"Small letters of codes were taken as capitals in {counted(small, 'row')}": small,
+        f"Chairs stand there by name: they were numbered in the order in which they come: {numbered}": len(names),
+    }
+    return [sentence for sentence, count in sentences.items() if count]
 
 
 class TableReader:
-    """Takes in rows one by one, and keeps what is wrong with them."""
+    """Takes in rows, asks about them, and keeps what is wrong with them, each problem with its line, 0 for none."""
 
-    def __init__(self, marks: str):
+    def __init__(self, marks: str, layout: Layout):
         self.marks = marks
+        self.layout = layout
         self.table = MemberTable()
         self.lines: dict[str, int] = {}
-        self.problems: list[str] = []
+        self.numbers: dict[str, tuple[int, str]] = {}
+        self.problems: list[tuple[int, str]] = []
 
-    def read(self, what: str, reader, *words):
-        """A cell's value, or None and a problem more."""
+    def refuse(self, line: int, what: str) -> None:
+        """Keeps a problem."""
+        self.problems.append((line, what))
+
+    def choose(self, sentence: str) -> None:
+        """Keeps a choice, or a conversion, that is said."""
+        self.table.choices.append(sentence)
+
+    def read(self, line: int, what: str, reader: Callable[..., T], *words: object) -> T | None:
+        """What a cell says, or None and a problem more."""
         try:
             return reader(*words)
         except ValueError as why:
-            self.problems.append(f"{what}: {why}")
+            self.refuse(line, f"line {line}{what}: {why}")
             return None
 
-    def add(self, line: int, cells: dict[str, str]) -> None:
+    def rows_of(self, sheet: Sheet, places: dict[str, int]) -> list[Row]:
+        """The rows by what their cells mean."""
+        rows = []
+        for line, cells in sheet.rows:
+            try:
+                rows.append(row_of(sheet, places, line, cells))
+            except BadInput as why:
+                self.refuse(line, str(why))
+        return rows
+
+    def limited(self, rows: list[Row]) -> list[Row]:
+        """The rows, as many as there may be members, and a problem where there are more."""
+        if len(rows) > MOST_MEMBERS:
+            line = rows[MOST_MEMBERS].line
+            many = f"there are {len(rows):,}, and {MOST_MEMBERS} at most"
+            self.refuse(line, f"line {line}: a member too many: {many}")
+        return rows[:MOST_MEMBERS]
+
+    def without_total(self, rows: list[Row]) -> list[Row]:
+        """The rows without a total, which is left out, kept or asked about."""
+        totals = totals_of(rows, self.marks)
+        for row in totals:
+            who = ", ".join(filter(None, [row.code or row.name, f"{row.votes} votes"]))
+            if self.layout.keep_total:
+                self.choose(f"Line {row.line} ({who}), which equals the sum of the others, is a member")
+            elif self.layout.leave_out_total:
+                self.choose(f"Line {row.line} ({who}), which equals the sum of the others, was left out as a total")
+            else:
+                self.refuse(
+                    row.line,
+                    f"line {row.line}: a total? This row ({who}) equals the sum of the others: leave it out by "
+                    "--leave-out-total, or keep it as a member by --keep-total",
+                )
+        if self.layout.leave_out_total and len(totals) != 1:
+            each = f"lines {lines_of(totals)} each have" if totals else "no row has"
+            self.refuse(0, f"--leave-out-total: {each} votes that equal the sum of the others")
+        return rows if self.layout.keep_total else [row for row in rows if row not in totals]
+
+    def with_chairs(self, rows: list[Row]) -> list[Row]:
+        """The rows with blank chairs filled down, or as they are; where they are asked about, one problem says all."""
+        blanks = blanks_of(rows)
+        if self.layout.fill_down:
+            self.choose(f"Merged cells: the chair was filled down in {counted(len(blanks), 'row')}")
+        elif self.layout.blank_is_no_chair:
+            self.choose(f"A blank chair under a filled one is no chair: {counted(len(blanks), 'row')}")
+        elif seem_merged(rows):
+            self.refuse(
+                blanks[0].line,
+                f"line {blanks[0].line}: merged cells? {len(blanks)} rows have a blank chair under a filled one (lines "
+                f"{lines_of(blanks)}): fill the chair down by --fill-down, or say by --blank-is-no-chair that these "
+                "members are in no chair",
+            )
+        else:
+            return rows
+        return rows if self.layout.blank_is_no_chair else filled_down(rows)
+
+    def with_codes(self, rows: list[Row]) -> list[Row]:
+        """The rows with codes made from their names."""
+        for row in rows:
+            if not row.name:
+                self.refuse(row.line, f"line {row.line}: there is no name to make a code from")
+        codes = made_codes(row.name for row in rows)
+        said = "; ".join(f"{code} {row.name}" for code, row in zip(codes, rows))
+        self.choose(f"The table has no codes: they were made from names: {said}")
+        return [replace(row, code=code) for code, row in zip(codes, rows)]
+
+    def add_all(self, rows: list[Row]) -> None:
+        """Takes in the rows; chairs are names where most of them have letters."""
+        filled = [row.chair for row in rows if row.chair]
+        by_name = 2 * sum(map(is_name, filled)) > len(filled)
+        for row in rows:
+            self.add(row, self.numbered if by_name else chair_of)
+        for number, name in self.numbers.values():
+            self.table.chair_names.setdefault(number, name)
+
+    def add(self, row: Row, chair_number: Callable[[str], int | None]) -> None:
         """Takes in a row."""
-        code = self.read(f"line {line}", code_of, cells["code"])
-        votes = self.read(f"line {line}, votes", votes_of, cells["votes"], self.marks)
-        chair = self.read(f"line {line}", chair_of, cells["chair"])
+        code = self.read(row.line, "", code_of, row.code)
+        votes = self.read(row.line, ", votes", votes_of, row.votes, self.marks)
+        chair = self.read(row.line, "", chair_number, row.chair)
         if code in self.lines:
-            self.problems.append(f"line {line}: the code {code} stands on line {self.lines[code]} already")
+            self.refuse(row.line, f"line {row.line}: the code {code} stands on line {self.lines[code]} already")
         if code is not None:
-            self.lines.setdefault(code, line)
-            self.table.members.append(Member(line, code, votes or 0, chair, cells["name"]))
-        if cells["chair_name"]:
-            self.add_chair_name(line, chair, cells["chair_name"])
+            self.lines.setdefault(code, row.line)
+            self.table.members.append(Member(row.line, code, votes or 0, chair, row.name))
+        if row.chair_name:
+            self.add_chair_name(row.line, chair, row.chair_name)
+
+    def numbered(self, name: str) -> int | None:
+        """The number of a chair by its name: chairs are numbered in the order in which they come."""
+        if not name:
+            return None
+        if not is_name(name):
+            raise ValueError(f"{name!r} is no chair: the other chairs stand there by name")
+        key = " ".join(name.split()).casefold()
+        number, spelled = self.numbers.setdefault(key, (len(self.numbers) + 1, name))
+        if spelled != name:
+            raise ValueError(f"the chair {name!r} is written {spelled!r} above")
+        if number not in CHAIRS:
+            raise ValueError(f"{name!r} is a chair too many: it would be number {number}, and there are 32 at most")
+        return number
 
     def add_chair_name(self, line: int, chair: int | None, name: str) -> None:
         """Keeps a chair's name, which is the same in all of its rows."""
         if chair is None:
-            self.problems.append(f"line {line}: a chair's name, {name!r}, and no chair")
+            self.refuse(line, f"line {line}: a chair's name, {name!r}, and no chair")
         elif self.table.chair_names.setdefault(chair, name) != name:
             other = self.table.chair_names[chair]
-            self.problems.append(f"line {line}: chair {chair} is named {name!r} here and {other!r} above")
+            self.refuse(line, f"line {line}: chair {chair} is named {name!r} here and {other!r} above")
 
     def whole(self) -> MemberTable:
         """The table, once all rows are in; BadInput with every problem where there is one."""
-        count = len(self.table.members)
-        if not self.problems and count > MOST_MEMBERS:
-            line = self.table.members[MOST_MEMBERS].line
-            self.problems.append(f"line {line}: a member too many: there are {count}, and {MOST_MEMBERS} at most")
-        if not self.problems and not count:
-            self.problems.append("there is no member in the table")
+        votes, published = self.table.votes(), self.layout.total
+        if not self.problems and not self.table.members:
+            self.refuse(0, "there is no member in the table")
+        elif not self.problems and published is not None and votes != published:
+            away = f"{abs(votes - published):,} {'more' if votes > published else 'fewer'}"
+            self.refuse(0, f"the votes add up to {votes:,}; the published total (--total) is {published:,}: {away}")
         if self.problems:
-            raise BadInput("\n".join(self.problems))
+            raise BadInput("\n".join(what for _, what in sorted(self.problems, key=lambda problem: problem[0])))
+        if published is not None:
+            self.choose(f"The votes add up to the published total, {published:,}")
         return self.table
 
 
-def read_table(data: bytes, columns: Columns, thousands: str | None = None) -> MemberTable:
+def how_read(sheet: Sheet, text: str, layout: Layout) -> list[str]:
+    """The rows that were skipped, and the encoding where it isn't UTF-8, in sentences."""
+    skipped = [f"Rows above the header were skipped: {sheet.above}"] if layout.header_row and sheet.above else []
+    word = accented(text)
+    look = f": look at letters with accents, such as those of {word!r}" if word else ""
+    encoding = f"The table was read as {layout.encoding}{look}"
+    return [*skipped, *([encoding] if layout.encoding != "utf-8" else [])]
+
+
+def read_table(data: bytes, columns: Columns, thousands: str | None = None, layout: Layout = Layout()) -> MemberTable:
     """The members of a table, saved with commas, semicolons or tabs.
 
     Thousands may be parted by apostrophes, blanks, and `thousands`: without it, by a comma, or by a point where cells
     are parted by semicolons, as spreadsheets do where decimals have a comma.
     """
-    text = text_of(data)
-    delimiter = delimiter_of(text)
-    marks = (thousands or ("." if delimiter == ";" else ",")) + APOSTROPHES + BLANKS
-    records = records_of(text, delimiter)
-    line, header = next(records, (0, []))
-    if not header:
-        raise BadInput("there is nothing in the table")
-    places = places_of(line, header, columns)
-    reader = TableReader(marks)
-    for line, row in records:
-        if len(row) > len(header) and any(row[len(header) :]):
-            reader.problems.append(f"line {line}: {len(row)} cells under a header of {len(header)}")
-            continue
-        row += [""] * len(header)
-        cells = {wanted.name: row[places[wanted.name]] if wanted.name in places else "" for wanted in fields(columns)}
-        reader.add(line, cells)
-    return reader.whole()
+    text = text_of(data, layout.encoding, has_option=True)
+    sheet = sheet_of(text, layout.header_row)
+    places = places_of(sheet, columns)
+    reader = TableReader((thousands or ("." if sheet.delimiter == ";" else ",")) + APOSTROPHES + BLANKS, layout)
+    rows = reader.with_chairs(reader.limited(reader.without_total(reader.rows_of(sheet, places))))
+    reader.add_all(rows if "code" in places else reader.with_codes(rows))
+    table = reader.whole()
+    names = [name for _, name in reader.numbers.values()]
+    table.choices = [*how_read(sheet, text, layout), *conversions_of(rows, names), *table.choices]
+    return table
 
 
 def input_lines(table: MemberTable) -> list[str]:
@@ -230,12 +277,11 @@ def input_lines(table: MemberTable) -> list[str]:
 
 def read_chair_names(data: bytes) -> dict[int, str]:
     """The names in a table with the columns `chair` and `name`."""
-    text = text_of(data)
+    sheet = sheet_of(text_of(data))
     names: dict[int, str] = {}
-    records = records_of(text, delimiter_of(text))
-    if next(records, (0, []))[1] != ["chair", "name"]:
+    if sheet.header != ["chair", "name"]:
         raise BadInput("the header of a table of chairs' names is chair,name", 1)
-    for line, row in records:
+    for line, row in sheet.rows:
         if len(row) != 2 or not row[1] or not re.fullmatch("[0-9]{1,9}", row[0]) or int(row[0]) not in CHAIRS:
             raise BadInput("a chair's number from 1 to 32 and its name are asked for", line)
         if int(row[0]) in names:

@@ -9,9 +9,9 @@ from itertools import chain
 from pathlib import Path
 
 from .errors import BadInput
-from .member_tables import delimiter_of, records_of, text_of
 from .problems import Problems
 from .scenarios import Scenario, labelled
+from .sheets import delimiter_of, records_of, text_of
 
 HEADER = ["label", "commands"]
 # Where a scenario stands in its file, and what reads it.

@@ -2,19 +2,27 @@
 from __future__ import annotations
 
 import argparse
+import re
 import sys
 from dataclasses import fields
 from pathlib import Path
 
-from .member_tables import Columns
+from .cells import APOSTROPHES, BLANKS, number_of
+from .sheets import ENCODINGS, Columns, Layout
 
 MEANINGS = {
-    "code": "members' codes of three letters",
+    "code": "members' codes of three letters; without it codes are made from names",
     "votes": "members' votes",
-    "chair": "the numbers of the chairs that cast them, empty for a member in none",
+    "chair": "the chairs that cast them, by number or by name, empty for a member in none",
     "name": "members' names, which may be missing",
     "chair_name": "chairs' names, which may be missing",
 }
+
+
+LAYOUT = """The script says on standard error what it read, chose and converted. It asks, and stops:
+- about merged cells, where two or more rows have a blank chair under a filled one, and either most filled chairs have
+  a blank one right below, or no chair stands in two rows;
+- about a total, where the votes of a row equal the sum of the others', in a table of more than two rows."""
 
 
 def thousands_mark(text: str) -> str:
@@ -37,11 +45,46 @@ def add_table_words(parser: argparse.ArgumentParser) -> None:
         type=thousands_mark,
         help="what parts thousands, beside apostrophe and blank (default: a comma; with semicolons, a point)",
     )
+    add_layout_words(parser)
+
+
+def whole_number(text: str) -> int:
+    """A whole number, with or without marks between its thousands."""
+    try:
+        return number_of(text, "," + APOSTROPHES + BLANKS)
+    except ValueError as why:
+        raise argparse.ArgumentTypeError(str(why)) from why
+
+
+def row_number(text: str) -> int:
+    """The number of a row, from 1."""
+    if not re.fullmatch("[1-9][0-9]{0,8}", text):
+        raise argparse.ArgumentTypeError(f"{text!r} is no number of a row: rows are numbered from 1")
+    return int(text)
+
+
+def add_layout_words(parser: argparse.ArgumentParser) -> None:
+    """Adds the words that say how a table is laid out, and that answer what is asked about it."""
+    group = parser.add_argument_group("the table's layout", LAYOUT)
+    add = group.add_argument
+    add("--header-row", metavar="N", type=row_number, help="the row of the header; rows above it are skipped")
+    add("--encoding", choices=ENCODINGS, default="utf-8", help="how letters are saved (default: %(default)s)")
+    chairs, totals = group.add_mutually_exclusive_group(), group.add_mutually_exclusive_group()
+    chairs.add_argument("--fill-down", action="store_true", help="merged cells: a blank chair is that of the row above")
+    chairs.add_argument("--blank-is-no-chair", action="store_true", help="a member with a blank chair is in no chair")
+    totals.add_argument("--leave-out-total", action="store_true", help="leave out the row that equals the others' sum")
+    totals.add_argument("--keep-total", action="store_true", help="the row that equals the others' sum is a member")
+    add("--total", metavar="N", type=whole_number, help="the published sum of votes, which the table's must equal")
 
 
 def columns_of(given: argparse.Namespace) -> Columns:
     """The columns' names."""
     return Columns(**{column.name: getattr(given, column.name) for column in fields(Columns)})
+
+
+def layout_of(given: argparse.Namespace) -> Layout:
+    """How the table is laid out."""
+    return Layout(**{answer.name: getattr(given, answer.name) for answer in fields(Layout)})
 
 
 def table_bytes(given: argparse.Namespace) -> bytes:

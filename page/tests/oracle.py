@@ -5,7 +5,7 @@ import subprocess
 from collections.abc import Callable
 from pathlib import Path
 
-from board_python.member_tables import Columns, MemberTable, input_lines, read_table
+from board_python.member_tables import Columns, Layout, MemberTable, input_lines, read_table
 from board_python.programs import Program
 from board_python.replay_output import Output, read_output
 from board_python.scenarios import Scenario, sweep_of
@@ -29,7 +29,7 @@ class Oracle:
         self.table = self.table_of(EXAMPLE.read_bytes())
 
     def table_of(self, data: bytes) -> MemberTable:
-        return read_table(data, Columns())
+        return read_table(data, Columns(), layout=Layout(blank_is_no_chair=True, keep_total=True))
 
     def lines(self, script: bytes) -> bytes:
         """What `board replay` prints of a script, also where it ends in a fault."""
