@@ -181,6 +181,7 @@ def check_groups(place: Place) -> None:
     """Sweeps of a chair, of two members, and from a scenario; votes of several members in a scenario."""
     words = ["--sweep", "chair 2 10..50 by 20 %", "--sweep", "AAA+DDD 20..60 by 40 %"]
     words += ["--scenario", "no CCC: suspend,CCC", "--sweep", "from no CCC: AAA 25..50 by 25 %"]
+    words += ["--sweep", "from no CCC: chair 2 50..75 by 25 %"]
     words += ["--scenario", "both: votes,BBB+CCC,+10%", "--scenario", "number: votes,AAA+DDD,26"]
     found = votes_at(place, *words)
     # Chair 2 has 25 + 15 votes, all others 60: 1/9, 3/7 and all of 60 are 6.67, 25.71 and 60.
@@ -190,6 +191,8 @@ def check_groups(place: Place) -> None:
     wanted |= {"AAA+DDD 20 %": [9, 40, 3], "AAA+DDD 60 %": [55, 40, 17]}
     # Without CCC's 15 and AAA's 40 there are 45: a third is 15, and all of it is 45.
     wanted |= {"from no CCC: AAA 25 %": [15, 25, 12], "from no CCC: AAA 50 %": [45, 25, 12]}
+    # Of chair 2 BBB's votes count alone, and all others have 60.
+    wanted |= {"from no CCC: chair 2 50 %": [40, 60, 12], "from no CCC: chair 2 75 %": [40, 180, 12]}
     # 44 of 40 votes: 27.5 and 16.5, of which the first is rounded up. 26 of 52 votes: 20 and 6.
     wanted |= {"both": [40, 44, 12], "number": [20, 40, 6]}
     for label, votes in wanted.items():

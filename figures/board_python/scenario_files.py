@@ -32,7 +32,8 @@ def csv_rows(text: str) -> Iterator[Row]:
     if [name.casefold() for name in header] != HEADER:
         raise BadInput(f"the header of a table of scenarios is label,commands, and not {','.join(header)!r}", line)
     for line, cells in records:
-        yield f"line {line}", partial(csv_scenario, cells)
+        if any(cells):
+            yield f"line {line}", partial(csv_scenario, cells)
 
 
 def toml_scenario(given: object) -> Scenario:
