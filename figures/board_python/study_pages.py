@@ -4,13 +4,14 @@ from __future__ import annotations
 import html
 from collections.abc import Iterator
 
-from .pages import BOARD_HEADERS, POWER_HEADERS, added_points, board_cells, figure_of, majorities_of
+from .pages import BOARD_HEADERS, POWER_HEADERS, added_points, board_cells, letters_note, majorities_of
 from .pages import page_of, page_start, power_cells, table_of
+from .picture_files import figure_of
 from .replay_output import Reading
 from .rounding import difference, percent, points
 from .scenarios import Sweep, plain
 from .studies import Result, Study
-from .study_charts import Drawn, axis_name, base_picture, scenario_picture, sweep_pictures
+from .study_charts import Drawn, axis_name, base_picture, drawn_texts, scenario_picture, sweep_pictures
 
 SCRIPT = "board_study"
 
@@ -34,7 +35,7 @@ def scenario_section(study: Study, number: int, result: Result, drawn: Drawn) ->
     heading = f'<h2 id="scenario-{number}">{html.escape(result.scenario.label)}</h2>\n{commands_of(result)}'
     picture = scenario_picture(study, number, result, drawn.measure)
     if picture is None:
-        return f"<section>\n{heading}<p>No chair of the base is open.</p>\n</section>\n"
+        return f"<section>\n{heading}<p>No chair is open.</p>\n</section>\n"
     return f'<section class="kept">\n{heading}{figure_of(picture)}</section>\n'
 
 
@@ -126,5 +127,5 @@ def study_page(study: Study, title: str, beside: str, drawn: Drawn = Drawn()) ->
     )
     scenarios = "".join(scenario_section(study, number, it, drawn) for number, it in enumerate(study.scenarios, 1))
     sweeps = "".join(sweep_section(study, sweep, steps, drawn) for sweep, steps in study.sweeps)
-    charts = base_section(study, drawn) + scenarios + sweeps
+    charts = letters_note(drawn_texts(study)) + base_section(study, drawn) + scenarios + sweeps
     return page_of(SCRIPT, title, about + charts + tables_section(study) + majorities_of(study.majorities))
