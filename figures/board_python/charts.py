@@ -253,12 +253,14 @@ def offsets(count: int, step: float) -> list[float]:
 
 
 def add_bars(axes: Axes, heights: Sequence[float], series: Series, width: float) -> None:
-    """Bars of a width in points, with the stripes of their look."""
+    """Bars of a width in points, with the stripes of their look; none where a value is missing."""
     look = series.look
-    axes.hlines(heights, 0, series.values, colors=look.colour, linewidth=width)
+    bars = [(height, value) for height, value in zip(heights, series.values) if not math.isnan(value)]
+    places, ends = [height for height, _ in bars], [value for _, value in bars]
+    axes.hlines(places, 0, ends, colors=look.colour, linewidth=width)
     if look.stripes:
         thin = {"linewidth": width * look.stripes[2], "linestyles": [stripe_dashes(look, width)]}
-        axes.hlines(heights, 0, series.values, colors="white", gid=f"stripes-{series.label.replace(' ', '-')}", **thin)
+        axes.hlines(places, 0, ends, colors="white", gid=f"stripes-{series.label.replace(' ', '-')}", **thin)
 
 
 def dots_panel(

@@ -48,8 +48,12 @@ def text_width(text: str, size: float) -> float:
 
 def wrapped(text: str, room: float, size: float) -> list[str]:
     """A whole text in lines for a room in points: broken at blanks, and within words that are longer than a line."""
-    letters = room * len(text) / max(text_width(text, size), 1)
-    return textwrap.wrap(text, max(4, int(letters))) or [""]
+    letters = 1 + int(room * len(text) / max(text_width(text, size), 1))
+    lines = textwrap.wrap(text, max(4, letters))
+    while letters > 4 and any(text_width(line, size) > room for line in lines):
+        letters -= 1
+        lines = textwrap.wrap(text, letters)
+    return lines or [""]
 
 
 def missing_letters(texts: Iterable[str]) -> str:
