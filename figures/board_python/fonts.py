@@ -70,7 +70,7 @@ def letters_warning(texts: Iterable[str]) -> str:
     more = f" and {len(missing) - 20} more" if len(missing) > 20 else ""
     return (
         f"The fonts of the charts ({', '.join(font_names())}) lack these letters: {' '.join(missing[:20])}{more}. "
-        "A browser shows them where the reader has a font for them; a PDF file shows boxes."
+        "A browser shows them where the reader has a font for them; a PDF file shows boxes or gaps."
     )
 
 
