@@ -19,7 +19,8 @@ COLUMN = (
     "const rows = arguments[0].closest('table').tBodies[0].rows;"
     "return [...rows].map((row) => row.cells[arguments[0].cellIndex].textContent)"
 )
-SIZES = "return [...document.images].map((it) => [it.naturalWidth, it.clientWidth])"
+SIZES = "return [...document.images].map((it) => [it.currentSrc, it.clientWidth, it.closest('main').clientWidth])"
+LOADED = "const end = arguments[0]; Promise.all([...document.images].map((it) => it.decode())).then(() => end())"
 BACK = "return getComputedStyle(document.body).backgroundColor"
 # What is wider than the page, but for what scrolls within a box of its own.
 WIDE = (
@@ -72,6 +73,12 @@ def gains_by_click(browser: webdriver.Chrome) -> list[str]:
     return list(browser.execute_script(COLUMN, headings[-1]))
 
 
+def shown_pictures(browser: webdriver.Chrome) -> list[tuple[str, float, float]]:
+    """The pictures that are shown once all are loaded: each one's address, its width and that of the page's text."""
+    browser.execute_async_script(LOADED)
+    return browser.execute_script(SIZES)
+
+
 def take(browser: webdriver.Chrome, text: str) -> None:
     """Takes a picture."""
     file, size, selector = text.split(":", 2)
@@ -89,7 +96,10 @@ def visit(browser: webdriver.Chrome, page: str, pictures: list[str]) -> dict[str
     """Opens the page, and looks."""
     set_width(browser, 390)
     browser.get(Path(page).resolve().as_uri())
-    seen = {"narrow": browser.execute_script(WIDE), "pictures": browser.execute_script(SIZES)}
+    seen = {"narrow": browser.execute_script(WIDE), "pictures": shown_pictures(browser)}
+    set_width(browser, 1280)
+    seen["wide pictures"] = shown_pictures(browser)
+    set_width(browser, 390)
     seen["light"] = browser.execute_script(BACK)
     if not pictures:
         seen["order"], seen["gains"] = sorted_by_click(browser), gains_by_click(browser)

@@ -9,14 +9,24 @@ from pathlib import Path
 from .place import TOP, Case, Place, expect, expect_good, has
 
 MEGABYTE = 1_000_000
-SMALLEST_LETTERS = 9.0
+SMALLEST_LETTERS, LARGEST_LETTERS = 9.0, 18.0
 
 
-def smallest_letters(picture: str, natural: float, shown: float) -> float:
-    """How high a chart's smallest letters are on the screen, in pixels."""
+def smallest_letters(address: str, shown: float) -> float:
+    """How high the smallest letters of a chart are on the screen, where it is shown so wide, in pixels."""
+    picture = base64.b64decode(address.partition(",")[2]).decode()
     sizes = [float(size) for size in re.findall(r"font: (?:[a-z]+ )?([0-9.]+)px", picture)]
     units = float(re.search(r'viewBox="0 0 ([0-9.]+) ', picture)[1])
     return min(sizes) * shown / units
+
+
+def check_pictures(seen: list[tuple[str, float, float]], count: int) -> None:
+    """Each chart is as wide as the page, and its letters can be read."""
+    expect(len(seen) == count > 0, f"{len(seen)} pictures of {count}")
+    for address, shown, page in seen:
+        letters = smallest_letters(address, shown)
+        expect(shown == page, f"a chart {shown} px wide on a page of {page}")
+        expect(SMALLEST_LETTERS <= letters <= LARGEST_LETTERS, f"letters of {letters} px in a chart {shown} px wide")
 
 
 def check_page(place: Place, path: Path, megabytes: float) -> None:
@@ -38,10 +48,8 @@ def check_page(place: Place, path: Path, megabytes: float) -> None:
     )
     expect(seen["print"] < megabytes * MEGABYTE, f"a PDF of {seen['print']} bytes")
     text = path.read_text()
-    expect(text.count("<figure>") == len(seen["pictures"]) > 0, f"pictures: {seen['pictures']}")
-    for address, (natural, shown) in zip(re.findall('svg[+]xml;base64,([^"]*)"', text), seen["pictures"]):
-        letters = smallest_letters(base64.b64decode(address).decode(), natural, shown)
-        expect(natural > 0 and letters >= SMALLEST_LETTERS, f"letters of {letters} px in a chart {shown} px wide")
+    check_pictures(seen["pictures"], text.count("<figure>"))
+    check_pictures(seen["wide pictures"], text.count("<figure>"))
     check_kept(text)
 
 

@@ -105,7 +105,7 @@ def check_good(place: Place) -> None:
         expect(again.returncode == 0 and Path(folder, "it.html").read_text() == text, "a second run gives another page")
     titles = " ".join(" ".join(pictures_of(page)).split())
     for label in [
-        "Base: shares of power",
+        "Base: share of power",
         "AAA +30%: what is added",
         f"{SWEEP}: chair 1 Alland",
         "other chairs' power at 85",

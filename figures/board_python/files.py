@@ -2,6 +2,7 @@
 from __future__ import annotations
 
 import os
+from collections.abc import Mapping
 from pathlib import Path
 
 from .errors import BadInput
@@ -21,13 +22,13 @@ def check_replaceable(path: Path, start: str) -> None:
                 raise BadInput(f"{path} is there already and isn't a file of this script: choose another name")
 
 
-def write_files(texts: dict[Path, str]) -> None:
-    """Writes each text to a new file beside its place, and puts them there once all are whole."""
+def write_files(texts: Mapping[Path, str | bytes]) -> None:
+    """Writes each text, in UTF-8, or bytes to a new file beside its place, and puts them there once all are whole."""
     parts = {path: path.with_name(f".{path.name}.{os.getpid()}.part") for path in texts}
     try:
         for path, text in texts.items():
-            with open(parts[path], "x", encoding="utf-8", newline="") as file:
-                file.write(text)
+            with open(parts[path], "xb") as file:
+                file.write(text.encode() if isinstance(text, str) else text)
         for path, part in parts.items():
             os.replace(part, path)
     finally:

@@ -4,13 +4,9 @@ from __future__ import annotations
 import html
 from collections.abc import Iterable, Sequence
 from pathlib import Path
-from typing import TYPE_CHECKING
 
 from .replay_output import Chair, Ratio, Reading
 from .rounding import PAGE_PLACES, PERCENT_PLACES, TABLE_PLACES, decimal, difference, percent, points
-
-if TYPE_CHECKING:
-    from .charts import Picture
 
 HERE = Path(__file__).resolve().parent
 MAJORITIES = {
@@ -97,14 +93,12 @@ def table_of(caption: str, headers: Sequence[str], rows: Iterable[Sequence[objec
     )
 
 
-def figure_of(picture: Picture) -> str:
-    """A chart, with a text in its place for readers who don't see it, and its caption."""
-    from .charts import svg_address
+def letters_note(texts: Iterable[str]) -> str:
+    """A warning on the page where the fonts of its charts lack letters of texts; else nothing."""
+    from .fonts import letters_warning
 
-    return (
-        f'<figure><img src="data:image/svg+xml;base64,{svg_address(picture.draw())}" alt="{html.escape(picture.text)}">\n'
-        f"<figcaption>{html.escape(picture.caption)}</figcaption></figure>\n"
-    )
+    said = letters_warning(texts)
+    return f'<p class="warning">{html.escape(said)}</p>\n' if said else ""
 
 
 def majorities_of(majorities: Iterable[str]) -> str:

@@ -2,19 +2,15 @@
 from __future__ import annotations
 
 import html
-from collections.abc import Sequence
-from typing import TYPE_CHECKING
+from collections.abc import Mapping, Sequence
 
 from .measures import Measure
-from .pages import figure_of, majorities_of, page_of
+from .pages import majorities_of, page_of
 from .provenance import provenance_section
 from .scenarios import BASE, Sweep, plain
 from .studies import Result, Study
 from .study_answers import UNSEEN, answers, sweep_answers
 from .study_tables import tables_section
-
-if TYPE_CHECKING:
-    from .charts import Picture
 
 SCRIPT = "board_study"
 
@@ -24,9 +20,9 @@ def list_of(lines: Sequence[str]) -> str:
     return "<ul>\n" + "".join(f"<li>{html.escape(line)}</li>\n" for line in lines) + "</ul>\n"
 
 
-def pictures_in(pictures: Sequence[Picture], part: str) -> list[str]:
+def figures_in(figures: Mapping[str, str], part: str) -> list[str]:
     """The charts of a part of the page: those whose names are the part's or begin with it."""
-    return [figure_of(it) for it in pictures if it.name == part or it.name.startswith(f"{part}-")]
+    return [figure for name, figure in figures.items() if name == part or name.startswith(f"{part}-")]
 
 
 def section_of(text: str, figures: Sequence[str]) -> str:
@@ -35,14 +31,14 @@ def section_of(text: str, figures: Sequence[str]) -> str:
     return f'<section>\n<div class="kept">\n{text}{first}</div>\n{"".join(figures[1:])}</section>\n'
 
 
-def base_section(study: Study, pictures: Sequence[Picture]) -> str:
+def base_section(study: Study, figures: Mapping[str, str]) -> str:
     """The base: each chair's power at each majority beside its share of the votes."""
     is_empty = not study.base.readings[study.majorities[0]].chairs
     text = "<h2>The base</h2>\n" + "<p>No chair is open.</p>\n" * is_empty
-    return section_of(text, pictures_in(pictures, "base"))
+    return section_of(text, figures_in(figures, "base"))
 
 
-def scenario_section(study: Study, number: int, result: Result, measure: Measure, pictures: Sequence[Picture]) -> str:
+def scenario_section(study: Study, number: int, result: Result, measure: Measure, figures: Mapping[str, str]) -> str:
     """A scenario: what it changes, who gains and who loses most, and what it adds to each chair's shares and powers."""
     commands = ", ".join(f"<code>{html.escape(command)}</code>" for command in result.commands)
     text = (
@@ -50,7 +46,7 @@ def scenario_section(study: Study, number: int, result: Result, measure: Measure
         f"{list_of(result.changes)}<p>The commands: {commands}.</p>\n"
         f"{list_of(answers(study, result, measure))}"
     )
-    return section_of(text, pictures_in(pictures, f"scenario-{number}"))
+    return section_of(text, figures_in(figures, f"scenario-{number}"))
 
 
 def swept_words(study: Study, sweep: Sweep) -> str:
@@ -78,9 +74,9 @@ def sweep_text(study: Study, sweep: Sweep, steps: list[Result]) -> str:
 
 
 def study_page(
-    study: Study, title: str, beside: str, measure: Measure, lines: Sequence[str], pictures: Sequence[Picture]
+    study: Study, title: str, beside: str, measure: Measure, lines: Sequence[str], figures: Mapping[str, str], note: str
 ) -> str:
-    """The whole page of a study, with the lines of its provenance, and with charts where there are any."""
+    """The whole page of a study: with the lines of its provenance, its charts by their names, and a note on these."""
     count = len(study.results()) * len(study.majorities)
     about = (
         f"<p>The register of {len(study.table.members)} members and what changes it, at the majorities "
@@ -88,11 +84,11 @@ def study_page(
         f"chairs. All rows, also those of each step of a sweep, are in <code>{html.escape(beside)}</code>.</p>\n"
     )
     scenarios = [
-        scenario_section(study, number, it, measure, pictures) for number, it in enumerate(study.scenarios, 1)
+        scenario_section(study, number, it, measure, figures) for number, it in enumerate(study.scenarios, 1)
     ]
     sweeps = [
-        section_of(sweep_text(study, sweep, steps), pictures_in(pictures, f"sweep-{number}"))
+        section_of(sweep_text(study, sweep, steps), figures_in(figures, f"sweep-{number}"))
         for number, (sweep, steps) in enumerate(study.sweeps, 1)
     ]
-    parts = [about, base_section(study, pictures), *scenarios, *sweeps, tables_section(study, measure)]
+    parts = [about, note, base_section(study, figures), *scenarios, *sweeps, tables_section(study, measure)]
     return page_of(SCRIPT, title, "".join([*parts, provenance_section(lines), majorities_of(study.majorities)]))
