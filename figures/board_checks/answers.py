@@ -72,8 +72,42 @@ def check_opened(place: Place) -> None:
     expect_items(found, ["At 85 per cent no coalition wins in the base, so nothing can be compared."])
 
 
-def check_small_gain(place: Place) -> None:
-    """A gain that is rounded to nothing isn't said to be nothing, and the greatest gain is on top of each table."""
+def check_nothing_gained(place: Place) -> None:
+    """A chair that keeps its nothing doesn't gain, where all others lose."""
+    # At 70 per cent of 140 votes the three chairs with 40 of them are needed, and chair 3 is still of no use.
+    found = answered(place, "--at", "70", "--scenario", "joins: admit,FFF,40; open,4; move,FFF,4")
+    loss = "chairs 1 Alland and 2 Hills & Dales lose most, -16.667 percentage points each."
+    expect_items(found, [f"At 70 per cent, in share of power: no chair gains; {loss} Chair 4 is new: 33.333 per cent."])
+    expect_items(found, ["FFF is admitted with 40 votes"])
+
+
+def check_half_to_even(place: Place) -> None:
+    """A decimal halfway between two goes to the even one: 1/2048 = 0.00048828125, and -1/2048 for what is added."""
+    # Of 13 votes all 12 chairs are needed at 85 per cent: each has one of 2^11 swings, and without any votes none.
+    table = "code,votes,chair\n" + "".join(f"X{LETTERS[at]}A,1,{at + 1}\n" for at in range(12)) + "XXX,1,\n"
+    with place.folder() as folder:
+        words = ["--no-charts", "--at", "85", "--scenario", "none: votes,XAA,0; votes,XXX,2"]
+        expect_good(study(place, folder, *words, table=table))
+        rows = rows_of(Path(folder, "it.csv"))
+    expect(rows[0]["banzhaf"] == "0.0004882812", f"1/2048 is {rows[0]['banzhaf']}")
+    expect(rows[12]["banzhaf_difference"] == "-0.0004882812", f"-1/2048 is {rows[12]['banzhaf_difference']}")
+
+
+def check_tiny_gain(place: Place) -> None:
+    """A gain that would be rounded to nothing isn't said to be nothing."""
+    with place.folder() as folder:
+        words = ["--no-charts", "--at", "half", "--scenario", "tiny: votes,XAD,+0.01%", f"{folder}/it"]
+        expect_good(place.script("board_study", "examples/members.csv", *words))
+        rows = [row for row in rows_of(Path(folder, "it.csv")) if row["scenario"] == "tiny"]
+        most = max(rows, key=lambda row: Fraction(row["power_share_difference"]))
+        gain = Fraction(most["power_share_difference"])
+        expect(0 < gain < Fraction(1, 2 * 10**5), f"the gain isn't tiny: {most}")
+        said = f"chair {most['chair']} {most['name']} gains most, less than 0.001 percentage points; "
+        expect(said in " ".join(items_of(Path(folder, "it.html"))), f"not on the page: {said}")
+
+
+def check_order(place: Place) -> None:
+    """The greatest gain is on top of each table."""
     table = "code,votes,chair\n" + "".join(f"X{letter}A,1,{number}\n" for number, letter in enumerate(LETTERS, 1))
     with place.folder() as folder:
         expect_good(study(place, folder, "--no-charts", "--at", "half", "--scenario", "x: votes,XDA,2", table=table))
@@ -416,7 +450,10 @@ def cases(place: Place) -> list[Case]:
     return [
         ("board_study: who gains and who loses most", lambda: check_gains(place)),
         ("board_study: chairs that are opened and closed", lambda: check_opened(place)),
-        ("board_study: the order of a table", lambda: check_small_gain(place)),
+        ("board_study: nothing gained", lambda: check_nothing_gained(place)),
+        ("board_study: half to even", lambda: check_half_to_even(place)),
+        ("board_study: a tiny gain", lambda: check_tiny_gain(place)),
+        ("board_study: the order of a table", lambda: check_order(place)),
         ("board_study: thresholds", lambda: check_thresholds(place)),
         ("board_study: several members, chairs and starts", lambda: check_groups(place)),
         ("board_study: provenance and --replay", lambda: check_provenance(place)),
