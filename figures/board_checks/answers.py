@@ -428,21 +428,29 @@ def spent() -> float:
     return sum(resource.getrusage(resource.RUSAGE_CHILDREN)[:2])
 
 
-def check_time(place: Place) -> None:
-    """A study of 179 scenarios without charts takes at most 3 seconds on a machine that isn't busy."""
+def slowness() -> float:
+    """How many times longer than alone something takes now, since others use the machine, too."""
     begun = time.process_time()
     sum(1 for _ in range(10_000_000))
-    scale = max(1.0, (time.process_time() - begun) / CALIBRATION)
+    return max(1.0, (time.process_time() - begun) / CALIBRATION)
+
+
+def seconds_of(place: Place, folder: str, words: list[str]) -> float:
+    """The seconds of processors that a study takes on a machine that isn't busy."""
+    before, begun = slowness(), spent()
+    expect_good(place.script("board_study", "examples/members.csv", *words, f"{folder}/it"))
+    return (spent() - begun) / max(before, slowness())
+
+
+def check_time(place: Place) -> None:
+    """A study of 179 scenarios without charts takes at most 3 seconds on a machine that isn't busy."""
     codes = [row["code"] for row in rows_of(Path(place.top, "examples", "members.csv")) if row["chair"]][:179]
     rows = "".join(f'{it} +30%,"votes,{it},+30%"\n' for it in codes)
     Path(place.top, "many.csv").write_text(f"label,commands\n{rows}")
     with place.folder() as folder:
-        begun = spent()
-        words = ["--scenarios", "many.csv", "--no-charts", f"{folder}/it"]
-        expect_good(place.script("board_study", "examples/members.csv", *words))
-        seconds = (spent() - begun) / scale
+        times = (seconds_of(place, folder, ["--scenarios", "many.csv", "--no-charts"]) for _ in range(3))
+        expect(any(it <= SECONDS for it in times), f"each of three runs takes more than {SECONDS} s")
         expect(len(rows_of(Path(folder, "it.csv"))) == 180 * 4 * 24, "rows are missing")
-    expect(seconds <= SECONDS, f"{seconds:.1f} s, at {scale:.1f} times the time of a machine that isn't busy")
 
 
 def cases(place: Place) -> list[Case]:
