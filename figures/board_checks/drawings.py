@@ -81,15 +81,16 @@ NEW = {"share": (8, 0, 12.5), "banzhaf": (0.08, 0, 1 / 8), "prevent": (0.08, 0, 
 def series_bars(axes: dict[str, Any]) -> list[list[float]]:
     """The ends of the bars of each series: stripes are drawn on the bars at 85 alone."""
     votes, half, at_85, stripes = axes["bars"]
-    expect(stripes == at_85, f"stripes that aren't on the bars: {axes['bars']}")
-    return [votes, half, at_85]
+    expect(stripes.replace("stripes", "bars") == at_85, f"other bars or stripes: {list(axes['bars'])}")
+    expect(axes["bars"][stripes] == axes["bars"][at_85], f"stripes that aren't on the bars: {axes['bars']}")
+    return [axes["bars"][name] for name in (votes, half, at_85)]
 
 
 def check_values(place: Place) -> None:
     """Each measure is drawn with its own numbers, reckoned by hand, in its own unit, which the axis says."""
     for measure, layouts in facts(place).items():
         base, scenario = layouts["wide"]["base"]["axes"][0], layouts["wide"]["scenario-1"]["axes"]
-        drawn = [base["bars"][0], *base["dots"]]
+        drawn = [base["bars"]["bars-share-of-votes"], *base["dots"]]
         expect(all(map(near, drawn, BASE[measure])), f"{measure}, the base: {drawn} where {BASE[measure]} come")
         drawn = series_bars(scenario[0])
         expect(all(map(near, drawn, ADDED[measure])), f"{measure}, added: {drawn} where {ADDED[measure]} come")
