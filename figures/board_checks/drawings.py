@@ -18,7 +18,7 @@ TABLE = f'code,name,votes,chair,chair_name\nAAA,Alland,40,1,"{LONG}"\nBBB,Bellan
 TABLE += "CCC,Celland,15,2,\nDDD,Delland,12,3,A$B$C\nEEE,Elland,8,,\n"
 NOBODY = "move,AAA,none; move,BBB,none; move,CCC,none; move,DDD,none; close,1; close,2; close,3"
 SCENARIOS = ["a new chair: open,4; move,EEE,4", "closed: move,DDD,none; close,3", f"alone: {NOBODY}; open,4"]
-SCENARIOS += [f"nobody: {NOBODY}"]
+SCENARIOS += [f"nobody: {NOBODY}", "no votes: suspend,AAA; suspend,BBB; suspend,CCC; suspend,DDD"]
 NAMESPACE = {"dc": "http://purl.org/dc/elements/1.1/"}
 
 
