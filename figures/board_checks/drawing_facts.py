@@ -37,13 +37,16 @@ THRESHOLDS = [
 LAYOUTS = {"narrow": NARROW, "wide": WIDE, "paper": PAPER}
 
 
-class LegendWithoutHandles(Legend):
-    """A legend as no version of matplotlib has it: it gives its handles by neither name."""
+def take_handles_away() -> None:
+    """Makes legends as no version of matplotlib has them: they give their handles by neither name."""
+    made = Legend.__init__
 
-    def __init__(self, *words: object, **more: object):
-        super().__init__(*words, **more)
+    def made_without(legend: Legend, *words: object, **more: object) -> None:
+        made(legend, *words, **more)
         for name in ["legendHandles", "legend_handles"]:
-            vars(self).pop(name, None)
+            legend.__dict__.pop(name, None)
+
+    Legend.__init__ = made_without
 
 
 def shown_texts(figure: Figure) -> list[Text]:
@@ -96,10 +99,7 @@ def study_of(program: str, table: str, scenarios: list[str]) -> Study:
 
 def main() -> None:
     """Draws everything and prints it."""
-    import matplotlib.figure
-    import matplotlib.legend
-
-    matplotlib.legend.Legend = LegendWithoutHandles
+    take_handles_away()
     study, found = study_of(sys.argv[1], sys.argv[2], sys.argv[3:]), {}
     for word, measure in MEASURES.items():
         pictures = study_pictures(study, Drawn(measure, {SWEEP: THRESHOLDS}))
