@@ -16,8 +16,8 @@ def smallest_letters(address: str, shown: float) -> float:
     """How high the smallest letters of a chart are on the screen, where it is shown so wide, in pixels."""
     picture = base64.b64decode(address.partition(",")[2]).decode()
     sizes = [float(size) for size in re.findall(r"font: (?:[a-z]+ )?([0-9.]+)px", picture)]
-    units = float(re.search(r'viewBox="0 0 ([0-9.]+) ', picture)[1])
-    return min(sizes) * shown / units
+    units = re.findall(r'viewBox="0 0 ([0-9.]+) ', picture)
+    return min(sizes) * shown / float(units[0])
 
 
 def check_pictures(seen: list[tuple[str, float, float]], count: int) -> None:

@@ -8,7 +8,9 @@ gives them, the one before 3.7 and the one since.
 from __future__ import annotations
 
 import json
+import math
 import sys
+from collections.abc import Sequence
 from fractions import Fraction
 from pathlib import Path
 
@@ -35,13 +37,16 @@ THRESHOLDS = [
 LAYOUTS = {"narrow": NARROW, "wide": WIDE, "paper": PAPER}
 
 
-class LegendWithoutHandles(Legend):
-    """A legend as no version of matplotlib has it: it gives its handles by neither name."""
+def take_handles_away() -> None:
+    """Makes legends as no version of matplotlib has them: they give their handles by neither name."""
+    made = Legend.__init__
 
-    def __init__(self, *words: object, **more: object):
-        super().__init__(*words, **more)
+    def made_without(legend: Legend, *words: object, **more: object) -> None:
+        made(legend, *words, **more)
         for name in ["legendHandles", "legend_handles"]:
-            vars(self).pop(name, None)
+            legend.__dict__.pop(name, None)
+
+    Legend.__init__ = made_without
 
 
 def shown_texts(figure: Figure) -> list[Text]:
@@ -55,11 +60,17 @@ def shown_texts(figure: Figure) -> list[Text]:
     return [text for text in [*own, *found] if text.get_visible()]
 
 
+def numbers(values: Sequence[float]) -> list[float]:
+    """Numbers for JSON, without the gaps between bars."""
+    return [float(value) for value in values if not math.isnan(value)]
+
+
 def axes_facts(axes: Axes) -> dict[str, object]:
-    """What axes show: their ends, their text, and the numbers of lines and bars."""
-    bars = [[float(segment[1][0]) for segment in it.get_segments()] for it in axes.collections]
-    lines = [list(map(float, line.get_ydata())) for line in axes.lines if len(line.get_ydata()) > 2]
-    dots = [list(map(float, line.get_xdata())) for line in axes.lines if len(line.get_xdata()) > 2]
+    """What axes show: their ends, their text, and the numbers of lines, bars and dots."""
+    drawn = [line for line in axes.lines if len(line.get_xdata()) > 2]
+    bars = {line.get_gid(): numbers(line.get_xdata())[1::2] for line in drawn if line.get_gid()}
+    others = [line for line in drawn if not line.get_gid()]
+    lines, dots = [numbers(it.get_ydata()) for it in others], [numbers(it.get_xdata()) for it in others]
     return {"ends": axes.get_ylim(), "label": axes.get_xlabel(), "bars": bars, "lines": lines, "dots": dots}
 
 
@@ -74,7 +85,8 @@ def facts(picture: Picture, layout: Layout) -> dict[str, object]:
         here = text.get_window_extent(renderer)
         inside = box.x0 <= here.x0 and here.x1 <= box.x1 and box.y0 <= here.y0 and here.y1 <= box.y1
         outside += [] if inside else [text.get_text()]
-    marks = [line.get_gid() for axes in figure.axes for line in axes.lines if line.get_gid()]
+    gids = [line.get_gid() or "" for axes in figure.axes for line in axes.lines]
+    marks = [gid for gid in gids if gid.startswith("threshold-")]
     about = {"title": picture.title, "caption": picture.caption, "marks": marks, "outside": outside}
     return {**about, "texts": [text.get_text() for text in texts], "axes": list(map(axes_facts, figure.axes))}
 
@@ -87,10 +99,7 @@ def study_of(program: str, table: str, scenarios: list[str]) -> Study:
 
 def main() -> None:
     """Draws everything and prints it."""
-    import matplotlib.figure
-    import matplotlib.legend
-
-    matplotlib.legend.Legend = LegendWithoutHandles
+    take_handles_away()
     study, found = study_of(sys.argv[1], sys.argv[2], sys.argv[3:]), {}
     for word, measure in MEASURES.items():
         pictures = study_pictures(study, Drawn(measure, {SWEEP: THRESHOLDS}))

@@ -4,7 +4,9 @@ from __future__ import annotations
 import json
 import os
 import re
-from functools import lru_cache
+import subprocess
+from collections.abc import Sequence
+from functools import lru_cache, partial
 from pathlib import Path
 from typing import Any
 from xml.etree import ElementTree
@@ -18,11 +20,11 @@ TABLE = f'code,name,votes,chair,chair_name\nAAA,Alland,40,1,"{LONG}"\nBBB,Bellan
 TABLE += "CCC,Celland,15,2,\nDDD,Delland,12,3,A$B$C\nEEE,Elland,8,,\n"
 NOBODY = "move,AAA,none; move,BBB,none; move,CCC,none; move,DDD,none; close,1; close,2; close,3"
 SCENARIOS = ["a new chair: open,4; move,EEE,4", "closed: move,DDD,none; close,3", f"alone: {NOBODY}; open,4"]
-SCENARIOS += [f"nobody: {NOBODY}"]
+SCENARIOS += [f"nobody: {NOBODY}", "no votes: suspend,AAA; suspend,BBB; suspend,CCC; suspend,DDD"]
 NAMESPACE = {"dc": "http://purl.org/dc/elements/1.1/"}
 
 
-def board_study(place: Place, folder: str, *words: str, table: str = TABLE):
+def board_study(place: Place, folder: str, *words: str, table: str = TABLE) -> subprocess.CompletedProcess[bytes]:
     """Runs the script on a table."""
     Path(place.top, "drawn.csv").write_text(table)
     return place.script("board_study", "drawn.csv", f"{folder}/it", *words)
@@ -37,7 +39,8 @@ def facts(place: Place) -> dict[str, Any]:
     )
     expect_good(done)
     expect(not done.stderr, f"standard error: {done.stderr.decode()}")
-    return json.loads(done.stdout)
+    found: dict[str, Any] = json.loads(done.stdout)
+    return found
 
 
 def check_whole(place: Place) -> None:
@@ -54,14 +57,19 @@ def check_whole(place: Place) -> None:
                 expect("…" not in texts, f"{name}, {width}: a text is cut: {it['texts']}")
 
 
-def near(got: list[float], wanted: list[float]) -> bool:
+def near(got: Sequence[float], wanted: Sequence[float]) -> bool:
     """Whether numbers are those that are wanted, but for the rounding of floating-point numbers."""
     return len(got) == len(wanted) and all(abs(one - other) < 1e-9 for one, other in zip(got, wanted))
 
 
+def all_near(got: Sequence[Sequence[float]], wanted: Sequence[Sequence[float]]) -> bool:
+    """Whether that holds of several lists."""
+    return len(got) == len(wanted) and all(near(one, other) for one, other in zip(got, wanted))
+
+
 # By hand: 40, 40 and 12 of 92 votes cast. At half (47) any two chairs win: 2 swings each of 4 sets of others, 6 swings in
 # all, 4 winning coalitions and 4 losing. At 85 of 100 all three are needed: 1 swing each, 1 coalition wins, 7 lose.
-BASE = {
+BASE: dict[str, Sequence[Sequence[float]]] = {
     "share": ([100 * 40 / 92, 100 * 40 / 92, 100 * 12 / 92], [100 / 3] * 3, [100 / 3] * 3),
     "banzhaf": ([40 / 92, 40 / 92, 12 / 92], [1 / 2] * 3, [1 / 4] * 3),
     "prevent": ([40 / 92, 40 / 92, 12 / 92], [1 / 2] * 3, [1] * 3),
@@ -69,7 +77,7 @@ BASE = {
 }
 # With EEE's 8 in a chair of its own 100 votes are cast. At half chair 4 is never needed, and the others stay as they were;
 # at 85 {1,2,3}, {1,2,4} and {1,2,3,4} win: 3, 3, 1 and 1 swings of 8, of 8 sets of others, 3 winning and 13 losing.
-ADDED = {
+ADDED: dict[str, Sequence[Sequence[float]]] = {
     "share": ([-100 * 40 * 8 / 9200] * 2 + [-100 * 12 * 8 / 9200], [0] * 3, [37.5 - 100 / 3] * 2 + [12.5 - 100 / 3]),
     "banzhaf": ([-40 * 8 / 9200] * 2 + [-12 * 8 / 9200], [0] * 3, [3 / 8 - 1 / 4] * 2 + [1 / 8 - 1 / 4]),
     "prevent": ([-40 * 8 / 9200] * 2 + [-12 * 8 / 9200], [0] * 3, [0, 0, 1 / 3 - 1]),
@@ -81,18 +89,19 @@ NEW = {"share": (8, 0, 12.5), "banzhaf": (0.08, 0, 1 / 8), "prevent": (0.08, 0, 
 def series_bars(axes: dict[str, Any]) -> list[list[float]]:
     """The ends of the bars of each series: stripes are drawn on the bars at 85 alone."""
     votes, half, at_85, stripes = axes["bars"]
-    expect(stripes == at_85, f"stripes that aren't on the bars: {axes['bars']}")
-    return [votes, half, at_85]
+    expect(stripes.replace("stripes", "bars") == at_85, f"other bars or stripes: {list(axes['bars'])}")
+    expect(axes["bars"][stripes] == axes["bars"][at_85], f"stripes that aren't on the bars: {axes['bars']}")
+    return [axes["bars"][name] for name in (votes, half, at_85)]
 
 
 def check_values(place: Place) -> None:
     """Each measure is drawn with its own numbers, reckoned by hand, in its own unit, which the axis says."""
     for measure, layouts in facts(place).items():
         base, scenario = layouts["wide"]["base"]["axes"][0], layouts["wide"]["scenario-1"]["axes"]
-        drawn = [base["bars"][0], *base["dots"]]
-        expect(all(map(near, drawn, BASE[measure])), f"{measure}, the base: {drawn} where {BASE[measure]} come")
+        drawn = [base["bars"]["bars-share-of-votes"], *base["dots"]]
+        expect(all_near(drawn, BASE[measure]), f"{measure}, the base: {drawn} where {BASE[measure]} come")
         drawn = series_bars(scenario[0])
-        expect(all(map(near, drawn, ADDED[measure])), f"{measure}, added: {drawn} where {ADDED[measure]} come")
+        expect(all_near(drawn, ADDED[measure]), f"{measure}, added: {drawn} where {ADDED[measure]} come")
         new = series_bars(scenario[1])
         expect(near([bars[0] for bars in new], list(NEW[measure])), f"{measure}, a new chair: {new}")
         units = ["per cent: ", "percentage points added to the base: "]
@@ -134,11 +143,12 @@ def check_thresholds(place: Place) -> None:
     pictures = facts(place)["prevent"]["wide"]
     first = "1: at half, from 20 votes (25.000 per cent), chair 1 has all power"
     second = "2: at 85, from 26 votes (30.303 per cent), chair 3 has no power"
-    for name, wanted, others in [
-        ("sweep-1", [first, second], []),
-        ("sweep-1-others-half", [first], [second]),
-        ("sweep-1-others-85", [second], [first]),
-    ]:
+    texts: dict[str, tuple[list[str], list[str]]] = {
+        "sweep-1": ([first, second], []),
+        "sweep-1-others-half": ([first], [second]),
+        "sweep-1-others-85": ([second], [first]),
+    }
+    for name, (wanted, others) in texts.items():
         picture = pictures[name]
         marks = [f"threshold-{text[0]}" for text in wanted]
         expect(picture["marks"] == marks, f"{name}: lines {picture['marks']} where {marks} are wanted")
@@ -177,7 +187,7 @@ def check_svg(data: bytes, is_titled: bool) -> None:
     top = ElementTree.fromstring(data)
     about = {name: [it.text or "" for it in top.iterfind(f".//dc:{name}", NAMESPACE)] for name in ["title", "source"]}
     title = about["title"][0]
-    expect("board_study" in about["title"] and "drawn.csv" in about["source"][0], f"metadata: {about}")
+    expect("board_study" in about["title"] and "drawn.csv" in "".join(about["source"]), f"metadata: {about}")
     drawn = " ".join(it.text or "" for it in top.iter("{http://www.w3.org/2000/svg}text"))
     expect((title in drawn) == is_titled, f"the title {title!r} among {drawn!r}")
     fonts = re.findall(rb"font: [^;]*?px ([^;\"]*)", data)
@@ -201,12 +211,12 @@ def check_files(place: Place) -> None:
     names = ["base", "scenario-1", "sweep-1", "sweep-1-others-85", "sweep-1-others-half"]
     with place.folder() as folder:
         runs = []
-        for more in [[], [], ["--figure-titles", "out"]]:
-            expect_good(board_study(place, folder, *words, "--figures", folder, *more))
+        for titles in ["in", "in", "out"]:
+            expect_good(board_study(place, folder, *words, "--figures", folder, "--figure-titles", titles))
             files = {name: Path(folder, name).read_bytes() for name in sorted(os.listdir(folder))}
             runs.append({name: data for name, data in files.items() if not name.startswith("it.")})
             for name, data in runs[-1].items():
-                check_pdf(data) if name.endswith(".pdf") else check_svg(data, not more)
+                check_pdf(data) if name.endswith(".pdf") else check_svg(data, titles == "in")
         page = Page(Path(folder, "it.html").read_text())
     wanted = {f"it-{name}.{end}" for name in names for end in ["pdf", "svg"]}
     expect(set(runs[0]) == wanted, f"files: {list(runs[0])}")
@@ -275,4 +285,4 @@ def cases(place: Place) -> list[Case]:
         "figures that can't be written": check_refused_files,
         "letters that fonts lack": check_letters,
     }
-    return [(f"charts: {name}", lambda it=check: it(place)) for name, check in checks.items()]
+    return [(f"charts: {name}", partial(check, place)) for name, check in checks.items()]

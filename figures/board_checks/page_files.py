@@ -30,7 +30,7 @@ class Page(HTMLParser):
         self.feed(text)
         expect(not self.open, f"elements that aren't closed: {self.open}")
 
-    def handle_starttag(self, tag, attrs):
+    def handle_starttag(self, tag: str, attrs: list[tuple[str, str | None]]) -> None:
         self.seen.append((tag, dict(attrs)))
         if tag not in self.EMPTY:
             self.open.append(tag)
@@ -41,10 +41,10 @@ class Page(HTMLParser):
         elif tag in ("td", "th"):
             self.tables[-1][-1].append("")
 
-    def handle_endtag(self, tag):
+    def handle_endtag(self, tag: str) -> None:
         expect(bool(self.open) and self.open.pop() == tag, f"</{tag}> closes another element")
 
-    def handle_data(self, data):
+    def handle_data(self, data: str) -> None:
         if {"td", "th"} & set(self.open):
             self.tables[-1][-1][-1] += data
 
@@ -78,7 +78,7 @@ def check_frame(text: str, majorities: set[str]) -> Page:
     expect(all("scope" in it for it in page.all("th")), "a header cell without its scope")
     expect(len(page.all("caption")) == len(page.all("table")), "a table without a caption")
     links = [value for _, it in page.seen for name, value in it.items() if name in ("href", "src", "srcset", "action")]
-    expect(all(it.startswith(("#", "data:")) for it in links), "the page needs something from elsewhere")
+    expect(all((it or "").startswith(("#", "data:")) for it in links), "the page needs something from elsewhere")
     bare = re.sub('base64,[^"]*', "", text)
     expect(not re.search("https?:|@import|url\\(|<link", bare), "the page names a place in a network")
     words = " ".join(text.split())

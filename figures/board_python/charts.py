@@ -21,11 +21,12 @@ matplotlib.rcParams.update(
         "svg.fonttype": "none",
         "pdf.fonttype": 42,
         "font.family": [*font_names(), "sans-serif"],
-        "font.sans-serif": FONTS,
+        "font.sans-serif": FONTS[:1],
         "font.size": 10,
         "text.color": INK,
         "text.parse_math": False,
         "axes.formatter.useoffset": False,
+        "path.simplify": False,
     }
     | {"axes.labelcolor": INK, "xtick.color": INK, "ytick.color": INK, "axes.edgecolor": INK}
     | {"axes.spines.top": False, "axes.spines.right": False, "axes.grid": True, "grid.color": "#d8d8d8"}
@@ -253,14 +254,15 @@ def offsets(count: int, step: float) -> list[float]:
 
 
 def add_bars(axes: Axes, heights: Sequence[float], series: Series, width: float) -> None:
-    """Bars of a width in points, with the stripes of their look; none where a value is missing."""
-    look = series.look
-    bars = [(height, value) for height, value in zip(heights, series.values) if not math.isnan(value)]
-    places, ends = [height for height, _ in bars], [value for _, value in bars]
-    axes.hlines(places, 0, ends, colors=look.colour, linewidth=width)
+    """Bars of a width in points, with the stripes of their look; all in one path, which keeps a file small."""
+    look, name = series.look, series.label.replace(" ", "-")
+    ends = [end for value in series.values for end in (0, value, math.nan)]
+    places = [place for height in heights for place in (height, height, math.nan)]
+    flat = {"solid_capstyle": "butt", "dash_capstyle": "butt"}
+    axes.plot(ends, places, color=look.colour, linewidth=width, gid=f"bars-{name}", **flat)
     if look.stripes:
-        thin = {"linewidth": width * look.stripes[2], "linestyles": [stripe_dashes(look, width)]}
-        axes.hlines(places, 0, ends, colors="white", gid=f"stripes-{series.label.replace(' ', '-')}", **thin)
+        thin = {"linewidth": width * look.stripes[2], "linestyle": stripe_dashes(look, width)}
+        axes.plot(ends, places, color="white", gid=f"stripes-{name}", **thin, **flat)
 
 
 def dots_panel(
