@@ -132,7 +132,7 @@ def own_picture(
     seat, majorities = study.seat(sweep), study.majorities
     title = f"{sweep.text}: chair {axis_name(study, seat)}"
     text = f"Lines: {measure.name} of chair {seat} at each majority. The table below has all numbers."
-    caption = f"The chair of {sweep.member} as its share of the total voting power grows, in {unit_of(measure)}; each"
+    caption = f"Chair {seat} as the share of {sweep.member} of the total voting power grows, in {unit_of(measure)}; each"
     caption += f" axis spans its own values. {source_of(measure)}{thresholds_text(thresholds, *majorities)}"
     series = [power_series(at, measure, powers_at(steps, at, seat, measure)) for at in majorities]
     marks = [marks_at(thresholds, at) for at in majorities]
