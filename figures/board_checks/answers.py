@@ -5,6 +5,7 @@ import hashlib
 import html
 import re
 import resource
+import shutil
 import time
 from collections.abc import Sequence
 from fractions import Fraction
@@ -269,6 +270,16 @@ def check_provenance(place: Place) -> None:
         check_replayed(place, script, rows_of(Path(folder, "it.csv")))
 
 
+def check_release(place: Place) -> None:
+    """The program of a release is named with its commit, which stands in the file VERSION beside it."""
+    with place.folder() as folder, place.folder() as release:
+        shutil.copy(place.program, f"{release}/board")
+        Path(release, "VERSION").write_text("version 0.3.0\ncommit 0123abcd\nkit 13\n")
+        expect_good(study(place, folder, "--no-charts", "--at", "half", "--board", f"{release}/board"))
+        first = head_of(Path(folder, "it.csv"))[0]
+        expect(first.startswith("counted by board ") and first.endswith(", commit 0123abcd"), first)
+
+
 def check_replay_place(place: Place) -> None:
     """The script isn't written over a table of members, nor over what the study writes."""
     with place.folder() as folder:
@@ -465,6 +476,7 @@ def cases(place: Place) -> list[Case]:
         ("board_study: thresholds", lambda: check_thresholds(place)),
         ("board_study: several members, chairs and starts", lambda: check_groups(place)),
         ("board_study: provenance and --replay", lambda: check_provenance(place)),
+        ("board_study: the program of a release", lambda: check_release(place)),
         ("board_study: where --replay writes", lambda: check_replay_place(place)),
         ("board_figures: provenance", lambda: check_figures(place)),
         ("board_study: one run of the program", lambda: check_starts(place)),
