@@ -15,7 +15,12 @@ from selenium.webdriver.chrome.service import Service
 from selenium.webdriver.common.by import By
 
 ORDER = "return [...arguments[0].tBodies[0].rows].map((row) => row.cells[2].textContent)"
-SIZES = "return [...document.images].map((it) => [it.naturalWidth, it.clientWidth])"
+COLUMN = (
+    "const rows = arguments[0].closest('table').tBodies[0].rows;"
+    "return [...rows].map((row) => row.cells[arguments[0].cellIndex].textContent)"
+)
+SIZES = "return [...document.images].map((it) => [it.currentSrc, it.clientWidth, it.closest('main').clientWidth])"
+LOADED = "const end = arguments[0]; Promise.all([...document.images].map((it) => it.decode())).then(() => end())"
 BACK = "return getComputedStyle(document.body).backgroundColor"
 # What is wider than the page, but for what scrolls within a box of its own.
 WIDE = (
@@ -57,6 +62,23 @@ def sorted_by_click(browser: webdriver.Chrome) -> dict[str, list[str]]:
     return seen
 
 
+def gains_by_click(browser: webdriver.Chrome) -> list[str]:
+    """What is added in the last table that has such a column, after a click on its heading; nothing without one."""
+    headings = [it for it in browser.find_elements(By.CSS_SELECTOR, "thead th") if it.text.startswith("Added")]
+    if not headings:
+        return []
+    button = headings[-1].find_element(By.TAG_NAME, "button")
+    browser.execute_script("arguments[0].scrollIntoView({block: 'center'})", button)
+    button.click()
+    return list(browser.execute_script(COLUMN, headings[-1]))
+
+
+def shown_pictures(browser: webdriver.Chrome) -> list[tuple[str, float, float]]:
+    """The pictures that are shown once all are loaded: each one's address, its width and that of the page's text."""
+    browser.execute_async_script(LOADED)
+    return browser.execute_script(SIZES)
+
+
 def take(browser: webdriver.Chrome, text: str) -> None:
     """Takes a picture."""
     file, size, selector = text.split(":", 2)
@@ -74,10 +96,13 @@ def visit(browser: webdriver.Chrome, page: str, pictures: list[str]) -> dict[str
     """Opens the page, and looks."""
     set_width(browser, 390)
     browser.get(Path(page).resolve().as_uri())
-    seen = {"narrow": browser.execute_script(WIDE), "pictures": browser.execute_script(SIZES)}
+    seen = {"narrow": browser.execute_script(WIDE), "pictures": shown_pictures(browser)}
+    set_width(browser, 1280)
+    seen["wide pictures"] = shown_pictures(browser)
+    set_width(browser, 390)
     seen["light"] = browser.execute_script(BACK)
     if not pictures:
-        seen["order"] = sorted_by_click(browser)
+        seen["order"], seen["gains"] = sorted_by_click(browser), gains_by_click(browser)
         seen["print"] = len(base64.b64decode(browser.print_page()))
     for picture in pictures:
         take(browser, picture)

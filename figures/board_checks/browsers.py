@@ -9,14 +9,24 @@ from pathlib import Path
 from .place import TOP, Case, Place, expect, expect_good, has
 
 MEGABYTE = 1_000_000
-SMALLEST_LETTERS = 9.0
+SMALLEST_LETTERS, LARGEST_LETTERS = 9.0, 18.0
 
 
-def smallest_letters(picture: str, natural: float, shown: float) -> float:
-    """How high a chart's smallest letters are on the screen, in pixels."""
+def smallest_letters(address: str, shown: float) -> float:
+    """How high the smallest letters of a chart are on the screen, where it is shown so wide, in pixels."""
+    picture = base64.b64decode(address.partition(",")[2]).decode()
     sizes = [float(size) for size in re.findall(r"font: (?:[a-z]+ )?([0-9.]+)px", picture)]
-    units = float(re.search(r'viewBox="0 0 ([0-9.]+) ', picture)[1])
-    return min(sizes) * shown / units
+    units = re.findall(r'viewBox="0 0 ([0-9.]+) ', picture)
+    return min(sizes) * shown / float(units[0])
+
+
+def check_pictures(seen: list[tuple[str, float, float]], count: int) -> None:
+    """Each chart is as wide as the page, and its letters can be read."""
+    expect(len(seen) == count > 0, f"{len(seen)} pictures of {count}")
+    for address, shown, page in seen:
+        letters = smallest_letters(address, shown)
+        expect(shown == page, f"a chart {shown} px wide on a page of {page}")
+        expect(SMALLEST_LETTERS <= letters <= LARGEST_LETTERS, f"letters of {letters} px in a chart {shown} px wide")
 
 
 def check_page(place: Place, path: Path, megabytes: float) -> None:
@@ -31,15 +41,15 @@ def check_page(place: Place, path: Path, megabytes: float) -> None:
     expect([float(text) for text in seen["order"]["up"]] == sorted(numbers), f"a click doesn't sort: {seen['order']}")
     down = [float(text) for text in seen["order"]["down"]]
     expect(down == sorted(numbers)[::-1] and seen["order"]["says"] == "descending", f"a second click: {seen['order']}")
+    gains = [float(text) for text in seen["gains"]]
+    expect(gains == sorted(gains)[::-1], f"a first click doesn't put the greatest gain on top: {gains}")
     expect(
         seen["light"] == "rgb(255, 255, 255)" and seen["dark"] == "rgb(22, 24, 28)", f"{seen['light']} {seen['dark']}"
     )
     expect(seen["print"] < megabytes * MEGABYTE, f"a PDF of {seen['print']} bytes")
     text = path.read_text()
-    expect(text.count("<figure>") == len(seen["pictures"]) > 0, f"pictures: {seen['pictures']}")
-    for address, (natural, shown) in zip(re.findall('svg[+]xml;base64,([^"]*)"', text), seen["pictures"]):
-        letters = smallest_letters(base64.b64decode(address).decode(), natural, shown)
-        expect(natural > 0 and letters >= SMALLEST_LETTERS, f"letters of {letters} px in a chart {shown} px wide")
+    check_pictures(seen["pictures"], text.count("<figure>"))
+    check_pictures(seen["wide pictures"], text.count("<figure>"))
     check_kept(text)
 
 
@@ -68,6 +78,7 @@ def check_study(place: Place) -> None:
     words = ["--scenario", "XAB +30 %: votes,XAB,+30%", "--sweep", "XAA 10..20 by 5 %"]
     with place.folder() as folder:
         expect_good(place.script("board_study", "examples/members.csv", *words, f"{folder}/it"))
+        expect("Added to the share of power" in Path(folder, "it.html").read_text(), "no column of gains")
         check_page(place, Path(folder, "it.html"), 3)
         expect_good(place.script("board_study", "examples/members.csv", f"{folder}/four"))
         check_page(place, Path(folder, "four.html"), 1)

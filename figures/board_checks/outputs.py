@@ -1,15 +1,13 @@
 """figures/board_figures on good outputs and bad ones."""
 from __future__ import annotations
 
-import csv
-import io
 import os
 import subprocess
 from fractions import Fraction
 from pathlib import Path
 
 from .page_files import check_frame
-from .place import TOP, Case, Place, expect, expect_good, expect_refused, has, rows_of
+from .place import TOP, Case, Place, expect, expect_good, expect_refused, has, rows_in, rows_of
 
 FRACTIONS = ["banzhaf", "power_share", "prevent", "initiate"]
 # Of which outputs the page is made, too: that takes longer than the table.
@@ -50,7 +48,7 @@ def check_fraction(row: dict[str, str], name: str, printed: str) -> None:
 
 def check_table(text: str, output: bytes) -> None:
     """Compares each row of the table with the lines of the output."""
-    rows = list(csv.DictReader(io.StringIO(text)))
+    rows = rows_in(text)
     number, reading, accepted, left = 0, [], 0, iter(rows)
     for line in output.decode().splitlines():
         word, *fields = line.split(",")
@@ -177,7 +175,7 @@ def check_stale(place: Place) -> None:
     """Table and page mark a stale reading, and --strict refuses it, as it refuses a refused command."""
     output = place.board(STALE)
     texts = made(place, output)
-    rows = list(csv.DictReader(io.StringIO(texts["it.readings.csv"])))
+    rows = rows_in(texts["it.readings.csv"])
     expect([row["pending"] for row in rows] == ["2", "0", "0"], f"pending: {rows}")
     page = " ".join(texts["it.html"].split())
     expect(
@@ -202,12 +200,13 @@ def check_interpreter(place: Place) -> None:
     expect(venv.returncode == 0, f"no environment without libraries: {venv.stderr}")
     good = place.board((TOP / "examples" / "three-chairs.csv").read_bytes())
     with place.folder() as folder:
-        done = place.run(
-            str(lone / "bin" / "python"), "figures/board_figures", f"{folder}/it", "--no-charts", given=good
-        )
-        if has("/usr/bin/python3", "pandas"):
+        script = [str(lone / "bin" / "python"), "figures/board_figures", f"{folder}/it"]
+        expect_good(place.run(*script, "--no-charts", given=good))
+        expect(os.listdir(folder) == ["it.readings.csv"], f"files: {os.listdir(folder)}")
+        done = place.run(*script, given=good)
+        if has("/usr/bin/python3", "matplotlib"):
             expect_good(done)
-            expect(os.listdir(folder) == ["it.readings.csv"], f"files: {os.listdir(folder)}")
+            expect(sorted(os.listdir(folder)) == ["it.html", "it.readings.csv"], f"files: {os.listdir(folder)}")
         else:
             expect(done.returncode == 1 and str(lone).encode() in done.stderr, done.stderr.decode())
     code = "from pathlib import Path; from board_python import interpreter; interpreter.SYSTEM = Path('/none'); "

@@ -20,7 +20,7 @@ ARTICLES = {
 class Page(HTMLParser):
     """Looks at a page: its elements are closed; keeps their attributes, and the cells of its tables."""
 
-    EMPTY = {"meta", "img", "br"}
+    EMPTY = {"meta", "img", "source", "br"}
 
     def __init__(self, text: str):
         super().__init__()
@@ -30,7 +30,7 @@ class Page(HTMLParser):
         self.feed(text)
         expect(not self.open, f"elements that aren't closed: {self.open}")
 
-    def handle_starttag(self, tag, attrs):
+    def handle_starttag(self, tag: str, attrs: list[tuple[str, str | None]]) -> None:
         self.seen.append((tag, dict(attrs)))
         if tag not in self.EMPTY:
             self.open.append(tag)
@@ -41,10 +41,10 @@ class Page(HTMLParser):
         elif tag in ("td", "th"):
             self.tables[-1][-1].append("")
 
-    def handle_endtag(self, tag):
+    def handle_endtag(self, tag: str) -> None:
         expect(bool(self.open) and self.open.pop() == tag, f"</{tag}> closes another element")
 
-    def handle_data(self, data):
+    def handle_data(self, data: str) -> None:
         if {"td", "th"} & set(self.open):
             self.tables[-1][-1][-1] += data
 
@@ -53,14 +53,20 @@ class Page(HTMLParser):
         return [attributes for name, attributes in self.seen if name == tag]
 
 
+def texts_of(picture: str) -> str:
+    """All texts in an SVG picture, in one line."""
+    return " ".join(" ".join(ElementTree.fromstring(picture).itertext()).split())
+
+
 def pictures_of(page: Page) -> list[str]:
-    """The charts, each an SVG picture in the page itself, with a text that stands for it."""
+    """The charts, each twice, for narrow screens and for wide ones: SVG pictures in the page itself, with a text."""
     start, found = "data:image/svg+xml;base64,", []
-    for attributes in page.all("img"):
-        expect((attributes["src"] or "").startswith(start), "a picture that isn't in the page")
-        expect(len(attributes["alt"] or "") > 80, "a picture without a text in its place")
-        found.append(base64.b64decode(attributes["src"][len(start) :]).decode())
-        ElementTree.fromstring(found[-1])
+    expect(all(len(it["alt"] or "") > 80 for it in page.all("img")), "a picture without a text in its place")
+    expect(len(page.all("source")) == len(page.all("img")), "a picture that isn't drawn for narrow screens, too")
+    for address in [it["srcset"] for it in page.all("source")] + [it["src"] for it in page.all("img")]:
+        expect((address or "").startswith(start), "a picture that isn't in the page")
+        found.append(base64.b64decode((address or "")[len(start) :]).decode())
+        expect(len(ElementTree.fromstring(found[-1])) > 0, "an empty picture")
     return found
 
 
@@ -72,13 +78,13 @@ def check_frame(text: str, majorities: set[str]) -> Page:
     expect(all("scope" in it for it in page.all("th")), "a header cell without its scope")
     expect(len(page.all("caption")) == len(page.all("table")), "a table without a caption")
     links = [value for _, it in page.seen for name, value in it.items() if name in ("href", "src", "srcset", "action")]
-    expect(all(it.startswith(("#", "data:")) for it in links), "the page needs something from elsewhere")
+    expect(all((it or "").startswith(("#", "data:")) for it in links), "the page needs something from elsewhere")
     bare = re.sub('base64,[^"]*', "", text)
     expect(not re.search("https?:|@import|url\\(|<link", bare), "the page names a place in a network")
     words = " ".join(text.split())
     for source in [*SOURCES, *(ARTICLES[majority] for majority in majorities)]:
         expect(source in words, f"{source!r} isn't on the page")
     for picture in pictures_of(page):
-        expect("swings of all chairs" in picture, "an axis doesn't say of what the per cent are")
-        expect("pattern" not in picture, "a chart has hatches, which make a large PDF")
+        expect("the chair's swings over the swings of all chairs" in texts_of(picture), "no axis says what is drawn")
+        expect("pattern" not in picture, "a chart has patterns, which make a large PDF: stripes are dashes")
     return page

@@ -2,6 +2,7 @@
 from __future__ import annotations
 
 import csv
+import io
 import os
 import shutil
 import subprocess
@@ -104,7 +105,12 @@ def expect_refused(done: Done, script: str, message: str, folder: str) -> None:
     expect(not os.listdir(folder), f"files are left: {os.listdir(folder)}")
 
 
+def rows_in(text: str) -> list[dict[str, str]]:
+    """The rows of a table, behind the comments that say where it comes from."""
+    return list(csv.DictReader(line for line in io.StringIO(text, newline="") if not line.startswith("# ")))
+
+
 def rows_of(path: Path) -> list[dict[str, str]]:
-    """The rows of a table."""
+    """The rows of a table in a file."""
     with open(path, newline="") as file:
-        return list(csv.DictReader(file))
+        return rows_in(file.read())

@@ -1,7 +1,9 @@
 """figures/board_study: its table against runs of the program by hand, its page, and studies that go wrong."""
 from __future__ import annotations
 
+import subprocess
 from fractions import Fraction
+from functools import partial
 from pathlib import Path
 
 from .page_files import check_frame, pictures_of
@@ -21,14 +23,14 @@ SCENARIOS = [
     ("a new chair: open,4; move,EEE,4", "a new chair", ["open,4", "move,EEE,4"]),
     ("closed: move,DDD,none; close,3", "closed", ["move,DDD,none", "close,3"]),
     # Of 100 votes without EEE's 8 and DDD's 12, 25 per cent of the total are a third of the others' 40.
-    ("share: suspend,DDD; votes,AAA,25%", "share", ["suspend,DDD", "votes,AAA,16"]),
+    ("share: suspend,DDD; votes,AAA,25% of total", "share", ["suspend,DDD", "votes,AAA,16"]),
 ]
 # AAA from 20 to 40 per cent: p/(100-p) of the others' 60 votes: 15, 20, 25.714.., 32.307.., 40.
 SWEEP, STEPS = "AAA 20..40 by 5 %", {"20": 15, "25": 20, "30": 26, "35": 32, "40": 40}
 FRACTIONS = ["vote_share", "banzhaf", "power_share", "prevent", "initiate"]
 
 
-def study(place: Place, folder: str, *words: str, table: str = TABLE):
+def study(place: Place, folder: str, *words: str, table: str = TABLE) -> subprocess.CompletedProcess[bytes]:
     """Runs the script on a table."""
     Path(place.top, "members.csv").write_text(table)
     return place.script("board_study", "members.csv", *words, f"{folder}/it")
@@ -103,7 +105,7 @@ def check_good(place: Place) -> None:
         expect(again.returncode == 0 and Path(folder, "it.html").read_text() == text, "a second run gives another page")
     titles = " ".join(" ".join(pictures_of(page)).split())
     for label in [
-        "Base: shares of power",
+        "Base: share of power",
         "AAA +30%: what is added",
         f"{SWEEP}: chair 1 Alland",
         "other chairs' power at 85",
@@ -117,6 +119,7 @@ def check_good(place: Place) -> None:
     expect([row[0] for row in side[1:]] == ["1", "2", "3"] and side[1][5:7] == ["33.333", "0.000"], f"{side[:2]}")
 
 
+SPELL = "say 40% of total for a share of the total voting power, or +40% for a change of the member's own votes"
 # What goes wrong, the words, and how the message begins.
 BAD = [
     (
@@ -152,9 +155,32 @@ BAD = [
         ["--scenario", "x: votes,ZZZ,+5%"],
         "scenario 'x': the command votes,ZZZ,+5%: no " "member has the code ZZZ",
     ),
-    ("all of the total", ["--scenario", "x: votes,AAA,100%"], "scenario 'x': the command votes,AAA,100%: no number"),
+    (
+        "all of the total",
+        ["--scenario", "x: votes,AAA,100% of total"],
+        "scenario 'x': the command votes,AAA,100% of total: no number",
+    ),
     ("less than nothing", ["--scenario", "x: votes,AAA,-200%"], "scenario 'x': the command votes,AAA,-200%: -40 votes"),
     ("no sweep", ["--sweep", "AAA 10-20"], "--sweep 'AAA 10-20' isn't of the form"),
+    ("of what", ["--scenario", "x: votes,AAA,40%"], f"--scenario 'x: votes,AAA,40%': 'votes,AAA,40%': {SPELL}"),
+    ("a change of all", ["--scenario", "x: votes,AAA,+40% of total"], "--scenario 'x: votes,AAA,+40% of total': "),
+    ("twice", ["--sweep", "AAA+AAA 1..2 by 1 %"], "--sweep 'AAA+AAA 1..2 by 1 %': AAA+AAA names a member twice"),
+    ("a member of two in no chair", ["--sweep", "AAA+EEE 1..2 by 1 %"], "--sweep 'AAA+EEE 1..2 by 1 %': EEE sits in"),
+    ("a chair that isn't open", ["--sweep", "chair 9 1..2 by 1 %"], "--sweep 'chair 9 1..2 by 1 %': chair 9 has no"),
+    ("no such start", ["--sweep", "from x: AAA 1..2 by 1 %"], "--sweep 'from x: AAA 1..2 by 1 %': no scenario has"),
+    (
+        "everything at once",
+        ["--scenario", "one: move,AAA,9", "--scenario", "good: suspend,AAA", "--scenario", "two: close,1"],
+        "scenario 'one': the command move,AAA,9 was refused: ChairNotOpen, the chair is not open (docs/FORMATS.md)\n"
+        "board_study: scenario 'two': the command close,1 was refused: ChairHasMembers, the chair has members",
+    ),
+    (
+        "each word that is wrong",
+        ["--scenario", "x: votes,ZZZ,+5%", "--scenario", "y: votes,YYY,+5%", "--sweep", "XXX 1..2 by 1 %"],
+        "scenario 'x': the command votes,ZZZ,+5%: no member has the code ZZZ\n"
+        "board_study: scenario 'y': the command votes,YYY,+5%: no member has the code YYY\n"
+        "board_study: --sweep 'XXX 1..2 by 1 %': no member has the code XXX",
+    ),
     ("steps that don't reach", ["--sweep", "AAA 10..20 by 3 %"], "--sweep 'AAA 10..20 by 3 %': whole steps lead"),
     ("a sweep to 100", ["--sweep", "AAA 10..100 by 10 %"], "--sweep 'AAA 10..100 by 10 %': whole steps lead"),
     ("too many steps", ["--sweep", "AAA 0..99 by 0.01 %"], "--sweep 'AAA 0..99 by 0.01 %' has 9901 steps"),
@@ -183,20 +209,22 @@ def check_bad_table(place: Place) -> None:
 
 
 def check_progress(place: Place) -> None:
-    """Where the program is slow, standard error says how far a sweep is."""
+    """Where the program is slow, standard error says how many readings there are."""
     slow = Path(place.top, "slow")
-    slow.write_text(f'#!/bin/sh\nsleep 0.6\nexec "{place.program}" "$@"\n')
+    lines = "while read -r line; do case $line in reading*) sleep 0.6 ;; esac; echo \"$line\"; done"
+    slow.write_text(f'#!/bin/sh\n"{place.program}" "$@" | {lines}\n')
     slow.chmod(0o755)
     with place.folder() as folder:
-        done = study(place, folder, "--at", "half", "--sweep", "AAA 10..20 by 1 %", "--board", "./slow")
+        done = study(place, folder, "--at", "half", "--no-charts", "--sweep", "AAA 10..20 by 1 %", "--board", "./slow")
         expect_good(done)
         said = done.stderr.decode()
-        expect(" of 12 scenarios are run, " in said, f"standard error: {said!r}")
+        expect(" of 12 readings, " in said, f"standard error: {said!r}")
 
 
 def check_words(place: Place) -> None:
     """Wrong words are status 2; the help has an example."""
-    for wrong in [[], ["members.csv"], ["members.csv", "it.csv"], ["members.csv", "it", "--at", "50"]]:
+    words: list[list[str]] = [[], ["members.csv"], ["members.csv", "it.csv"], ["members.csv", "it", "--at", "50"]]
+    for wrong in [*words, ["members.csv", "it", "--measure", "power"]]:
         expect(place.script("board_study", *wrong).returncode == 2, f"{wrong}: not status 2")
     expect(b"For example:" in place.script("board_study", "--help").stdout, "no help")
 
@@ -205,7 +233,7 @@ def cases(place: Place) -> list[Case]:
     """Each case by a name."""
     found: list[Case] = [("board_study: table and page", lambda: check_good(place))]
     for name, words, message in BAD:
-        found.append((f"board_study, what goes wrong: {name}", lambda it=(words, message): check_bad(place, *it)))
+        found.append((f"board_study, what goes wrong: {name}", partial(check_bad, place, words, message)))
     found.append(("board_study: a bad table", lambda: check_bad_table(place)))
     found.append(("board_study: progress", lambda: check_progress(place)))
     found.append(("board_study: the script's words", lambda: check_words(place)))

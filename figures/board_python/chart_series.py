@@ -1,4 +1,4 @@
-"""What charts draw, made of readings: percentages as floating-point numbers, for drawing alone."""
+"""What charts draw, made of readings: floating-point numbers in the unit of a measure, for drawing alone."""
 from __future__ import annotations
 
 import math
@@ -6,18 +6,34 @@ from collections.abc import Sequence
 from fractions import Fraction
 
 from .charts import LOOKS, Series
+from .measures import Measure
 from .replay_output import Chair, Ratio, Reading
 from .rounding import difference, exact
 
 
-def drawn(number: Fraction | None) -> float:
-    """A number in per cent; nan where it is missing."""
-    return math.nan if number is None else float(100 * number)
+def scale_of(measure: Measure) -> int:
+    """By what a fraction is multiplied to be drawn: a share is drawn in per cent, another measure from 0 to 1."""
+    return 100 if measure.word == "share" else 1
 
 
-def ratio_drawn(ratio: Ratio | None) -> float:
-    """A fraction in per cent; nan where it is missing."""
-    return drawn(None if ratio is None else exact(ratio))
+def unit_of(measure: Measure) -> str:
+    """The unit of what is drawn."""
+    return "per cent" if measure.word == "share" else "fractions from 0 to 1"
+
+
+def added_unit(measure: Measure) -> str:
+    """The unit of what is added to the base."""
+    return "percentage points added to the base" if measure.word == "share" else "added to the base, fractions of 1"
+
+
+def number_drawn(number: Fraction | None, measure: Measure) -> float:
+    """A number as it is drawn beside a measure; nan where it is missing."""
+    return math.nan if number is None else float(scale_of(measure) * number)
+
+
+def ratio_drawn(ratio: Ratio | None, measure: Measure) -> float:
+    """A fraction as it is drawn beside a measure; nan where it is missing."""
+    return number_drawn(None if ratio is None else exact(ratio), measure)
 
 
 def by_votes(reading: Reading) -> list[Chair]:
@@ -25,29 +41,29 @@ def by_votes(reading: Reading) -> list[Chair]:
     return sorted(reading.chairs, key=lambda chair: (-chair.weight, chair.chair))
 
 
-def votes_series(values: Sequence[float], label: str = "share of votes") -> Series:
+def votes_series(values: Sequence[float]) -> Series:
     """A series of shares of votes."""
-    return Series(label, *LOOKS["votes"], values)
+    return Series("share of votes", LOOKS["votes"], values)
 
 
-def power_series(majority: str, values: Sequence[float]) -> Series:
-    """A series of shares of power at a majority."""
-    return Series(f"power at {majority}", *LOOKS[majority], values)
+def power_series(majority: str, measure: Measure, values: Sequence[float]) -> Series:
+    """A series of a measure at a majority."""
+    return Series(f"{measure.name} at {majority}", LOOKS[majority], values)
 
 
-def vote_shares(reading: Reading, order: Sequence[int]) -> Series:
-    """The shares of votes of the chairs in an order."""
+def vote_shares(reading: Reading, order: Sequence[int], measure: Measure) -> Series:
+    """The shares of votes of the chairs in an order, in the unit of a measure; 0 where no votes are cast."""
     chairs = {chair.chair: chair for chair in reading.chairs}
-    shares = [ratio_drawn(reading.share_of_votes(chairs[number])) for number in order]
+    shares = [ratio_drawn(reading.share_of_votes(chairs[number]), measure) for number in order]
     return votes_series([0 if math.isnan(share) else share for share in shares])
 
 
-def power_shares(reading: Reading, order: Sequence[int]) -> Series:
-    """The shares of power of the chairs in an order."""
+def powers_of(reading: Reading, order: Sequence[int], measure: Measure) -> Series:
+    """A measure of the chairs in an order."""
     chairs = {chair.chair: chair for chair in reading.chairs}
-    return power_series(reading.majority, [ratio_drawn(chairs[number].share) for number in order])
+    return power_series(reading.majority, measure, [ratio_drawn(measure.of(chairs[it]), measure) for it in order])
 
 
-def added(after: Ratio | None, before: Ratio | None) -> float:
-    """What is added to a fraction, in percentage points; nan where one is missing."""
-    return drawn(difference(after, before))
+def added(after: Ratio | None, before: Ratio | None, measure: Measure) -> float:
+    """What is added to a fraction, as it is drawn; nan where one is missing."""
+    return number_drawn(difference(after, before), measure)

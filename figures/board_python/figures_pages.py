@@ -2,12 +2,16 @@
 from __future__ import annotations
 
 import html
-from collections.abc import Mapping
+from collections.abc import Mapping, Sequence
 
-from .chart_series import by_votes, power_shares, vote_shares
-from .charts import dot_plot
-from .pages import BOARD_HEADERS, MAJORITIES, POWER_HEADERS, board_cells, capital, figure_of, majorities_of
+from .chart_series import by_votes, powers_of, vote_shares
+from .charts import Picture
+from .measure_charts import dot_plot
+from .measures import MEASURES
+from .pages import BOARD_HEADERS, MAJORITIES, POWER_HEADERS, board_cells, capital, letters_note, majorities_of
 from .pages import page_of, power_cells, table_of
+from .picture_files import figure_of
+from .provenance import provenance_section
 from .replay_output import Output, Ratio, Reading
 from .rounding import decimal, percent
 
@@ -52,17 +56,30 @@ def alternative(reading: Reading) -> str:
     )
 
 
-def chart_of(number: int, reading: Reading, names: Mapping[int, str]) -> str:
-    """A reading's chart with its caption."""
+def reading_picture(number: int, reading: Reading, names: Mapping[int, str]) -> Picture:
+    """A reading's chart: each chair's share of power on its share of the votes."""
     order = [chair.chair for chair in by_votes(reading)]
     labels = [f"{it} {names[it]}" if it in names else f"chair {it}" for it in order]
     stale = f", {reading.pending:,} pending" if reading.pending else ""
     title = f"{capital(MAJORITIES[reading.majority])}, after {commands(reading.front)}{stale}: quota {reading.quota:,}"
-    picture = dot_plot(title, labels, vote_shares(reading, order), [power_shares(reading, order)])
+    share = MEASURES["share"]
+    votes, powers = vote_shares(reading, order, share), [powers_of(reading, order, share)]
     absent = "" if reading.swings() else " No chair has a swing, so none has a share of power."
     caption = f"Reading {number}: share of power (dots) on the share of votes (bars).{absent}"
     caption += " Power: normalised Banzhaf index (Banzhaf 1965)."
-    return figure_of(picture, alternative(reading), caption)
+    draw = dot_plot(title, labels, votes, powers, share)
+    return Picture(f"reading-{number}", title, alternative(reading), caption, draw)
+
+
+def output_pictures(output: Output, names: Mapping[int, str]) -> list[Picture]:
+    """The charts of the readings with open chairs."""
+    return [reading_picture(number, it, names) for number, it in enumerate(output.readings, 1) if it.chairs]
+
+
+def drawn_texts(output: Output, names: Mapping[int, str]) -> list[str]:
+    """The names that the charts show."""
+    shown = {chair.chair for reading in output.readings for chair in reading.chairs}
+    return [name for chair, name in names.items() if chair in shown]
 
 
 def reading_section(number: int, reading: Reading, names: Mapping[int, str]) -> str:
@@ -72,7 +89,7 @@ def reading_section(number: int, reading: Reading, names: Mapping[int, str]) -> 
         return f"<section>\n{facts}<p>No chair is open, so there is neither a chart nor a table.</p>\n</section>\n"
     rows = [[it.chair, names.get(it.chair, ""), *power_cells(reading, it)] for it in reading.chairs]
     table = table_of(f"Reading {number}: the chairs", ["Chair", "Name", *POWER_HEADERS], rows, 2)
-    return f'<section>\n<div class="kept">\n{facts}{chart_of(number, reading, names)}</div>\n{table}</section>\n'
+    return f'<section>\n<div class="kept">\n{facts}{figure_of(reading_picture(number, reading, names))}</div>\n{table}</section>\n'
 
 
 def overview(output: Output) -> str:
@@ -97,8 +114,8 @@ def warnings_of(output: Output) -> str:
     return said
 
 
-def figures_page(output: Output, names: Mapping[int, str], title: str, beside: str) -> str:
-    """The whole page of an output."""
+def figures_page(output: Output, names: Mapping[int, str], title: str, beside: str, lines: Sequence[str]) -> str:
+    """The whole page of an output, with the lines of its provenance."""
     about = (
         "<p>Each reading of an output of <code>board replay</code>: the votes of the chairs beside their voting power, "
         "counted over all coalitions of open chairs. The same numbers, a row for each reading and chair, are in "
@@ -106,4 +123,6 @@ def figures_page(output: Output, names: Mapping[int, str], title: str, beside: s
     )
     sections = "".join(reading_section(number, it, names) for number, it in enumerate(output.readings, 1))
     majorities = majorities_of({reading.majority for reading in output.readings})
-    return page_of(SCRIPT, title, about + warnings_of(output) + overview(output) + sections + majorities)
+    warnings = warnings_of(output) + letters_note(drawn_texts(output, names))
+    parts = [about, warnings, overview(output), sections, provenance_section(lines), majorities]
+    return page_of(SCRIPT, title, "".join(parts))

@@ -2,28 +2,33 @@
 from __future__ import annotations
 
 import os
+from collections.abc import Mapping
 from pathlib import Path
 
 from .errors import BadInput
 
 
 def check_replaceable(path: Path, start: str) -> None:
-    """Sees that a file can be put there: that there is the folder, and no file that begins in another way."""
+    """Sees that a file can be put there: that there is the folder, and no file that begins in another way.
+
+    Comments at the beginning of a table, lines with a # first, are passed over.
+    """
     if not path.parent.is_dir():
         raise BadInput(f"there is no folder {path.parent}")
     if path.exists():
         with open(path, "rb") as there:
-            if there.read(len(start.encode())) != start.encode():
+            line = next((line for line in there if not line.startswith(b"# ")), b"")
+            if (line + there.read(len(start.encode())))[: len(start.encode())] != start.encode():
                 raise BadInput(f"{path} is there already and isn't a file of this script: choose another name")
 
 
-def write_files(texts: dict[Path, str]) -> None:
-    """Writes each text to a new file beside its place, and puts them there once all are whole."""
+def write_files(texts: Mapping[Path, str | bytes]) -> None:
+    """Writes each text, in UTF-8, or bytes to a new file beside its place, and puts them there once all are whole."""
     parts = {path: path.with_name(f".{path.name}.{os.getpid()}.part") for path in texts}
     try:
         for path, text in texts.items():
-            with open(parts[path], "x", encoding="utf-8", newline="") as file:
-                file.write(text)
+            with open(parts[path], "xb") as file:
+                file.write(text.encode() if isinstance(text, str) else text)
         for path, part in parts.items():
             os.replace(part, path)
     finally:

@@ -2,8 +2,10 @@
 from __future__ import annotations
 
 from dataclasses import dataclass
+from fractions import Fraction
 
 from .replay_output import Chair, Ratio
+from .rounding import PAGE_PLACES, PERCENT_PLACES, decimal, difference, percent, points, rounded
 
 
 @dataclass(frozen=True)
@@ -17,7 +19,42 @@ class Measure:
 
     def of(self, chair: Chair) -> Ratio | None:
         """The chair's measure as an exact fraction, or None where the program prints `-`."""
-        return getattr(chair, self.word)
+        powers = {"share": chair.share, "banzhaf": chair.banzhaf, "prevent": chair.prevent, "initiate": chair.initiate}
+        return powers[self.word]
+
+    def gain(self, after: Chair, before: Chair | None) -> Fraction | None:
+        """What is added to a chair's measure, exactly; None where one of both is missing."""
+        return difference(self.of(after), self.of(before)) if before else None
+
+    def unit(self) -> str:
+        """What values are given in, behind the measure's name in a heading."""
+        return ", %" if self.word == "share" else ""
+
+    def gain_unit(self) -> str:
+        """What gains are given in, in a heading."""
+        return ", points" if self.word == "share" else ""
+
+    def cell(self, ratio: Ratio | None) -> str:
+        """A value in a table: shares in per cent."""
+        return percent(ratio) if self.word == "share" else decimal(ratio)
+
+    def gain_cell(self, gain: Fraction | None) -> str:
+        """A gain in a table: of shares in percentage points."""
+        if self.word == "share" or gain is None:
+            return points(gain)
+        return rounded(gain, PAGE_PLACES)
+
+    def value_words(self, ratio: Ratio) -> str:
+        """A value in a sentence."""
+        return self.cell(ratio) + (" per cent" if self.word == "share" else "")
+
+    def gain_words(self, gain: Fraction) -> str:
+        """A gain in a sentence; one that is rounded to nothing is said to be less than the last place."""
+        places, unit = (PERCENT_PLACES, " percentage points") if self.word == "share" else (PAGE_PLACES, "")
+        text = self.gain_cell(gain)
+        if gain and not any(digit in text for digit in "123456789"):
+            return f"less than {rounded(Fraction(1, 10**places), places)}{unit}"
+        return f"{'+' if gain > 0 else ''}{text}{unit}"
 
 
 MEASURES = {
@@ -38,3 +75,8 @@ MEASURES = {
         ),
     ]
 }
+
+
+def with_share(measure: Measure) -> list[Measure]:
+    """The share of power, and the measure where it is another one."""
+    return [MEASURES[word] for word in dict.fromkeys(["share", measure.word])]

@@ -1,14 +1,17 @@
 "use strict";
-// Sorts a table by the column whose heading is clicked; a second click turns the order round. Empty cells come last.
+// Sorts a table by the column whose heading is clicked; a second click turns the order round. The first click puts the
+// least number on top, but of what is added to the base, the greatest. Empty cells come last.
 function compared(one, other) {
   const [x, y] = [Number(one), Number(other)];
   return Number.isNaN(x) || Number.isNaN(y) ? one.localeCompare(other) : x - y;
 }
 
 function sortBy(table, column, heading) {
-  const turn = heading.getAttribute("aria-sort") === "ascending" ? -1 : 1;
+  const orders = heading.textContent.startsWith("Added") ? ["descending", "ascending"] : ["ascending", "descending"];
+  const order = orders[heading.getAttribute("aria-sort") === orders[0] ? 1 : 0];
+  const turn = order === "ascending" ? 1 : -1;
   table.querySelectorAll("th[aria-sort]").forEach((other) => other.removeAttribute("aria-sort"));
-  heading.setAttribute("aria-sort", turn === 1 ? "ascending" : "descending");
+  heading.setAttribute("aria-sort", order);
   const text = (row) => row.cells[column].textContent;
   const body = table.tBodies[0];
   body.append(...[...body.rows].sort((one, other) =>

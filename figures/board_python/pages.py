@@ -93,12 +93,12 @@ def table_of(caption: str, headers: Sequence[str], rows: Iterable[Sequence[objec
     )
 
 
-def figure_of(picture: str, text: str, caption: str) -> str:
-    """A chart, with a text in its place for readers who don't see it, and its caption."""
-    return (
-        f'<figure><img src="data:image/svg+xml;base64,{picture}" alt="{html.escape(text)}">\n'
-        f"<figcaption>{html.escape(caption)}</figcaption></figure>\n"
-    )
+def letters_note(texts: Iterable[str]) -> str:
+    """A warning on the page where the fonts of its charts lack letters of texts; else nothing."""
+    from .fonts import letters_warning
+
+    said = letters_warning(texts)
+    return f'<p class="warning">{html.escape(said)}</p>\n' if said else ""
 
 
 def majorities_of(majorities: Iterable[str]) -> str:

@@ -16,28 +16,37 @@ def exact(ratio: Ratio) -> Fraction:
     return Fraction(ratio.numerator, ratio.denominator)
 
 
-def rounded(number: Fraction, places: int) -> str:
-    """A number as a decimal with so many places."""
-    units = round(number * 10**places)
+def written(numerator: int, denominator: int, places: int) -> str:
+    """A fraction as a decimal with so many places."""
+    whole, rest = divmod(numerator * 10**places, denominator)
+    units = whole + (2 * rest > denominator or (2 * rest == denominator and whole % 2 == 1))
     whole, part = divmod(abs(units), 10**places)
     return f"{'-' if units < 0 else ''}{whole}.{part:0{places}}"
 
 
+def rounded(number: Fraction | Ratio, places: int) -> str:
+    """A number as a decimal with so many places."""
+    return written(number.numerator, number.denominator, places)
+
+
 def difference(after: Ratio | None, before: Ratio | None) -> Fraction | None:
     """What is added to a fraction, or None where one is missing."""
-    return None if after is None or before is None else exact(after) - exact(before)
+    if after is None or before is None:
+        return None
+    numerator = after.numerator * before.denominator - before.numerator * after.denominator
+    return Fraction(numerator, after.denominator * before.denominator)
 
 
 def percent(ratio: Ratio | None) -> str:
     """A fraction in per cent, for a page; nothing where it is missing."""
-    return "" if ratio is None else rounded(100 * exact(ratio), PERCENT_PLACES)
+    return "" if ratio is None else written(100 * ratio.numerator, ratio.denominator, PERCENT_PLACES)
 
 
 def points(number: Fraction | None) -> str:
     """A difference in percentage points, for a page; nothing where it is missing."""
-    return "" if number is None else rounded(100 * number, PERCENT_PLACES)
+    return "" if number is None else written(100 * number.numerator, number.denominator, PERCENT_PLACES)
 
 
 def decimal(ratio: Ratio | None) -> str:
     """A fraction as a decimal, for a page; nothing where it is missing."""
-    return "" if ratio is None else rounded(exact(ratio), PAGE_PLACES)
+    return "" if ratio is None else rounded(ratio, PAGE_PLACES)

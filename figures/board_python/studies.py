@@ -1,36 +1,52 @@
-"""A study: one run of the program for each scenario, at all majorities, each from the base register."""
+"""A study: the base register, its scenarios and sweeps, all read in one run of the program."""
 from __future__ import annotations
 
-import sys
-import time
-from collections.abc import Iterable, Iterator, Sequence
-from dataclasses import dataclass
+from collections.abc import Mapping, Sequence
+from dataclasses import dataclass, field
+from fractions import Fraction
+from functools import cached_property
 
 from .errors import BadInput
+from .measures import Measure
 from .member_tables import CHAIRS, MemberTable, input_lines
+from .plans import Plan, Swept, changes_of, plan_of
+from .problems import Problems
 from .programs import Program
 from .replay_output import Chair, Reading
-from .scenarios import BASE, Scenario, Sweep, commands_with_numbers
+from .runs import Progress, Run, Script, Stage, read_stages, run_script
+from .scenarios import BASE, Scenario, Sweep
+from .thresholds import Gap, Point, Points, Readings, Threshold, both_sides, gaps_of, narrowed
 
-SECONDS_BETWEEN = 5.0
+# What is added to a chair's measure, by the chairs' numbers.
+Gains = dict[int, "Fraction | None"]
 
 
 @dataclass
 class Result:
-    """A scenario, its commands with numbers of votes, and its readings by majority."""
+    """A scenario, its commands with numbers of votes, its readings by majority, and what it changes in words."""
 
     scenario: Scenario
-    commands: list[str]
+    commands: Sequence[str]
     readings: dict[str, Reading]
+    changes: list[str] = field(default_factory=list)
+    gains: dict[tuple[str, str], Gains] = field(default_factory=dict)
+
+    @cached_property
+    def by_number(self) -> dict[str, dict[int, Chair]]:
+        """The chairs at each majority, by their numbers."""
+        return {at: {chair.chair: chair for chair in reading.chairs} for at, reading in self.readings.items()}
 
     def chair(self, majority: str, number: int) -> Chair | None:
         """A chair at a majority, or None where it isn't open."""
-        return next((chair for chair in self.readings[majority].chairs if chair.chair == number), None)
+        return self.by_number[majority].get(number)
 
 
 @dataclass
 class Study:
-    """The results of the base, of the scenarios and of the sweeps, and the chairs' names."""
+    """The results of the base, of the scenarios and of the sweeps, the chairs' names, and the run of the program.
+
+    What is swept, and the thresholds by majority and votes, are there by the sweeps' texts.
+    """
 
     table: MemberTable
     names: dict[int, str]
@@ -38,70 +54,118 @@ class Study:
     base: Result
     scenarios: list[Result]
     sweeps: list[tuple[Sweep, list[Result]]]
+    swept: dict[str, Swept]
+    thresholds: dict[str, list[Threshold]]
+    run: Run
 
     def results(self) -> list[Result]:
         """All results: the base, the scenarios, then the steps of each sweep."""
         return [self.base, *self.scenarios, *(result for _, steps in self.sweeps for result in steps)]
 
     def seat(self, sweep: Sweep) -> int:
-        """The chair of a sweep's member."""
-        return next(member.chair for member in self.table.members if member.code == sweep.member)
+        """The chair of a sweep's member; of several members the first one's."""
+        return self.swept[sweep.text].seats[0]
+
+    def gains(self, result: Result, measure: Measure, majority: str) -> Gains:
+        """What is added to each chair's measure at a majority, exactly; None where it can't be compared."""
+        key = measure.word, majority
+        if key not in result.gains:
+            before = self.base.by_number[majority]
+            chairs = result.readings[majority].chairs
+            result.gains[key] = {it.chair: measure.gain(it, before.get(it.chair)) for it in chairs}
+        return result.gains[key]
+
+    def named(self, number: int) -> str:
+        """A chair by its number and its name."""
+        name = self.names[number]
+        return str(number) if name == f"chair {number}" else f"{number} {name}"
 
 
-def with_progress(work: Sequence[Scenario], what: str) -> Iterator[Scenario]:
-    """Hands out one after the other; where that takes long, standard error says every few seconds how far it is."""
-    begun = said = time.monotonic()
-    for number, scenario in enumerate(work):
-        now = time.monotonic()
-        if now - said >= SECONDS_BETWEEN:
-            print(f"board_study: {number} of {len(work)} {what}, {now - begun:.0f} s", file=sys.stderr, flush=True)
-            said = now
-        yield scenario
+@dataclass(frozen=True)
+class Counting:
+    """Reads the registers of a plan, and finds the thresholds of its sweeps."""
+
+    program: Program
+    table: MemberTable
+    plan: Plan
+
+    def read(self, stages: Sequence[Stage]) -> Run:
+        """The lines of registers, in one run of the program."""
+        return read_stages(self.program, self.table, stages)
+
+    def refusals(self, scenarios: Sequence[Scenario]) -> list[str]:
+        """What the program refuses of scenarios, each of which is carried out by itself."""
+        problems = Problems()
+        problems.read(self.carry_out, [self.plan.stages[scenario.label] for scenario in scenarios])
+        return problems.lines
+
+    def carry_out(self, stage: Stage) -> None:
+        """Carries out the commands of a scenario on the register of the table, and reads nothing."""
+        script = Script(input_lines(self.table))
+        script.add(stage, [*stage.commands])
+        run_script(self.program, script, Progress(0))
+
+    def stages_at(self, points: Points) -> list[Stage]:
+        """The registers of points of sweeps."""
+        return [self.plan.swept[sweep].stage(votes, majorities) for (sweep, votes), majorities in points.items()]
+
+    def read_at(self, points: Points) -> dict[Point, Readings]:
+        """The readings of points of sweeps."""
+        return dict(zip(points, self.read(self.stages_at(points)).readings()))
+
+    def gaps(self, sweep: Sweep, readings: Mapping[str, Readings]) -> list[Gap]:
+        """Between which steps of a sweep the kind of a chair's power changes."""
+        swept, labels = self.plan.swept[sweep.text], [step.label for step in sweep.steps]
+        votes = [self.plan.stages[label].end.votes_of(swept.codes) for label in labels]
+        return [*gaps_of(sweep.text, swept.seats, votes, [readings[label] for label in labels])]
+
+    def thresholds(self, sweep: Sweep, gaps: Sequence[Gap]) -> list[Threshold]:
+        """The thresholds of a sweep, by majority and votes."""
+        order = [*self.plan.stages[BASE].majorities]
+        own = [gap for gap in gaps if gap.sweep == sweep.text]
+        own.sort(key=lambda gap: (order.index(gap.majority), gap.high))
+        return [gap.threshold(self.plan.swept[sweep.text].percent) for gap in own]
 
 
-def check_scenarios(table: MemberTable, scenarios: Iterable[Scenario], sweeps: Iterable[Sweep]) -> None:
-    """Sees that no label comes twice, and that the members of sweeps sit in chairs."""
-    labels = [BASE, *(scenario.label for scenario in scenarios), *(step.label for it in sweeps for step in it.steps)]
-    for label in labels:
-        if labels.count(label) > 1:
-            raise BadInput(f"two scenarios have the label {label!r} (the register of the table is {BASE!r})")
-    seats = {member.code: member.chair for member in table.members}
-    for sweep in sweeps:
-        if sweep.member not in seats:
-            raise BadInput(f"--sweep {sweep.text!r}: no member has the code {sweep.member}")
-        if seats[sweep.member] is None:
-            raise BadInput(f"--sweep {sweep.text!r}: {sweep.member} sits in no chair")
-
-
-def result_of(program: Program, table: MemberTable, majorities: list[str], scenario: Scenario) -> Result:
-    """Runs the program on a scenario: the base register, the commands, a publication, and the readings."""
-    try:
-        commands = commands_with_numbers(table, scenario)
-        reads = [f"read,1,{majority}" for majority in majorities]
-        output = program.replay([*input_lines(table), *commands, "publish", *reads])
-    except BadInput as why:
-        raise BadInput(f"scenario {scenario.label!r}: {why}") from why
-    readings = {reading.majority: reading for reading in output.readings}
-    if list(readings) != majorities or any(reading.pending for reading in output.readings):
-        raise BadInput(f"scenario {scenario.label!r}: the readings of {program.path} aren't those that were asked for")
-    return Result(scenario, commands, readings)
+def result_of(stage: Stage, scenario: Scenario, readings: dict[str, Reading], names: Mapping[str, str]) -> Result:
+    """What was read of a scenario, or of a step of a sweep."""
+    changes = [] if scenario.sweep else changes_of(stage.start, scenario, names)
+    return Result(scenario, stage.commands, readings, changes)
 
 
 def run_study(
-    program: Program, table: MemberTable, majorities: list[str], scenarios: list[Scenario], sweeps: list[Sweep]
+    program: Program,
+    table: MemberTable,
+    majorities: list[str],
+    scenarios: Sequence[Scenario],
+    sweeps: Sequence[Sweep],
 ) -> Study:
-    """Runs the program on the base and on every scenario; BadInput names the first one that goes wrong."""
-    check_scenarios(table, scenarios, sweeps)
-    program.prepare()
-    steps = [step for sweep in sweeps for step in sweep.steps]
-    work = [Scenario(BASE), *scenarios, *steps]
-    results = [result_of(program, table, majorities, it) for it in with_progress(work, "scenarios are run")]
-    by_label = {result.scenario.label: result for result in results}
+    """Runs the program on the base, on every scenario and on every step of a sweep; BadInput says what goes wrong.
+
+    Further runs find thresholds. Where there are any, the run that is kept reads both sides of each of them, too.
+    """
+    plan = plan_of(table, majorities, scenarios, sweeps)
+    counting, stages = Counting(program, table, plan), [*plan.stages.values()]
+    program.start()
+    try:
+        run = counting.read(stages)
+        readings = dict(zip(plan.stages, run.readings()))
+    except BadInput as why:
+        raise BadInput("\n".join(counting.refusals(scenarios)) or str(why)) from why
+    gaps = narrowed([gap for sweep in sweeps for gap in counting.gaps(sweep, readings)], counting.read_at)
+    if gaps:
+        run = counting.read([*stages, *counting.stages_at(both_sides(gaps))])
+    names = {member.code: member.name for member in table.members}
+    all_of = [Scenario(BASE), *scenarios, *(step for sweep in sweeps for step in sweep.steps)]
+    by_label = {it.label: result_of(plan.stages[it.label], it, readings[it.label], names) for it in all_of}
     return Study(
         table,
         {chair: table.label(chair) for chair in CHAIRS},
         majorities,
-        results[0],
+        by_label[BASE],
         [by_label[scenario.label] for scenario in scenarios],
         [(sweep, [by_label[step.label] for step in sweep.steps]) for sweep in sweeps],
+        plan.swept,
+        {sweep.text: counting.thresholds(sweep, gaps) for sweep in sweeps},
+        run,
     )

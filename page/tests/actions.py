@@ -1,12 +1,14 @@
 """Random acts of a user, from a seed, and the commands that they must come to."""
 from __future__ import annotations
 
+import re
 from contextlib import suppress
 from dataclasses import dataclass, field, replace
 from random import Random
 
+from board_python.amounts import with_numbers
 from board_python.errors import BadInput
-from board_python.scenarios import Votes
+from board_python.standing import standing_of
 from oracle import Oracle
 
 # A word of acts.js, and what it needs: the fields of a command, or a place in the list of changes.
@@ -57,14 +59,19 @@ class Model:
     def commands(self, oracle: Oracle) -> list[str]:
         """The commands of all changes that are on, with numbers of votes where they say per cent. Where there is no
         such number, there is no command; a refused command changes no votes."""
-        votes = Votes({member.code: member.votes for member in oracle.table.members})
+        standing = standing_of(oracle.table)
         commands: list[str] = []
         for change in self.changes:
             with suppress(BadInput):
-                commands += [votes.with_number(change.command)] * change.is_on
+                commands += with_numbers(standing, spelled(change.command)) * change.is_on
                 if change.is_on and oracle.answers(commands)[-1].startswith("accepted,"):
-                    votes.carry_out(commands[-1])
+                    standing.take(commands[-1])
         return commands
+
+
+def spelled(command: str) -> str:
+    """A command as board_study spells it, which says of a share of the total that it is one."""
+    return re.sub(",([0-9.]+%)$", r",\1 of total", command)
 
 
 def drawn_command(some: Random, oracle: Oracle) -> Act:

@@ -10,7 +10,7 @@ from board_python.programs import Program
 from board_python.replay_output import Output, read_output
 from board_python.scenarios import Scenario, sweep_of
 from board_python.studies import run_study
-from board_python.tables import study_table
+from board_python.tables import STUDY_COLUMNS, csv_text, study_rows
 
 TOP = Path(__file__).resolve().parents[2]
 EXAMPLE = TOP / "examples" / "members.csv"
@@ -51,10 +51,10 @@ class Oracle:
         return lines[len(lines) - len(commands) :]
 
     def study(self, scenarios: dict[str, list[str]], majorities: list[str], *sweeps: str) -> str:
-        """The table of a study, as figures/board_study writes it: commands by their label, and sweeps."""
+        """The rows of a study, as figures/board_study writes them: commands by their label, and sweeps."""
         labelled = [Scenario(label, tuple(commands)) for label, commands in scenarios.items()]
         study = run_study(Program(str(self.program)), self.table, majorities, labelled, list(map(sweep_of, sweeps)))
-        return str(study_table(study).to_csv(index=False))
+        return csv_text([], STUDY_COLUMNS, study_rows(study))
 
 
 def least(holds: Callable[[int], bool], low: int, high: int) -> int:

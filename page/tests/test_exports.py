@@ -72,7 +72,7 @@ def test_csv_of_the_script(study: Page, oracle: Oracle, tmp_path: Path) -> None:
     words = ["examples/members.csv", str(tmp_path / "it"), "--board", str(oracle.program)]
     words += ["--at", ",".join(shown_majorities(study)), "--scenario", f"changed: {'; '.join(COMMANDS)}"]
     subprocess.run([TOP / "figures" / "board_study", *words], check=True, cwd=TOP)
-    assert table_of(content.decode()) == (tmp_path / "it.csv").read_text()
+    assert table_of(content.decode()) == table_of((tmp_path / "it.csv").read_text())
 
 
 @pytest.mark.parametrize("tab", ["power", "change"])

@@ -5,10 +5,11 @@ from typing import Any
 
 import inputs
 import pytest
+from board_python.amounts import with_numbers
 from board_python.member_tables import MOST_VOTES
 from board_python.replay_output import Chair, Ratio
 from board_python.rounding import exact, rounded
-from board_python.scenarios import Votes
+from board_python.standing import standing_of
 from chromium import ACTS, Page
 from figures import check_figures, gains, shown_majorities
 from oracle import Oracle, least
@@ -60,7 +61,7 @@ def test_sweep_of_a_member(page: Page, oracle: Oracle) -> None:
     cells = page.run(CELLS)
     assert len(cells) == 59 and shown_majorities(page) == ["half", "85"]
     for value, votes, _, *shares in cells[::6]:
-        command = Votes({it.code: it.votes for it in oracle.table.members}).with_number(f"votes,XAD,{value}%")
+        [command] = with_numbers(standing_of(oracle.table), f"votes,XAD,{value}% of total")
         assert command == f"votes,XAD,{votes.replace(',', '')}"
         assert shares == [str(chair_at(oracle, [command], at, 4).share) for at in ("half", "85")]
 

@@ -1,0 +1,50 @@
+"""What a command changes, in words: who, the old and the new, and what was asked for."""
+from __future__ import annotations
+
+from collections.abc import Mapping, Sequence
+
+from .standing import Place, Standing
+
+
+def votes_words(votes: int) -> str:
+    """A number of votes in words."""
+    return f"{votes:,} vote{'s' * (votes != 1)}"
+
+
+def chair_words(chair: int | None) -> str:
+    """A chair in words."""
+    return "no chair" if chair is None else f"chair {chair}"
+
+
+def asked_words(command: str, taken: Sequence[str]) -> str:
+    """What was asked for, in brackets, where the program was given other words."""
+    if [command] == list(taken):
+        return ""
+    _, who, amount = command.split(",")
+    return f" ({amount})" if len(taken) == 1 else f" ({who}: {amount})"
+
+
+def member_words(standing: Standing, word: str, code: str, value: str) -> str:
+    """What a command does with a member, behind its name."""
+    place = standing.places.get(code, Place(0))
+    if word == "votes":
+        return f": {place.votes:,} → {votes_words(int(value))}"
+    if word == "move":
+        return f": {chair_words(place.chair)} → {chair_words(None if value == 'none' else int(value))}"
+    if word == "admit":
+        return f" is admitted with {votes_words(int(value))}"
+    done = {"suspend": "is suspended", "restore": "is no longer suspended", "withdraw": "withdraws"}
+    return f", {votes_words(place.votes)}, {done[word]}"
+
+
+def change_words(standing: Standing, command: str, taken: Sequence[str], names: Mapping[str, str]) -> list[str]:
+    """What commands change, one by one, that the program takes for a command on a register."""
+    asked, said = asked_words(command, taken), []
+    for one in taken:
+        word, name, value = [*one.split(","), ""][:3]
+        if word in ("open", "close"):
+            said.append(f"chair {name} is {'opened' if word == 'open' else 'closed'}")
+            continue
+        who = f"{name} {names.get(name, '')}".strip()
+        said.append(who + member_words(standing, word, name, value) + asked)
+    return said

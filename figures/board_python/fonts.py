@@ -1,0 +1,81 @@
+"""The fonts of the charts: which are taken, how wide a text is in them, and which letters they lack."""
+from __future__ import annotations
+
+import sys
+import textwrap
+import unicodedata
+import warnings
+from collections.abc import Iterable
+from functools import lru_cache
+
+from matplotlib.font_manager import findfont, fontManager, get_font
+from matplotlib.ft2font import LOAD_NO_SCALE, FT2Font
+
+# In this order, a letter is taken from the first that is installed and has it. matplotlib brings the first of them.
+FONTS = ["DejaVu Sans", "Noto Sans", "Noto Sans CJK SC", "Noto Sans CJK JP", "Noto Sans CJK KR", "Source Han Sans SC"]
+FONTS += ["WenQuanYi Zen Hei", "WenQuanYi Micro Hei", "PingFang SC", "Microsoft YaHei", "Arial Unicode MS"]
+# matplotlib's words about missing letters: `letters_warning` says it once, for people.
+warnings.filterwarnings("ignore", message=r"Glyph \d+ .*missing from")
+
+
+@lru_cache(maxsize=None)
+def font_names() -> list[str]:
+    """The names of the fonts that are installed, in the order in which they are asked for a letter."""
+    installed = {font.name for font in fontManager.ttflist}
+    return [name for name in FONTS if name in installed]
+
+
+@lru_cache(maxsize=None)
+def font_of(letter: str) -> FT2Font | None:
+    """The first font that has a letter, or None."""
+    fonts = (get_font(findfont(name)) for name in font_names())
+    return next((font for font in fonts if font.get_char_index(ord(letter))), None)
+
+
+@lru_cache(maxsize=None)
+def letter_width(letter: str) -> float:
+    """How wide a letter is, in sizes of the font; one that no font has counts as a square, as Chinese letters are."""
+    font = font_of(letter)
+    if font is None:
+        return 1.0
+    return float(font.load_char(ord(letter), flags=LOAD_NO_SCALE).horiAdvance / font.units_per_EM)
+
+
+def text_width(text: str, size: float) -> float:
+    """How wide a text is, in points."""
+    return size * sum(map(letter_width, text))
+
+
+def wrapped(text: str, room: float, size: float) -> list[str]:
+    """A whole text in lines for a room in points: broken at blanks, and within words that are longer than a line."""
+    letters = 1 + int(room * len(text) / max(text_width(text, size), 1))
+    lines = textwrap.wrap(text, max(4, letters))
+    while letters > 4 and any(text_width(line, size) > room for line in lines):
+        letters -= 1
+        lines = textwrap.wrap(text, letters)
+    return lines or [""]
+
+
+def missing_letters(texts: Iterable[str]) -> str:
+    """The letters in texts that no font has, each once."""
+    letters = dict.fromkeys("".join(texts))
+    return "".join(it for it in letters if unicodedata.category(it) not in ("Cc", "Cf", "Zs") and font_of(it) is None)
+
+
+def letters_warning(texts: Iterable[str]) -> str:
+    """A sentence about the letters that the fonts of the charts lack; empty where they have all."""
+    missing = missing_letters(texts)
+    if not missing:
+        return ""
+    more = f" and {len(missing) - 20} more" if len(missing) > 20 else ""
+    return (
+        f"The fonts of the charts ({', '.join(font_names())}) lack these letters: {' '.join(missing[:20])}{more}. "
+        "A browser shows them where the reader has a font for them; a PDF file shows boxes or gaps."
+    )
+
+
+def warn_of_letters(script: str, texts: Iterable[str]) -> None:
+    """Says on standard error which letters the fonts of the charts lack, and what helps."""
+    if said := letters_warning(texts):
+        print(f"{script}: warning: {said}", file=sys.stderr)
+        print(f"{script}: install a font that has them, one of {', '.join(FONTS[1:])}", file=sys.stderr)
