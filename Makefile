@@ -169,19 +169,19 @@ endef
 docs:  ## names and links in the documents
 	$(call said,docs/check)
 ci: $O/kit  ## the kit's gate over a copy without the edits, and what it proves and builds taken over
-	@rm -rf $O/ci && mkdir -p $O/ci $O/said && touch $O/ci.begun
-	tar --create --exclude=.git --exclude=out --exclude=must-fail . | tar --extract --directory $O/ci
-	(cd $O/ci && rt ci 2>&1) | tee $O/said/ci
+	@mkdir -p $O/said; touch $O/ci.begun; copy=$$(mktemp -d); trap 'rm -rf "$$copy"' EXIT
+	tar --create --exclude=.git --exclude=out --exclude=must-fail . | tar --extract --directory "$$copy"
+	(cd "$$copy" && rt ci 2>&1) | tee $O/said/ci
 	for it in $(filter-out $(STATIC),$(CRATES)); do
-	  made=$O/ci/crates/$$it/out to=$O/$$it
+	  made=$$copy/crates/$$it/out to=$O/$$it
 	  if [[ -d $$made/rlib ]]; then made=$$made/rlib/$$it.rlib to=$$to.rlib
 	  elif [[ $$it == *_tests ]]; then made=$$made/$${it}_tests
 	  else made=$$made/$$it; fi
 	  rm -rf $$to && cp -r $$made $$to && touch -r $O/ci.begun $O/$$it.proved
 	done
-	rm -rf $O/ci
 kit-gate:  ## the kit's gate with nothing left out, on a clean clone: it tries each edit alone
-	@rm -rf $O/kit-gate && git clone --quiet . $O/kit-gate && cd $O/kit-gate && rt ci
+	@copy=$$(mktemp -d); trap 'rm -rf "$$copy"' EXIT
+	git clone --quiet . "$$copy/clone" && cd "$$copy/clone" && rt ci
 tools:  ## what counts an edit as refused
 	$(call said,tests/tools/run)
 edits: $(EDITED:%=$O/%.edits)  ## the edits that must fail
