@@ -6,6 +6,8 @@ import subprocess
 from fractions import Fraction
 from pathlib import Path
 
+from case_files import all_cases
+
 from .page_files import check_frame
 from .place import TOP, Case, Place, expect, expect_good, expect_refused, has, rows_in, rows_of
 
@@ -100,11 +102,8 @@ def good_outputs(place: Place) -> dict[str, bytes]:
     """Outputs of `board replay`: of the examples, and of the cases that have readings and no fault."""
     examples = [TOP / "examples" / f"{name}.csv" for name in ["three-chairs", "twenty-four-chairs"]]
     found = {f"examples/{it.name}": place.board(it.read_bytes()) for it in examples}
-    for row in sorted((TOP / "tests" / "rows").glob("*/*/stdout")):
-        output = row.read_bytes()
-        if b"reading," in output and b"fault," not in output:
-            found[f"{row.relative_to(TOP)}"] = output
-    return found
+    outputs = {case.name: case.printed for case in all_cases()}
+    return found | {name: it for name, it in outputs.items() if b"reading," in it and b"fault," not in it}
 
 
 UNKNOWN, FAULT = "not a line of the output of `board replay`", "the run of board ended in a fault"

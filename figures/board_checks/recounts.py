@@ -1,6 +1,8 @@
 """figures/board_recount: the independent count over all coalitions, of drawn boards and of changed outputs."""
 from __future__ import annotations
 
+from case_files import all_cases
+
 from .place import TOP, Case, Place, expect, expect_good
 
 
@@ -19,9 +21,11 @@ def check_drawn(place: Place, seed: int, chairs: int) -> None:
 
 def check_games(place: Place) -> None:
     """The published games agree, too."""
-    for game in sorted((TOP / "tests" / "rows" / "published").glob("*/stdin")):
-        done = place.script("board_recount", given=place.board(game.read_bytes()))
-        expect(done.returncode == 0 and b" agree " in done.stdout, f"{game}: {done.stdout.decode()}")
+    games = [case for case in all_cases() if case.name.startswith("published/")]
+    expect(len(games) > 0, "there are no published games")
+    for game in games:
+        done = place.script("board_recount", given=place.board(game.given))
+        expect(done.returncode == 0 and b" agree " in done.stdout, f"{game.name}: {done.stdout.decode()}")
 
 
 def check_changed(place: Place) -> None:
