@@ -22,7 +22,8 @@ def svg_bytes(picture: Picture, layout: Layout, **metadata: str) -> bytes:
 def pdf_bytes(picture: Picture, layout: Layout, **metadata: str) -> bytes:
     """A picture as PDF, with its title in the metadata and more."""
     file = io.BytesIO()
-    picture.draw(layout).savefig(file, format="pdf", metadata={"Title": picture.title, "CreationDate": None, **metadata})
+    about = {"Title": picture.title, "CreationDate": None, **metadata}
+    picture.draw(layout).savefig(file, format="pdf", metadata=about)
     return file.getvalue()
 
 
