@@ -250,6 +250,20 @@ def check_refused_files(place: Place) -> None:
         expect(Path(folder, "it-base.svg").read_text() == "<svg/>", "a file was written over")
 
 
+def check_earlier_files(place: Place) -> None:
+    """A figure of an earlier run that this one doesn't write is named, and stays; other files aren't named."""
+    with place.folder() as folder:
+        expect_good(board_study(place, folder, "--scenario", "more: votes,AAA,+30%", "--figures", folder))
+        Path(folder, "it-notes.svg").write_text("<svg/>")
+        Path(folder, "other-base.svg").write_text("<svg/>")
+        before = Path(folder, "it-scenario-1.svg").read_bytes()
+        expect_good(done := board_study(place, folder, "--figures", folder))
+        ends = ["pdf", "svg"]
+        wanted = [f"warning: {folder}/it-scenario-1.{end} is of an earlier run and stays as it is" for end in ends]
+        expect(done.stderr.decode() == "".join(f"board_study: {line}\n" for line in wanted), done.stderr.decode())
+        expect(Path(folder, "it-scenario-1.svg").read_bytes() == before, "a figure of an earlier run is another one")
+
+
 def check_letters(place: Place) -> None:
     """Letters that no font of the charts has are named on standard error and on the page, in words."""
     said = "lack these letters: \U00013000 \U00013001."
@@ -283,6 +297,7 @@ def cases(place: Place) -> list[Case]:
         "figures as files": check_files,
         "figures of board_figures": check_figures_files,
         "figures that can't be written": check_refused_files,
+        "figures of an earlier run": check_earlier_files,
         "letters that fonts lack": check_letters,
     }
     return [(f"charts: {name}", partial(check, place)) for name, check in checks.items()]
