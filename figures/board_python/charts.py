@@ -26,7 +26,7 @@ matplotlib.rcParams.update(
         "text.color": INK,
         "text.parse_math": False,
         "axes.formatter.useoffset": False,
-        "axes.formatter.limits": [-12, 12],
+        "axes.formatter.limits": [-7, 12],
         "path.simplify": False,
     }
     | {"axes.labelcolor": INK, "xtick.color": INK, "ytick.color": INK, "axes.edgecolor": INK}
