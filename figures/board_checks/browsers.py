@@ -13,7 +13,7 @@ SMALLEST_LETTERS, LARGEST_LETTERS = 9.0, 18.0
 
 
 def smallest_letters(address: str, shown: float) -> float:
-    """How high the smallest letters of a chart are on the screen, where it is shown so wide, in pixels."""
+    """How high the smallest letters of a chart are on the screen, in pixels, where it is shown in a width."""
     picture = base64.b64decode(address.partition(",")[2]).decode()
     sizes = [float(size) for size in re.findall(r"font: (?:[a-z]+ )?([0-9.]+)px", picture)]
     units = re.findall(r'viewBox="0 0 ([0-9.]+) ', picture)

@@ -1,9 +1,9 @@
 #!/usr/bin/env python3
 """Draws the pictures of a study, and prints as JSON what is in them: drawing_facts.py PROGRAM TABLE [SCENARIO..]
 
-For each measure and each width: a picture's texts, the texts that aren't wholly inside it, the ends of its axes, and what
-its lines and bars show. There are two thresholds, and `Legend` has neither of the names for its handles that matplotlib
-gives them, the one before 3.7 and the one since.
+For each measure and each width: a picture's texts, the texts that aren't wholly inside it, the ends of its axes, and
+what its lines and bars show. There are two thresholds, and legends give their handles by neither of matplotlib's names:
+`legendHandles` up to 3.8, `legend_handles` since 3.7.
 """
 from __future__ import annotations
 
@@ -52,7 +52,8 @@ def take_handles_away() -> None:
 def shown_texts(figure: Figure) -> list[Text]:
     """The texts of a drawing: numbers on an axis only where they are within its ends."""
     ticks, found = set(), []
-    for axis, (low, high) in ((axis, axis.get_view_interval()) for axes in figure.axes for axis in (axes.xaxis, axes.yaxis)):
+    for axis in [axis for axes in figure.axes for axis in (axes.xaxis, axes.yaxis)]:
+        low, high = axis.get_view_interval()
         for label, place in zip(axis.get_ticklabels(), axis.get_ticklocs()):
             ticks.add(label)
             found += [label] if min(low, high) <= place <= max(low, high) else []

@@ -67,16 +67,16 @@ def all_near(got: Sequence[Sequence[float]], wanted: Sequence[Sequence[float]]) 
     return len(got) == len(wanted) and all(near(one, other) for one, other in zip(got, wanted))
 
 
-# By hand: 40, 40 and 12 of 92 votes cast. At half (47) any two chairs win: 2 swings each of 4 sets of others, 6 swings in
-# all, 4 winning coalitions and 4 losing. At 85 of 100 all three are needed: 1 swing each, 1 coalition wins, 7 lose.
+# By hand: 40, 40 and 12 of 92 votes cast. At half (47) any two chairs win: 2 swings each of 4 sets of others, 6 swings
+# in all, 4 winning coalitions and 4 losing. At 85 of 100 all three are needed: 1 swing each, 1 coalition wins, 7 lose.
 BASE: dict[str, Sequence[Sequence[float]]] = {
     "share": ([100 * 40 / 92, 100 * 40 / 92, 100 * 12 / 92], [100 / 3] * 3, [100 / 3] * 3),
     "banzhaf": ([40 / 92, 40 / 92, 12 / 92], [1 / 2] * 3, [1 / 4] * 3),
     "prevent": ([40 / 92, 40 / 92, 12 / 92], [1 / 2] * 3, [1] * 3),
     "initiate": ([40 / 92, 40 / 92, 12 / 92], [1 / 2] * 3, [1 / 7] * 3),
 }
-# With EEE's 8 in a chair of its own 100 votes are cast. At half chair 4 is never needed, and the others stay as they were;
-# at 85 {1,2,3}, {1,2,4} and {1,2,3,4} win: 3, 3, 1 and 1 swings of 8, of 8 sets of others, 3 winning and 13 losing.
+# With EEE's 8 in a chair of its own 100 votes are cast. At half chair 4 is never needed, and the others stay as they
+# were; at 85 {1,2,3}, {1,2,4} and {1,2,3,4} win: 3, 3, 1 and 1 swings, of 8 sets of others, 3 winning and 13 losing.
 ADDED: dict[str, Sequence[Sequence[float]]] = {
     "share": ([-100 * 40 * 8 / 9200] * 2 + [-100 * 12 * 8 / 9200], [0] * 3, [37.5 - 100 / 3] * 2 + [12.5 - 100 / 3]),
     "banzhaf": ([-40 * 8 / 9200] * 2 + [-12 * 8 / 9200], [0] * 3, [3 / 8 - 1 / 4] * 2 + [1 / 8 - 1 / 4]),
@@ -125,7 +125,7 @@ def check_new_chair(place: Place) -> None:
 
 
 def check_sweep(place: Place) -> None:
-    """Each axis of a sweep spans its own values: a panel for each majority, without votes, also where nothing changes."""
+    """Each axis of a sweep spans its own values, also where nothing changes: a panel for each majority."""
     for measure, layouts in facts(place).items():
         panels = layouts["narrow"]["sweep-1"]["axes"]
         expect(len(panels) == 2 and all(len(it["lines"]) == 1 for it in panels), f"{measure}: {panels}")
@@ -134,7 +134,7 @@ def check_sweep(place: Place) -> None:
             spread = max(values) - min(values)
             expect(low < min(values) and max(values) < high, f"{measure}: {values} on an axis from {low} to {high}")
             expect(spread == 0 or high - low < 1.3 * spread, f"{measure}: {values} on an axis from {low} to {high}")
-    # AAA with 15, 20, 26, 32 and 40 votes beside 40 and 12: up to 26 chair 2 has more than half alone; from 32 on any two.
+    # AAA with 15, 20, 26, 32 and 40 votes beside 40 and 12: up to 26 chair 2 wins alone; from 32 on any two chairs win.
     expect(near(facts(place)["prevent"]["wide"]["sweep-1"]["axes"][0]["lines"][0], [0, 0, 0, 0.5, 0.5]), "the line")
 
 
@@ -250,6 +250,20 @@ def check_refused_files(place: Place) -> None:
         expect(Path(folder, "it-base.svg").read_text() == "<svg/>", "a file was written over")
 
 
+def check_earlier_files(place: Place) -> None:
+    """A figure of an earlier run that this one doesn't write is named, and stays; other files aren't named."""
+    with place.folder() as folder:
+        expect_good(board_study(place, folder, "--scenario", "more: votes,AAA,+30%", "--figures", folder))
+        Path(folder, "it-notes.svg").write_text("<svg/>")
+        Path(folder, "other-base.svg").write_text("<svg/>")
+        before = Path(folder, "it-scenario-1.svg").read_bytes()
+        expect_good(done := board_study(place, folder, "--figures", folder))
+        ends = ["pdf", "svg"]
+        wanted = [f"warning: {folder}/it-scenario-1.{end} is of an earlier run and stays as it is" for end in ends]
+        expect(done.stderr.decode() == "".join(f"board_study: {line}\n" for line in wanted), done.stderr.decode())
+        expect(Path(folder, "it-scenario-1.svg").read_bytes() == before, "a figure of an earlier run is another one")
+
+
 def check_letters(place: Place) -> None:
     """Letters that no font of the charts has are named on standard error and on the page, in words."""
     said = "lack these letters: \U00013000 \U00013001."
@@ -283,6 +297,7 @@ def cases(place: Place) -> list[Case]:
         "figures as files": check_files,
         "figures of board_figures": check_figures_files,
         "figures that can't be written": check_refused_files,
+        "figures of an earlier run": check_earlier_files,
         "letters that fonts lack": check_letters,
     }
     return [(f"charts: {name}", partial(check, place)) for name, check in checks.items()]

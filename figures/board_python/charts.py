@@ -26,6 +26,7 @@ matplotlib.rcParams.update(
         "text.color": INK,
         "text.parse_math": False,
         "axes.formatter.useoffset": False,
+        "axes.formatter.limits": [-7, 12],
         "path.simplify": False,
     }
     | {"axes.labelcolor": INK, "xtick.color": INK, "ytick.color": INK, "axes.edgecolor": INK}
@@ -54,7 +55,7 @@ NARROW, WIDE, PAPER = Layout(374), Layout(640), Layout(468)
 
 @dataclass(frozen=True)
 class Picture:
-    """A drawing: a name for its files, its title, a text for readers who don't see it, its caption, and what draws it."""
+    """A drawing: a name for its files, title, a text for readers who don't see it, caption, and what draws it."""
 
     name: str
     title: str
@@ -106,7 +107,7 @@ class Key:
 
 @dataclass(frozen=True)
 class Panel:
-    """A part of a drawing with axes of its own: what stands above and below them, room on their left, and what paints."""
+    """A part of a drawing with axes of its own: what stands above and below them, room on their left, what paints."""
 
     heading: str
     label: str
@@ -124,7 +125,7 @@ class Mark:
 
 
 def stripe_dashes(look: Look, width: float) -> tuple[float, tuple[float, float]]:
-    """The stripes on a line so wide, as dashes that begin with a gap; matplotlib counts them in widths of the line."""
+    """Stripes on a line of a width, as dashes that begin with a gap; matplotlib counts them in widths of the line."""
     length, gap, part = look.stripes or (0, 1, 1)
     scale = width * part
     return length / scale, (length / scale, max(gap, 1e-3) / scale)
@@ -158,7 +159,7 @@ def legend_shape(layout: Layout, keys: Sequence[Key]) -> tuple[list[str], int, f
 
 
 def add_legend(figure: Figure, layout: Layout, keys: Sequence[Key], top: float) -> float:
-    """Puts the legend so far below the top, and gives how far down it ends."""
+    """Puts the legend at a distance below the top, in points, and gives the distance at which it ends."""
     texts, columns, height = legend_shape(layout, keys)
     if keys:
         place = {"loc": "upper left", "bbox_to_anchor": (0, 1 - top / whole_height(figure)), "borderaxespad": 0}
@@ -187,7 +188,7 @@ def panel_room(layout: Layout, panel: Panel) -> tuple[list[str], float]:
 
 
 def add_panel(figure: Figure, layout: Layout, panel: Panel, top: float) -> float:
-    """Puts a panel so far below the top, and gives how far down it ends."""
+    """Puts a panel at a distance below the top, in points, and gives the distance at which it ends."""
     whole = whole_height(figure)
     lines, height = panel_room(layout, panel)
     if lines:
@@ -227,7 +228,7 @@ class Rows:
 
     @classmethod
     def of(cls, layout: Layout, names: Sequence[str], height: float) -> Rows:
-        """Rows of so much height, and more where a name takes more lines."""
+        """Rows of one height, higher where a name takes more lines."""
         lines = [wrapped(name, 0.35 * layout.width, SIZE) for name in names]
         return cls(lines, [max(height, 2 + 11.5 * len(it)) for it in lines])
 
@@ -249,7 +250,7 @@ class Rows:
 
 
 def offsets(count: int, step: float) -> list[float]:
-    """As many places round 0 as there are, a step apart."""
+    """A number of places round 0, a step apart."""
     return [step * (number - (count - 1) / 2) for number in range(count)]
 
 

@@ -2,6 +2,7 @@
 from __future__ import annotations
 
 import argparse
+import sys
 from collections.abc import Sequence
 from dataclasses import replace
 from pathlib import Path
@@ -34,9 +35,11 @@ def figure_files(
     if not given.figures:
         return {}
     from .charts import PAPER
-    from .picture_files import check_own, picture_files
+    from .picture_files import check_own, left_over, picture_files
 
-    layout = replace(PAPER, is_titled=given.figure_titles == "in")
-    files = picture_files(pictures, given.figures / Path(given.out).name, layout, script, provenance)
+    layout, start = replace(PAPER, is_titled=given.figure_titles == "in"), given.figures / Path(given.out).name
+    files = picture_files(pictures, start, layout, script, provenance)
     check_own(files, script)
+    for path in left_over(files, start):
+        print(f"{script}: warning: {path} is of an earlier run and stays as it is", file=sys.stderr)
     return files

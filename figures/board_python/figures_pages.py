@@ -89,7 +89,8 @@ def reading_section(number: int, reading: Reading, names: Mapping[int, str]) -> 
         return f"<section>\n{facts}<p>No chair is open, so there is neither a chart nor a table.</p>\n</section>\n"
     rows = [[it.chair, names.get(it.chair, ""), *power_cells(reading, it)] for it in reading.chairs]
     table = table_of(f"Reading {number}: the chairs", ["Chair", "Name", *POWER_HEADERS], rows, 2)
-    return f'<section>\n<div class="kept">\n{facts}{figure_of(reading_picture(number, reading, names))}</div>\n{table}</section>\n'
+    figure = figure_of(reading_picture(number, reading, names))
+    return f'<section>\n<div class="kept">\n{facts}{figure}</div>\n{table}</section>\n'
 
 
 def overview(output: Output) -> str:

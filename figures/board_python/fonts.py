@@ -8,8 +8,8 @@ import warnings
 from collections.abc import Iterable
 from functools import lru_cache
 
-from matplotlib.font_manager import findfont, fontManager, get_font
-from matplotlib.ft2font import LOAD_NO_SCALE, FT2Font
+from matplotlib.font_manager import FontProperties, findfont, fontManager, get_font
+from matplotlib.textpath import text_to_path
 
 # In this order, a letter is taken from the first that is installed and has it. matplotlib brings the first of them.
 FONTS = ["DejaVu Sans", "Noto Sans", "Noto Sans CJK SC", "Noto Sans CJK JP", "Noto Sans CJK KR", "Source Han Sans SC"]
@@ -26,19 +26,19 @@ def font_names() -> list[str]:
 
 
 @lru_cache(maxsize=None)
-def font_of(letter: str) -> FT2Font | None:
-    """The first font that has a letter, or None."""
-    fonts = (get_font(findfont(name)) for name in font_names())
-    return next((font for font in fonts if font.get_char_index(ord(letter))), None)
+def font_of(letter: str) -> str | None:
+    """The name of the first font that has a letter, or None."""
+    return next((name for name in font_names() if get_font(findfont(name)).get_char_index(ord(letter))), None)
 
 
 @lru_cache(maxsize=None)
 def letter_width(letter: str) -> float:
     """How wide a letter is, in sizes of the font; one that no font has counts as a square, as Chinese letters are."""
-    font = font_of(letter)
-    if font is None:
+    name = font_of(letter)
+    if name is None:
         return 1.0
-    return float(font.load_char(ord(letter), flags=LOAD_NO_SCALE).horiAdvance / font.units_per_EM)
+    font = FontProperties(family=name, size=100)
+    return float(text_to_path.get_text_width_height_descent(letter, font, ismath=False)[0] / 100)
 
 
 def text_width(text: str, size: float) -> float:

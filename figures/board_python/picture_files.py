@@ -2,13 +2,18 @@
 from __future__ import annotations
 
 import base64
+import glob
 import html
 import io
-from collections.abc import Iterable, Sequence
+import re
+from collections.abc import Container, Iterable, Sequence
 from pathlib import Path
 
 from .charts import NARROW, WIDE, Layout, Picture
 from .errors import BadInput
+
+# How the files' names end.
+NAMES = re.compile(r"(base|reading-\d+|scenario-\d+|sweep-\d+(-others-\w+)?)\.(svg|pdf)")
 
 
 def svg_bytes(picture: Picture, layout: Layout, **metadata: str) -> bytes:
@@ -22,7 +27,8 @@ def svg_bytes(picture: Picture, layout: Layout, **metadata: str) -> bytes:
 def pdf_bytes(picture: Picture, layout: Layout, **metadata: str) -> bytes:
     """A picture as PDF, with its title in the metadata and more."""
     file = io.BytesIO()
-    picture.draw(layout).savefig(file, format="pdf", metadata={"Title": picture.title, "CreationDate": None, **metadata})
+    about = {"Title": picture.title, "CreationDate": None, **metadata}
+    picture.draw(layout).savefig(file, format="pdf", metadata=about)
     return file.getvalue()
 
 
@@ -48,6 +54,12 @@ def picture_files(
         files[Path(f"{path}.svg")] = svg_bytes(it, layout, **about)
         files[Path(f"{path}.pdf")] = pdf_bytes(it, layout, Creator=script, Subject=it.caption, Keywords=source)
     return files
+
+
+def left_over(files: Container[Path], start: Path) -> list[Path]:
+    """The pictures of an earlier run whose names begin alike and that aren't among the files."""
+    found = start.parent.glob(f"{glob.escape(start.name)}-*")
+    return sorted(it for it in found if it not in files and NAMES.fullmatch(it.name[len(start.name) + 1 :]))
 
 
 def check_own(paths: Iterable[Path], script: str) -> None:

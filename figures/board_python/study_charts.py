@@ -62,15 +62,17 @@ def power(result: Result, majority: str, number: int, measure: Measure) -> Ratio
     return measure.of(chair) if chair else None
 
 
+def powers_added(study: Study, result: Result, order: list[int], majority: str, measure: Measure) -> Series:
+    """What a scenario adds to a measure of the chairs at a majority."""
+    ends = [(power(result, majority, it, measure), power(study.base, majority, it, measure)) for it in order]
+    return power_series(majority, measure, [added(after, before, measure) for after, before in ends])
+
+
 def differences(study: Study, result: Result, order: list[int], measure: Measure) -> list[Series]:
     """What a scenario adds to the chairs' shares of the votes, and to their measure at each majority."""
     first, base = study.majorities[0], study.base
     votes = [added(vote_share(result, first, it), vote_share(base, first, it), measure) for it in order]
-    powers = [
-        power_series(at, measure, [added(power(result, at, it, measure), power(base, at, it, measure), measure) for it in order])
-        for at in study.majorities
-    ]
-    return [votes_series(votes), *powers]
+    return [votes_series(votes), *(powers_added(study, result, order, at, measure) for at in study.majorities)]
 
 
 def new_chairs(study: Study, result: Result, measure: Measure) -> NewChairs:
@@ -102,7 +104,7 @@ def scenario_picture(study: Study, number: int, result: Result, measure: Measure
 
 def percents_of(steps: Sequence[Result]) -> list[float]:
     """The steps of a sweep, in per cent."""
-    return [float(step.scenario.percent or 0) for step in steps]
+    return [float(percent) for step in steps if (percent := step.scenario.percent) is not None]
 
 
 def powers_at(steps: Sequence[Result], majority: str, number: int, measure: Measure) -> list[float]:
@@ -118,7 +120,8 @@ def marks_at(thresholds: Sequence[Threshold], majority: str) -> list[Mark]:
 def thresholds_text(thresholds: Sequence[Threshold], *majorities: str) -> str:
     """What a caption says of the thin lines at some majorities; nothing where there are none."""
     said = [
-        f"{number}: at {it.majority}, from {it.votes:,} votes ({rounded(it.percent, PERCENT_PLACES)} per cent), {it.text}"
+        f"{number}: at {it.majority}, from {it.votes:,} votes "
+        f"({rounded(it.percent, PERCENT_PLACES)} per cent), {it.text}"
         for number, it in enumerate(thresholds, 1)
         if it.majority in majorities
     ]
@@ -153,7 +156,8 @@ def others_picture(
     if not series:
         return None
     title = f"{sweep.text}: other chairs' power at {majority}"
-    caption = f"The {len(series)} other chairs with the most votes in the base, at {majority}; the axis spans their values."
+    caption = f"The {len(series)} other chairs with the most votes in the base, at {majority}; "
+    caption += "the axis spans their own values."
     text = f"Lines for {', '.join(one.label for one in series)}. {caption}"
     caption += f" {source_of(measure)}{thresholds_text(thresholds, majority)}"
     axes = SweepAxes(sweep.member, percents_of(steps), measure)
