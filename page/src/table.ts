@@ -19,7 +19,7 @@ export const MEANING_WORDS: Readonly<Record<Meaning, string>> = {
 export interface Sheet {
   readonly rows: readonly (readonly string[])[];
   readonly width: number;
-  /** What parts thousands in its numbers. */
+  /** What parts thousands in its numbers; a comma or a point comes first. */
   readonly marks: string;
   readonly notices: readonly string[];
 }
@@ -112,6 +112,11 @@ function checkQuotes(text: string, delimiter: string): void {
   throw new Error(`row ${row}: a quoted cell isn't closed, or something stands behind its quotes`);
 }
 
+/** What may part thousands: a comma or a point, apostrophes and blanks. */
+export function marksWith(mark: string): string {
+  return mark + APOSTROPHES + BLANKS;
+}
+
 /** The cells of a text. */
 export function sheetOf(text: string, notices: readonly string[] = []): Sheet {
   const plain = text.replace(/^\ufeff/, "");
@@ -120,7 +125,7 @@ export function sheetOf(text: string, notices: readonly string[] = []): Sheet {
   const rows = dsvFormat(delimiter).parseRows(plain);
   const trimmed = rows.map((row) => row.map((cell) => cell.trim()));
   while (trimmed.length > 0 && trimmed[trimmed.length - 1]?.every((cell) => cell === "")) trimmed.pop();
-  const marks = (delimiter === ";" ? "." : ",") + APOSTROPHES + BLANKS;
+  const marks = marksWith(delimiter === ";" ? "." : ",");
   return { rows: trimmed, width: trimmed.reduce((most, row) => Math.max(most, row.length), 0), marks, notices };
 }
 

@@ -149,6 +149,15 @@ def test_refused_as_by_the_scripts(page: Page, small: Oracle, name: str) -> None
     assert {int(line) for line in re.findall("^line ([0-9]+)", str(why.value), re.M)} == set(wanted)
 
 
+def test_points_between_thousands(page: Page) -> None:
+    # Catches: cells with points that can't be taken, or are taken by a thousandth, where tabs part them.
+    paste(page, inputs.REFUSED["three zeros behind a point"][0])
+    page.choose("#thousands", ".")
+    take(page)
+    assert page.act("exported", "export-script").splitlines()[1:3] == ["AAA,40000", "BBB,8000"]
+    assert page.texts("#choices li") == ["Marks between thousands were passed over in 2 rows"]
+
+
 @pytest.mark.parametrize("name", inputs.READ)
 def test_read_as_by_the_scripts(page: Page, small: Oracle, name: str) -> None:
     # Catches: another number, seat or name than the scripts', or a choice or a conversion that the page doesn't say.

@@ -5,8 +5,8 @@ import { button, choice, h, paint, type Child } from "../dom";
 import { counted, grouped } from "../fractions";
 import { hashOf } from "../made";
 import {
-  columnName, guessedLayout, MEANING_WORDS, MEANINGS, NO_ANSWERS, readTable, sheetOf, totalWords, type Answers,
-  type CellFault, type Layout, type Meaning, type ReadTable, type Sheet,
+  columnName, guessedLayout, marksWith, MEANING_WORDS, MEANINGS, NO_ANSWERS, readTable, sheetOf, totalWords,
+  type Answers, type CellFault, type Layout, type Meaning, type ReadTable, type Sheet,
 } from "../table";
 
 /** More faults than this are counted and not listed. */
@@ -19,7 +19,7 @@ class Preview {
   layout: Layout;
   answers: Answers = NO_ANSWERS;
   name: string;
-  constructor(readonly app: App, readonly sheet: Sheet, readonly text: string, name: string) {
+  constructor(readonly app: App, public sheet: Sheet, readonly text: string, name: string) {
     this.layout = guessedLayout(sheet);
     this.name = name;
   }
@@ -174,11 +174,16 @@ function columnChoices(preview: Preview, again: () => void): Child {
       (value) => set(it, value),
     ),
   );
+  const thousands = (mark: string) => {
+    preview.sheet = { ...sheet, marks: marksWith(mark) };
+    again();
+  };
   return h(
     "div",
     { class: "choices" },
     h("label", { class: "choice", for: "header-row" }, h("span", {}, "Row of the header (0: none)"), header),
     lists,
+    choice("thousands", "Thousands", [[",", "1,000"], [".", "1.000"]], sheet.marks.charAt(0), thousands),
   );
 }
 
