@@ -30,7 +30,7 @@ export interface Layout {
   readonly columns: Readonly<Record<Meaning, number>>;
 }
 
-/** The user's answers. What is null isn't answered, nor is it whether a row is a total where that isn't in `totals`. */
+/** The user's answers. What is null isn't answered, and neither is a row that may be the total and isn't in `totals`. */
 export interface Answers {
   readonly merged: boolean | null;
   readonly totals: ReadonlyMap<number, boolean>;
@@ -327,7 +327,7 @@ class Reader {
     return [...this.#numbered.values()];
   }
 
-  /** The chairs' names: those of their own column first. */
+  /** The chairs' names: those of the column of names, else those by which the chairs stand there. */
   chairNames(): Record<number, string> {
     return Object.fromEntries([...this.numbered(), ...this.#names]);
   }
@@ -438,6 +438,7 @@ function missingColumn({ columns: { code, name, votes } }: Layout): CellFault | 
   return { row: 0, meaning: "code", reason: "no column is chosen, nor one of names to make codes from" };
 }
 
+/** All that is wrong, by row. */
 function faultsOf(sheet: Sheet, layout: Layout, rows: readonly Row[], reader: Reader): CellFault[] {
   const missing = missingColumn(layout);
   if (missing) return [missing];
