@@ -65,12 +65,12 @@ EEE,Elland,8,1
 # What is refused, since a guess could be another number, chair or member: the text, and for each bad row some words.
 REFUSED: dict[str, tuple[str, dict[int, str]]] = {
     "three zeros behind a point": (
-        "code\tvotes\tchair\nAAA\t40.000\t1\nBBB\t8.000\t2\n",
+        "code\tvotes\tchair\nAAA\t40.000\tHills\nBBB\t8.000\tPlains\n",
         {2: "'40.000': a decimal point", 3: "'8.000': a decimal point"},
     ),
     "a comma as decimal mark": (
-        "code;votes;chair\nAAA;831401,0;1\nBBB;831401.0;2\n",
-        {2: "'831401,0': a decimal comma"},
+        "code;votes;chair\nAAA;831401,0;1\nBBB;831401.0;2\nCCC;831.401.0;2\n",
+        {2: "'831401,0': a decimal comma", 4: "'831.401.0': no whole number"},
     ),
     "chairs with decimals": (HEAD + 'AAA,5,"2,5"\nBBB,6,1.5\n', {2: "'2,5': BadChair", 3: "'1.5': BadChair"}),
     "a number among chairs by name": (

@@ -155,7 +155,7 @@ def test_points_between_thousands(page: Page) -> None:
     page.choose("#thousands", ".")
     take(page)
     assert page.act("exported", "export-script").splitlines()[1:3] == ["AAA,40000", "BBB,8000"]
-    assert page.texts("#choices li") == ["Marks between thousands were passed over in 2 rows"]
+    assert page.texts("#choices li")[0] == "Marks between thousands were passed over in 2 rows"
 
 
 @pytest.mark.parametrize("name", inputs.READ)
