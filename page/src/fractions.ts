@@ -76,3 +76,8 @@ export function drawn(ratio: Ratio): number {
 export function grouped(whole: number | bigint): string {
   return whole.toString().replace(/\B(?=(?:\d{3})+$)/g, ",");
 }
+
+/** A number of things. */
+export function counted(many: number, thing: string): string {
+  return `${grouped(many)} ${thing}${many === 1 ? "" : "s"}`;
+}

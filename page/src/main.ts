@@ -19,7 +19,7 @@ async function example(): Promise<StudyData> {
   const hash = await hashOf(exampleText);
   const study: Study = {
     name: "Example: invented votes",
-    base: { ...base, hash },
+    base: { ...base, choices: [], hash },
     changes: [],
     scenarios: [],
     published: null,

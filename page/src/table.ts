@@ -1,5 +1,6 @@
 /** Tables of members, pasted from a spreadsheet or read from a file: cells become a base, or faults with their rows. */
 import { dsvFormat } from "d3-dsv";
+import { counted } from "./fractions";
 import type { Base, Command, Member } from "./study";
 import { CHAIRS, MOST_CHAIRS, MOST_MEMBERS, MOST_VOTES, reasonOf } from "./words";
 
@@ -18,7 +19,7 @@ export const MEANING_WORDS: Readonly<Record<Meaning, string>> = {
 export interface Sheet {
   readonly rows: readonly (readonly string[])[];
   readonly width: number;
-  /** What parts thousands in its numbers. */
+  /** What parts thousands in its numbers; a comma or a point comes first. */
   readonly marks: string;
   readonly notices: readonly string[];
 }
@@ -29,13 +30,19 @@ export interface Layout {
   readonly columns: Readonly<Record<Meaning, number>>;
 }
 
-/** The user's answers. What is null isn't answered. */
+/** The user's answers. What is null isn't answered, and neither is a row that may be the total and isn't in `totals`. */
 export interface Answers {
   readonly merged: boolean | null;
-  readonly isTotal: boolean | null;
+  readonly totals: ReadonlyMap<number, boolean>;
   readonly leftOut: ReadonlySet<number>;
 }
-export const NO_ANSWERS: Answers = { merged: null, isTotal: null, leftOut: new Set() };
+export const NO_ANSWERS: Answers = { merged: null, totals: new Map(), leftOut: new Set() };
+
+/** A row below the header: its number, and its cells by what they mean. */
+export interface Row {
+  readonly row: number;
+  readonly cells: Readonly<Record<Meaning, string>>;
+}
 
 /** A cell that can't be taken. */
 export interface CellFault {
@@ -48,60 +55,90 @@ export interface CellFault {
 export interface ReadTable {
   readonly base: Omit<Base, "hash"> | null;
   readonly faults: readonly CellFault[];
-  /** Rows with a blank chair under a filled one, and the row that equals the sum of the others, or 0. */
+  /** Rows with a blank chair under a filled one, and rows that may be the total. */
   readonly blanks: readonly number[];
-  readonly totalRow: number;
+  readonly totals: readonly Row[];
   readonly notices: readonly string[];
 }
 
 const BLANKS = " \u00a0\u2009\u202f";
 const APOSTROPHES = "'\u2019";
+/** What pandas and R write behind whole numbers of a column with a gap. Three zeros could be thousands. */
+const ZEROS = /\.00?$/;
+const DECIMAL = /^[0-9]+[.,][0-9]+$/;
 
-/** The text of a file, and whether it wasn't UTF-8. */
+/** Says how a text was read, and its first word that has a letter beyond ASCII. */
+function encodingWords(encoding: string, text: string): string {
+  const word = /[^\s,;]*(?![A-Za-z])\p{L}[^\s,;]*/u.exec(text)?.[0];
+  const look = word ? `: look at letters with accents, such as those of '${word}'` : "";
+  return `The table was read as ${encoding}${look}`;
+}
+
+/** The text of a file, and how it was read where it wasn't UTF-8. */
 export function textOfBytes(bytes: ArrayBuffer): { text: string; notices: string[] } {
   const start = new Uint8Array(bytes.slice(0, 2));
   const mark = ((start[0] ?? 0) << 8) | (start[1] ?? 0);
   if (mark === 0xfffe || mark === 0xfeff) {
     const text = new TextDecoder(mark === 0xfffe ? "utf-16le" : "utf-16be").decode(bytes);
-    return { text, notices: ["The file has two bytes for each letter: it was read as UTF-16."] };
+    return { text, notices: [encodingWords("utf-16", text)] };
   }
   try {
     return { text: new TextDecoder("utf-8", { fatal: true }).decode(bytes), notices: [] };
   } catch {
     const text = new TextDecoder("windows-1252").decode(bytes);
-    return { text, notices: ["The file is not UTF-8: it was read as Windows-1252. Look at letters with accents."] };
+    return { text, notices: [encodingWords("cp1252", text)] };
   }
 }
 
-/** What parts the cells: the one of tab, semicolon and comma that cuts the rows into the most. */
+/** A text with its quoted cells emptied. */
+function emptied(text: string, delimiters: string): string {
+  const quoted = new RegExp(`(^|[${delimiters}])"[^"]*(?:""[^"]*)*"(?=[${delimiters}]|$)`, "gm");
+  return text.replace(quoted, "$1");
+}
+
+/** What parts the cells: the one of tab, semicolon and comma that stands there most often, outside of quotes. */
 function delimiterOf(text: string): string {
-  const start = text.split(/\r?\n/).slice(0, 20).join("\n");
-  const cells = (delimiter: string) => Math.max(...dsvFormat(delimiter).parseRows(start).map((row) => row.length), 0);
-  return ["\t", ";", ","].reduce((best, next) => (cells(next) > cells(best) ? next : best));
+  const bare = emptied(text, "\t;,");
+  const count = (delimiter: string) => bare.split(delimiter).length;
+  return ["\t", ";", ","].reduce((best, next) => (count(next) > count(best) ? next : best));
+}
+
+/** Sees that each quoted cell is closed, and that nothing stands behind its quotes. */
+function checkQuotes(text: string, delimiter: string): void {
+  const bare = emptied(text, delimiter);
+  const at = bare.search(new RegExp(`(^|${delimiter})"`, "m"));
+  if (at < 0) return;
+  const row = bare.slice(0, at).split(/\r\n|\r|\n/).length;
+  throw new Error(`row ${row}: a quoted cell isn't closed, or something stands behind its quotes`);
+}
+
+/** What may part thousands: a comma or a point, apostrophes and blanks. */
+export function marksWith(mark: string): string {
+  return mark + APOSTROPHES + BLANKS;
 }
 
 /** The cells of a text. */
 export function sheetOf(text: string, notices: readonly string[] = []): Sheet {
   const plain = text.replace(/^\ufeff/, "");
   const delimiter = delimiterOf(plain);
+  checkQuotes(plain, delimiter);
   const rows = dsvFormat(delimiter).parseRows(plain);
   const trimmed = rows.map((row) => row.map((cell) => cell.trim()));
   while (trimmed.length > 0 && trimmed[trimmed.length - 1]?.every((cell) => cell === "")) trimmed.pop();
-  const marks = (delimiter === ";" ? "." : ",") + APOSTROPHES + BLANKS;
-  return { rows: trimmed, width: Math.max(0, ...trimmed.map((row) => row.length)), marks, notices };
+  const marks = marksWith(delimiter === ";" ? "." : ",");
+  return { rows: trimmed, width: trimmed.reduce((most, row) => Math.max(most, row.length), 0), marks, notices };
 }
 
-/** A whole number; one mark may stand between its thousands. Null where the cell is none. */
+/** A whole number; one of the marks may stand between its thousands, and .0 behind it. Null where the cell is none. */
 function wholeOf(cell: string, marks: string): number | null {
-  const parted = `[0-9]{1,3}([${marks}])[0-9]{3}(?:\\1[0-9]{3})*`;
-  const body = new RegExp(`^(?:[0-9]{1,20}${marks && `|${parted}`})$`);
-  const text = body.test(cell) ? cell : cell.replace(/[.,]0+$/, "");
-  return body.test(text) ? Number(text.replace(/[^0-9]/g, "")) : null;
+  const whole = cell.replace(ZEROS, "");
+  const found = new RegExp(`^(?:[0-9]{1,20}|[0-9]{1,3}([${marks}])[0-9]{3}(?:\\1[0-9]{3})*)$`).exec(whole);
+  return found && !(found[1] === "." && whole !== cell) ? Number(whole.replace(/[^0-9]/g, "")) : null;
 }
 
-/** Whether a whole number is written with decimals that are all 0. */
-function hasZeros(cell: string, marks: string): boolean {
-  return /[.,]0+$/.test(cell) && wholeOf(cell, "") !== null && !new RegExp(`[${marks}][0-9]{3}$`).test(cell);
+/** Whether a chair's cell is a name: it has a letter. */
+function isName(cell: string): boolean {
+  return /\p{L}/u.test(cell);
 }
 
 const HEADS: Readonly<Record<Meaning, RegExp>> = {
@@ -112,8 +149,9 @@ const HEADS: Readonly<Record<Meaning, RegExp>> = {
   name: /name|member|country/i,
 };
 
-function isNumber(sheet: Sheet, cell: string | undefined): boolean {
-  return cell !== undefined && wholeOf(cell, sheet.marks) !== null;
+/** Whether a cell is a number, also one that is refused. */
+function isNumber(sheet: Sheet, cell: string): boolean {
+  return wholeOf(cell, sheet.marks) !== null || DECIMAL.test(cell);
 }
 
 /** The row of the header: the first of several texts and no number above a row with a number. */
@@ -162,11 +200,6 @@ export function guessedLayout(sheet: Sheet): Layout {
   return { header, columns };
 }
 
-interface Row {
-  readonly row: number;
-  readonly cells: Readonly<Record<Meaning, string>>;
-}
-
 /** The rows below the header that aren't empty. */
 function rowsOf(sheet: Sheet, { header, columns }: Layout): Row[] {
   const rows = sheet.rows.map((cells, at) => ({ row: at + 1, cells }));
@@ -184,12 +217,17 @@ function rowsOf(sheet: Sheet, { header, columns }: Layout): Row[] {
   });
 }
 
-/** The row whose votes are the sum of all others', or 0. */
-function totalRowOf(rows: readonly Row[], marks: string): number {
-  const votes = rows.map(({ cells }) => wholeOf(cells.votes, marks) ?? 0);
-  const sum = votes.reduce((all, own) => all + own, 0);
-  const at = votes.findIndex((own) => own > 0 && 2 * own === sum);
-  return rows.length > 2 ? rows[at]?.row ?? 0 : 0;
+/** The rows whose votes equal the sum of all others', in a table of more than two rows. */
+function totalsOf(rows: readonly Row[], marks: string): Row[] {
+  const own = rows.map(({ cells }) => wholeOf(cells.votes, marks) ?? 0);
+  const votes = own.map((it) => (it > MOST_VOTES ? 0 : it));
+  const sum = votes.reduce((all, it) => all + it, 0);
+  return rows.length > 2 && sum > 0 ? rows.filter((_, at) => 2 * (votes[at] ?? 0) === sum) : [];
+}
+
+/** A row that may be the total, in words. */
+export function totalWords({ row, cells }: Row): string {
+  return `Row ${row} (${[cells.code || cells.name, `${cells.votes} votes`].filter((it) => it).join(", ")})`;
 }
 
 /** Rows with a blank chair under a filled one. */
@@ -199,21 +237,36 @@ function blanksOf(rows: readonly Row[]): number[] {
   return rows.slice(first).flatMap(({ row, cells }) => (cells.chair === "" ? [row] : []));
 }
 
-/** Rows with the chair of the row above where theirs is blank. */
+/** Rows with the chair of the row above where theirs is blank. A chair's name stands for all of its rows. */
 function filledDown(rows: readonly Row[]): Row[] {
-  let [chair, chairName] = ["", ""];
+  let chair = "";
   return rows.map(({ row, cells }) => {
-    if (cells.chair === "") return { row, cells: { ...cells, chair, chairName } };
-    ({ chair, chairName } = cells);
-    return { row, cells };
+    chair = cells.chair || chair;
+    return { row, cells: { ...cells, chair } };
   });
+}
+
+/** What is wrong with rows as a whole: more cells than the header has, or no name where codes are made from names. */
+function rowFaults(sheet: Sheet, { header, columns }: Layout, rows: readonly Row[]): CellFault[] {
+  const width = sheet.rows[header - 1]?.length ?? sheet.width;
+  const cellsOf = (row: number) => sheet.rows[row - 1] ?? [];
+  const wide = rows.filter(({ row }) => cellsOf(row).slice(width).some((cell) => cell !== ""));
+  const nameless = columns.code < 0 ? rows.filter(({ cells }) => cells.name === "") : [];
+  return [
+    ...wide.map(({ row }): CellFault => {
+      return { row, meaning: "votes", reason: `${cellsOf(row).length} cells under a header of ${width}` };
+    }),
+    ...nameless.map(({ row }): CellFault => {
+      return { row, meaning: "name", reason: "there is no name to make a code from" };
+    }),
+  ];
 }
 
 function votesReason(cell: string): string {
   if (cell === "") return "an empty cell";
   if (/^[+-]/.test(cell)) return "a sign";
   if (/^[0-9.,]+e[+-]?[0-9]+$/i.test(cell)) return "a spreadsheet's scientific format";
-  if (/^[0-9]+[.,][0-9]+$/.test(cell)) return "a decimal point";
+  if (DECIMAL.test(cell)) return cell.includes(".") ? "a decimal point" : "a decimal comma";
   return "no whole number";
 }
 
@@ -237,12 +290,13 @@ export function madeCodes(names: readonly string[]): string[] {
 class Reader {
   readonly faults: CellFault[] = [];
   readonly members: Member[] = [];
-  readonly seats: Command[] = [];
-  readonly names = new Map<number, string>();
+  readonly #seats: Extract<Command, { word: "move" }>[] = [];
   readonly #marks: string;
   readonly #byName: boolean;
   readonly #rowOfCode = new Map<string, number>();
-  readonly #numbers = new Map<string, number>();
+  /** The names of chairs from their own column; and numbers and names of chairs that stand there by name. */
+  readonly #names = new Map<number, string>();
+  readonly #numbered = new Map<string, readonly [number, string]>();
 
   constructor(marks: string, byName: boolean) {
     this.#marks = marks;
@@ -257,19 +311,37 @@ class Reader {
       this.#refuse(row, "code", `TooManyMembers: ${reasonOf("TooManyMembers")}`);
     }
     this.members.push({ code, name: cells.name, votes, row });
-    if (chair !== null) this.seats.push({ word: "move", code, chair });
-    if (cells.chairName && !this.#byName) this.#name(row, chair, cells.chairName);
+    if (chair !== null) this.#seats.push({ word: "move", code, chair });
+    if (cells.chairName) this.#name(row, chair, cells.chairName);
   }
 
-  #refuse(row: number, meaning: Meaning, reason: string): void {
+  /** An `open` for each chair that has members, and a `move` for each member in a chair. */
+  commands(): Command[] {
+    const chairs = [...new Set(this.#seats.flatMap(({ chair }) => (chair ? [chair] : [])))];
+    const opens = chairs.sort((one, other) => one - other).map((chair): Command => ({ word: "open", chair }));
+    return [...opens, ...this.#seats];
+  }
+
+  /** The chairs that stand there by name, in the order of their numbers. */
+  numbered(): (readonly [number, string])[] {
+    return [...this.#numbered.values()];
+  }
+
+  /** The chairs' names: those of the column of names, else those by which the chairs stand there. */
+  chairNames(): Record<number, string> {
+    return Object.fromEntries([...this.numbered(), ...this.#names]);
+  }
+
+  #refuse(row: number, meaning: Meaning, reason: string): null {
     this.faults.push({ row, meaning, reason });
+    return null;
   }
 
   #code(row: number, cell: string): string {
     const code = cell.toUpperCase();
     const other = this.#rowOfCode.get(code);
     if (cell === "") this.#refuse(row, "code", "an empty cell");
-    else if (!/^[A-Z]{3}$/.test(code)) this.#refuse(row, "code", `BadMember: ${reasonOf("BadMember")}`);
+    else if (!/^[A-Za-z]{3}$/.test(cell)) this.#refuse(row, "code", `BadMember: ${reasonOf("BadMember")}`);
     else if (other) this.#refuse(
       row,
       "code",
@@ -290,92 +362,115 @@ class Reader {
     if (cell === "") return null;
     if (this.#byName) return this.#numberOf(row, cell);
     const chair = wholeOf(cell, "") ?? 0;
-    if (!CHAIRS.includes(chair)) this.#refuse(row, "chair", `BadChair: ${reasonOf("BadChair")}`);
-    return chair;
+    return CHAIRS.includes(chair) ? chair : this.#refuse(row, "chair", `BadChair: ${reasonOf("BadChair")}`);
   }
 
   /** Numbers chairs in the order in which their names come. */
-  #numberOf(row: number, name: string): number {
-    const number = this.#numbers.get(name) ?? this.#numbers.size + 1;
-    if (number > MOST_CHAIRS) this.#refuse(row, "chair", `BadChair: ${reasonOf("BadChair")}; this would be the 33rd`);
-    else this.#numbers.set(name, number);
-    this.names.set(number, name);
-    return number;
+  #numberOf(row: number, cell: string): number | null {
+    if (!isName(cell)) return this.#refuse(row, "chair", "no chair: the other chairs stand there by name");
+    // Small letters, then capitals: so `ß` and `SS` are the same, as in Python's casefold.
+    const key = cell.split(/\s+/).join(" ").toLowerCase().toUpperCase();
+    const [number, name] = this.#numbered.get(key) ?? [this.#numbered.size + 1, cell];
+    this.#numbered.set(key, [number, name]);
+    if (name !== cell) return this.#refuse(row, "chair", `the chair '${cell}' is written '${name}' above`);
+    if (CHAIRS.includes(number)) return number;
+    return this.#refuse(row, "chair", `BadChair: ${reasonOf("BadChair")}; it would be number ${number}`);
   }
 
   #name(row: number, chair: number | null, name: string): void {
     if (chair === null) this.#refuse(row, "chairName", "a chair's name, and no chair");
-    else if ((this.names.get(chair) ?? name) !== name) {
-      this.#refuse(row, "chairName", `chair ${chair} is named ${this.names.get(chair)} above`);
-    } else this.names.set(chair, name);
+    else if ((this.#names.get(chair) ?? name) !== name) {
+      this.#refuse(row, "chairName", `chair ${chair} is named '${this.#names.get(chair)}' above`);
+    } else this.#names.set(chair, name);
   }
 }
 
-/** What was chosen, in sentences for the list of changes and the exports. */
-function choicesOf(answers: Answers, totalRow: number, blanks: readonly number[], codesMade: boolean): string[] {
-  const rows = [...answers.leftOut].sort((left, right) => left - right).map((row) => `Row ${row} was left out.`);
-  const rowWord = blanks.length === 1 ? "row" : "rows";
-  if (totalRow && answers.isTotal) rows.push(
-    `Row ${totalRow}, which equals the sum of the others, was left out as a total.`,
-  );
-  if (totalRow && answers.isTotal === false) rows.push(
-    `Row ${totalRow}, which equals the sum of the others, is a member.`,
-  );
-  if (blanks.length && answers.merged) rows.push(`Merged cells: the chair was filled down in ${blanks.length} ${rowWord}.`);
-  if (codesMade) rows.push("The table has no codes: they were made from names.");
-  return rows;
+/** How a sheet was read, and what was converted in good rows, in the scripts' sentences. */
+function noticesOf(sheet: Sheet, header: number, rows: readonly Row[], reader: Reader): string[] {
+  const bad = new Set(reader.faults.map(({ row }) => row));
+  const chairs = reader.numbered().map(([number, name]) => `${number} ${name}`);
+  const count = (is: (cells: Row["cells"]) => boolean) =>
+    rows.filter(({ row, cells }) => !bad.has(row) && is(cells)).length;
+  const zeros = count(({ votes, chair }) => ZEROS.test(votes) || (!chairs.length && ZEROS.test(chair)));
+  const marks = count(({ votes }) => !/^[0-9]+$/.test(votes.replace(ZEROS, "")));
+  const small = count(({ code }) => /[a-z]/.test(code));
+  const isSkipped = sheet.rows.some((cells, at) => at + 1 < header && cells.some((cell) => cell !== ""));
+  return [
+    ...(isSkipped ? [`Rows above the header were skipped: ${header - 1}`] : []),
+    ...sheet.notices,
+    ...(zeros ? [`Numbers such as 1.0 were taken as whole numbers in ${counted(zeros, "row")}`] : []),
+    ...(marks ? [`Marks between thousands were passed over in ${counted(marks, "row")}`] : []),
+    ...(small ? [`Small letters of codes were taken as capitals in ${counted(small, "row")}`] : []),
+    ...(chairs.length
+      ? [`Chairs stand there by name: they were numbered in the order in which they come: ${chairs.join("; ")}`]
+      : []),
+  ];
 }
 
-function noticesOf(sheet: Sheet, rows: readonly Row[], byName: boolean): string[] {
-  const zeros = rows.filter(({ cells }) => [cells.votes, cells.chair].some((cell) => hasZeros(cell, sheet.marks)));
-  const small = rows.filter(({ cells }) => /[a-z]/.test(cells.code));
-  const parted = rows.filter(
-    ({ cells }) => wholeOf(cells.votes, sheet.marks) !== null && wholeOf(cells.votes, "") === null,
-  );
-  return [
-    ...sheet.notices,
-    ...(zeros.length ? [`Numbers such as 1.0 were taken as whole numbers. Rows: ${zeros.length}.`] : []),
-    ...(parted.length ? [`Marks between thousands were passed over. Rows: ${parted.length}.`] : []),
-    ...(small.length ? [`Small letters of codes were taken as capitals. Rows: ${small.length}.`] : []),
-    ...(byName ? ["Chairs stand there by name: they were numbered in the order in which they come."] : []),
-  ];
+/** What was chosen, in the scripts' sentences, for the list of changes and the exports. */
+function choicesOf(answers: Answers, totals: readonly Row[], blanks: readonly number[]): string[] {
+  const left = [...answers.leftOut].sort((one, other) => one - other).map((row) => `Row ${row} was left out`);
+  const asked = totals.map((it) => {
+    const taken = answers.totals.get(it.row) ? "was left out as a total" : "is a member";
+    return `${totalWords(it)}, which equals the sum of the others, ${taken}`;
+  });
+  const merged = answers.merged
+    ? "Merged cells: the chair was filled down in"
+    : "A blank chair under a filled one is no chair:";
+  return [...left, ...asked, ...(blanks.length ? [`${merged} ${counted(blanks.length, "row")}`] : [])];
+}
+
+/** The rows with codes made from their names where no column has codes, and the sentence about that. */
+function withCodes(rows: readonly Row[], isMade: boolean): { rows: readonly Row[]; made: string[] } {
+  if (!isMade) return { rows, made: [] };
+  const codes = madeCodes(rows.map(({ cells }) => cells.name));
+  const said = rows.map(({ cells }, at) => `${codes[at]} ${cells.name}`).join("; ");
+  return {
+    rows: rows.map(({ row, cells }, at) => ({ row, cells: { ...cells, code: codes[at] ?? "" } })),
+    made: [`The table has no codes: they were made from names: ${said}`],
+  };
+}
+
+/** The column that a table can't do without and that isn't chosen. */
+function missingColumn({ columns: { code, name, votes } }: Layout): CellFault | null {
+  if (votes < 0) return { row: 0, meaning: "votes", reason: "no column is chosen" };
+  if (code >= 0 || name >= 0) return null;
+  return { row: 0, meaning: "code", reason: "no column is chosen, nor one of names to make codes from" };
+}
+
+/** All that is wrong, by row. */
+function faultsOf(sheet: Sheet, layout: Layout, rows: readonly Row[], reader: Reader): CellFault[] {
+  const missing = missingColumn(layout);
+  if (missing) return [missing];
+  if (!rows.length) return [{ row: 0, meaning: "code", reason: "there is no member in the table" }];
+  return [...rowFaults(sheet, layout, rows), ...reader.faults].sort((one, other) => one.row - other.row);
 }
 
 /** Reads a sheet by a layout and the answers given so far. */
 export function readTable(sheet: Sheet, layout: Layout, answers: Answers): ReadTable {
   const all = rowsOf(sheet, layout).filter(({ row }) => !answers.leftOut.has(row));
-  const totalRow = layout.columns.votes < 0 ? 0 : totalRowOf(all, sheet.marks);
-  const kept = all.filter(({ row }) => !(answers.isTotal && row === totalRow));
+  const may = totalsOf(all, sheet.marks);
+  const left = may.filter(({ row }) => answers.totals.get(row));
+  // Where one row is left out as the total, no other one equals the sum of the others.
+  const totals = left.length ? left : may;
+  const kept = all.filter((row) => !left.includes(row));
   const blanks = blanksOf(kept);
-  const seated = kept.filter(({ cells }) => cells.chair !== "");
-  const byName = seated.filter(({ cells }) => wholeOf(cells.chair, "") === null).length * 2 > seated.length;
-  const codesMade = layout.columns.code < 0;
-  const made = codesMade ? madeCodes(kept.map(({ cells }) => cells.name)) : [];
-  const rows = (answers.merged ? filledDown(kept) : kept).map(({ row, cells }, at) => {
-    return { row, cells: { ...cells, code: made[at] ?? cells.code } };
-  });
-  const reader = new Reader(sheet.marks, byName);
+  const { rows, made } = withCodes(answers.merged ? filledDown(kept) : kept, layout.columns.code < 0);
+  const seated = rows.filter(({ cells }) => cells.chair !== "");
+  const named = seated.filter(({ cells }) => isName(cells.chair));
+  const reader = new Reader(sheet.marks, 2 * named.length > seated.length);
   for (const row of rows) reader.take(row);
-  const faults = [...reader.faults];
-  if (layout.columns.votes < 0) faults.splice(
-    0,
-    faults.length,
-    { row: 0, meaning: "votes", reason: "no column is chosen" },
-  );
-  else if (!rows.length) faults.push({ row: 0, meaning: "code", reason: "there is no member in the table" });
-  const isAnswered = (!blanks.length || answers.merged !== null) && (!totalRow || answers.isTotal !== null);
-  const open = [...new Set(reader.seats.flatMap((it) => (it.word === "move" && it.chair ? [it.chair] : [])))];
-  const opens = open.sort((left, right) => left - right).map((chair): Command => ({ word: "open", chair }));
-  const choices = [...noticesOf(sheet, rows, byName), ...choicesOf(answers, totalRow, blanks, codesMade)];
+  const faults = faultsOf(sheet, layout, rows, reader);
+  const isAnswered = (!blanks.length || answers.merged !== null) && totals.every(({ row }) => answers.totals.has(row));
+  const notices = noticesOf(sheet, layout.header, rows, reader);
   const base = {
     members: reader.members,
-    commands: [...opens, ...reader.seats],
-    chairNames: Object.fromEntries(reader.names),
-    choices,
+    commands: reader.commands(),
+    chairNames: reader.chairNames(),
+    choices: [...notices, ...choicesOf(answers, totals, blanks), ...made],
     columns: columnNames(sheet, layout),
   };
-  const notices = noticesOf(sheet, rows, byName);
-  return { base: faults.length || !isAnswered ? null : base, faults, blanks, totalRow, notices };
+  return { base: faults.length || !isAnswered ? null : base, faults, blanks, totals, notices };
 }
 
 /** The name of a column: its head, else its letter. */

@@ -14,6 +14,7 @@ from board_python.tables import STUDY_COLUMNS, csv_text, study_rows
 
 TOP = Path(__file__).resolve().parents[2]
 EXAMPLE = TOP / "examples" / "members.csv"
+AS_IT_IS = Layout(blank_is_no_chair=True, keep_total=True)
 MAJORITIES = ["half", "70", "85", "quorum"]
 
 
@@ -28,8 +29,8 @@ class Oracle:
         self.program = program
         self.table = self.table_of(EXAMPLE.read_bytes())
 
-    def table_of(self, data: bytes) -> MemberTable:
-        return read_table(data, Columns(), layout=Layout(blank_is_no_chair=True, keep_total=True))
+    def table_of(self, data: bytes, layout: Layout = AS_IT_IS) -> MemberTable:
+        return read_table(data, Columns(), layout=layout)
 
     def lines(self, script: bytes) -> bytes:
         """What `board replay` prints of a script, also where it ends in a fault."""

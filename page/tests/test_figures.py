@@ -106,6 +106,6 @@ def test_published_total(page: Page, oracle: Oracle) -> None:
     # Catches: a table that lacks a row, which nobody sees.
     total = oracle.output([], ["half"]).readings[0].total
     page.write("#published", f"{total + 12_000:,}")
-    assert page.text("#published-words") == "the base has 12,000 votes less"
+    assert page.text("#published-words") == f"the votes add up to {total:,}: 12,000 fewer"
     page.write("#published", f"{total:,}")
-    assert page.text("#published-words") == "equals the base's votes"
+    assert page.text("#published-words") == "the votes add up to the published total"

@@ -1,11 +1,14 @@
 """Tables of members: pasted from a spreadsheet, opened or dropped; what is asked about them, and their faults."""
 from __future__ import annotations
 
+import re
 import xml.etree.ElementTree as ElementTree
 from pathlib import Path
 
 import inputs
 import pytest
+from board_python.errors import BadInput
+from board_python.member_tables import Layout
 from chromium import Page
 from figures import check_figures, shown_majorities
 from oracle import Oracle
@@ -29,13 +32,13 @@ def small(oracle: Oracle) -> Oracle:
     return other
 
 
-def paste(page: Page, text: str) -> None:
-    """Copies a text and pastes it outside of all fields, by keyboard."""
+def paste(page: Page, text: str, dialog: str = "#table-dialog") -> None:
+    """Copies a text and pastes it outside of all fields, by keyboard; a dialog comes."""
     page.run(FIELD, text)
     page.press(Keys.CONTROL, "c")
     page.run('document.getElementById("copied").remove();')
     page.press(Keys.CONTROL, "v")
-    page.until(lambda: page.all("#table-dialog"), "the preview")
+    page.until(lambda: page.all(dialog), "the dialog")
 
 
 def take(page: Page, name: str = "Pasted table") -> None:
@@ -96,8 +99,9 @@ def test_total_row(page: Page, small: Oracle, is_total: bool) -> None:
     # Catches: a total that is taken as a member with half of all votes, without a question.
     paste(page, inputs.TOTAL)
     page.click("#merged-no")
-    assert "A total?" in page.text("#total") and not page.at("#table-take").is_enabled()
-    page.click("#total-yes" if is_total else "#total-no")
+    assert "A total? Row 7 (TOT, 100 votes) equals" in page.text("#total-7")
+    assert not page.at("#table-take").is_enabled()
+    page.click("#total-7-yes" if is_total else "#total-7-no")
     take(page)
     small.table = small.table_of((inputs.PLAIN if is_total else inputs.TOTAL).encode())
     check_figures(page, small, [])
@@ -129,7 +133,91 @@ def test_faults_all_at_once(page: Page, oracle: Oracle) -> None:
     take(page)
     script = page.act("exported", "export-script").splitlines()
     assert script[1:3] == ["CCC,12", "EEE,8"]
-    assert all(f"Row {row} was left out." in page.text("#choices") for row in [2, 3, 4])
+    assert page.texts("#choices li") == [f"Row {row} was left out" for row in [2, 3, 4]]
+
+
+@pytest.mark.parametrize("name", inputs.REFUSED)
+def test_refused_as_by_the_scripts(page: Page, small: Oracle, name: str) -> None:
+    # Catches: a cell or a row that the page takes for something and that the scripts refuse.
+    text, wanted = inputs.REFUSED[name]
+    paste(page, text)
+    reasons = {int(str(it.get_attribute("data-row"))): it.text for it in page.all("#table-faults > li")}
+    assert list(reasons) == list(wanted) and not page.at("#table-take").is_enabled()
+    assert all(words in reasons[row] for row, words in wanted.items()), reasons
+    with pytest.raises(BadInput) as why:
+        small.table_of(text.encode())
+    assert {int(line) for line in re.findall("^line ([0-9]+)", str(why.value), re.M)} == set(wanted)
+
+
+def test_points_between_thousands(page: Page) -> None:
+    # Catches: cells with points that can't be taken, or are taken by a thousandth, where tabs part them.
+    paste(page, inputs.REFUSED["three zeros behind a point"][0])
+    page.choose("#thousands", ".")
+    take(page)
+    assert page.act("exported", "export-script").splitlines()[1:3] == ["AAA,40000", "BBB,8000"]
+    assert page.texts("#choices li")[0] == "Marks between thousands were passed over in 2 rows"
+
+
+@pytest.mark.parametrize("name", inputs.READ)
+def test_read_as_by_the_scripts(page: Page, small: Oracle, name: str) -> None:
+    # Catches: another number, seat or name than the scripts', or a choice or a conversion that the page doesn't say.
+    text, clicks, layout, records = inputs.READ[name]
+    paste(page, text)
+    for place in clicks:
+        page.click(place)
+    table = small.table_of(text.encode(), layout)
+    assert page.text("#table-words") == table.said()[0]
+    take(page)
+    assert page.texts("#choices li") == [re.sub("^Line ", "Row ", it) for it in table.choices]
+    first = ["member,votes", *records.split(), "publish"]
+    assert page.act("exported", "export-script").splitlines()[: len(first)] == first
+    labels = [f"{chair} {' '.join(table.label(chair).split())}" for chair in table.chairs()]
+    assert [it.split("\n")[0] for it in page.texts(".card-head")][: len(labels)] == labels
+
+
+def test_two_rows_that_may_be_the_total(page: Page, small: Oracle) -> None:
+    # Catches: a member that is left out as the total, since it stands above it.
+    with pytest.raises(BadInput, match="lines 2, 4 each have votes that equal the sum of the others"):
+        small.table_of(inputs.TOTALS.encode(), Layout(leave_out_total=True))
+    paste(page, inputs.TOTALS)
+    page.click("#merged-no")
+    assert page.all("#total-2") and page.all("#total-4")
+    page.click("#total-2-no")
+    assert not page.at("#table-take").is_enabled()
+    page.click("#total-4-no")
+    assert page.text("#table-words").startswith("3 members, 160 votes; ")
+    page.click("#total-4-yes")
+    take(page)
+    assert page.act("exported", "export-script").splitlines()[1:4] == ["AAA,80", "BBB,0", "script"]
+    total = "Row 4 (TOT, 80 votes), which equals the sum of the others, was left out as a total"
+    assert page.texts("#choices li") == [total]
+
+
+def test_an_answer_stays_with_its_row(page: Page) -> None:
+    # Catches: a row that is left out as the total, where another row was asked about.
+    paste(page, inputs.HEAD + "AAA,40,1\nBB,25,2\nCCC,15,2\nTOT,80,1\n")
+    page.click("#total-5-yes")
+    page.click("#leave-3")
+    assert not page.all("#total-5") and page.text("#table-words").startswith("3 members, 135 votes; ")
+    take(page)
+    assert page.texts("#choices li") == ["Row 3 was left out"]
+
+
+def test_a_quote_that_is_not_closed(page: Page) -> None:
+    # Catches: members that become part of a name, from a quote on.
+    paste(page, 'code,name,votes,chair,chair_name\nAAA,"A\nB",40,1,"Hills\nBBB,B,25,2,Plains\n', "#refusal")
+    assert "row 2: a quoted cell isn't closed" in page.text("#refusal")
+
+
+@pytest.mark.parametrize("encoding", ["cp1252", "utf-16"])
+def test_other_encodings(page: Page, small: Oracle, encoding: str, tmp_path: Path) -> None:
+    # Catches: letters that are guessed in silence.
+    data = "code,name,votes,chair\nAAA,Alland,40,1\nBBB,Bélland,25,2\n".encode(encoding)
+    (tmp_path / "council.csv").write_bytes(data)
+    page.at("#file").send_keys(str(tmp_path / "council.csv"))
+    page.until(lambda: page.all("#table-dialog"), "the preview")
+    said = small.table_of(data, Layout(encoding=encoding)).choices
+    assert page.texts("#table-notices li") == said and "such as those of 'Bélland'" in said[0]
 
 
 def test_the_last_good_study_stays(page: Page, oracle: Oracle) -> None:

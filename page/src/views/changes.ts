@@ -162,5 +162,8 @@ export function paintChanges(app: App): void {
   for (const item of items) item.update();
   byId("no-changes").hidden = changes.length > 0;
   byId<HTMLButtonElement>("clear-changes").disabled = changes.length === 0;
-  paint(byId("choices"), base.choices.map((it) => h("li", {}, it)));
+  const choices = byId("choices");
+  paint(choices, base.choices.map((it) => h("li", {}, it)));
+  // It can be scrolled by keyboard.
+  choices.tabIndex = base.choices.length ? 0 : -1;
 }

@@ -2,22 +2,24 @@
 import type { App } from "../app";
 import { openDialog } from "../dialogs";
 import { button, choice, h, paint, type Child } from "../dom";
-import { grouped } from "../fractions";
+import { counted, grouped } from "../fractions";
 import { hashOf } from "../made";
 import {
-  columnName, guessedLayout, MEANING_WORDS, MEANINGS, NO_ANSWERS, readTable, sheetOf, type Answers, type CellFault,
-  type Layout, type Meaning, type ReadTable, type Sheet,
+  columnName, guessedLayout, marksWith, MEANING_WORDS, MEANINGS, NO_ANSWERS, readTable, sheetOf, totalWords,
+  type Answers, type CellFault, type Layout, type Meaning, type ReadTable, type Sheet,
 } from "../table";
 
 /** More faults than this are counted and not listed. */
 const MOST_FAULTS = 100;
+/** More members in no chair than this are counted and not named. */
+const MOST_NAMED = 12;
 
 /** A table that is looked at, and what was chosen so far. */
 class Preview {
   layout: Layout;
   answers: Answers = NO_ANSWERS;
   name: string;
-  constructor(readonly app: App, readonly sheet: Sheet, readonly text: string, name: string) {
+  constructor(readonly app: App, public sheet: Sheet, readonly text: string, name: string) {
     this.layout = guessedLayout(sheet);
     this.name = name;
   }
@@ -116,8 +118,8 @@ function questions(preview: Preview, read: ReadTable, again: () => void): Child 
     preview.answers = { ...preview.answers, merged: answer };
     again();
   };
-  const total = (answer: boolean) => {
-    preview.answers = { ...preview.answers, isTotal: answer };
+  const total = (row: number, answer: boolean) => {
+    preview.answers = { ...preview.answers, totals: new Map([...preview.answers.totals, [row, answer]]) };
     again();
   };
   const rows = read.blanks.length === 1 ? `Row ${read.blanks[0]} has` : `${read.blanks.length} rows have`;
@@ -132,16 +134,16 @@ function questions(preview: Preview, read: ReadTable, again: () => void): Child 
         merged,
       )
       : null,
-    read.totalRow
-      ? question(
-        "total",
-        `A total? Row ${read.totalRow} equals the sum of the others.`,
+    read.totals.map((it) =>
+      question(
+        `total-${it.row}`,
+        `A total? ${totalWords(it)} equals the sum of the others.`,
         "Yes: leave this row out",
         "No: it is a member",
-        answers.isTotal,
-        total,
+        answers.totals.get(it.row) ?? null,
+        (answer) => total(it.row, answer),
       )
-      : null,
+    ),
   ];
 }
 
@@ -172,11 +174,16 @@ function columnChoices(preview: Preview, again: () => void): Child {
       (value) => set(it, value),
     ),
   );
+  const thousands = (mark: string) => {
+    preview.sheet = { ...sheet, marks: marksWith(mark) };
+    again();
+  };
   return h(
     "div",
     { class: "choices" },
     h("label", { class: "choice", for: "header-row" }, h("span", {}, "Row of the header (0: none)"), header),
     lists,
+    choice("thousands", "Thousands", [[",", "1,000"], [".", "1.000"]], sheet.marks.charAt(0), thousands),
   );
 }
 
@@ -188,9 +195,10 @@ function previewTable(preview: Preview, read: ReadTable): HTMLElement {
   const chairs = new Map(
     (read.base?.commands ?? []).flatMap((it) => (it.word === "move" ? [[it.code, it.chair] as const] : [])),
   );
+  const out = new Set(read.totals.flatMap(({ row }) => (answers.totals.get(row) ? [row] : [])));
   const body = sheet.rows.slice(0, 400).map((cells, at) => {
     const row = at + 1;
-    const isOut = answers.leftOut.has(row) || (answers.isTotal === true && row === read.totalRow);
+    const isOut = answers.leftOut.has(row) || out.has(row);
     const look = row === layout.header ? "header" : row < layout.header || isOut ? "out" : "";
     const given = Array.from({ length: sheet.width }, (_, column) => {
       const reason = bad.get(`${row}:${column}`);
@@ -222,15 +230,19 @@ function previewTable(preview: Preview, read: ReadTable): HTMLElement {
   );
 }
 
+/** What was read, in the scripts' sentence. */
 function wholeWords({ base }: ReadTable): string {
   if (!base) return "Not whole yet.";
   const votes = base.members.reduce((sum, it) => sum + it.votes, 0);
   const chairs = base.commands.filter((it) => it.word === "open").length;
   const seated = new Set(base.commands.flatMap((it) => (it.word === "move" ? [it.code] : [])));
-  const none = base.members.filter((it) => !seated.has(it.code)).map((it) => `${it.code} ${it.name}`.trim());
-  const names = none.slice(0, 12).join(", ") + (none.length > 12 ? " …" : "");
-  const words = none.length ? `${none.length} in none: ${names}` : "none without a chair";
-  return `${base.members.length} members, ${grouped(votes)} votes, ${chairs} chairs, ${words}.`;
+  const none = base.members.filter((it) => !seated.has(it.code));
+  const named = none.slice(0, MOST_NAMED).map((it) => `${it.code} (${counted(it.votes, "vote")})`).join(", ");
+  const more = none.length > MOST_NAMED ? ` and ${none.length - MOST_NAMED} more` : "";
+  const seats = none.length
+    ? `${counted(none.length, "member")} in no chair: ${named}${more}`
+    : "every member is in a chair";
+  return `${counted(base.members.length, "member")}, ${counted(votes, "vote")}; ${counted(chairs, "chair")}; ${seats}`;
 }
 
 async function take(preview: Preview, read: ReadTable, close: () => void): Promise<void> {

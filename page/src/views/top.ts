@@ -1,7 +1,7 @@
 /** The top bar: the study's name, its summary, and whether all checks passed. */
 import type { App } from "../app";
 import { byId, h, paint } from "../dom";
-import { grouped } from "../fractions";
+import { counted, grouped } from "../fractions";
 import { SHORT_COMMIT, VERSION } from "../made";
 import { memberWords } from "../commandWords";
 import type { Place, Standing } from "../standing";
@@ -15,11 +15,6 @@ const MOST_NAMES = 12;
 function namesOf(places: readonly Place[]): string {
   const names = places.slice(0, MOST_NAMES).map((it) => memberWords(it.code, it.name));
   return names.join(", ") + (places.length > MOST_NAMES ? ` and ${places.length - MOST_NAMES} more` : "");
-}
-
-/** A number of things. */
-function counted(many: number, thing: string): string {
-  return `${grouped(many)} ${thing}${many === 1 ? "" : "s"}`;
 }
 
 /** Members, votes, chairs, members in none and suspended ones. The total is the reading's. */
@@ -36,8 +31,8 @@ function summaryOf(standing: Standing, total: number): string {
 function publishedWords(study: Study, total: number): string {
   if (study.published === null) return "";
   const gap = total - study.published;
-  if (gap === 0) return "equals the base's votes";
-  return `the base has ${grouped(Math.abs(gap))} votes ${gap > 0 ? "more" : "less"}`;
+  if (gap === 0) return "the votes add up to the published total";
+  return `the votes add up to ${grouped(total)}: ${grouped(Math.abs(gap))} ${gap > 0 ? "more" : "fewer"}`;
 }
 
 function faultWords(why: Fault | Error): string {
