@@ -60,7 +60,7 @@ def by_coalitions(weights: tuple[int, ...], wins: Rule) -> Counts:
     return Counts(sum(won), tuple(swings))
 
 
-@lru_cache(maxsize=256)
+@lru_cache(maxsize=64)
 def table_of(weights: tuple[int, ...]) -> dict[tuple[int, int], int]:
     """How many coalitions there are of each weight and size. The product of 1 + x^weight y over the chairs has these
     numbers for coefficients; it stands in one long integer, with 64 bits for each coefficient."""
@@ -88,7 +88,7 @@ def by_table(weights: tuple[int, ...], wins: Rule) -> Counts:
     return Counts(winning, tuple(swings[chair] for chair in weights))
 
 
-@lru_cache(maxsize=4096)
+@lru_cache(maxsize=1024)
 def counts(weights: tuple[int, ...], total: int, majority: str) -> Counts:
     """The counts of the open chairs' weights, where all members have this total, by each method that can be had."""
     wins = rule_of(weights, total, majority)

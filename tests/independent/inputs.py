@@ -10,8 +10,9 @@ from string import ascii_uppercase
 
 EXAMPLES = Path(__file__).resolve().parents[2] / "examples"
 MAJORITIES = ["half", "70", "85", "quorum"]
+MOST_BYTES = 4_194_304
 Records = list[list[str]]
-# What stands in no sound input, or stands there only at some places.
+# Bytes that no sound input has, or that it has at some places alone.
 TOKENS = [
     b'"', b'"', b'""', b'"""', b",", b",,", b"\r", b"\n", b"\r\n", b"\r\r\n", b"\0", b" ", b"\t", b";", b"+", b"-", b"0",
     b"\xef\xbb\xbf", b"\xff\xfe", b"\xc2\xa0", b"\x85", b"\xe2\x80\xa8", b'"\n"', b'",', b',"', b"\x0b", b"\x1a", b"#",
@@ -35,10 +36,9 @@ class Input:
 
 
 def some_votes(chance: Random, scale: int) -> str:
-    """Votes of a scale from 0 to 3: the greater ones are often multiples of one number, so that quotas are met."""
-    if scale == 3:
-        return str(chance.choice([2**40, 2**40 - 1, chance.randint(0, 2**40), chance.randint(0, 1 << 6) << 34]))
-    return str(chance.randint(0, [5, 20, 1000][scale]) * chance.choice([1, 1, 10]) if scale else chance.randint(0, 5))
+    """Votes of a scale from 0 to 3; small ones and round ones often just meet a quota."""
+    huge = chance.choice([2**40, 2**40 - 1, chance.randint(0, 2**40), chance.randint(0, 64) << 34])
+    return str([chance.randint(0, 5), chance.randint(0, 20), 10 * chance.randint(0, 100), huge][scale])
 
 
 def some_codes(chance: Random, many: int) -> list[str]:
@@ -64,38 +64,33 @@ def some_command(chance: Random, codes: list[str], chairs: list[int], scale: int
 
 
 def seated(chance: Random, codes: list[str], chairs: list[int]) -> Records:
-    """Commands that open the chairs and move a member into most of them, and some members into one chair."""
+    """Commands that open the chairs and move most of the members into them, one into each and then the others."""
     places = chairs + chance.choices(chairs, k=max(0, len(codes) - len(chairs)))
     moves = [["move", code, str(place)] for code, place in zip(codes, places) if chance.random() < 0.9]
     return [["open", str(chair)] for chair in chairs] + moves
 
 
 def with_members(chance: Random, codes: list[str], scale: int, script: Records) -> Records:
-    """The whole input: header, members, mark and script."""
+    """All records: header, members, mark and script."""
     members = [[code, some_votes(chance, scale)] for code in codes]
     return [["member", "votes"], *members, ["script"], *script]
 
 
 def some_script(chance: Random, readers: int = 1) -> Records:
-    """An input of sound records, whose commands are legal and illegal."""
+    """All records of an input whose commands are legal and illegal."""
     codes = some_codes(chance, chance.randint(1, 9))
     chairs = chance.sample(range(1, 33), chance.randint(1, 8))
     scale, held = chance.randint(0, 3), codes[: chance.randint(0, len(codes))]
-    script = seated(chance, held, chairs) if held and chance.random() < 0.7 else []
-    for _ in range(chance.randint(1, 60)):
+    script = seated(chance, held, chairs) if chance.random() < 0.7 else []
+    for _ in range(chance.randint(0, 60)):
         kind = chance.random()
         record = ["publish"] if kind < 0.15 else some_read(chance, readers) if kind < 0.3 else None
         script.append(record or some_command(chance, codes, chairs, scale))
     return with_members(chance, held, scale, script)
 
 
-def text_of(records: Records) -> bytes:
-    """The records without quotes, each with a line end."""
-    return "".join(",".join(fields) + "\n" for fields in records).encode()
-
-
 def styled_field(chance: Random, word: str) -> str:
-    """A field in quotes where it needs them or by chance; a number, by chance, with zeros before it."""
+    """A field, in quotes where it needs them or by chance; a number with zeros before it by chance."""
     if word.isdecimal() and word not in MAJORITIES and chance.random() < 0.1:
         word = word.zfill(chance.randint(1, 20))
     quoted = chance.random() < 0.1 or re.search('[",\r\n]', word)
@@ -110,38 +105,43 @@ def styled(chance: Random, records: Records) -> bytes:
     return (text.rstrip("\r\n") if chance.random() < 0.2 else text).encode()
 
 
-def place_in(chance: Random, text: bytes) -> int:
-    """A place in the text, often one where a field begins or ends."""
-    edges = [found.start() for found in re.finditer(rb'[,"\r\n]|\b|$', text)]
-    return chance.choice(edges) if chance.random() < 0.8 else chance.randint(0, len(text))
+def oddly_quoted(chance: Random, word: bytes) -> bytes:
+    """A word with quotes at places where no program writes them; some of these fields are the word, others aren't."""
+    at = chance.randint(0, len(word))
+    a, b = word[:at], word[at:]
+    odd = [b'"%s"%s' % (a, b), b'""%s%s' % (a, b), b'%s"%s"' % (a, b), b'"%s""%s"' % (a, b), b'"%s%s' % (a, b)]
+    return chance.choice([*odd, odd[0], b'"%s"%s"' % (a, b), b'%s%s"' % (a, b), b'"%s%s"""' % (a, b)])
 
 
 def dirtied(chance: Random, text: bytes, many: int) -> bytes:
-    """The text with some bytes put in, taken out or cut off."""
+    """The text with some bytes put in, taken out or cut off, often where a field begins or ends."""
     for _ in range(many):
-        at = place_in(chance, text)
-        kind = chance.randint(0, 9)
-        put = chance.choice(TOKENS) if kind < 7 else bytes([chance.randrange(256)]) if kind == 7 else b""
-        text = text[:at] + put + text[at + (kind >= 6) :] if kind < 9 or chance.random() < 0.6 else text[:at]
+        edges = [found.start() for found in re.finditer(rb'[,"\r\n]|\b|$', text)]
+        at = chance.choice([chance.choice(edges), chance.choice(edges), chance.randint(0, len(text))])
+        kind, rest = chance.randint(0, 9), text[at:]
+        if kind < 4:
+            rest = chance.choice(TOKENS) + rest
+        elif kind < 7:
+            rest = re.sub(rb"\w+", lambda word: oddly_quoted(chance, word[0]), rest, count=1)
+        elif kind < 9:
+            rest = (b"" if kind == 7 else bytes([chance.randrange(256)])) + rest[1:]
+        text = text[:at] + (rest if kind < 9 else b"")
     return text
 
 
 def spoiled(chance: Random, records: Records) -> Records:
-    """The records with one of them changed: a field in another's place, one more, one less, or the record itself."""
-    changed = [list(fields) for fields in records]
-    at = chance.randrange(len(changed))
-    fields, word = changed[at], chance.choice(FIELDS)
-    kind = chance.randint(0, 5)
-    if kind < 3:
-        fields[chance.randrange(len(fields))] = word
-    elif kind == 3:
-        fields.insert(chance.randint(0, len(fields)), word)
+    """The records with one of them changed: another field, one more, one less, the record twice, another, or the end."""
+    at = chance.randrange(len(records))
+    fields, word = list(records[at]), chance.choice(FIELDS)
+    kind, place = chance.randint(0, 7), chance.randrange(len(fields))
+    if kind < 4:
+        fields[place : place + (kind > 0)] = [word]
     elif kind == 4:
-        fields.pop()
-        changed[at] = fields or [word]
-    else:
-        changed[at : at + 1] = chance.choice([[], [fields, fields], [["script"]], [["read", "2", "half"]]])
-    return changed
+        fields = fields[:-1] or [word]
+    elif kind == 5:
+        return records[:at]
+    others: list[Records] = [[fields, fields], [["script"]], [["read", "2", "half"]], []]
+    return records[:at] + (chance.choice(others) if kind > 5 else [fields]) + records[at + 1 :]
 
 
 def scripts(chance: Random) -> Input:
@@ -152,20 +152,19 @@ def scripts(chance: Random) -> Input:
 
 def hostile(chance: Random) -> Input:
     """An input with a changed record, with bytes that no table has, or with both."""
-    records = some_script(chance)
-    kind = chance.randint(0, 3)
+    records, kind = some_script(chance), chance.randint(0, 3)
     text = styled(chance, spoiled(chance, records) if kind < 2 else records)
-    return Input(dirtied(chance, text, chance.randint(1, 3)) if kind else text)
+    return Input(dirtied(chance, text, chance.randint(1, 2)) if kind else text)
 
 
 def boards(chance: Random) -> Input:
     """A board of up to 32 chairs, read at all majorities, changed and read again."""
     many = chance.choice([chance.randint(1, 14), chance.randint(8, 14), chance.randint(15, 32), 32])
-    scale = chance.randint(0, 3) if many < 15 else chance.choice([0, 0, many < 24])
+    scale = chance.choice([0, 0, 0, 1] if many > 14 else [0, 1, 2, 3])
     chairs, codes = chance.sample(range(1, 33), many), some_codes(chance, many + chance.randint(0, 6))
     script = seated(chance, codes, chairs) + [["publish"]] + [["read", "1", word] for word in MAJORITIES]
     script += [some_command(chance, codes, chairs, scale) for _ in range(5)] + [["publish"], some_read(chance)]
-    return Input(text_of(with_members(chance, codes, scale, script)))
+    return Input(styled(chance, with_members(chance, codes, scale, script)))
 
 
 def many_members(chance: Random) -> Input:
@@ -175,7 +174,7 @@ def many_members(chance: Random) -> Input:
     script += [["admit", code, "7"] for code in some_codes(chance, 4)] + [["publish"], some_read(chance)]
     records = with_members(chance, codes, 1, script)
     if chance.random() < 0.3:
-        records[chance.randint(1, 256)] = chance.choice([["script"], list(chance.choice(records)), ["AAA", "x"]])
+        records[chance.choice([257, chance.randint(1, 256)])] = chance.choice([["script"], records[1], ["AAA", "x"]])
     return Input(styled(chance, records), ("replay", "--journal", chance.choice(["20", "1000000"])))
 
 
@@ -193,7 +192,7 @@ def limited(chance: Random) -> Input:
 
 def long(chance: Random) -> Input:
     """An input of about as many bytes as there may be, most of them line ends or one field."""
-    text, size = text_of(some_script(chance)), 4_194_304 + chance.choice([-1, 0, 0, 1, 1])
+    text, size = styled(chance, some_script(chance)), MOST_BYTES + chance.choice([-1, 0, 0, 1, 1])
     if chance.random() < 0.3:
         return Input(b"\n" * (size - len(text)) + text)
     return Input((text + b'"' + b"\r\n," * (size // 3))[:size])
@@ -201,9 +200,8 @@ def long(chance: Random) -> Input:
 
 def unread(chance: Random) -> Input:
     """An input that can't be read, or an output that can't be written."""
-    given = chance.choice([b"", b"member,votes\nscript\n", text_of(some_script(chance)), None])
-    outputs = ["full", "ended"] + ["taken", "taken"] * (given is None)
-    return Input(given, output=chance.choice(outputs))
+    given = chance.choice([b"", b"member,votes\nscript\n", styled(chance, some_script(chance)), None])
+    return Input(given, output=chance.choice(["full", "ended"] + ["taken", "taken"] * (given is None)))
 
 
 def changed_examples(chance: Random) -> Input:
@@ -211,9 +209,8 @@ def changed_examples(chance: Random) -> Input:
     text = chance.choice(sorted(EXAMPLES.glob("t*.csv")) * 2 + sorted(EXAMPLES.glob("*.csv"))).read_bytes()
     lines = re.sub(rb"(?m)^(X\w\w),\d+(\d)$", rb"\1,\2", text).splitlines(keepends=True)
     for _ in range(chance.randint(0, 3)):
-        lines.insert(place := chance.randrange(4, len(lines)), lines.pop(chance.randrange(4, len(lines))))
-        lines += [lines[place]] * chance.randint(0, 1)
-    text = b"".join(lines) + chance.choice([b"", b"publish\nread,1,85\n"])
+        lines.insert(chance.randrange(4, len(lines)), lines.pop(chance.randrange(4, len(lines))))
+    text = b"".join(lines) + chance.choice([b"", b"publish\nread,1,85\n", *lines])
     readers = str(chance.randint(1, 2))
     return Input(dirtied(chance, text, chance.choice([0, 0, 1, 2])), ("replay", "--readers", readers))
 
@@ -221,11 +218,11 @@ def changed_examples(chance: Random) -> Input:
 # The kinds, and how many of 100 inputs are of each.
 KINDS: dict[str, tuple[Callable[[Random], Input], int]] = {
     "scripts": (scripts, 30),
-    "hostile": (hostile, 35),
+    "hostile": (hostile, 37),
     "boards": (boards, 6),
     "members": (many_members, 6),
     "limits": (limited, 7),
     "long": (long, 1),
     "unread": (unread, 2),
-    "examples": (changed_examples, 13),
+    "examples": (changed_examples, 11),
 }

@@ -19,10 +19,9 @@ REFUSALS = {
     6: "AlreadyThere", 7: "AlreadySuspended", 8: "NotSuspended", 9: "JournalFull", 12: "TooManyMembers",
     25: "MemberExists", 26: "MemberSeated",
 }  # fmt: skip
-FAULTS = {
-    "DuplicateMember", "TooManyMembers", "BadRecord", "ReadFault", "WriteFault", "BadHeader", "BadReader", "NoScript",
-    "TooLong",
-}  # fmt: skip
+FAULTS = set(
+    "DuplicateMember TooManyMembers BadRecord ReadFault WriteFault BadHeader BadReader NoScript TooLong".split()
+)
 
 csv.field_size_limit(MOST_BYTES)
 
@@ -161,9 +160,13 @@ class Register:
         return Sheet(self.accepted, sum(member.votes for member in voting), weights)
 
 
-def records_of(given: bytes) -> Iterator[tuple[int, list[str]]]:
-    """The records with their numbers. Python's csv module cuts them as FORMATS says once the lines end at CR, LF and
-    CRLF alone, a byte is a character, and a line without fields isn't counted."""
+def records_of(given: bytes | None) -> Iterator[tuple[int, list[str]]]:
+    """The records with their numbers. Python's csv module cuts them as FORMATS says, where lines end at CR, LF and CRLF
+    alone, a byte is a character, and a line without fields isn't counted."""
+    if given is None:
+        raise Fault(0, "ReadFault")
+    if len(given) > MOST_BYTES:
+        raise Fault(0, "TooLong")
     text = given.removeprefix(BYTE_ORDER_MARK).decode("latin-1")
     return enumerate(filter(None, csv.reader(io.StringIO(text, newline=""))), 1)
 
@@ -237,39 +240,6 @@ def reading(reader: int, sheet: Sheet, majority: str) -> list[str]:
     return lines
 
 
-@dataclass
-class Run:
-    """A run: the register, the sheet last published, how many readers there are, and the lines printed."""
-
-    register: Register
-    readers: int
-    lines: list[str]
-
-    def __post_init__(self) -> None:
-        self.published = self.register.sheet()
-
-    def carry_out(self, record: int, fields: list[str]) -> None:
-        """Carries out a record of the script."""
-        match fields:
-            case ["publish"]:
-                self.published = self.register.sheet()
-                self.lines.append(f"published,{self.published.front}")
-            case ["read", reader, majority] if majority in CLAUSES:
-                if not 1 <= number_of(reader) <= self.readers:
-                    raise Fault(record, "BadReader")
-                self.lines += reading(int(reader), self.published, majority)
-            case _:
-                self.hand_over(fields)
-
-    def hand_over(self, fields: list[str]) -> None:
-        """Hands a command to the register."""
-        try:
-            command(self.register, fields)
-            self.lines.append(f"accepted,{self.register.accepted}")
-        except Refused as refused:
-            self.lines.append(f"refused,{refused.number},{REFUSALS[refused.number]}")
-
-
 def member_of(record: int, fields: list[str]) -> tuple[str, Member]:
     """The member of a record above the mark."""
     try:
@@ -297,17 +267,26 @@ def opening_of(records: Iterator[tuple[int, list[str]]]) -> dict[str, Member]:
     return dict(members)
 
 
-def play(given: bytes | None, readers: int, journal: int, lines: list[str]) -> None:
-    """Carries out an input, and adds its lines to these."""
-    if given is None:
-        raise Fault(0, "ReadFault")
-    if len(given) > MOST_BYTES:
-        raise Fault(0, "TooLong")
+def lines_of(given: bytes | None, readers: int, journal: int) -> Iterator[str]:
+    """The lines of a run, up to its fault."""
     records = records_of(given)
-    run = Run(Register(opening_of(records), journal), readers, lines)
+    register = Register(opening_of(records), journal)
+    published = register.sheet()
     for record, fields in records:
         try:
-            run.carry_out(record, fields)
+            match fields:
+                case ["publish"]:
+                    published = register.sheet()
+                    yield f"published,{published.front}"
+                case ["read", reader, majority] if majority in CLAUSES:
+                    if not 1 <= number_of(reader) <= readers:
+                        raise Fault(record, "BadReader")
+                    yield from reading(int(reader), published, majority)
+                case _:
+                    command(register, fields)
+                    yield f"accepted,{register.accepted}"
+        except Refused as refused:
+            yield f"refused,{refused.number},{REFUSALS[refused.number]}"
         except Malformed:
             raise Fault(record, "BadRecord") from None
 
@@ -327,7 +306,8 @@ def answer(words: tuple[str, ...], given: bytes | None, writable: bool) -> Answe
     name = ""
     try:
         readers, journal = limits_of(words)
-        play(given, readers, journal, lines)
+        for line in lines_of(given, readers, journal):
+            lines.append(line)
     except Malformed:
         return Answer(b"", None, 2)
     except Fault as fault:
