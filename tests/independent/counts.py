@@ -76,8 +76,8 @@ def swings_by_table(weights: tuple[int, ...], wins: Rule, chair: int) -> int:
     """The swings of a chair of this weight."""
     others = list(weights)
     others.remove(chair)
-    table = table_of(tuple(sorted(others)))
-    return sum(many for (weight, size), many in table.items() if wins(weight + chair, size + 1) and not wins(weight, size))
+    table = table_of(tuple(sorted(others))).items()
+    return sum(many for (weight, size), many in table if wins(weight + chair, size + 1) and not wins(weight, size))
 
 
 def by_table(weights: tuple[int, ...], wins: Rule) -> Counts:

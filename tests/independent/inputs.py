@@ -14,14 +14,14 @@ MOST_BYTES = 4_194_304
 Records = list[list[str]]
 # Bytes that no sound input has, or that it has at some places alone.
 TOKENS = [
-    b'"', b'"', b'""', b'"""', b",", b",,", b"\r", b"\n", b"\r\n", b"\r\r\n", b"\0", b" ", b"\t", b";", b"+", b"-", b"0",
-    b"\xef\xbb\xbf", b"\xff\xfe", b"\xc2\xa0", b"\x85", b"\xe2\x80\xa8", b'"\n"', b'",', b',"', b"\x0b", b"\x1a", b"#",
+    b'"', b'"', b'""', b'"""', b'"\n"', b'",', b',"', b",", b",,", b"\r", b"\n", b"\r\n", b"\r\r\n", b"\0", b" ", b"\t",
+    b";", b"+", b"-", b"0", b"\xef\xbb\xbf", b"\xff\xfe", b"\xc2\xa0", b"\x85", b"\xe2\x80\xa8", b"\x0b", b"\x1a", b"#",
 ]  # fmt: skip
 FIELDS = [
     "", " ", "0", "00", "01", "32", "33", "0032", "1 ", " 1", "+1", "-1", "1.0", "1e3", "0x1", "1_0", "٣", "²", "１",
-    "1" * 20, "1" * 21, "0" * 19 + "7", "0" * 20 + "7", "0" * 20, str(2**40), str(2**40 + 1), str(2**64 - 1), str(2**64),
-    "aaa", "AA", "AAAA", "AÄA", "A A", "None", "NONE", "none", "half", "Half", "070", "70%", "script", "publish", "open",
-    "read", "member", "votes", "X" * 9000, 'a"b', "a,b", "a\nb", "a\rb", "fault", "1", "2", "AAA",
+    "1" * 20, "1" * 21, "0" * 19 + "7", "0" * 20 + "7", "0" * 20, str(2**40), str(2**40 + 1), str(2**64 - 1),
+    str(2**64), "aaa", "AA", "AAA", "AAAA", "AÄA", "A A", "None", "NONE", "none", "half", "Half", "070", "70%", "script",
+    "publish", "open", "read", "member", "votes", "X" * 9000, 'a"b', "a,b", "a\nb", "a\rb", "fault", "1", "2",
 ]  # fmt: skip
 
 
@@ -130,7 +130,7 @@ def dirtied(chance: Random, text: bytes, many: int) -> bytes:
 
 
 def spoiled(chance: Random, records: Records) -> Records:
-    """The records with one of them changed: another field, one more, one less, the record twice, another, or the end."""
+    """The records with one of them changed: a field, more, less, twice, another, or the end."""
     at = chance.randrange(len(records))
     fields, word = list(records[at]), chance.choice(FIELDS)
     kind, place = chance.randint(0, 7), chance.randrange(len(fields))
@@ -205,7 +205,7 @@ def unread(chance: Random) -> Input:
 
 
 def changed_examples(chance: Random) -> Input:
-    """An example of the repository with some bytes or lines changed; one of 24 chairs keeps each last digit of votes."""
+    """An example of the repository with bytes or lines changed; of 24 chairs, the last digits of the votes stay."""
     text = chance.choice(sorted(EXAMPLES.glob("t*.csv")) * 2 + sorted(EXAMPLES.glob("*.csv"))).read_bytes()
     lines = re.sub(rb"(?m)^(X\w\w),\d+(\d)$", rb"\1,\2", text).splitlines(keepends=True)
     for _ in range(chance.randint(0, 3)):
