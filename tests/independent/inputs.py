@@ -20,8 +20,8 @@ TOKENS = [
 FIELDS = [
     "", " ", "0", "00", "01", "32", "33", "0032", "1 ", " 1", "+1", "-1", "1.0", "1e3", "0x1", "1_0", "٣", "²", "１",
     "1" * 20, "1" * 21, "0" * 19 + "7", "0" * 20 + "7", "0" * 20, str(2**40), str(2**40 + 1), str(2**64 - 1),
-    str(2**64), "aaa", "AA", "AAA", "AAAA", "AÄA", "A A", "None", "NONE", "none", "half", "Half", "070", "70%", "script",
-    "publish", "open", "read", "member", "votes", "X" * 9000, 'a"b', "a,b", "a\nb", "a\rb", "fault", "1", "2",
+    str(2**64), "aaa", "AA", "AAA", "AAAA", "AÄA", "A A", "None", "NONE", "none", "half", "Half", "070", "70%",
+    "script", "publish", "open", "read", "member", "votes", "X" * 9000, 'a"b', "a,b", "a\nb", "a\rb", "fault", "1", "2",
 ]  # fmt: skip
 
 
