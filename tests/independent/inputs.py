@@ -145,9 +145,10 @@ def spoiled(chance: Random, records: Records) -> Records:
 
 
 def scripts(chance: Random) -> Input:
-    """Sound records, written in any way that is allowed, for one reader or more."""
-    readers = chance.randint(1, 4)
-    return Input(styled(chance, some_script(chance, readers)), ("replay", "--readers", str(readers)))
+    """Sound records, written in any way that is allowed, for one reader or more; the journal of some becomes full."""
+    readers, journal = chance.randint(1, 4), chance.choice([1_000_000, chance.randint(1, 40)])
+    words = ("replay", "--readers", str(readers), "--journal", str(journal))
+    return Input(styled(chance, some_script(chance, readers)), words)
 
 
 def hostile(chance: Random) -> Input:
@@ -175,7 +176,7 @@ def many_members(chance: Random) -> Input:
     records = with_members(chance, codes, 1, script)
     if chance.random() < 0.3:
         records[chance.choice([257, chance.randint(1, 256)])] = chance.choice([["script"], records[1], ["AAA", "x"]])
-    return Input(styled(chance, records), ("replay", "--journal", chance.choice(["20", "1000000"])))
+    return Input(styled(chance, records), ("replay", "--journal", chance.choice(["5", "1000000"])))
 
 
 def limited(chance: Random) -> Input:

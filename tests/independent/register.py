@@ -178,16 +178,6 @@ def number_of(word: str, least: int = 0, most: int = (1 << 64) - 1) -> int:
     return int(word)
 
 
-def votes_of(word: str) -> int:
-    """A number of votes."""
-    return number_of(word, most=MOST_VOTES)
-
-
-def chair_of(word: str) -> int:
-    """A chair's number."""
-    return number_of(word, 1, 32)
-
-
 def code_of(word: str) -> str:
     """A member's code: three capitals."""
     if not re.fullmatch("[A-Z]{3}", word):
@@ -199,21 +189,21 @@ def command(register: Register, fields: list[str]) -> None:
     """Carries out the command of a record."""
     match fields:
         case ["open", chair]:
-            register.open(chair_of(chair))
+            register.open(number_of(chair, 1, 32))
         case ["close", chair]:
-            register.close(chair_of(chair))
+            register.close(number_of(chair, 1, 32))
         case ["move", code, "none"]:
             register.move(code_of(code), None)
         case ["move", code, chair]:
-            register.move(code_of(code), chair_of(chair))
+            register.move(code_of(code), number_of(chair, 1, 32))
         case ["votes", code, votes]:
-            register.votes(code_of(code), votes_of(votes))
+            register.votes(code_of(code), number_of(votes, 0, MOST_VOTES))
         case ["suspend", code]:
             register.suspend(code_of(code))
         case ["restore", code]:
             register.restore(code_of(code))
         case ["admit", code, votes]:
-            register.admit(code_of(code), votes_of(votes))
+            register.admit(code_of(code), number_of(votes, 0, MOST_VOTES))
         case ["withdraw", code]:
             register.withdraw(code_of(code))
         case _:
@@ -244,7 +234,7 @@ def member_of(record: int, fields: list[str]) -> tuple[str, Member]:
     """The member of a record above the mark."""
     try:
         code, votes = fields
-        return code_of(code), Member(votes_of(votes))
+        return code_of(code), Member(number_of(votes, 0, MOST_VOTES))
     except (Malformed, ValueError):
         raise Fault(record, "BadRecord") from None
 
