@@ -17,11 +17,13 @@ TOKENS = [
     b'"', b'"', b'""', b'"""', b'"\n"', b'",', b',"', b",", b",,", b"\r", b"\n", b"\r\n", b"\r\r\n", b"\0", b" ", b"\t",
     b";", b"+", b"-", b"0", b"\xef\xbb\xbf", b"\xff\xfe", b"\xc2\xa0", b"\x85", b"\xe2\x80\xa8", b"\x0b", b"\x1a", b"#",
 ]  # fmt: skip
-FIELDS = [
-    "", " ", "0", "00", "01", "32", "33", "0032", "1 ", " 1", "+1", "-1", "1.0", "1e3", "0x1", "1_0", "٣", "²", "１",
-    "1" * 20, "1" * 21, "0" * 19 + "7", "0" * 20 + "7", "0" * 20, str(2**40), str(2**40 + 1), str(2**64 - 1),
-    str(2**64), "aaa", "AA", "AAA", "AAAA", "AÄA", "A A", "None", "NONE", "none", "half", "Half", "070", "70%",
-    "script", "publish", "open", "read", "member", "votes", "X" * 9000, 'a"b', "a,b", "a\nb", "a\rb", "fault", "1", "2",
+NUMBERS = [
+    "0", "00", "01", "2", "32", "33", "0032", "1 ", " 1", "+1", "-1", "1.0", "1e3", "0x1", "1_0", "٣", "²", "１",
+    "1" * 20, "1" * 21, "0" * 19 + "7", "0" * 20 + "7", "0" * 20, str(2**40), str(2**40 + 1), str(2**64 - 1), str(2**64),
+]  # fmt: skip
+FIELDS = NUMBERS + [
+    "", " ", "aaa", "AA", "AAA", "AAAA", "AÄA", "A A", "None", "NONE", "none", "half", "Half", "070", "70%", "script",
+    "publish", "open", "read", "member", "votes", "X" * 9000, 'a"b', "a,b", "a\nb", "a\rb", "fault",
 ]  # fmt: skip
 
 
@@ -130,17 +132,20 @@ def dirtied(chance: Random, text: bytes, many: int) -> bytes:
 
 
 def spoiled(chance: Random, records: Records) -> Records:
-    """The records with one of them changed: a field, more, less, twice, another, or the end."""
-    at = chance.randrange(len(records))
-    fields, word = list(records[at]), chance.choice(FIELDS)
-    kind, place = chance.randint(0, 7), chance.randrange(len(fields))
+    """The records with one of them changed, often one above the script: a field,
+    a field more or less, twice, another, or the end."""
+    at = chance.randrange(chance.choice([len(records), len(records), records.index(["script"]) + 1]))
+    kind, number = chance.randint(0, 9), chance.choice(NUMBERS)
+    fields = list(records[at])
+    place = chance.randrange(len(fields))
     if kind < 4:
-        fields[place : place + (kind > 0)] = [word]
+        fields[place : place + (kind > 0)] = [number if fields[place].isdecimal() else chance.choice(FIELDS)]
     elif kind == 4:
-        fields = fields[:-1] or [word]
+        fields = fields[:-1] or [number]
     elif kind == 5:
-        return records[:at]
-    others: list[Records] = [[fields, fields], [["script"]], [["read", "2", "half"]], []]
+        return records[:at] + chance.choice([[], records[1:2]])
+    read = ["read", number, chance.choice([*MAJORITIES, "50"])]
+    others: list[Records] = [[fields, fields], [["script"]], [read], [read], [["open", number]], []]
     return records[:at] + (chance.choice(others) if kind > 5 else [fields]) + records[at + 1 :]
 
 
@@ -155,6 +160,7 @@ def hostile(chance: Random) -> Input:
     """An input with a changed record, with bytes that no table has, or with both."""
     records, kind = some_script(chance), chance.randint(0, 3)
     text = styled(chance, spoiled(chance, records) if kind < 2 else records)
+    text = chance.choice([b""] * 11 + [b"\xef\xbb\xbf"]) + text
     return Input(dirtied(chance, text, chance.randint(1, 2)) if kind else text)
 
 
