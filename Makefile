@@ -165,7 +165,7 @@ tail -qn 1 $O/said/* | awk -v status=$$status '/^[0-9]+ passed, [0-9]+ failed$$/
   END {print passed + 0 " passed, " (status && !failed ? 1 : failed + 0) " failed"}'
 exit $$status
 endef
-.PHONY: docs tools ci edits cases memory figures targets page-tests release-tests kit-gate
+.PHONY: docs tools ci edits cases independent memory figures targets page-tests release-tests kit-gate
 docs:  ## names and links in the documents
 	$(call said,docs/check)
 ci: $O/kit  ## the kit's gate over a copy without the edits, and what it proves and builds taken over
@@ -187,6 +187,8 @@ tools:  ## what counts an edit as refused
 edits: $(EDITED:%=$O/%.edits)  ## the edits that must fail
 cases: board  ## worked cases, and the examples of the documents, on the program
 	$(call said,tests/cases/run $O/board)
+independent: board  ## the program against a reader in Python, written from the documents alone
+	$(call said,tests/independent/run $O/board)
 memory: $(patsubst %,$O/%.proved,board memory_tests share_tests board_replay)  ## each growth of memory refused in turn
 	$(call said,tests/memory/run)
 figures: board  ## the scripts of figures
@@ -199,7 +201,7 @@ release-tests: release  ## a release, unpacked and run without the toolchain
 	$(call said,tests/release/run)
 
 gate:  ## all that must pass before a change lands
-	+@$(call judged,"docs tools" ci "edits cases figures memory" targets page-tests release-tests)
+	+@$(call judged,"docs tools" ci "edits cases independent figures memory" targets page-tests release-tests)
 clean:  ## removes all that was made
 	@rm -rf $O {wasm,aarch64,page}/out
 help:  ## this list
