@@ -140,7 +140,7 @@ $O/deep/%.proved: $$(call sources,$$*) $$(call below,$$*,/deep)
 $O/deep/%.checked: $$(call below,$$*,/deep)
 	@cd crates/$*
 	$(KIT)/bin/rattle check $(call over,$*,/deep) $(if $(filter $*,$(TESTS)),--test) --no-cache --jobs 1 2>&1 | tee $@ | tail -n 1
-deep-%: $O/deep/%.checked
+$(CRATES:%=deep-%): deep-%: $O/deep/%.checked  # one of them
 deep: $(CRATES:%=$O/deep/%.checked)  ## each crate with all that it reads, nothing taken as checked before: hours
 
 # The WebAssembly modules, the library for aarch64, the page.
