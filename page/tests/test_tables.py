@@ -194,13 +194,15 @@ def test_two_rows_that_may_be_the_total(page: Page, small: Oracle) -> None:
 
 
 def test_an_answer_stays_with_its_row(page: Page) -> None:
-    # Catches: a row that is left out as the total, where another row was asked about.
-    paste(page, inputs.HEAD + "AAA,40,1\nBB,25,2\nCCC,15,2\nTOT,80,1\n")
-    page.click("#total-5-yes")
-    page.click("#leave-3")
-    assert not page.all("#total-5") and page.text("#table-words").startswith("3 members, 135 votes; ")
+    # Catches: an answer about one row that is taken for another, which equals the sum once the first is left out.
+    paste(page, inputs.HEAD + "AAA,40,1\nBBB,25,2\nCCC,15,2\nTOTAL,80,1\n")
+    page.click("#total-5-no")
+    page.click("#leave-5")
+    assert not page.all("#total-5") and not page.at("#table-take").is_enabled()
+    page.click("#total-2-no")
     take(page)
-    assert page.texts("#choices li") == ["Row 3 was left out"]
+    member = "Row 2 (AAA, 40 votes), which equals the sum of the others, is a member"
+    assert page.texts("#choices li") == ["Row 5 was left out", member]
 
 
 def test_a_quote_that_is_not_closed(page: Page) -> None:
