@@ -17,10 +17,9 @@ TOKENS = [
     b'"', b'"', b'""', b'"""', b'"\n"', b'",', b',"', b",", b",,", b"\r", b"\n", b"\r\n", b"\r\r\n", b"\0", b" ", b"\t",
     b";", b"+", b"-", b"0", b"\xef\xbb\xbf", b"\xff\xfe", b"\xc2\xa0", b"\x85", b"\xe2\x80\xa8", b"\x0b", b"\x1a", b"#",
 ]  # fmt: skip
-NUMBERS = [
-    "0", "00", "01", "2", "32", "33", "0032", "1 ", " 1", "+1", "-1", "1.0", "1e3", "0x1", "1_0", "٣", "²", "１",
-    "1" * 20, "1" * 21, "0" * 19 + "7", "0" * 20 + "7", "0" * 20, str(2**40), str(2**40 + 1), str(2**64 - 1),
-    str(2**64),
+NUMBERS = 3 * ["0", "33", "0" * 20 + "7", str(2**40 + 1), str(2**64)] + [
+    "00", "01", "2", "32", "0032", "1 ", " 1", "+1", "-1", "1.0", "1e3", "0x1", "1_0", "٣", "²", "１",
+    "1" * 20, "1" * 21, "0" * 19 + "7", "0" * 20, str(2**40), str(2**64 - 1),
 ]  # fmt: skip
 FIELDS = NUMBERS + [
     "", " ", "aaa", "AA", "AAA", "AAAA", "AÄA", "A A", "None", "NONE", "none", "half", "Half", "070", "70%", "script",
@@ -159,10 +158,10 @@ def scripts(chance: Random) -> Input:
 
 def hostile(chance: Random) -> Input:
     """An input with a changed record, with bytes that no table has, or with both."""
-    records, kind = some_script(chance), chance.randint(0, 3)
-    text = styled(chance, spoiled(chance, records) if kind < 2 else records)
+    records, kind = some_script(chance), chance.randint(0, 4)
+    text = styled(chance, spoiled(chance, records) if kind < 3 else records)
     text = chance.choice([b""] * 11 + [b"\xef\xbb\xbf"]) + text
-    return Input(dirtied(chance, text, chance.randint(1, 2)) if kind else text)
+    return Input(dirtied(chance, text, chance.randint(1, 2)) if kind > 1 else text)
 
 
 def boards(chance: Random) -> Input:
