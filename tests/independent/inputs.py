@@ -161,7 +161,8 @@ def hostile(chance: Random) -> Input:
     records, kind = some_script(chance), chance.randint(0, 4)
     text = styled(chance, spoiled(chance, records) if kind < 3 else records)
     text = chance.choice([b""] * 11 + [b"\xef\xbb\xbf"]) + text
-    return Input(dirtied(chance, text, chance.randint(1, 2)) if kind > 1 else text)
+    text = dirtied(chance, text, chance.randint(1, 2)) if kind > 1 else text
+    return Input(re.sub(rb'(\w+)"?[\r\n]*$', rb'"\1', text) if chance.random() < 0.1 else text)
 
 
 def boards(chance: Random) -> Input:
