@@ -42,8 +42,10 @@ def times() -> list[str]:
     return TIMES
 
 
-def pytest_terminal_summary(terminalreporter: TerminalReporter) -> None:
-    """Prints the times, and the line that the gate adds up."""
-    counts = {name: len(terminalreporter.stats.get(name, [])) for name in ["passed", "failed", "error"]}
+def pytest_unconfigure(config: pytest.Config) -> None:
+    """Prints the times and, as the last line of all, the one that the gate adds up."""
+    reporter = config.pluginmanager.get_plugin("terminalreporter")
+    assert isinstance(reporter, TerminalReporter)
+    counts = {name: len(reporter.stats.get(name, [])) for name in ["passed", "failed", "error"]}
     for line in [*TIMES, f"{counts['passed']} passed, {counts['failed'] + counts['error']} failed"]:
-        terminalreporter.write_line(line)
+        reporter.write_line(line)
