@@ -86,7 +86,7 @@ def shared_out(votes: int, weights: dict[str, int]) -> dict[str, int]:
 
 
 def parts_of(standing: Standing, codes: Sequence[str], votes: int) -> dict[str, int]:
-    """The votes of each of some members that have so many together, in the proportions that they have."""
+    """The new votes of each member: `votes` together, in the proportions of their present votes."""
     if len(codes) == 1 or votes < 0:
         parts = {codes[0]: votes}
     elif standing.votes_of(codes):

@@ -75,7 +75,7 @@ def page_of(script: str, title: str, body: str) -> str:
 
 
 def table_of(caption: str, headers: Sequence[str], rows: Iterable[Sequence[object]], texts: int) -> str:
-    """A table that is sorted by a click on a heading; its first columns, so many, hold texts."""
+    """A table that is sorted by a click on a heading; its first `texts` columns hold texts."""
     looks = [' class="text"' if place < texts else "" for place in range(len(headers))]
     heads = "".join(
         f'<th scope="col"{look}><button type="button">{html.escape(header)}</button></th>'

@@ -17,7 +17,7 @@ def exact(ratio: Ratio) -> Fraction:
 
 
 def written(numerator: int, denominator: int, places: int) -> str:
-    """A fraction as a decimal with so many places."""
+    """A fraction as a decimal with `places` places."""
     whole, rest = divmod(numerator * 10**places, denominator)
     units = whole + (2 * rest > denominator or (2 * rest == denominator and whole % 2 == 1))
     whole, part = divmod(abs(units), 10**places)
@@ -25,7 +25,7 @@ def written(numerator: int, denominator: int, places: int) -> str:
 
 
 def rounded(number: Fraction | Ratio, places: int) -> str:
-    """A number as a decimal with so many places."""
+    """A number as a decimal with `places` places."""
     return written(number.numerator, number.denominator, places)
 
 
