@@ -305,6 +305,7 @@ def check_figures(place: Place) -> None:
         head = head_of(Path(folder, "it.readings.csv"))
         expect(f"lines sha256 {sha256(output)}" in head, f"{head}")
         expect(f"command: board_figures {folder}/it --title Votes" in head, f"{head}")
+        expect("read: 1 reading of 1 reader, at half; 3 chairs" in head, f"{head}")
         expect_items(items_of(Path(folder, "it.html")), head)
         expect_good(place.script("board_figures", f"{folder}/it", "--title", "Votes", given=output))
 
