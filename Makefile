@@ -175,8 +175,8 @@ ci: $O/kit  ## the kit's gate over a copy without the edits, and what it proves 
 	(cd "$$copy" && rt ci 2>&1) | tee $O/said/ci
 	for it in $(filter-out $(STATIC),$(CRATES)); do
 	  made=$$copy/crates/$$it/out to=$O/$$it
-	  if [[ -d $$made/rlib ]]; then made=$$made/rlib/$$it.rlib to=$$to.rlib
-	  elif [[ $$it == *_tests ]]; then made=$$made/$${it}_tests
+	  if [[ $$it == *_tests ]]; then made=$$made/$${it}_tests
+	  elif [[ -d $$made/rlib ]]; then made=$$made/rlib/$$it.rlib to=$$to.rlib
 	  else made=$$made/$$it; fi
 	  rm -rf $$to && cp -r $$made $$to && touch -r $O/ci.begun $O/$$it.proved
 	done

@@ -216,8 +216,9 @@ fn four_readers_audited(rt: HostRuntime) -> Result<(), Fail> {
 
 const LAST: u32 = 2_000;
 
-// So that a test that goes wrong ends.
-const MOST_READINGS: u32 = 10_000_000;
+// So that a test that goes wrong ends. A reader goes through ten million readings while a busy machine holds up the
+// writer for a second.
+const MOST_READINGS: u32 = 1_000_000_000;
 
 // AAA's votes are set to 0, 1, 2 and so on, and each is published at full speed.
 fn publish_to_the_last<R: Wait>(rt: &R, writer: &mut Writer) -> Result<u32, Refusal> {
