@@ -132,13 +132,13 @@ $O/%.edits: $O/%.checked $$(wildcard crates/$$*/must-fail/*.edit) tools/edits.py
 	touch $@
 
 # Deep checks, for doubters: libraries with their proofs, and then each crate with all that it reads, nothing of it checked before.
-$O/deep/%.proved: $$(call sources,$$*) $$(call below,$$*,/deep)
+$(CRATES:%=$O/deep/%.proved): $O/deep/%.proved: $$(call sources,$$*) $$(call below,$$*,/deep)
 	@mkdir -p $O/deep
 	$(call rattle,$*,build,/deep)
 	proves -o $O/deep/$*.rlib
 	touch $@
-$O/deep/%.checked: $$(call below,$$*,/deep)
-	@cd crates/$*
+$(CRATES:%=$O/deep/%.checked): $O/deep/%.checked: $$(call below,$$*,/deep)
+	@mkdir -p $O/deep && cd crates/$*
 	$(KIT)/bin/rattle check $(call over,$*,/deep) $(if $(filter $*,$(TESTS)),--test) --no-cache --jobs 1 2>&1 | tee $@ | tail -n 1
 $(CRATES:%=deep-%): deep-%: $O/deep/%.checked  # one of them
 deep: $(CRATES:%=$O/deep/%.checked)  ## each crate with all that it reads, nothing taken as checked before: hours
