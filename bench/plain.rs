@@ -151,7 +151,7 @@ fn digest(indices: &Indices) -> u64 {
 }
 
 /// The least nanoseconds of one sheet's recount by some majorities, over rounds through all sheets, and what was counted.
-/// Before each the evaluator is given another sheet, which isn't timed, where there is one.
+/// If there is another sheet, the evaluator is given that before each recount, which isn't timed.
 fn least(sheets: &[Words], by: &[Majority], before: impl Fn(usize) -> Option<Words>) -> (u128, u64) {
     let mut evaluator = Evaluator::new();
     let (mut least, mut sum) = (u128::MAX, 0u64);
