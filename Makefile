@@ -1,8 +1,8 @@
 # Proves, builds and tests: `make` builds the program, out/board, and `make help` lists the rest.
 #
-# A crate is proved over the statements of the crates that crates.txt names for it, and again where a source of its own, or of a
-# crate below it, has changed. Crates are begun in the order in which crates.txt names them, so the ones for which most others
-# wait come first there. All results stand in out/; `make clean` removes them.
+# A crate is proved over the statements of the crates that crates.txt lists for it, and again when one of its sources, or of a
+# crate below it, has changed. Crates start in the order of crates.txt, which therefore lists first the crates that most others
+# wait for. All results are in out/; `make clean` removes them.
 SHELL       := bash
 .SHELLFLAGS := -eu -o pipefail -c
 .ONESHELL:
@@ -16,10 +16,10 @@ KIT  := $(patsubst %/bin/rt,%,$(realpath $(shell command -v rt)))
 ifeq ($(KIT),)
 $(error rt, which proves the crates, is not on the PATH: README.md says which toolchain the repository needs)
 endif
-# out/kit names the toolchain that the results stand on.
+# out/kit names the toolchain that made the results.
 $(shell mkdir -p $O; cmp -s $(KIT)/KIT-ID $O/kit || cp $(KIT)/KIT-ID $O/kit)
 
-# Processes for one crate, since more than four gain nothing, and crates side by side, as far as memory holds them.
+# Processes for one crate (more than four gain nothing), and crates proved in parallel, as far as memory allows.
 JOBS := $(shell n=$$(nproc); echo $$((n < 4 ? n : 4)))
 SIDE := $(shell awk -v jobs=$(JOBS) '/^MemTotal/ {n = int($$2 / 2e6 / jobs); print n < 1 ? 1 : n < jobs ? n : jobs}' /proc/meminfo)
 ifeq ($(MAKELEVEL)$(findstring -j,$(MAKEFLAGS)),0)
@@ -27,7 +27,7 @@ MAKEFLAGS += -j$(SIDE)
 endif
 MAKEFLAGS += --no-print-directory
 
-# uses_NAME := the crates that a crate stands on
+# uses_NAME := the crates that a crate depends on
 $O/crates.mk: crates.txt
 	@mkdir -p $O
 	sed -nE 's/^([a-z][a-z0-9_]*)[^:]*: *(.*)$$/uses_\1 := \2/p' $< >$@
@@ -39,22 +39,22 @@ STATIC   := $(shell sed -nE 's/^([a-z0-9_]+) .*\bstaticlib\b.*/\1/p' crates.txt)
 PROGRAMS := $(patsubst crates/%/src/main.rt,%,$(wildcard crates/*/src/main.rt))
 EDITED   := $(patsubst crates/%/must-fail,%,$(wildcard crates/*/must-fail))
 
-# Programs over the libraries that are timed alone.
+# Programs over the libraries, used only for timing.
 BENCH         := timing auditing reading
 uses_timing   := anyhow council_core majority_rule half_sums swing_walk power_index
 uses_auditing := $(uses_timing) board_audits
 uses_reading  := $(uses_timing) left_right board_audits two_copy_steps board_share
 LINKED        := $(PROGRAMS) $(TESTS) $(BENCH)
 
-# What stands below a crate, and itself.
+# A crate with all crates below it; the proofs directly below it; its folder; its sources.
 whole     = $(sort $1 $(foreach it,$(filter $(CRATES),$(uses_$1)),$(call whole,$(it))))
 below     = $(patsubst %,$O$2/%.proved,$(filter $(CRATES),$(uses_$1)))
 folder    = $(if $(filter $1,$(BENCH)),$O/bench/$1,crates/$1)
 sources   = $O/kit crates.txt $(shell find /dev/null $(wildcard $(addprefix crates/$1/,src specs proofs args stdin stdout)) -type f)
-# How far a goal is, among the crates that it needs.
+# The crates that the goals need, for the count of those proved so far.
 needed    = $(if $(filter-out board,$(or $(MAKECMDGOALS),board)),$(CRATES),$(call whole,board))
 
-# What the prover reads of a crate, and how the crate is built.
+# The prover's arguments for a crate, and how the crate is built.
 extern    = --extern $1=$(if $(filter $1,$(CRATES)),$O$2,$(KIT)/rlibs)/$1.rlib
 over      = --crate-name $1 src/$(if $(filter $1,$(PROGRAMS) $(BENCH)),main,lib).rt \
             $(foreach it,std $(uses_$1),$(call extern,$(it),$2)) -L dependency=$O$2 -L dependency=$(KIT)/rlibs --links $1= \
@@ -64,7 +64,7 @@ linked    = --toolchain $(KIT)/toolchain --backend llvm $(if $(filter $1,$(TESTS
 static    = --toolchain $O/$1.toolchain --backend llvm --incremental $O/$1.kept -o $O/lib$1.a
 how       = $(if $(filter $1,$(LINKED)),$(linked),$(if $(filter $1,$(STATIC)),$(static),--statements -o $O/$1.rlib))
 
-# Calls the prover in a crate's folder, by one process where memory is too small for more, and shows what it says where it fails.
+# Runs the prover in a crate's folder, again with one process if it ran out of memory, and shows its output if it fails.
 define rattle
 cd $(call folder,$1)
 prove() { $(KIT)/bin/rattle $2 $(call over,$1,$3) $(checked) "$$@" >$O/$1.log 2>&1; }
@@ -76,7 +76,7 @@ proves() {
 }
 endef
 
-# Links a program and runs it: tests by the kit's runner, another program as its files args, stdin and stdout say.
+# Links a program and runs it: tests by the kit's runner, any other program on its files args, stdin and stdout.
 define run
 $(KIT)/bin/rattle-link --target x86_64-unknown-linux-gnu --toolchain $(KIT)/toolchain -o $O/$1 $O/$1.o \
   $(KIT)/c/libos_c.a $(KIT)/c/liblibc_c.a
@@ -85,8 +85,8 @@ $(if $(filter $1,$(PROGRAMS)),touch $O/empty; given() { [[ -f $$1 ]] && echo $$1
 xargs -d '\n' -a $$(given args) $O/$1 <$$(given stdin) | diff $$(given stdout) -)
 endef
 
-# Makes a toolchain like the kit's, whose clang also keeps the LLVM module that the prover hands to it. The prover starts clang
-# without an environment, so the name of that file is written into it.
+# Makes a toolchain like the kit's, whose clang also keeps the LLVM module that the prover passes to it. The prover starts clang
+# without an environment, so that file's name is written into the script.
 define toolchain
 mkdir -p $O/$1.toolchain/bin && ln -sfn $(KIT)/toolchain/lib $O/$1.toolchain/lib
 ln -sf $(KIT)/toolchain/bin/{ld.lld,llvm-ar,rattle-x64} $O/$1.toolchain/bin
@@ -94,7 +94,7 @@ printf '#!/bin/sh -eu\ncp module.bc "%s"\nexec "%s" "$$@"\n' $O/$1.bc $(KIT)/too
 chmod +x $O/$1.toolchain/bin/clang
 endef
 
-# The kit's own module for WebAssembly, of a library that needs no heap.
+# The module for WebAssembly as the kit builds it, from a library that needs no heap.
 define kit_module
 proves $(subst $O/$1.toolchain,$(KIT)/toolchain,$(subst lib$1.a,$1.wasm.a,$(static))) --target wasm64-unknown-unknown
 $(KIT)/bin/rattle-link --target wasm64-unknown-unknown --toolchain $(KIT)/toolchain -o $O/$1.wasm $O/$1.wasm.a
@@ -104,7 +104,7 @@ endef
 board: $O/board.proved  ## the program, out/board
 all: $(CRATES:%=$O/%.proved)  ## proofs of all crates, and their tests
 	@mkdir -p $O/said; echo "$(words $(CRATES)) passed, 0 failed" | tee $O/said/$@
-check:  ## proofs and tests, cases on the program, and calls with memory refused
+check:  ## proofs and tests, worked examples on the program, and calls with memory refused
 	+@$(call judged,all "cases memory")
 
 $O/%.proved: $$(call sources,$$*) $$(call below,$$*)
@@ -120,7 +120,7 @@ $(BENCH:%=$O/%.proved): $O/%.proved: $O/bench/%/src/main.rt
 $O/bench/%/src/main.rt: bench/%.rt.txt
 	@mkdir -p $(@D) && cp $< $@
 
-# Work that is kept of a crate, and its edits that must fail, each tried over a copy of it.
+# The kept work of a crate, and its mutations, each tested over a copy of that work.
 $O/%.checked: $$(call sources,$$*) $$(call below,$$*) $$(if $$(filter $$*,$(STATIC)),$O/$$*.proved)
 	@touch $O/$*.begun-check
 	$(call rattle,$*,check)
@@ -131,7 +131,7 @@ $O/%.edits: $O/%.checked $$(wildcard crates/$$*/must-fail/*.edit) tools/edits.py
 	tools/edits.py crates/$* $O/$*.kept $(KIT)/bin/rattle check $(call over,$*) $(checked) | tee $O/said/edits-$*
 	touch $@
 
-# Deep checks, for doubters: libraries with their proofs, and then each crate with all that it reads, nothing of it checked before.
+# Deep checks: libraries with their proofs, then each crate with everything that it reads, trusting no earlier check.
 $(CRATES:%=$O/deep/%.proved): $O/deep/%.proved: $$(call sources,$$*) $$(call below,$$*,/deep)
 	@mkdir -p $O/deep
 	$(call rattle,$*,build,/deep)
@@ -141,7 +141,7 @@ $(CRATES:%=$O/deep/%.checked): $O/deep/%.checked: $$(call below,$$*,/deep)
 	@mkdir -p $O/deep && cd crates/$*
 	$(KIT)/bin/rattle check $(call over,$*,/deep) $(if $(filter $*,$(TESTS)),--test) --no-cache --jobs 1 2>&1 | tee $@ | tail -n 1
 $(CRATES:%=deep-%): deep-%: $O/deep/%.checked  # one of them
-deep: $(CRATES:%=$O/deep/%.checked)  ## each crate with all that it reads, nothing taken as checked before: hours
+deep: $(CRATES:%=$O/deep/%.checked)  ## each crate with everything that it reads, trusting no earlier check: hours
 
 # The WebAssembly modules, the library for aarch64, the page.
 modules := $(STATIC:%=$O/%.proved) tools/retarget
@@ -156,9 +156,9 @@ page: module  ## the page, page/out/board.html
 release: board module aarch64 page  ## a release, out/board-VERSION-x86_64-linux.tar.gz
 	@./release
 
-# The gate's parts. Each prints a line for each test and, last, 'N passed, M failed', and what it prints is kept in out/said.
+# The gate's parts. Each prints a line for each test and, last, 'N passed, M failed'; its output is kept in out/said.
 said = @mkdir -p $O/said; $1 2>&1 | tee $O/said/$@
-# Makes groups of parts one after another, and adds up what they passed and failed.
+# Runs groups of parts one after another, and adds up their passed and failed counts.
 define judged
 rm -rf $O/said && mkdir -p $O/said && status=0
 for parts in $1; do $(MAKE) --keep-going $$parts || status=1; done
@@ -166,10 +166,12 @@ tail -qn 1 $O/said/* | awk -v status=$$status '/^[0-9]+ passed, [0-9]+ failed$$/
   END {print passed + 0 " passed, " (status && !failed ? 1 : failed + 0) " failed"}'
 exit $$status
 endef
-.PHONY: docs tools ci edits cases independent memory figures targets page-tests release-tests kit-gate
-docs:  ## names and links in the documents
+.PHONY: docs lint tools ci edits cases independent memory figures targets page-tests release-tests kit-gate
+docs:  ## names, links and made parts of the documents
 	$(call said,docs/check)
-ci: $O/kit  ## the kit's gate over a copy without the edits, and what it proves and builds taken over
+lint:  ## what no clause can say of the sources
+	$(call said,tools/lint)
+ci: $O/kit  ## the kit's gate over a copy without the mutations; its proofs and builds are reused
 	@mkdir -p $O/said; touch $O/ci.begun; copy=$$(mktemp -d); trap 'rm -rf "$$copy"' EXIT
 	tar --create --exclude=.git --exclude=out --exclude=must-fail . | tar --extract --directory "$$copy"
 	(cd "$$copy" && rt ci 2>&1) | tee $O/said/ci
@@ -180,17 +182,17 @@ ci: $O/kit  ## the kit's gate over a copy without the edits, and what it proves 
 	  else made=$$made/$$it; fi
 	  rm -rf $$to && cp -r $$made $$to && touch -r $O/ci.begun $O/$$it.proved
 	done
-kit-gate:  ## the kit's gate with nothing left out, on a clean clone: it tries each edit alone
+kit-gate:  ## the kit's gate with nothing left out, on a clean clone: it tests each mutation alone
 	@copy=$$(mktemp -d); trap 'rm -rf "$$copy"' EXIT
 	git clone --quiet . "$$copy/clone" && cd "$$copy/clone" && rt ci
-tools:  ## what counts an edit as refused
+tools:  ## the code that decides whether a mutation was rejected
 	$(call said,tests/tools/run)
-edits: $(EDITED:%=$O/%.edits)  ## the edits that must fail
-cases: board  ## worked cases, and the examples of the documents, on the program
+edits: $(EDITED:%=$O/%.edits)  ## the mutations
+cases: board  ## worked examples, and the examples of the documents, on the program
 	$(call said,tests/cases/run $O/board)
-independent: board  ## the program against a reader in Python, written from the documents alone
+independent: board  ## the program against a Python reader written from the documents alone
 	$(call said,tests/independent/run $O/board)
-memory: $(patsubst %,$O/%.proved,board memory_tests share_tests board_replay)  ## each growth of memory refused in turn
+memory: $(patsubst %,$O/%.proved,board memory_tests share_tests board_replay)  ## each allocation refused in turn
 	$(call said,tests/memory/run)
 figures: board  ## the scripts of figures
 	$(call said,figures/check $O/board)
@@ -202,8 +204,8 @@ release-tests: release  ## a release, unpacked and run without the toolchain
 	$(call said,tests/release/run)
 
 gate:  ## all that must pass before a change lands
-	+@$(call judged,"docs tools" ci "edits cases independent figures memory" targets page-tests release-tests)
-clean:  ## removes all that was made
+	+@$(call judged,"docs lint tools" ci "edits cases independent figures memory" targets page-tests release-tests)
+clean:  ## removes all results
 	@rm -rf $O {wasm,aarch64,page}/out
 help:  ## this list
 	@sed -nE 's/^([a-z-]+):.*  ## (.*)/make \1\t\2/p' Makefile | expand -t 20

@@ -22,7 +22,7 @@ MEMBERS = 190
 
 
 def timed(name: str, work: Callable[[], int], rounds: int = 1) -> None:
-    """Prints the least time of some rounds, and what the last one answered."""
+    """Prints the least time of several rounds, and the last one's result."""
     least, answer = 2**63, 0
     for _ in range(rounds):
         start = time.process_time_ns()
@@ -32,7 +32,7 @@ def timed(name: str, work: Callable[[], int], rounds: int = 1) -> None:
 
 
 def fractions_of(row: list[int]) -> int:
-    """Makes the shares of a board's chairs at all majorities, and answers how many they are."""
+    """Computes the shares of a board's chairs at all majorities, and returns their number."""
     return len([chair.share for it in indices_of_all(row).values() for chair in it.chairs])
 
 

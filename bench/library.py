@@ -8,7 +8,7 @@ WORK = OUT / "bench"
 
 
 def build(program):
-    """The command of a program over the library: timing, auditing or reading. `make` proves and builds it where it must."""
+    """The command of a program over the library: timing, auditing or reading. `make` proves and builds it if necessary."""
     WORK.mkdir(parents=True, exist_ok=True)
     subprocess.run(["make", "--silent", "-C", OUT.parent, OUT / f"{program}.proved"], check=True)
     return [str(OUT / program)]

@@ -115,7 +115,7 @@ impl Evaluator {
 
 // ---------------------------------------------------------------- timing of the indices
 
-/// Sheets that are recounted in turn, so that no branch is learnt by heart, and rounds through all of them.
+/// Sheets recounted in turn, so that branch prediction can't learn them, and rounds through all of them.
 const SHEETS: usize = 16;
 const ROUNDS: usize = 12;
 
@@ -130,7 +130,7 @@ impl Numbers {
         self.0
     }
 
-    /// Words of so many chairs, numbered from 1, with weights from `base` on, `span` of them.
+    /// Words of `chairs` chairs, numbered from 1, with weights from `base` on, `span` of them.
     fn words(&mut self, chairs: usize, base: u64, span: u64) -> Words {
         let mut words = [0; 34];
         for word in &mut words[..chairs] {
@@ -151,7 +151,7 @@ fn digest(indices: &Indices) -> u64 {
 }
 
 /// The least nanoseconds of one sheet's recount by some majorities, over rounds through all sheets, and what was counted.
-/// Before each the evaluator is given another sheet, which isn't timed, where there is one.
+/// If there is another sheet, the evaluator is given that before each recount, which isn't timed.
 fn least(sheets: &[Words], by: &[Majority], before: impl Fn(usize) -> Option<Words>) -> (u128, u64) {
     let mut evaluator = Evaluator::new();
     let (mut least, mut sum) = (u128::MAX, 0u64);
@@ -241,7 +241,7 @@ fn print_counts(name: &str, words: &Words) {
     println!();
 }
 
-/// Times the recounts of sheets of so many chairs, numbered from 1: all new; with the left half of the first sheet; held;
+/// Times the recounts of sheets of `chairs` chairs, numbered from 1: all new; with the left half of the first sheet; held;
 /// held, by the quorum; and with one chair's votes changed, by all four majorities.
 fn time_sheets(name: &str, chairs: usize, base: u64, span: u64) {
     let mut numbers = Numbers(0x9E37_79B9_7F4A_7C15);
@@ -283,7 +283,7 @@ fn code(member: u64) -> String {
         .collect()
 }
 
-/// A member list of 200, 32 chairs, and commands at random, with a publication and a reading once in so many records.
+/// A member list of 200, 32 chairs, and commands at random, with a publication and a reading every `every` records.
 fn records(count: usize, every: usize) {
     let mut numbers = Numbers(0x9E37_79B9_7F4A_7C15);
     let mut lines = vec!["member,votes".to_string()];

@@ -1,8 +1,8 @@
-//! Plain Rust beside the running board: two copies of 34 words with the board's own steps and orderings, and the ways that
-//! a Rust programmer would take else. One line for each: a name, and nanoseconds for a reading alone, a submit with its
-//! publication alone, and a reading by each of two readers beside a writer that publishes all the time; `-` where there is none.
+//! Plain Rust to compare with the running board: two copies of 34 words with the board's own steps and orderings, and the
+//! other usual choices in Rust. One line for each: a name, and nanoseconds for a reading alone, a submit with its publication
+//! alone, and a reading by each of two readers while a writer publishes all the time; `-` where there is none.
 //!
-//! `bench/run-readers` builds it, with arc-swap where Debian's crate is there (`--cfg arc_swap`).
+//! `bench/run-readers` builds it, with arc-swap if Debian's crate is installed (`--cfg arc_swap`).
 use std::collections::HashMap;
 use std::hint::{black_box, spin_loop};
 use std::sync::atomic::Ordering::{Acquire, Relaxed, Release, SeqCst};
@@ -94,7 +94,7 @@ impl TwoCopies {
         self.publish_each(|k| words[k]);
     }
 
-    /// The same of each word as it is told, so that no sheet needs to be made first.
+    /// As above, but stores each word as it is computed, so no sheet is made first.
     fn publish_each(&self, word: impl Fn(usize) -> u64) {
         for r in 0..self.readers {
             while self.pins[r].load(SeqCst) == 1 {
@@ -156,7 +156,7 @@ fn least(rounds: usize, times: u64, mut act: impl FnMut()) -> f64 {
     least
 }
 
-/// The mean of what a reading takes each of two readers, beside a writer that publishes all the time.
+/// The mean time of a reading by each of two readers, while a writer publishes all the time.
 fn beside(read: &(impl Fn(usize) -> Words + Sync), publish: &(impl Fn(&Words) + Sync)) -> f64 {
     let stop = AtomicBool::new(false);
     std::thread::scope(|scope| {

@@ -1,12 +1,12 @@
 #!/usr/bin/env python3
-"""Tries the edits that must fail of a crate: tools/edits.py FOLDER KEPT COMMAND..
+"""Tests the mutations of a crate: tools/edits.py FOLDER KEPT COMMAND..
 
-FOLDER is the crate's, KEPT holds what a check of it kept, and COMMAND is such a check. Says of each edit whether the prover refuses
-it, and last 'N passed, M failed'. `make edits` calls it for each crate.
+FOLDER is the crate's folder, KEPT holds the kept work of a check of it, and COMMAND runs such a check. Prints for each mutation
+whether the prover rejects it, and last 'N passed, M failed'. `make edits` calls it for each crate.
 
-An edit changes the code of a crate. Since a proof reads of another function its contract alone, edits of different functions are
-tried in one check, and each is refused where its own function isn't proved, for a reason that is no lacking name. Where one check
-doesn't settle an edit in this way, the edit is tried alone."""
+A mutation (an edit, in this file) changes the code of a crate. Since a proof uses only the contracts of other functions, mutations
+of different functions are tested in one check, and each is rejected if its own function isn't proved, for another reason than a
+missing name. If one check doesn't decide a mutation in this way, it is tested alone."""
 import os
 import re
 import shutil
@@ -18,22 +18,22 @@ from dataclasses import dataclass, field
 from functools import partial
 from pathlib import Path
 
-# What the prover says of a proof that names what an edit took away: that tells nothing of a contract.
+# The prover's errors for a proof that cites a name which the mutation removed: they show nothing about the contract.
 NAMES = re.compile(r"has no field|is not in scope|has no `|was not admitted|that depends on `[^`]*`, which was rejected")
-# The longest reason that is shown.
+# The greatest length of a reason that is printed.
 SHOWN = 160
-# What the prover reads of a crate.
+# The folders of a crate that the prover reads.
 READ = ["src", "specs", "proofs"]
 
 
 class BadEdit(Exception):
-    """An edit that can't be applied."""
+    """A mutation that can't be applied."""
 
 
 @dataclass
 class Edit:
-    """A mistake: what it is called, the files that it changes with their texts then, and the functions that the changes stand in,
-    each with its file, or nothing where a change stands in none."""
+    """A mutation: its name, the texts of the changed files, and the changed functions, each with its file; None if a change is
+    in no function."""
 
     crate: str
     name: str
@@ -41,7 +41,7 @@ class Edit:
     functions: set | None = field(default_factory=set)
 
     def change(self, folder, path, old, new):
-        """Changes a text, which stands once in a file, for another: one line for one line."""
+        """Replaces a text, which occurs once in a file, by another: one line for one line."""
         if not path or not old or not (folder / path).is_file():
             raise BadEdit(f"{self.crate}/{self.name}: a new text without an old one, or without a file")
         text = self.texts.get(path) or (folder / path).read_text()
@@ -53,7 +53,7 @@ class Edit:
 
 
 def function_at(text, at):
-    """The name of the function whose body stands at a place of a file that is laid out, if any does."""
+    """The name of the function whose body contains a place of a formatted file, if any."""
     found = [*re.finditer(r"^( *)(?:[a-z]+(?:\([a-z]+\)| \"C\")? )*fn (\w+)", text[:at], re.MULTILINE)]
     if not found:
         return None
@@ -62,7 +62,7 @@ def function_at(text, at):
 
 
 def read(folder):
-    """The edits of a crate's folder."""
+    """The mutations of a crate's folder."""
     return [read_one(folder, file) for file in sorted((folder / "must-fail").glob("*.edit"))]
 
 
@@ -82,7 +82,7 @@ def read_one(folder, file):
 
 
 def together(edits):
-    """Lists of edits that are tried in one check: those of one list change different functions."""
+    """Lists of mutations to test in one check: those of one list change different functions."""
     lists, taken = [], []
     for edit in edits:
         free = (at for at, functions in enumerate(taken) if edit.functions and functions and not edit.functions & functions)
@@ -97,7 +97,7 @@ def together(edits):
 
 
 def apply(edits, folder):
-    """Makes the changes of edits in a copy of their crate: no two change one line."""
+    """Applies mutations to a copy of their crate: no two change the same line."""
     for path in {path for edit in edits for path in edit.texts}:
         was = (folder / path).read_text().split("\n")
         lines = list(was)
@@ -109,16 +109,16 @@ def apply(edits, folder):
 
 
 def path_of(function, crate):
-    """Where the prover says a function of a file is: the module's path, and the function's name."""
+    """The prover's path for a function of a file: the module's path, and the function's name."""
     file, name = function
     module = [it for it in re.sub(r"^src/|\.rt$", "", file).split("/") if it not in ("lib", "main", "mod")]
     return [crate, *module], name
 
 
 def not_proved(said):
-    """The functions that weren't proved by themselves, by their paths, each with a reason: nothing where only names lack.
+    """The functions that failed by themselves, by their paths, each with a reason, or None if only names are missing.
 
-    One that merely calls a function that isn't proved is not among them."""
+    A function that only calls one that isn't proved is not included."""
     found = {}
     for path, what in re.findall(r"^fn (\S+): (.*)$", said, re.MULTILINE):
         of_search = re.search(r"`search` did not prove .*?(?=;|$)", what)
@@ -133,46 +133,46 @@ def not_proved(said):
 
 
 def is_of(path, function, crate):
-    """Whether the prover's path leads to a function of a file, or into it."""
+    """Whether the prover's path is that of a function of a file, or of something inside it."""
     module, name = path_of(function, crate)
     words = path.split("::")
     return words[: len(module)] == module and name in words[len(module) :]
 
 
 def is_refused(status, said):
-    """Whether the prover came to a verdict, and it is that the crate isn't proved."""
+    """Whether the prover reached the verdict that the crate isn't proved."""
     return status == 1 and re.search(r"^logic=not-proved", said, re.MULTILINE)
 
 
 def reasons(edits, status, said):
-    """Why each of some edits was refused in one check, by their names, as far as that settles it.
+    """Why mutations were rejected in one check, by name, as far as the check decides that.
 
-    Where a function that none of them changes isn't proved either, nothing is settled."""
+    If a function that none of them changes isn't proved either, nothing is decided."""
     failed = not_proved(said) if is_refused(status, said) else {}
     by = {path: edit.name for path in failed for edit in edits if any(is_of(path, it, edit.crate) for it in edit.functions)}
     return {by[path]: why for path, why in failed.items() if why} if by.keys() == failed.keys() else {}
 
 
 def reason_alone(status, said):
-    """Why an edit was refused that was tried alone, or nothing where it wasn't, or where only names lack."""
+    """Why a mutation tested alone was rejected, or None if it wasn't, or if only names are missing."""
     told = re.findall(r"^\S+:\d+:\d+: error.*$|^fn .*`search` did not prove.*$", said, re.MULTILINE)
     return next((it[:SHOWN] for it in told if is_refused(status, said) and not NAMES.search(it)), None)
 
 
 def tried(edits, check):
-    """Tries edits: each with why it was refused, or with nothing where it wasn't. A check of some of them gives the prover's
-    status, and what it said."""
+    """Tests mutations: returns each with the reason for its rejection, or None if it wasn't rejected. `check` returns the
+    prover's status and output."""
     why = reasons(edits, *check(edits)) if len(edits) > 1 else {}
     return [(edit, why.get(edit.name) or reason_alone(*check([edit]))) for edit in edits]
 
 
 def link(source, target):
-    """Gives a file that the prover kept another name. The prover replaces such a file and never writes into it, but for its notes."""
+    """Links a file of kept work, which the prover replaces and never writes into; its notes are copied."""
     (os.link if source.endswith(".oantt") else shutil.copy2)(source, target)
 
 
 def check_edited(folder, kept, command, edits):
-    """Checks a crate with some edits made, over a copy of what was kept of it: the prover's status, and what it said."""
+    """Checks a crate with mutations applied, over a copy of its kept work: the prover's status and output."""
     with tempfile.TemporaryDirectory(prefix="edits-", dir=kept.parent) as place:
         for part in (it for it in READ if (folder / it).is_dir()):
             shutil.copytree(folder / part, Path(place, part))
@@ -184,7 +184,7 @@ def check_edited(folder, kept, command, edits):
 
 
 def main(folder, kept, *command):
-    """Tries a crate's edits, several lists at once: the status to end in."""
+    """Tests a crate's mutations, several lists in parallel: returns the exit status."""
     passed = failed = 0
     lists = together(read(Path(folder)))
     check = partial(check_edited, Path(folder), Path(kept), command)

@@ -1,7 +1,7 @@
-"""Worked cases of the program, as the files *.txt beside this module have them.
+"""Worked examples of the program, from the files *.txt next to this module.
 
-A case begins with '== NAME'. '$ board WORDS' is the command, '<' stands before each line of its input, '>' before each
-line of its output, '!' before each line of standard error, and 'status N' says with what it ends where that isn't 0.
+A case begins with '== NAME'. '$ board WORDS' is the command, '<' marks each line of its input, '>' each line of its
+output, '!' each line of standard error, and 'status N' gives the exit status if that isn't 0.
 '! ...' is any text. Other lines are comments. In an input '\\xHH' and '\\r' are bytes, and '\\' at the end of a line
 takes away the line's end."""
 from __future__ import annotations
@@ -26,7 +26,7 @@ class Case:
     status: int = 0
 
     def fault(self, status: int, printed: bytes, complained: bytes) -> str:
-        """What is wrong with a run of the case, or nothing where all is as it must be."""
+        """What is wrong with a run of the case, or nothing if all is right."""
         is_text = bool(complained) if self.complained == ANY_TEXT else complained == self.complained
         faults = [
             f"status {status}, not {self.status}" if status != self.status else "",
@@ -44,7 +44,7 @@ def bytes_of(line: str) -> bytes:
 
 
 def add_line(case: Case, mark: str, line: str) -> None:
-    """Takes in a line of a case's text behind its mark."""
+    """Adds a line of a case, the text after its mark."""
     if mark == "$":
         case.words = line.removeprefix("board").split()
     elif mark == "<":

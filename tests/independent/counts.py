@@ -1,5 +1,5 @@
 """Winning coalitions and swings by brute force, from docs/DEFINITIONS.md alone: by going through all coalitions, and by
-a table of how many coalitions have a weight and a size. Where both can be had, both must say the same."""
+a table of how many coalitions have a weight and a size. If both methods are possible, they must agree."""
 from __future__ import annotations
 
 import struct
@@ -63,7 +63,7 @@ def by_coalitions(weights: tuple[int, ...], wins: Rule) -> Counts:
 @lru_cache(maxsize=64)
 def table_of(weights: tuple[int, ...]) -> dict[tuple[int, int], int]:
     """How many coalitions there are of each weight and size. The product of 1 + x^weight y over the chairs has these
-    numbers for coefficients; it stands in one long integer, with 64 bits for each coefficient."""
+    numbers as coefficients; it is kept in one long integer, with 64 bits for each coefficient."""
     product, sizes = 1, len(weights) + 1
     for weight in weights:
         product += product << 64 * (weight * sizes + 1)
@@ -90,7 +90,7 @@ def by_table(weights: tuple[int, ...], wins: Rule) -> Counts:
 
 @lru_cache(maxsize=1024)
 def counts(weights: tuple[int, ...], total: int, majority: str) -> Counts:
-    """The counts of the open chairs' weights, where all members have this total, by each method that can be had."""
+    """The counts of the open chairs' weights, where all members have this total, by each method that is possible."""
     wins = rule_of(weights, total, majority)
     methods = [by_coalitions] if len(weights) <= MOST_CHAIRS else []
     if (sum(weights) + 1) * (len(weights) + 1) <= MOST_CELLS:

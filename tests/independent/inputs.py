@@ -29,8 +29,8 @@ FIELDS = NUMBERS + [
 
 @dataclass(frozen=True)
 class Input:
-    """An input: its bytes (None: a folder stands in their place), the words behind `board`, and where the output goes:
-    where it is taken, to a device that is full, or to a program that has ended."""
+    """An input: its bytes (None: a folder is opened instead), the words after `board`, and where the output goes: to a
+    pipe that is read, to a device that is full, or to a program that has ended."""
 
     given: bytes | None
     words: tuple[str, ...] = ("replay",)

@@ -282,7 +282,7 @@ def lines_of(given: bytes | None, readers: int, journal: int) -> Iterator[str]:
 
 
 def limits_of(words: tuple[str, ...]) -> tuple[int, int]:
-    """How many readers there are and the journal's limit, from the words behind `board`."""
+    """How many readers there are and the journal's limit, from the words after `board`."""
     said = dict(zip(words[1::2], words[2::2]))
     if words[:1] != ("replay",) or len(words) % 2 == 0 or not said.keys() <= {"--readers", "--journal"}:
         raise Malformed(words)

@@ -23,7 +23,7 @@ from inputs import Call, mutated, of_cases  # noqa: E402
 SEED = 20_261_126
 BOARDS = 2_000
 SCRIPTS = 500
-# A case with more bytes stays out.
+# Cases with more bytes are left out.
 MOST = 20_000
 WORKERS = 2
 CHAIRS = 32
@@ -90,7 +90,7 @@ def write(program: Path, folder: Path) -> None:
 
 
 def answers_in(room: Path) -> Path:
-    """The folder of both files in an unpacked release, which are written where they aren't there yet."""
+    """The folder of both files in an unpacked release, which are written if they don't exist yet."""
     folder = room / "answers"
     if not folder.exists():
         folder.mkdir()

@@ -19,7 +19,7 @@ def check_calls(room: Path) -> None:
 
 
 def check_answers(room: Path, what: str) -> None:
-    """The library answers to boards or scripts what the program answers."""
+    """The library gives the program's answers for boards or scripts."""
     folder = answers_in(room)
     ran(["cc", "-O2", *STRICT, str(SOURCES / "answers.c"), "lib/libboard.a", "-o", "answers_c"], room)
     got = ran(["sh", "-c", f"./answers_c {what} < {folder}/{what}.txt"], room)
@@ -65,7 +65,7 @@ def check_shared(room: Path) -> None:
 
 
 def check_package_config(room: Path) -> None:
-    """pkg-config says how to compile and link, wherever the release lies, and the program counts."""
+    """pkg-config says how to compile and link, wherever the release is, and the program counts."""
     elsewhere = room.parent / "else where"
     elsewhere.mkdir()
     config = {"PKG_CONFIG_PATH": str(room / "lib" / "pkgconfig")}

@@ -66,7 +66,7 @@ def check_types(room: Path) -> None:
 
 
 def cases(room: Path) -> list[Case]:
-    """The cases whose tools are here; it says which aren't."""
+    """The cases whose tools are available; it prints which aren't."""
     found: list[Case] = [("the version of the package for JavaScript", lambda: check_version(room))]
     if shutil.which("node"):
         found.append(("the package for JavaScript, in node", lambda: check_node(room)))

@@ -2,7 +2,7 @@
 """The links of an unpacked release that lead nowhere: tests/release/links.py FOLDER
 
 Goes through all .md and .html files: each link, picture and anchor that isn't elsewhere in the network leads to a file of
-the release, and to a heading or an element of it. Ends with 1 where one doesn't."""
+the release, and to a heading or an element of it. Ends with 1 if one doesn't."""
 from __future__ import annotations
 
 import re
@@ -60,7 +60,7 @@ def anchors_of(path: Path) -> set[str]:
 
 
 def leads_nowhere(path: Path, link: str, top: Path) -> str:
-    """What is wrong with a link; nothing where it leads somewhere."""
+    """What is wrong with a link, or nothing if it leads somewhere."""
     file, _, anchor = unquote(link).partition("#")
     to = (path.parent / file).resolve() if file else path.resolve()
     if not to.is_relative_to(top.resolve()) or not to.exists():

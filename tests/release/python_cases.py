@@ -20,7 +20,7 @@ EXAMPLE = "from voting_board import indices; print(indices([50, 49, 1], majority
 
 @cache
 def installed(room: Path) -> Path:
-    """Where the package is: installed by pip where that is here, else where it lies."""
+    """The folder of the package: installed by pip if pip is available, else in the release."""
     if not has_pip():
         return room / "python"
     ran([*INSTALL, "--target", "installed", "./python"], room)
@@ -41,7 +41,7 @@ def check_tests(room: Path, file: Path) -> None:
 
 
 def wheel_of(room: Path, name: str) -> Path:
-    """A wheel, made by the package's builder in a folder of its own."""
+    """A wheel, made by the package's builder in a separate folder."""
     (room / name).mkdir()
     build = f"import wheel_builder; print(wheel_builder.build_wheel({str(room / name)!r}))"
     return room / name / ran([sys.executable, "-c", build], room / "python").strip()
@@ -64,7 +64,7 @@ def check_wheel(room: Path) -> None:
 
 
 def check_environment(room: Path, how: list[str]) -> None:
-    """An installation in an environment of its own has its version, and counts."""
+    """An installation in a separate environment has its version, and counts."""
     place = room / "-".join(["environment", *how]).replace("/", "")
     ran([sys.executable, "-m", "venv", "--without-pip", str(place)], room)
     python = str(place / "bin" / "python3")

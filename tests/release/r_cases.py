@@ -60,7 +60,7 @@ def check_version(room: Path) -> None:
 
 
 def cases(room: Path) -> list[Case]:
-    """The cases, where R is here; it says where it isn't."""
+    """The cases, if R is available; else it prints that."""
     if not shutil.which("Rscript"):
         print("tests/release: R isn't here, so its package isn't tested (tools/install)")
         return []

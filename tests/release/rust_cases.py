@@ -30,7 +30,7 @@ def check_version(room: Path) -> None:
 
 
 def cases(room: Path) -> list[Case]:
-    """The cases, where cargo is here; it says where it isn't."""
+    """The cases, if cargo is available; else it prints that."""
     if not shutil.which("cargo"):
         print("tests/release: cargo isn't here, so the crate for Rust isn't tested (tools/install)")
         return []

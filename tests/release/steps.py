@@ -1,4 +1,4 @@
-"""What the cases of a release share: commands in the unpacked release, and the tools that are here."""
+"""What the cases of a release share: commands in the unpacked release, and the available tools."""
 from __future__ import annotations
 
 import os

@@ -93,7 +93,7 @@ OFTEN = [16, 2, 4, 2, 2, 1, 1]
 
 
 def mutated(seed: int, many: int) -> list[Call]:
-    """Inputs of `replay`, most of them such as end well, with one to four changes each, most of them behind the first
+    """Inputs of `replay`, most of them from successful runs, with one to four changes each, most of them after the first
     record, and with limits at random."""
     some = random.Random(seed)
     examples = [it.read_bytes() for it in sorted((TOP / "examples").glob("*.csv"))]

@@ -43,7 +43,7 @@ def faults() -> dict[bytes, int]:
 
 
 def by_program(program: Path, call: Call) -> Run:
-    """The run of the program. Its status, its standard error and its last line must tell of the same fault."""
+    """The run of the program. Its status, its standard error and its last line must report the same fault."""
     words = [str(program), "replay", "--readers", str(call.readers), "--journal", str(call.journal)]
     done = subprocess.run(words, input=call.text, stdout=subprocess.PIPE, stderr=subprocess.PIPE)
     if done.returncode == 0:

@@ -35,7 +35,7 @@ def lines_of(text: str) -> list[str]:
 
 
 def is_never_reached(before: list[str]) -> bool:
-    """Whether what stands behind some lines is never reached: they end with a loop whose last line is a jump."""
+    """Whether code after some lines is never reached: they end with a loop whose last line is a jump."""
     if len(before) < 2 or before[-1] != "end" or not before[-2].startswith("br "):
         return False
     depth = 0
@@ -47,7 +47,7 @@ def is_never_reached(before: list[str]) -> bool:
 
 
 def is_of_lowering(line: str, before: list[str]) -> bool:
-    """Whether lowering may add a line behind others. It may make a number one of 32 bits, which in a valid module can
+    """Whether lowering may add a line after others. It may make a number one of 32 bits, which in a valid module can
     only be an address or a length; make the size of memory one of 64 bits again; and add what is never reached."""
     if line == "i64.extend_i32_u":
         return before[-1] in ("memory.size", "memory.grow")
@@ -56,7 +56,7 @@ def is_of_lowering(line: str, before: list[str]) -> bool:
 
 def beyond_lowering(wide: str, lowered: str) -> str:
     """Where the text of a lowered module differs in more than lowering from that of the module with a 64-bit memory,
-    or nothing where it doesn't."""
+    or nothing if it doesn't."""
     left, seen = iter(lines_of(wide)), list[str]()
     wanted = next(left, None)
     for line in lines_of(lowered):
