@@ -1,4 +1,4 @@
-//! The program `board`: the standard streams, wrapped, and `board_report`'s program over them.
+//! The program `board`: wraps the standard streams and runs `program` of `board_report` on them.
 #![tactic(auto)]
 
 use board_report::{Given, Streams, Told, program, words_out_of_memory, words_refused};
@@ -21,7 +21,7 @@ fn main(rt: HostRuntime) -> ExitCode {
     ExitCode::from(status)
 }
 
-// The words of the command line, or why they can't be read.
+// The arguments of the command line, or the kind of error that kept them from being read.
 fn words(rt: &HostRuntime) -> Result<Vec<String>, ErrorKind> {
     let args = env::args(rt).map_err(|e| e.kind())?;
     args.collect(rt.alloc()).map_err(|_| ErrorKind::OutOfMemory)

@@ -1,4 +1,4 @@
--- What the answer to a replay tells of its run.
+-- Facts that follow about a run from the result of its replay.
 use Rattle.std.proofs.Common.{◌≡◌, ◌≢◌, ◌≤◌, ◌<◌, ◌⊎◌, inl, inr, ℕ, true, false, List, Option, Some, None, IsTrue, length, nat_le, refl, sym, ap, ◌∙◌, arith, lit<}
 use Rattle.std.proofs.lemmas.Bool.Decides.{leb_tells}
 use Rattle.std.proofs.lemmas.List.{take_all}
@@ -54,7 +54,7 @@ module _ (run : Run) (ends : (f : Fault) → run.end ≡ Some f → IsTrue (is_o
             (well.0, shows.front ∙ take_all n shows.text fits ∙ well.1)
         by_room (inr (long, is)) = let at : DONE ≡ code_of WriteFault = sym done ∙ long-answer is in absurd (cc at)
 
-    -- an answer that is neither the input's fault nor want of memory is the writer's
+    -- a result that is neither a fault of the input nor OutOfMemory is the writer's
     only-long : (why : ℕ) → is_of_input why ≡ false → DONE < why → why ≢ code_of OutOfMemory → answer ≡ why → (n < length shows.text) × (why ≡ code_of WriteFault)
     only-long why other some memory is = by_room (fitting n shows.text shows.end)
       where

@@ -1,4 +1,4 @@
--- Worked cases and refutations of what a caller finds.
+-- Worked examples and refutations of what a caller finds.
 use Rattle.std.proofs.lemmas.List.{append-nil}
 use Rattle.std.proofs.Common.{◌≡◌, ◌++◌, ◌∙◌, Some, length, arith, length-append, inl, ℕ, List, [], ◌∷◌, None, refl, ap}
 use Rattle.council_core.specs.Refusals.{code_of}

@@ -1,4 +1,4 @@
--- What a caller finds of a run in the bytes that it lends, and what it is answered.
+-- The bytes that `board_replay` leaves in its caller's buffer, and the number that it returns.
 use Rattle.std.specs.Prelude.{◌≡◌, ◌<◌, ℕ, ◌⊎◌, List, Option, Some, None, length, take, nat_le, if◌then◌else◌}
 use Rattle.council_core.specs.declared.refusals.Refusal.TheVariants.{OutOfMemory, WriteFault}
 use Rattle.board_text.specs.Text.{Run, fault_at, output}
@@ -10,29 +10,31 @@ use Rattle.board_replay.specs.declared.TheConstants.{DONE}
 abbrev pub limits : ℕ → ℕ → Limits
 limits readers journal = record { readers = readers; journal = journal }
 
--- memory was refused: some first lines of the run, whole, and then the line of that fault
+-- out of memory: a prefix of the run's lines, each whole, followed by the line of that fault
 abbrev pub LacksMemory : Run → List ℕ → Option Fault → Type 0
 LacksMemory run text end = (end ≡ Some (fault_at OutOfMemory 0)) × IsBrokenOff run (fault_at OutOfMemory 0) text
 
--- a text of a run, and how it ends: all that the run writes, and its own end; or memory was refused
+-- a text of the run and its end: all that the run writes, with the run's own end; or the text left
+-- after out of memory
 abbrev pub IsTextOf : Run → List ℕ → Option Fault → Type 0
 IsTextOf run text end = ((text ≡ output run) × (end ≡ run.end)) ⊎ LacksMemory run text end
 
--- the end that is answered where there is room for n bytes: that of a text that fits, and else the writer's fault
+-- the end for a buffer of n bytes: that of the text if it fits, or else WriteFault
 abbrev pub end_in : ℕ → List ℕ → Option Fault → Option Fault
 end_in n text end = if nat_le (length text) n then end else Some (fault_at WriteFault 0)
 
--- the number that is answered
+-- the number returned
 abbrev pub number_of : Option Fault → ℕ
 number_of None = DONE
 number_of (Some f) = f.code
 
--- the number of the fault's record: 0 where there is none
+-- the number of the fault's record, or 0 if there is none
 abbrev pub record_of : Option Fault → ℕ
 record_of None = 0
 record_of (Some f) = f.place
 
--- in room for n bytes stands a text of the run, or as much of it as there is room for; and its end is answered
+-- a buffer of n bytes gets a text of the run, or as long a prefix of it as fits; `answer` and
+-- `place` are those of its end
 pub record Shows (run : Run) (n : ℕ) (shown : List ℕ) (answer place : ℕ) : Type 0 where
   pub text : List ℕ
   pub end : Option Fault
@@ -41,7 +43,7 @@ pub record Shows (run : Run) (n : ℕ) (shown : List ℕ) (answer place : ℕ) :
   pub number : answer ≡ number_of (end_in n text end)
   pub at : place ≡ record_of (end_in n text end)
 
--- no fault ended the run, and all that it writes is shown
+-- no fault ended the run, and all of its text is in the buffer
 abbrev pub IsWhole : Run → List ℕ → Type 0
 IsWhole run shown = (run.end ≡ None) × (shown ≡ output run)
 

@@ -1,6 +1,7 @@
-//! The whole replay in one call, for programs in C and in what calls C.
+//! A whole replay in one call, as a static library with one export, for programs in C and languages
+//! that can call C.
 //!
-//! A static library with one export. Its contract ends at the call: nothing checks the program that makes it.
+//! The contract ends at the call: nothing checks the program that makes it.
 #![tactic(auto)]
 
 ghost use Rattle.std.specs.Prelude.{◌≡◌, ◌≢◌, ◌≤◌, ℕ, List, true, length, take, drop, min};
@@ -16,10 +17,10 @@ use council_core::Refusal;
 use std::alloc::Global;
 use told_streams::Given;
 
-/// No fault ended the run, and its text is whole.
+/// The number returned if no fault ended the run and its text is whole.
 pub const DONE: u8 = 0;
 
-// How many bytes of a run's text were written, and the fault that ended the run, if one did.
+// The number of bytes of a run's text that were written, and the fault that ended the run, if any.
 #[derive(Clone, Copy)]
 struct Shown {
     count: usize,
@@ -27,7 +28,7 @@ struct Shown {
 }
 
 impl Shown {
-    // The number that is answered.
+    // The number to return.
     fn answer(&self) -> u8
         ensures { result ≡ number_of self.now.end }
     {
@@ -37,7 +38,7 @@ impl Shown {
         }
     }
 
-    // The number of the fault's record.
+    // The number of the fault's record, or 0.
     fn place(&self) -> u32
         ensures { result ≡ record_of self.now.end }
     {
@@ -48,7 +49,7 @@ impl Shown {
     }
 }
 
-// Copies as much of a text as there is room for, and answers how many bytes that is.
+// Copies as long a prefix of the text as fits into `out`, and returns its length in bytes.
 fn copy_front(text: &[u8], out: &mut [u8]) -> usize
     ensures count { result ≡ min (length out.old) (length text.now) }
     ensures front { take result out.new ≡ take (length out.old) text.now }
@@ -59,7 +60,7 @@ fn copy_front(text: &[u8], out: &mut [u8]) -> usize
     count
 }
 
-// Shows a text: all of it, or as much as there is room for, and then the end is a fault of the writer.
+// Copies a text to `out`: all of it, or as long a prefix as fits, and then the end is WriteFault.
 fn show(text: &[u8], end: Option<Fault>, out: &mut [u8]) -> Shown
     ensures end { result.end ≡ end_in (length out.old) text.now end }
     ensures within { result.count ≤ length out.old }
@@ -76,8 +77,8 @@ fn show(text: &[u8], end: Option<Fault>, out: &mut [u8]) -> Shown
     }
 }
 
-// Whether a fault is that of a device. Here the reader and the writer are memory: the one never fails, and the other
-// fails where memory is refused.
+// Whether a fault is that of a device. Here the reader and the writer are memory: the reader never
+// fails, and the writer fails only if memory runs out.
 fn is_of_device(fault: Fault) -> bool
     ensures read { fault.code ≡ code_of ReadFault → result ≡ true }
     ensures write { fault.code ≡ code_of WriteFault → result ≡ true }
@@ -85,7 +86,7 @@ fn is_of_device(fault: Fault) -> bool
     fault.code == Refusal::ReadFault.code() || fault.code == Refusal::WriteFault.code()
 }
 
-// Shows the line of the fault that memory was refused.
+// Copies the line of the fault OutOfMemory to `out`.
 fn show_lack_of_memory(out: &mut [u8]) -> Shown
     ensures shows { (run : Run) → Shows run (length out.old) (take result.count out.new)
         (number_of result.end) (record_of result.end) }
@@ -98,7 +99,7 @@ fn show_lack_of_memory(out: &mut [u8]) -> Shown
     show(line.as_bytes(), Some(fault), out)
 }
 
-// Replays an input into memory, and shows its text.
+// Replays an input into memory, and copies its text to `out`.
 fn replay_into(alloc: Global, input: &[u8], limits: Limits, out: &mut [u8]) -> Shown
     ensures shows { Shows (run_of limits input.now) (length out.old) (take result.count out.new)
         (number_of result.end) (record_of result.end) }
@@ -114,7 +115,8 @@ fn replay_into(alloc: Global, input: &[u8], limits: Limits, out: &mut [u8]) -> S
     }
 }
 
-// The limits of these numbers. A number of readers that a `u8` can't hold is out of range, as 0 is.
+// The limits with these numbers. A number of readers above 255 becomes 0, which is out of range
+// too.
 fn limits_of(readers: u32, journal: u32) -> Limits
     ensures same { (bytes : List ℕ) → run_of result bytes ≡ run_of (limits readers journal) bytes }
 {
@@ -126,18 +128,36 @@ fn limits_of(readers: u32, journal: u32) -> Limits
     Limits { readers, journal }
 }
 
-/// Replays an input: carries out its script, and writes the lines of the run to the front of `out`, as many bytes as
-/// there is room for. `written` is how many bytes that are; those after them stay as they were.
+/// Replays an input: carries out its script and writes the lines of the run to the start of `out`,
+/// as many bytes as fit. `written` is set to the number of bytes written; the bytes of `out` after
+/// them are unchanged.
 ///
-/// `readers` is how many readers there are, from 1 to `READERS`, and `journal` how many commands the register accepts
-/// at most, from 1 to `MAX_COMMANDS`. The answer is `DONE`, or the number of the fault that ended the run, whose line is
-/// the last of the text; `place` is the number of the fault's record, counted from 1, or 0 where it has none.
+/// `readers` is the number of readers, from 1 to `READERS`, and `journal` the most commands that
+/// the register accepts, from 1 to `MAX_COMMANDS`. Returns `DONE`, or the number of the fault that
+/// ended the run, whose line is then the last of the text. `place` is set to the number of the
+/// fault's record, counted from 1, or to 0 if the fault has none.
 ///
-/// The faults of the input are those of `board_runs::replay`, in the same order. `WriteFault` (20): the text is longer
-/// than `out`, which is full; with more room the same call goes further. `OutOfMemory` (10): `malloc` refused memory,
-/// and the text is some first lines of the run, perhaps none, and the line of this fault. `ReadFault` never comes.
+/// All memory that a call allocates is freed before it returns, and nothing is kept for the next
+/// call.
 ///
-/// All memory that a call takes is given back before it answers, and nothing is kept for the next call.
+/// ```rust
+/// let (mut written, mut place) = (0, 0);
+/// let mut out = [0u8; 4096];
+/// let end = board_replay(alloc, input, 1, 1000, &mut out, &mut written, &mut place);
+/// let text = &out[..written as usize];
+/// ```
+///
+/// # Errors
+///
+/// The number returned is that of a fault:
+///
+/// - A fault of the input: those of `board_runs::replay`, in the same order.
+/// - `WriteFault` (20): the text is longer than `out`, and `out` is full. With more room the same
+///   call goes further.
+/// - `OutOfMemory` (10): `malloc` returned no memory. The text is a prefix of the run's lines,
+///   perhaps none, and the line of this fault.
+///
+/// `ReadFault` is never returned.
 #[unsafe(no_mangle)]
 pub extern "C" fn board_replay(
     alloc: Global,

@@ -1,4 +1,4 @@
--- How the program ends.
+-- The output and the exit status of the program.
 use Rattle.std.specs.Prelude.{◌≡◌, ℕ, ◌⊎◌, ⊤, List, [], ◌∷◌, ◌++◌, Option, Result, Ok, Err, codes}
 use Rattle.std.specs.Io.KnownBytes.{Keeps}
 use Rattle.council_core.specs.Refusals.{code_of}
@@ -20,7 +20,7 @@ use Rattle.board_serve.specs.declared.served.Served.{Served}
 abbrev pub limits : ℕ → ℕ → Limits
 limits readers journal = record { readers = readers; journal = journal }
 
--- the call over these bytes answers so, and its lines are written
+-- the call over these bytes ended in this result, and its lines were written
 abbrev pub CallEnds : Call → List ℕ → Option (List ℕ) → Option (List ℕ) → Result ⊤ Fault → Type 0
 CallEnds (Replay readers journal) bytes old new ended = Replays old new ended (run_of (limits readers journal) bytes)
 CallEnds (Trace readers journal) bytes old new ended = Replays old new ended (trace_of (limits readers journal) bytes)
@@ -28,11 +28,11 @@ CallEnds (Serve journal) bytes old new (Ok done) =
     (served : Served) × Serves old new (Ok served) (plan_of journal bytes)
 CallEnds (Serve journal) bytes old new (Err f) = Serves old new (Err f) (plan_of journal bytes)
 
--- what goes to standard error where a run ends in a fault of this number
+-- the text on standard error for a fault with this number
 abbrev pub failure_text : ℕ → List ℕ
 failure_text code = codes "board: " ++ fault_name code ++ 10 ∷ []
 
--- what the program wrote before it ended, to standard output and to standard error
+-- the contents of standard output and standard error before and after the program
 pub record Written : Type 0 where
   pub out_old : Option (List ℕ)
   pub out_new : Option (List ℕ)
@@ -43,26 +43,26 @@ abbrev pub written : Option (List ℕ) → Option (List ℕ) → Option (List �
 written out_old out_new err_old err_new =
     record { out_old = out_old; out_new = out_new; err_old = err_old; err_new = err_new }
 
--- nothing came of the words, since memory was refused
+-- out of memory before any call ran: status 1 and a prefix of that fault's text on standard error
 pub record LacksMemory (status : ℕ) (s : Written) : Type 0 where
   pub status_is : status ≡ 1
   pub out_kept : Keeps s.out_old s.out_new
   pub said : AppendsFront s.err_old s.err_new (failure_text (code_of OutOfMemory))
 
--- the help or the version is shown on standard output; or the words are refused on standard error; or nothing came of
--- them
+-- status 0: the help or the version is shown on standard output; status 2: the arguments are
+-- refused on standard error; or out of memory
 abbrev pub AnswersWords : List (List ℕ) → ℕ → Written → Type 0
 AnswersWords words status s =
     ((status ≡ 0) × Keeps s.err_old s.err_new × AskText words)
     ⊎ ((status ≡ 2) × Keeps s.out_old s.out_new × HaveFault words)
     ⊎ LacksMemory status s
 
--- what goes to standard error where the words are no text
+-- the text on standard error for arguments that are not text
 abbrev pub no_text : List ℕ
 no_text = codes "error: the arguments are not text" ++ 10 ∷ []
 
--- the call over these bytes answered Ok, and the status is 0; or a fault, whose name is told, and the status is 1; or
--- nothing came of the words
+-- status 0: the call over these bytes returned Ok; status 1: it returned a fault, and a prefix of
+-- that fault's text went to standard error; or out of memory before the call
 abbrev pub CallExits : Call → List ℕ → ℕ → Written → Type 0
 CallExits call bytes status s =
     ((status ≡ 0) × CallEnds call bytes s.out_old s.out_new (Ok tt) × Keeps s.err_old s.err_new)

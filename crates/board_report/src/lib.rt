@@ -1,5 +1,5 @@
-//! The program `board`: its words, and what it does on them; and the calls that it makes, for
-//! programs of one's own: what is written is a stated function of the bytes that are read.
+//! The program `board`: parses its arguments, runs a call, and sets the exit status; also exports
+//! these calls to other programs.
 #![tactic(auto)]
 
 mod programs;

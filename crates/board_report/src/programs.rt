@@ -1,4 +1,4 @@
-//! The program: what it does on its words, and its exit status.
+//! Runs the program and returns its exit status.
 ghost use Rattle.std.specs.Prelude.{◌≡◌, ◌≤◌, ◌+◌, ℕ, List, map};
 ghost use Rattle.told_streams.specs.Tapes.{OfInput};
 ghost use Rattle.std.specs.String.{string_bytes};
@@ -25,7 +25,7 @@ use std::sync::Wait;
 use std::thread::Threads;
 use told_streams::Given;
 
-// Says the name of a fault, and answers the status.
+// Writes the name of a fault and returns the status.
 fn fail<E: Write>(err: &mut E, fault: Fault) -> u8
     ensures status { result ≡ 1 }
     ensures said { AppendsFront (E.contents err.old) (E.contents err.new) (failure_text fault.code) }
@@ -37,7 +37,7 @@ fn fail<E: Write>(err: &mut E, fault: Fault) -> u8
     1
 }
 
-// Says that memory was refused, and answers the status.
+// Writes that memory ran out and returns the status.
 fn fail_for_memory<E: Write>(err: &mut E) -> u8
     ensures status { result ≡ 1 }
     ensures said { AppendsFront (E.contents err.old) (E.contents err.new) (failure_text (code_of OutOfMemory)) }
@@ -45,7 +45,7 @@ fn fail_for_memory<E: Write>(err: &mut E) -> u8
     fail(err, Fault::new(Refusal::OutOfMemory, 0))
 }
 
-// Says why no call came of the words, or shows the help, and answers the status.
+// Writes why the arguments gave no call, or the help, and returns the status.
 fn explain<W: Write, E: Write>(why: &NoCall, out: &mut W, err: &mut E) -> u8
     ensures status { result ≤ 2 }
     ensures memory { why.now ≡ none.OutOfMemory
@@ -68,7 +68,7 @@ fn explain<W: Write, E: Write>(why: &NoCall, out: &mut W, err: &mut E) -> u8
     }
 }
 
-// Serves with a journal of so many commands, and answers how that ended.
+// Runs `serve` with a journal of at most `journal` commands and returns how it ended.
 fn run_serve<T: Threads + Wait + Sync, R: Read + Drop, W: Write>(
     rt: &T,
     alloc: Global,
@@ -88,7 +88,7 @@ fn run_serve<T: Threads + Wait + Sync, R: Read + Drop, W: Write>(
     }
 }
 
-// Carries out the call, and answers how it ended.
+// Runs the call and returns how it ended.
 fn run<T: Threads + Wait + Sync, R: Read + Drop, W: Write>(
     rt: &T,
     alloc: Global,
@@ -109,18 +109,31 @@ fn run<T: Threads + Wait + Sync, R: Read + Drop, W: Write>(
     }
 }
 
-/// Runs the program on its words, the first of which is its name, and answers the exit status: 0
-/// where the call that the words ask for answers Ok, and for `--help` and `--version`; 1 where it
-/// answers a fault, and then the standard error, `err`, gets the line `board: NAME`, or a front of it
-/// where it fails; 2 for words that are refused, also where the command is missing, and then `err`
-/// gets the reason.
+/// Runs the program on its arguments, the first of which is its name, and returns the exit status:
 ///
-/// Where the words ask for a call, what is written and the status are those of `replay`, `trace` or
-/// `serve` with the limits that the words say. Where clap finds a fault in them, or is asked for help
-/// or the version, one of the two streams gets its text and the other stays, and nothing is asked of the input.
+/// - 0 if the call that the arguments ask for returns Ok, and for `--help` and `--version`;
+/// - 1 if the call returns a fault, or memory runs out before it; standard error, `err`, then gets
+///   the line `board: NAME`, or a prefix of it if writing fails;
+/// - 2 if the arguments are refused or the command is missing; `err` then gets the reason.
 ///
-/// At most `READS` reads of the input are asked for, and none after the one that finds its end or fails. At most
-/// `INTERRUPTIONS` interrupted reads are retried.
+/// If the arguments ask for a call, the text written and the status are those of `replay`, `trace`
+/// or `serve` with the limits of the arguments. If clap finds a fault in them or is asked for the
+/// help or the version, one of the two output streams gets its text, the other is unchanged, and
+/// the input is not read. Of these texts and of the line on standard error the contract promises
+/// less: of the line a prefix, perhaps empty, and of clap's texts nothing.
+///
+/// At most `READS` reads of the input are made, and none after the read that reported its end or
+/// failed. At most `INTERRUPTIONS` interrupted reads are retried.
+///
+/// ```rust
+/// let (mut stdout, mut stderr) = (rt.stdout(), rt.stderr());
+/// let mut streams = Streams {
+///     input: RecordingReader::new(rt.stdin()),
+///     out: RecordingWriter::new(&mut stdout),
+///     err: RecordingWriter::new(&mut stderr),
+/// };
+/// let status = program(&rt, rt.alloc(), words, &mut streams); // `words` is a `&[String]`
+/// ```
 pub fn program<T: Threads + Wait + Sync, R: Read + Drop, W: Write + Drop, E: Write + Drop>(
     rt: &T,
     alloc: Global,
@@ -152,8 +165,8 @@ pub fn program<T: Threads + Wait + Sync, R: Read + Drop, W: Write + Drop, E: Wri
     }
 }
 
-/// Answers words that could not be read because memory was refused: the line of that fault, and
-/// status 1.
+/// Ends a program that ran out of memory while it read its arguments: writes the line of that fault
+/// to `err`, or a prefix of it if writing fails, and returns status 1.
 pub fn words_out_of_memory<E: Write>(err: &mut E) -> u8
     ensures status { result ≡ 1 }
     ensures said { AppendsFront (E.contents err.old) (E.contents err.new) (failure_text (code_of OutOfMemory)) }
@@ -161,7 +174,8 @@ pub fn words_out_of_memory<E: Write>(err: &mut E) -> u8
     fail_for_memory(err)
 }
 
-/// Answers words that are no text: the reason on standard error, and status 2.
+/// Ends a program whose arguments are not text: writes the reason to `err`, or a prefix of it if
+/// writing fails, and returns status 2.
 pub fn words_refused<E: Write>(err: &mut E) -> u8
     ensures status { result ≡ 2 }
     ensures said { AppendsFront (E.contents err.old) (E.contents err.new) no_text }

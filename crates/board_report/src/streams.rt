@@ -1,14 +1,15 @@
-//! What a process reads and writes.
+//! The streams of a process.
 use std::io::{Read, Write};
 use told_streams::Given;
 
-/// The streams of a process: what it reads, what it writes, and where it says why it ended.
+/// The input and the two outputs of a process.
 #[derive(Drop)]
 pub struct Streams<R: Read + Drop, W: Write + Drop, E: Write + Drop> {
-    /// The input, whose bytes contracts know.
+    /// The input. Contracts know the bytes that were read from it.
     pub input: Given<R>,
-    /// The lines of a run, or the help.
+    /// Standard output: the lines of a run, or the help.
     pub out: W,
-    /// The name of the fault that ended the run, or the reason why words are refused.
+    /// Standard error: the name of the fault that ended the run, or the reason why the arguments
+    /// were refused.
     pub err: E,
 }

@@ -100,7 +100,8 @@ broken_off_by_a_record (inr (f, inr same, off)) =
     let P : Fault → Type 0 = λ g. line_of_no_record (codes "BadRecord") ≡ text_of (fault_line g ∷ []) in
     absurd (omega (arith, at 8 (subst P same (broken_off_as f _ off))))
 
--- a failed write is answered as such, and leaves a front of what would have been written, of which 7 is none
+-- a failed write gives WriteFault and leaves a prefix of the text that would have been written; 7
+-- is no such prefix
 abbrev seven : List ℕ
 seven = 7 ∷ []
 

@@ -1,4 +1,4 @@
--- What a whole run has written, the line of its fault included.
+-- All that a run has written, including the line of its fault.
 use Rattle.std.specs.Prelude.{◌≡◌, ℕ, ◌⊎◌, List, [], ◌∷◌, ◌++◌, Option}
 use Rattle.std.specs.Prelude.{Some, None, Result, Ok, Err}
 use Rattle.std.specs.Io.KnownBytes.{Appends}
@@ -8,29 +8,30 @@ use Rattle.board_text.specs.Text.{Run, fault_at, output, text_of}
 use Rattle.board_text.specs.declared.faults.Fault.{Fault}
 use Rattle.board_text.specs.Output.{AppendsFront, IsBroken, IsFrontOf}
 
--- some first lines of a run, whole, and then the line of a fault
+-- a prefix of the lines of a run, each whole, followed by the line of a fault
 abbrev pub IsBrokenOff : Run → Fault → List ℕ → Type 0
 IsBrokenOff run f text =
     (front : List Line) × IsFrontOf front run.lines × (text ≡ text_of (front ++ fault_line f ∷ []))
 
--- what a run writes where the writer works
+-- the text of a run whose writes all succeed
 abbrev pub IsOutputOf : Run → List ℕ → Type 0
 IsOutputOf run text = (text ≡ output run) ⊎ ((f : Fault) × IsBroken f × IsBrokenOff run f text)
 
--- after running out of memory or a failed read: some first lines, whole, and then the fault's line, whose number is 0
+-- after out of memory or a failed read: a prefix of the lines, each whole, then the line of the
+-- fault, at 0
 abbrev pub BreaksOff : Option (List ℕ) → Option (List ℕ) → Fault → Run → Type 0
 BreaksOff old new f run = IsBroken f × ((text : List ℕ) × IsBrokenOff run f text × Appends old new text)
 
--- after a failed write: a front, in bytes, of what would have been written
+-- after a failed write: a prefix, in bytes, of the text that the run would have written
 abbrev pub CutsOff : Option (List ℕ) → Option (List ℕ) → Fault → Run → Type 0
 CutsOff old new f run = (f ≡ fault_at why.WriteFault 0)
     × ((text : List ℕ) × IsOutputOf run text × AppendsFront old new text)
 
--- a fault that the input has: all of the run's text
+-- a fault of the input: the whole text of the run
 abbrev pub EndsAsTold : Option (List ℕ) → Option (List ℕ) → Fault → Run → Type 0
 EndsAsTold old new f run = (run.end ≡ Some f) × Appends old new (output run)
 
--- what `replay` wrote and answers
+-- the text that `replay` wrote and its result
 abbrev pub Replays : Option (List ℕ) → Option (List ℕ) → Result (Unit {0}) Fault → Run → Type 0
 Replays old new (Ok _) run = (run.end ≡ None) × Appends old new (output run)
 Replays old new (Err f) run = EndsAsTold old new f run ⊎ BreaksOff old new f run ⊎ CutsOff old new f run

@@ -1,4 +1,4 @@
--- What the records of a script do to the sequential register.
+-- The effect of a script's records on the sequential register.
 use Rattle.std.specs.Prelude.{ℕ, List, Option, Some}
 use Rattle.std.specs.Prelude.{None, Ok, Err, if◌then◌else◌}
 use Rattle.council_core.specs.Ledgers.{Ledger}
@@ -11,7 +11,7 @@ use Rattle.board_text.specs.declared.requests.Request.{Request}
 use Rattle.board_runs.specs.Scripts.{Turn, interpreted_run}
 use Rattle.board_text.specs.Text.{Run, fresh, is_served}
 
--- a request is a call of the sequential register, and its lines say the reply
+-- a request is a call of the sequential register, and its lines print the reply
 abbrev pub reply : Limits → Sequential → Request → Turn Sequential
 reply lim s q = if is_served lim q then Ok (reply_lines q (respond s (call_of q)).1, (respond s (call_of q)).0)
     else Err BadReader
@@ -20,14 +20,15 @@ abbrev pub reply_to : Limits → Sequential → Option Request → Turn Sequenti
 reply_to lim s None = Err BadRecord
 reply_to lim s (Some q) = reply lim s q
 
--- what one record of the script does
+-- the effect of one record of the script
 abbrev pub replay_step : Limits → Sequential → Row → Turn Sequential
 replay_step lim s row = reply_to lim s (request_of row)
 
--- the same, whatever the limits
+-- a replay's start, which doesn't depend on the limits: nothing is published
 abbrev pub replay_start : Limits → Ledger → Sequential
 replay_start lim ledger = fresh ledger
 
--- what `replay` writes on these bytes, and how it ends, where memory is found and the devices work
+-- the text that `replay` writes for these bytes and how it ends, if memory is available and the
+-- devices work
 abbrev pub run_of : Limits → List ℕ → Run
 run_of lim bytes = interpreted_run replay_start replay_step lim bytes

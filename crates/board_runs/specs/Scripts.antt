@@ -1,4 +1,4 @@
--- A script carried out record by record, and the run that it is.
+-- A script carried out record by record, and the run that results from it.
 use Rattle.std.specs.Prelude.{ℕ, ◌+◌, List, [], ◌∷◌}
 use Rattle.std.specs.Prelude.{Result, Ok, Err}
 use Rattle.council_core.specs.Ledgers.{Ledger}
@@ -9,11 +9,12 @@ use Rattle.board_text.specs.declared.bounds.Limits.{Limits}
 use Rattle.board_text.specs.declared.faults.Fault.{Fault}
 use Rattle.board_text.specs.Text.{Begun, Run, after, begun_of, fault_at, prints, stops}
 
--- what a record does to a state: the lines that it prints and the state after it, or why it is refused
+-- the effect of a record on a state: the lines that it prints and the state after it, or the
+-- refusal
 abbrev pub Turn : Type 0 → Type 0
 Turn S = Result (List Line × S) Refusal
 
--- the run of the record numbered k, and of what comes after it
+-- the run of record number k, followed by the rest of the run
 abbrev pub run_step : {S : Type 0} → ℕ → Turn S → (S → Run) → Run
 run_step k (Err why) more = stops (fault_at why k)
 run_step k (Ok p) more = after p.0 (more p.1)
@@ -23,22 +24,23 @@ abbrev pub step_run : {S : Type 0} → ℕ → Turn S → Run
 step_run k (Err why) = stops (fault_at why k)
 step_run k (Ok p) = prints p.0
 
--- the script's records in order, each carried out before the next is looked at; k is the number of the first
+-- the script's records in order, each carried out before the next is looked at; k is the number of
+-- the first
 unfoldable pub script_run : {S : Type 0} → (S → Row → Turn S) → S → ℕ → List Row → Run
 script_run step s k [] = prints []
 script_run step s k (r ∷ rs) = run_step k (step s r) (λ t. script_run step t (k + 1) rs)
 
--- the run of what a script begins with, or of the fault before it
+-- the run of a script from its start, or of the fault before it
 abbrev pub begun_run : (Begun → Run) → Result Begun Fault → Run
 begun_run interpret (Err f) = stops f
 begun_run interpret (Ok b) = interpret b
 
--- the run of a script on what the register at its start is made into
+-- the run of a script on the state opened over the register at its start
 abbrev pub interpreted : {S : Type 0} → (Limits → Ledger → S) → (Limits → S → Row → Turn S)
     → Limits → Begun → Run
 interpreted opened step lim b = script_run (step lim) (opened lim b.0) b.1 b.2
 
--- the run of these bytes, where each record of their script does such a step
+-- the run of these bytes, for an interpreter with this start and this step
 abbrev pub interpreted_run : {S : Type 0} → (Limits → Ledger → S) → (Limits → S → Row → Turn S)
     → Limits → List ℕ → Run
 interpreted_run opened step lim bytes = begun_run (interpreted opened step lim) (begun_of lim bytes)

@@ -1,4 +1,4 @@
--- What the records of a schedule do to the two-copy machine.
+-- The effect of a schedule's records on the two-copy machine.
 use Rattle.std.specs.Prelude.{ℕ, List, [], ◌∷◌, Option, Some, None, Ok, Err, replicate}
 use Rattle.std.specs.Prelude.{if◌then◌else◌}
 use Rattle.std.specs.List.{flat_map}
@@ -17,18 +17,18 @@ use Rattle.board_text.specs.declared.schedules.Act.{Act}
 use Rattle.board_text.specs.declared.schedules.Act.TheVariants as act
 use Rattle.board_text.specs.Schedules.{act_of, is_scheduled}
 
--- the events of the machine that it is
+-- the machine's events for an act
 abbrev pub events_of : Act → List Event
 events_of (act.Submit c) = event.Submit c ∷ []
 events_of act.Publish = event.Publish ∷ []
 events_of (act.Writer count) = replicate count event.Writer
 events_of (act.Reader number count) = replicate count (event.Reader number)
 
--- the lines of what events tell
+-- the lines of the outputs of these events
 abbrev pub told : MachineState → List Event → List Line
 told m events = flat_map note_lines (notes m events)
 
--- the machine is taken through these events, and its notes are printed
+-- the machine takes the events of an act, and its outputs are printed
 abbrev pub acted : Limits → MachineState → Act → Turn MachineState
 acted lim m a = if is_scheduled lim a then Ok (told m (events_of a), after m (events_of a)) else Err BadReader
 
@@ -36,7 +36,7 @@ abbrev pub acted_on : Limits → MachineState → Option Act → Turn MachineSta
 acted_on lim m None = Err BadRecord
 acted_on lim m (Some a) = acted lim m a
 
--- what one record of a schedule does
+-- the effect of one record of a schedule
 abbrev pub trace_step : Limits → MachineState → Row → Turn MachineState
 trace_step lim m row = acted_on lim m (act_of row)
 
@@ -44,6 +44,7 @@ trace_step lim m row = acted_on lim m (act_of row)
 abbrev pub trace_start : Limits → Ledger → MachineState
 trace_start lim ledger = machine.started ledger lim.readers
 
--- what `trace` writes on these bytes, and how it ends, where memory is found and the devices work
+-- the text that `trace` writes for these bytes and how it ends, if memory is available and the
+-- devices work
 abbrev pub trace_of : Limits → List ℕ → Run
 trace_of lim bytes = interpreted_run trace_start trace_step lim bytes

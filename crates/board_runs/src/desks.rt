@@ -1,4 +1,4 @@
-//! The desk: the register with the sheet that was last published, which readers see.
+//! The desk: the register together with the sheet published last, which readers see.
 ghost use Rattle.std.specs.Prelude.{◌≡◌, IfOk, IsOkUnless};
 ghost use Rattle.council_core.specs.Ledgers.{sheet_of};
 ghost use Rattle.council_core.specs.Sequential.{respond, shown, submit, publish};
@@ -14,8 +14,8 @@ use power_index::{Evaluator, Indices};
 use std::alloc::Global;
 use std::marker::Model;
 
-// A register, the sheet last published, what its indices are counted with, and those that were
-// counted last, if they are of this sheet. Contracts see a desk as the sequential register.
+// A register, the sheet published last, the evaluator of its indices, and the indices counted last
+// if they are of this sheet. In contracts, a desk is the sequential register.
 #[derive(Drop)]
 pub(crate) struct Desk {
     register: Register,
@@ -36,7 +36,7 @@ impl Model for Desk {
 }
 
 impl Desk {
-    // A desk that shows the register as it stands.
+    // A desk that shows the register in its present state.
     pub(crate) fn open(alloc: Global, register: Register) -> Result<Desk, Stop>
         ensures opened { IfOk result (λ d. d ≡ desk_of register (sheet_of register)) }
         ensures memory { IsOkUnless result stop.OutOfMemory }
@@ -66,7 +66,7 @@ impl Desk {
         }
     }
 
-    // Publishes all commands accepted.
+    // Publishes all accepted commands.
     pub(crate) fn publish(&mut self) -> Answer
         ensures replied { reply_of result ≡ (respond self.old publish).1 }
         ensures after { self.new ≡ (respond self.old publish).0 }
@@ -76,7 +76,8 @@ impl Desk {
         Answer::Published(self.register.accepted())
     }
 
-    // The indices of the sheet last published, counted only where they aren't those kept.
+    // The indices of the sheet published last. They are counted only if the indices kept are not
+    // those.
     pub(crate) fn indices(&mut self, majority: Majority) -> Indices
         ensures counted { result ≡ indices_of majority (shown self.old) }
         ensures unchanged { self.new ≡ self.old }
@@ -90,7 +91,7 @@ impl Desk {
         }
     }
 
-    // Keeps indices of the sheet last published for the next reading.
+    // Keeps indices of the sheet published last for the next reading.
     pub(crate) fn keep(&mut self, indices: Indices)
         requires counted { indices ≡ indices_of indices.majority (shown self.old) }
         ensures unchanged { self.new ≡ self.old }

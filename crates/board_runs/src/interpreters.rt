@@ -1,4 +1,4 @@
-//! Interpreting an input: the run that `replay` and `trace` share.
+//! Interprets an input: the part of a run that `replay` and `trace` share.
 ghost use Rattle.std.specs.Prelude.{◌≡◌, ◌≤◌, ◌<◌, ◌+◌, ◌^◌, [], true, false, length, IfOk};
 ghost use Rattle.std.specs.Prelude.{IsErrOf, OnOk, IsOkUnless};
 ghost use Rattle.told_streams.specs.Tapes.{OfInput};
@@ -27,22 +27,22 @@ use std::alloc::Global;
 use std::io::{Read, Write};
 use told_streams::Given;
 
-// What the records of a script are carried out on.
+// The state that the records of a script are carried out on.
 pub(crate) trait Interpreter: Sized + Drop {
-    // What the register at its start is made into.
+    // The state opened over a register at its start.
     ghost opened: { Limits → Ledger → Self };
 
-    // What a record does, and the lines that it prints.
+    // The effect of a record, and the lines that it prints.
     ghost step: { Limits → Self → Row → Turn Self };
 
-    // What it is at a register's start.
+    // Opens the state over a register at its start.
     fn open(alloc: Global, register: Register, limits: Limits) -> Result<Self, Stop>
         requires none { register.journal ≡ [] }
         requires in_range { in_range limits ≡ true }
         ensures opened { IfOk result (λ interpreter. interpreter ≡ opened limits register) }
         ensures memory { IsOkUnless result stop.OutOfMemory };
 
-    // Carries out one record.
+    // Carries out one record, with the number `number`.
     fn carry_out<W: Write>(
         &mut self,
         limits: Limits,
@@ -100,7 +100,7 @@ fn interpret_text<I: Interpreter, W: Write>(
     interpret_script(&mut script, &mut row, limits, interpreter, begun.place, out)
 }
 
-// Interprets the input, and leaves out the line of a fault.
+// Interprets the input, without the line of a fault.
 fn interpret_input<I: Interpreter, R: Read + Drop, W: Write>(
     alloc: Global,
     input: &mut Given<R>,
@@ -120,7 +120,7 @@ fn interpret_input<I: Interpreter, R: Read + Drop, W: Write>(
     interpret_text::<I, W>(alloc, text.as_slice(), limits, out)
 }
 
-// Interprets the input.
+// Interprets the input and writes the line of a fault.
 fn interpret_all<I: Interpreter, R: Read + Drop, W: Write>(
     alloc: Global,
     input: &mut Given<R>,
@@ -144,7 +144,7 @@ fn interpret_all<I: Interpreter, R: Read + Drop, W: Write>(
     Err(end_with(out, fault))
 }
 
-// The same, into a writer.
+// Interprets the input and writes all lines to a writer.
 pub(crate) fn interpret<I: Interpreter, R: Read + Drop, W: Write>(
     alloc: Global,
     input: &mut Given<R>,

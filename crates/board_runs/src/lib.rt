@@ -1,4 +1,4 @@
-//! A script carried out record by record, on one thread: by the register (`replay`), or by the
+//! Carries out a script record by record on one thread: on the register (`replay`) or on the
 //! two-copy machine (`trace`).
 #![tactic(auto)]
 

@@ -1,4 +1,4 @@
-//! Replaying an input.
+//! Replays an input on the register.
 ghost use Rattle.std.specs.Prelude.{◌≡◌, ◌≤◌, ◌+◌, map, false, OnOk};
 ghost use Rattle.council_core.specs.Sequential.{respond, shown};
 ghost use Rattle.board_text.specs.Lines.{chair_line, reading_lines, reply_lines};
@@ -25,7 +25,7 @@ use std::alloc::Global;
 use std::io::{Read, Write};
 use told_streams::Given;
 
-// Writes the lines of some chairs.
+// Writes the lines of these chairs.
 fn write_chairs<W: Write>(rows: &[ChairPower], out: &mut Output<'_, W>) -> Result<(), Stop>
     ensures wrote { Plays out.old.held out.new.held result (prints (map chair_line rows.now)) }
     ensures on { GoesOn out.old out.new }
@@ -36,7 +36,7 @@ fn write_chairs<W: Write>(rows: &[ChairPower], out: &mut Output<'_, W>) -> Resul
     Ok(())
 }
 
-// Answers a reading with the sheet's indices.
+// Writes the lines of a reading: the indices of the published sheet.
 fn write_reading<W: Write>(
     desk: &mut Desk,
     reader: u64,
@@ -54,7 +54,7 @@ fn write_reading<W: Write>(
     written
 }
 
-// Carries out a request of a reader that there is.
+// Carries out a request whose reader number is in range.
 fn replay_request<W: Write>(
     desk: &mut Desk,
     request: Request,
@@ -106,18 +106,38 @@ impl Interpreter for Desk {
     }
 }
 
-/// Replays an input: reads it whole, and carries out the records of its script one by one. What is
-/// written and answered is what `run_of` says of the bytes that the reader gave, whichever way the
-/// run ends; where they weren't read to their end, of these however they go on.
+/// Replays an input: reads it whole, then carries out the records of its script one by one, and
+/// writes the lines of each to `out` before it looks at the next.
 ///
-/// A fault's number is its refusal's, in this order: `BadLimit`, before anything is read; `ReadFault` and `TooLong`
-/// (more than 4,194,304 bytes); `BadHeader`; of the members' records `TooManyMembers`, `BadRecord` and
-/// `NoScript`; `DuplicateMember`; of the script's records `BadRecord` and `BadReader`, each with
-/// the record's number. `OutOfMemory` may come at any time, `WriteFault` at any write. The lines
-/// written before a fault stay, and its own line is the last, but after a `WriteFault`.
+/// The contract relates the text written and the result to `run_of` of the input's bytes, for every
+/// way in which a run ends. If the input was not read to its end, this holds for every continuation
+/// of the bytes that were read.
 ///
-/// The input is asked for at most `READS` reads, and for none after the one that found its end or failed. At most
-/// `INTERRUPTIONS` interrupted reads are retried: the next one is a failed read.
+/// At most `READS` reads of the input are made, and none after the read that reported its end or
+/// failed. At most `INTERRUPTIONS` interrupted reads are retried: the next interruption is a failed
+/// read.
+///
+/// ```rust
+/// let mut input = RecordingReader::new(text); // `text` is a `&[u8]`
+/// let mut lines = Vec::new(alloc);
+/// let limits = Limits { readers: 1, journal: MAX_COMMANDS };
+/// let result = replay(alloc, &mut input, &mut lines, limits);
+/// ```
+///
+/// # Errors
+///
+/// The fault that ended the run. The lines written before it stay, and its own line is the last,
+/// except after `WriteFault`, which has no line and leaves a prefix of the text. Faults are looked
+/// for in this order:
+///
+/// - `BadLimit`, before anything is read.
+/// - `ReadFault`, and `TooLong` for more than `INPUT_LIMIT` bytes.
+/// - `BadHeader`.
+/// - In the members' records `TooManyMembers`, `BadRecord` and `NoScript`, then `DuplicateMember`.
+/// - In the script's records `BadRecord` and `BadReader`. `place` is the number of the record for
+///   these two and for `BadRecord` above, and 0 for all other faults.
+///
+/// `OutOfMemory` is possible at any time, and `WriteFault` at any write.
 pub fn replay<R: Read + Drop, W: Write>(
     alloc: Global,
     input: &mut Given<R>,

@@ -1,4 +1,4 @@
-//! Taking the two-copy machine through a schedule.
+//! Runs the two-copy machine on a schedule.
 ghost use Rattle.std.specs.Prelude.{◌≡◌, ◌≤◌, ◌+◌, true, false, replicate, OnOk};
 ghost use Rattle.two_copy_steps.specs.Transitions.{after, transition};
 ghost use Rattle.board_text.specs.Lines.{note_lines};
@@ -22,7 +22,7 @@ use std::io::{Read, Write};
 use told_streams::Given;
 use two_copy_steps::{Event, Machine, Note};
 
-// Writes what a note tells.
+// Writes the line of an output of the machine, if it has one.
 fn write_note<W: Write>(note: Note, out: &mut Output<'_, W>) -> Result<(), Stop>
     ensures wrote { Plays out.old.held out.new.held result (prints (note_lines note)) }
     ensures on { GoesOn out.old out.new }
@@ -33,7 +33,7 @@ fn write_note<W: Write>(note: Note, out: &mut Output<'_, W>) -> Result<(), Stop>
     }
 }
 
-// Takes the machine through an event.
+// Takes the machine through one event.
 fn take<W: Write>(machine: &mut Machine, event: Event, out: &mut Output<'_, W>) -> Result<(), Stop>
     ensures wrote { Plays out.old.held out.new.held result (prints (note_lines (transition machine.old event).1)) }
     ensures state { OnOk result (machine.new ≡ (transition machine.old event).0) }
@@ -45,7 +45,7 @@ fn take<W: Write>(machine: &mut Machine, event: Event, out: &mut Output<'_, W>) 
     write_note(note, out)
 }
 
-// Takes the machine through an event so many times.
+// Takes the machine through an event `count` times.
 fn take_all<W: Write>(
     machine: &mut Machine,
     event: &Event,
@@ -62,7 +62,7 @@ fn take_all<W: Write>(
     Ok(())
 }
 
-// Takes the machine through what a record asks for.
+// Takes the machine through the events of one record.
 fn act_on<W: Write>(
     machine: &mut Machine,
     limits: Limits,
@@ -111,13 +111,24 @@ impl Interpreter for Machine {
     }
 }
 
-/// Takes the two-copy machine through an input's schedule: one writer and as many readers as the
-/// limits say, every step of which is a record's. Each event prints what the machine tells of it; an
-/// event that only moves prints nothing. What is written and answered is what `trace_of` says of the
-/// bytes that the reader gave, whichever way the run ends, as in `replay`.
+/// Runs the two-copy machine on the schedule of an input. The machine has one writer and
+/// `limits.readers` readers, and takes a step only where a record of the schedule asks for it. Each
+/// event prints the machine's output; an event that only moves an actor prints nothing.
 ///
-/// The faults are those of `replay`, in the same order, and so are the reads that the input is asked for. `OutOfMemory`
-/// as a command is submitted is `OutOfMemory` and ends the run: it is no line of the machine's.
+/// The contract relates the text written and the result to `trace_of` of the input's bytes, as in
+/// `replay`, and the bounds on reads are those of `replay`.
+///
+/// ```rust
+/// let mut input = RecordingReader::new(schedule); // `schedule` is a `&[u8]`
+/// let mut lines = Vec::new(alloc);
+/// let limits = Limits { readers: 2, journal: 1000 };
+/// let result = trace(alloc, &mut input, &mut lines, limits);
+/// ```
+///
+/// # Errors
+///
+/// The faults of `replay`, in the same order and with the same lines. Running out of memory while a
+/// command is submitted ends the run with `OutOfMemory`; the machine prints no line for it.
 pub fn trace<R: Read + Drop, W: Write>(
     alloc: Global,
     input: &mut Given<R>,

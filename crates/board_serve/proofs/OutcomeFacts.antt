@@ -1,4 +1,4 @@
--- What comes of the work of all threads is what the plan asks.
+-- The results of all threads are those of the plan.
 use Rattle.std.proofs.Common.{◌≡◌, ℕ, List, [], ◌∷◌, length, map, All, IfOk, Result, Ok, Err, refl, sym, ap, ◌∙◌, subst}
 use Rattle.std.specs.List.{AllByRecursion, AllZip}
 use Rattle.std.proofs.lemmas.List.Elements.{All-cons, All-nil}

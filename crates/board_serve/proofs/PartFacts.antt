@@ -47,7 +47,7 @@ two-of (x ∷ []) d e = cc e
 two-of (x ∷ y ∷ []) d e = refl
 two-of (x ∷ y ∷ z ∷ zs) d e = cc e
 
--- a request of a reader that there is, of two
+-- a request whose reader number is in range for two readers
 pub served-of-two : (lim : Limits) (q : Request) → lim.readers ≡ 2 → is_served lim q ≡ true → is_served (two_readers 0) q ≡ true
 served-of-two lim (ask.Read reader m) two served = subst (λ (n : ℕ). (nat_le 1 reader && nat_le reader n) ≡ true) two served
 served-of-two lim (ask.Submit c) two served = refl

@@ -12,14 +12,14 @@ use Rattle.board_text.specs.declared.stops.Stop.{Stop}
 use Rattle.board_text.specs.declared.stops.Stop.TheVariants as stop
 use Rattle.board_text.proofs.BeginningFacts.{begun-records}
 
--- no plan comes of what did not begin
+-- an error before the script is an error of the plan
 pub fails-planning : (e : Stop) (lim : Limits) (spec : Result Begun Fault) → Fails e spec → Fails e (plan_from lim spec)
 fails-planning stop.OutOfMemory lim spec p = tt
 fails-planning stop.ReadFault lim spec p = tt
 fails-planning stop.WriteFault lim spec p = absurd p
 fails-planning (stop.Told f) lim spec p = rw p refl
 
--- no plan comes of an input that was not read, or whose limits are out of range
+-- an input that was not read, or whose limits are out of range, gives no plan
 pub unread-input : (from to : Giving) (e d : Stop) (journal : ℕ) → d ≡ e → OfInput from to (λ bytes. Fails e (begun_of (two_readers journal) bytes))
     → OfInput from to (λ bytes. Finds (Err d) (plan_of journal bytes))
 unread-input from to e d journal same fault = λ bytes is.

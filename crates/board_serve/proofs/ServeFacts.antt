@@ -114,7 +114,7 @@ cut-serve a b s g spec p e w = inr (w, subst (λ (x : Option Fault). StopsServe 
 pub serves-passed : (a b : Option (List ℕ)) (e d : Stop) (spec : Result Planned Fault) → d ≡ e → ServesTo a b (Err e) spec → ServesTo a b (Err d) spec
 serves-passed a b e d spec same p = let P : Stop → Type 0 = λ s. ServesTo a b (Err s) spec in subst P (sym same) p
 
--- some work was held up, so nothing is told
+-- some work was held up, so nothing is written
 pub held-input : (a : Option (List ℕ)) (e : Stop) (spec : Result Planned Fault) (p : Planned) → IsHeldUp e → spec ≡ Ok p → ServesTo a a (Err e) spec
 held-input a e spec p held found =
     let P : Result Planned Fault → Type 0 = λ s. ServesTo a a (Err e) s in
@@ -132,7 +132,7 @@ pub record WorkAudited (p : Planned) (s : Served) (legal : Bool) : Type 0 where
   pub records : legal ≡ true → HasRecords p s
   pub differs : legal ≡ false → HasRecords p s → ⊥
 
--- the lines of the work were stopped, so what is told was
+-- the lines of the work were stopped, and so was the text of the run
 pub told-input : (a b : Option (List ℕ)) (legal : Bool) (e : Stop) (s : Served) (spec : Result Planned Fault) (ls : List Line) (asked : WorkAsked spec ls)
     → WorkAudited asked.plan s legal → Tells a b legal (Err e) ls → ServesTo a b (Err e) spec
 told-input a b legal e s spec ls asked done t =
@@ -140,7 +140,7 @@ told-input a b legal e s spec ls asked done t =
     let Q : Result Planned Fault → Type 0 = λ r. ServesTo a b (Err e) r in
     subst Q (sym asked.found) (told-serve a b legal e asked.plan (λ no. (s, done.served, done.differs no)) (subst P asked.spelled t))
 
--- all was told
+-- all was written
 pub whole-input : (a b : Option (List ℕ)) (legal : Bool) (u : Unit {0}) (s : Served) (spec : Result Planned Fault) (ls : List Line) (asked : WorkAsked spec ls)
     → WorkAudited asked.plan s legal → Tells a b legal (Ok u) ls → ServesTo a b (Ok s) spec
 whole-input a b legal u s spec ls asked done t =

@@ -72,7 +72,7 @@ not_by_a_read h = ⊎_elim (λ e. cc) (λ e. cc) h
 cuts_of_two : cuts_of (accepted 1 ∷ published 1 ∷ refused why.ChairOpen ∷ published 1 ∷ []) ≡ 1 ∷ 1 ∷ []
 cuts_of_two = refl
 
--- a sheet of no command behind one of a command falls
+-- a sheet of no command after a sheet of one command: the front decreases
 falling : IsRising 0 ((replicate 33 0 ++ 1 ∷ []) ∷ (replicate 33 0 ++ 0 ∷ []) ∷ []) → ⊥
 falling h = omega (arith, h.1.0)
 

@@ -1,8 +1,8 @@
--- What an audit can find of records whose journal is legal and whose cuts are in order.
+-- The faults that an audit can find in records whose journal is legal and whose cuts are in order.
 use Rattle.board_audits.specs.declared.audits.AuditFault.{AuditFault}
 use Rattle.board_audits.specs.declared.audits.AuditFault.TheVariants as found
 
--- a sheet that is no reading, or out of memory
+-- a mismatched reading, or out of memory
 abbrev pub CanBeFound : AuditFault → Type 0
 CanBeFound (found.Start why) = ⊥
 CanBeFound (found.BadJournal place) = ⊥

@@ -1,4 +1,4 @@
--- What comes of the work of all threads.
+-- The results of the work of all threads.
 use Rattle.std.specs.Prelude.{◌≡◌, ℕ, List, [], ◌∷◌, length, map, All}
 use Rattle.council_core.specs.Rolls.{IsLegal}
 use Rattle.council_core.specs.Sequential.{AreLegalRecords, state_after}
@@ -11,15 +11,15 @@ use Rattle.board_serve.specs.declared.jobs.Jobs.{Jobs}
 use Rattle.board_serve.specs.declared.outcomes.Outcome.{Outcome}
 use Rattle.board_serve.specs.declared.served.Served.{Served}
 
--- the sheets that each reader read
+-- by reader, the sheets that it read
 abbrev pub sheets_of : Served → List (List (List ℕ))
 sheets_of s = map (λ v. v.items) s.readings.items
 
--- the numbers that each reader answered
+-- by reader, the numbers of winning coalitions that it returned
 abbrev pub winning_of : Served → List (List ℕ)
 winning_of s = map (λ v. v.items) s.winning.items
 
--- what the threads brought back, put together: the journal is the writer's own
+-- the results of the threads, combined; the journal is the writer's
 pub record IsBrought (done : Jobs) (o : Outcome) : Type 0 where
   pub answers : o.answers.items ≡ done.writer.room.answers.items
   pub journal : o.served.journal.items ≡ done.writer.writer.ledger.journal
@@ -34,9 +34,9 @@ omegas_by [] sheets = []
 omegas_by (ms ∷ mss) [] = []
 omegas_by (ms ∷ mss) (words ∷ sheets) = omegas ms words ∷ omegas_by mss sheets
 
--- the journal and the cuts are those that the sequential register gives for the writer's records; each reader has one
--- sheet for each of its records, of some legal list, with fronts that do not fall, and omega of it at the record's
--- majority
+-- the journal and the cuts are those that the sequential register gives for the writer's records;
+-- each reader has one sheet for each of its records, each the sheet after some legal list of
+-- commands, with fronts that never decrease, and omega of it at the record's majority
 pub record IsServed (p : Planned) (s : Served) : Type 0 where
   pub journal : s.journal.items ≡ (state_after p.0 (calls_of p)).ledger.journal
   pub legal_journal : IsLegal p.0.ledger.opening s.journal.items
@@ -46,11 +46,11 @@ pub record IsServed (p : Planned) (s : Served) : Type 0 where
   pub rising : All (IsRising 0) (sheets_of s)
   pub winning : winning_of s ≡ omegas_by p.1.asked (sheets_of s)
 
--- the same, and the answers are the replies
+-- IsServed holds, and the answers are the sequential register's replies
 pub record IsOutcome (p : Planned) (o : Outcome) : Type 0 where
   pub answers : map reply_of o.answers.items ≡ told_by p
   pub served : IsServed p o.served
 
--- the journal, the cuts, the start's with them, and the readings are legal records
+-- the journal, the cuts, with the start's cut 0 before them, and the readings are legal records
 abbrev pub HasRecords : Planned → Served → Type 0
 HasRecords p s = AreLegalRecords p.0.ledger.opening s.journal.items (0 ∷ s.cuts.items) (sheets_of s)

@@ -1,4 +1,5 @@
--- What a run of the threads is asked, and what it writes, as functions of the bytes that it reads.
+-- The plan of a run with threads, and the text that it writes, as functions of the bytes that it
+-- reads.
 use Rattle.std.specs.Prelude.{◌≡◌, ℕ, ◌<◌, ◌+◌, ◌^◌, ◌++◌, List, [], ◌∷◌, length, map}
 use Rattle.std.specs.Prelude.{Result, Ok, Err}
 use Rattle.council_core.specs.Ledgers.{start_verdict}
@@ -13,22 +14,22 @@ use Rattle.board_serve.specs.declared.plans.Plan.{Plan}
 use Rattle.board_text.specs.declared.stops.Stop.{Stop}
 use Rattle.board_text.specs.Lines.{reader_line}
 
--- the register at its start, and the script's records by who carries them out
+-- the register at its start, and the script's records divided among the writer and the readers
 abbrev pub Planned : Type 0
 Planned = Sequential × Shares
 
 abbrev pub plan_shown : Plan → Planned
 plan_shown p = (fresh p.begun.register, shares_of p.parts)
 
--- a register starts with the members, under any limit; they are those of the register, which has accepted nothing,
--- and the records can be counted
+-- a register with these members can start with the largest journal limit; they are the members of
+-- the plan's register, whose journal is empty; and the records can be counted in 32 bits
 pub record IsSound (p : Plan) : Type 0 where
   pub starts : start_verdict p.begun.members.items 1000000 ≡ Ok tt
   pub members : p.begun.register.opening ≡ p.begun.members.items
   pub none : p.begun.register.journal ≡ []
   pub few : size_of (shares_of p.parts) < 2 ^ 32
 
--- two readers, and a journal of so many commands
+-- limits of two readers and a journal of at most `journal` commands
 abbrev pub two_readers : ℕ → Limits
 two_readers journal = record { readers = 2; journal = journal }
 
@@ -36,37 +37,37 @@ abbrev pub planned_with : Sequential → Result Shares Fault → Result Planned 
 planned_with s (Err f) = Err f
 planned_with s (Ok p) = Ok (s, p)
 
--- all of the script's records are looked at before any is carried out
+-- all records of the script are looked at before any is carried out
 abbrev pub plan_from : Limits → Result Begun Fault → Result Planned Fault
 plan_from lim (Err f) = Err f
 plan_from lim (Ok b) = planned_with (fresh b.0) (parts_of lim no_parts b.1 b.2)
 
--- what these bytes ask, or the fault that they have
+-- the plan of these bytes, or their fault
 abbrev pub plan_of : ℕ → List ℕ → Result Planned Fault
 plan_of journal bytes = plan_from (two_readers journal) (begun_of (two_readers journal) bytes)
 
--- what the input asks was found, or why nothing came of it
+-- the plan of the input was found, or an error that `Fails` allows
 abbrev pub Finds : Result Plan Stop → Result Planned Fault → Type 0
 Finds (Ok p) spec = spec ≡ Ok (plan_shown p)
 Finds (Err e) spec = Fails e spec
 
--- how many readings each reader took, from the reader of this number on
+-- the lines with the number of readings, from this reader number on
 abbrev pub count_lines : ℕ → List ℕ → List Line
 count_lines reader [] = []
 count_lines reader (count ∷ counts) = reader_line reader count ∷ count_lines (reader + 1) counts
 
--- the lines of the writer's replies, and how many readings each reader took
+-- the lines of the writer's replies, then the number of readings of each reader
 abbrev pub lines_of_work : List Reply → List ℕ → List Line
 lines_of_work replies counts = map reply_line replies ++ count_lines 1 counts
 
--- the calls that the writer's records are
+-- the sequential register's calls for the writer's records
 abbrev pub calls_of : Planned → List Call
 calls_of p = map call_of_order p.1.writer
 
--- the replies of the sequential register to the writer's records
+-- the sequential register's replies to the writer's records
 abbrev pub told_by : Planned → List Reply
 told_by p = replies_of p.0 (calls_of p)
 
--- what is written before what the audit found
+-- the lines written before the result of the audit
 abbrev pub work_lines : Planned → List Line
 work_lines p = lines_of_work (told_by p) (map length p.1.asked)

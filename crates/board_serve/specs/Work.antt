@@ -1,4 +1,4 @@
--- What the threads of a run do.
+-- The work of the threads of a run.
 use Rattle.std.specs.Prelude.{◌≡◌, ℕ, ◌≤◌, ◌*◌, ◌⊎◌, ◌++◌, List, [], ◌∷◌, length, map, replicate, All}
 use Rattle.std.specs.List.{flat_map}
 use Rattle.std.specs.Vec.{vec_capacity}
@@ -25,18 +25,18 @@ use Rattle.board_text.specs.declared.stops.Stop.{Stop}
 use Rattle.board_text.specs.declared.stops.Stop.TheVariants as stop
 use Rattle.board_serve.specs.declared.written.Written.{Written}
 
--- the writer is a sequential register
+-- a writer as a sequential register
 abbrev pub register_of : Publisher → Sequential
 register_of p = record { ledger = p.ledger; published = length p.published }
 
--- the number that a publication answered
+-- the number that a reply returns, if it is the reply to a publication
 abbrev pub cuts_of_reply : Reply → List ℕ
 cuts_of_reply (accepted n) = []
 cuts_of_reply (refused e) = []
 cuts_of_reply (published n) = n ∷ []
 cuts_of_reply (reading words) = []
 
--- the numbers that publications answered, in order
+-- the numbers that publications returned, in order
 abbrev pub cuts_of : List Reply → List ℕ
 cuts_of replies = flat_map cuts_of_reply replies
 
@@ -44,11 +44,11 @@ cuts_of replies = flat_map cuts_of_reply replies
 abbrev pub IsClosed : Stop → Type 0
 IsClosed e = e ≡ stop.Told (fault_at why.GateClosed 0)
 
--- why the writer's work ends before its records do: out of memory, or a gate that was closed
+-- the errors that end the writer's work early: out of memory, or a closed gate
 abbrev pub IsHeldUp : Stop → Type 0
 IsHeldUp e = (e ≡ stop.OutOfMemory) ⊎ IsClosed e
 
--- no answer is kept yet
+-- no answer is stored yet
 abbrev pub HasNoneWritten : Written → Type 0
 HasNoneWritten w = (w.answers.items ≡ []) × (w.cuts.items ≡ [])
 
@@ -56,16 +56,16 @@ HasNoneWritten w = (w.answers.items ≡ []) × (w.cuts.items ≡ [])
 abbrev pub HasRoomToWrite : Written → ℕ → Type 0
 HasRoomToWrite w n = (n ≤ vec_capacity w.answers) × (n ≤ vec_capacity w.cuts)
 
--- a writer carried out these orders: its answers are what the sequential register replies to them, the writer's own
--- register and published commands are those after them, the cuts are what its publications answered, and it writes to
--- the table of before
+-- a writer carried out these orders: its answers are the sequential register's replies to them, its
+-- register and published commands are those after them, the cuts are the numbers that its
+-- publications returned, and its table is the same
 pub record IsWritten (before : Publisher) (orders : List Order) (after : Publisher) (written : Written) : Type 0 where
   pub answers : map reply_of written.answers.items ≡ replies_of (register_of before) (map call_of_order orders)
   pub register : register_of after ≡ state_after (register_of before) (map call_of_order orders)
   pub cuts : written.cuts.items ≡ cuts_of (replies_of (register_of before) (map call_of_order orders))
   pub table : after.table ≡ before.table
 
--- no sheet is kept yet
+-- no sheet is stored yet
 abbrev pub HasNoneRead : Readings → Type 0
 HasNoneRead r = (r.sheets.items ≡ []) × (r.winning.items ≡ [])
 
@@ -77,19 +77,20 @@ HasRoomToRead r n = (n ≤ vec_capacity r.sheets) × (n ≤ vec_capacity r.winni
 abbrev pub omega_at : Majority → List ℕ → ℕ
 omega_at m words = omega_of (rule_of m words) (open_chairs words)
 
--- the same of each sheet at its majority
+-- by sheet, the number of winning coalitions at the sheet's majority
 abbrev pub omegas : List Majority → List (List ℕ) → List ℕ
 omegas [] sheets = []
 omegas (m ∷ ms) [] = []
 omegas (m ∷ ms) (words ∷ sheets) = omega_at m words ∷ omegas ms sheets
 
--- no front is below the one before, the first not below this one
+-- fronts never decrease, and the first is at least `low`
 abbrev pub IsRising : ℕ → List (List ℕ) → Type 0
 IsRising low [] = Unit {0}
 IsRising low (words ∷ sheets) = (low ≤ front_of words) × IsRising (front_of words) sheets
 
--- a reader of one table took one whole reading for each sheet and no other step: the sheets are those by which its
--- record grew, each of some legal list, with fronts that don't fall
+-- a reader of one table took one whole reading for each sheet and no other step: its record grew by
+-- exactly these sheets, each the sheet after some legal list of commands, with fronts that never
+-- decrease
 pub record IsReadFrom (before after : AnalystSeen) (readings : Readings) : Type 0 where
   pub table : after.reader.table ≡ before.reader.table
   pub number : number_of after.reader ≡ number_of before.reader

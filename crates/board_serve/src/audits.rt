@@ -1,4 +1,4 @@
-//! The audit of what the threads brought back.
+//! Audits the results of the threads.
 ghost use Rattle.std.specs.Prelude.{◌≡◌, ◌≢◌, ◌∷◌, true, false, Ok, IfOk, OnOk, IsOkUnless};
 ghost use Rattle.council_core.specs.Ledgers.{start_verdict};
 ghost use Rattle.council_core.specs.Rolls.{IsLegal};
@@ -14,7 +14,8 @@ use board_text::Stop;
 use council_core::{MAX_COMMANDS, MemberCode, Votes};
 use std::alloc::Global;
 
-// What an audit's fault says of records whose journal is legal and whose cuts are in order.
+// The result of an audit fault for records whose journal is legal and whose cuts are in order: not
+// legal, or out of memory.
 fn is_mismatch(fault: AuditFault) -> Result<bool, Stop>
     requires { CanBeFound fault }
     ensures legal { IfOk result (λ legal. legal ≡ false) }
@@ -28,7 +29,7 @@ fn is_mismatch(fault: AuditFault) -> Result<bool, Stop>
     }
 }
 
-// Whether what a run brought back are legal records.
+// Whether the results of a run are legal records.
 pub(crate) fn are_legal(
     alloc: Global,
     members: &[(MemberCode, Votes)],

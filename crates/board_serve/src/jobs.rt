@@ -1,4 +1,4 @@
-//! The job of each thread. A thread gives its job back once it is done, with what results from it.
+//! The job of each thread, which the thread returns with its results when it is done.
 ghost use Rattle.std.specs.Prelude.{◌≡◌, ◌<◌, ◌^◌, vec_len, IfOk, IsOkUnless};
 ghost use Rattle.two_copy_steps.specs.declared.views.Stage.TheVariants.{AtRest};
 ghost use Rattle.board_serve.specs.Jobs.{CanAsk, CanWrite};
@@ -13,7 +13,7 @@ use board_text::Stop;
 use majority_rule::Majority;
 use std::alloc::Global;
 
-// The job of the writer's thread: its records, and the room for its answers.
+// The job of the writer's thread: its records, and room for its answers.
 #[derive(Drop)]
 pub(crate) struct WriterJob {
     pub(crate) writer: Writer,
@@ -21,7 +21,8 @@ pub(crate) struct WriterJob {
     pub(crate) room: Written,
 }
 
-// The job of the thread of the reader of a number: the majorities at which it asks, and the room for what it reads.
+// The job of the thread of reader `number`: the majorities of its readings, and room for the
+// results.
 #[derive(Drop)]
 pub(crate) struct ReaderJob {
     pub(crate) analyst: Analyst,
@@ -58,7 +59,7 @@ impl WriterJob {
 }
 
 impl ReaderJob {
-    // The job of a reader, with room to count indices, and for what it reads.
+    // The job of a reader, with an evaluator, and room for its readings.
     pub(crate) fn new(
         alloc: Global,
         reader: Reader,
@@ -86,7 +87,7 @@ impl ReaderJob {
         })
     }
 
-    // What the reader read.
+    // The results of the readings.
     pub(crate) fn into_room(self) -> Readings
         ensures same { result ≡ self.room }
     {

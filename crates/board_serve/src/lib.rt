@@ -1,4 +1,4 @@
-//! A script carried out by one writer thread and two reader threads, and the audit of what they read.
+//! Carries out a script with one writer thread and two reader threads, and audits what they read.
 #![tactic(auto)]
 
 mod audits;

@@ -1,4 +1,4 @@
-//! What comes of the work of all threads.
+//! Runs all threads and combines their results.
 ghost use Rattle.std.specs.Prelude.{◌≡◌, ◌<◌, ◌^◌, [], IfOk, IfErr};
 ghost use Rattle.board_serve.specs.Outcomes.{IsBrought, IsOutcome};
 ghost use Rattle.board_text.specs.Text.{fresh};
@@ -17,14 +17,15 @@ use std::alloc::{AllocError, Global};
 use std::sync::Wait;
 use std::thread::Threads;
 
-// The answers to the writer's records, and what the run answers.
+// The answers to the writer's records, and the result of the run.
 #[derive(Drop)]
 pub(crate) struct Outcome {
     pub(crate) answers: Vec<Answer>,
     pub(crate) served: Served,
 }
 
-// Puts together what the threads brought back: the writer's journal, its answers, and what each reader read.
+// Combines the results of the threads: the writer's journal, its answers, and the readings of each
+// reader.
 fn put_together(alloc: Global, done: Jobs) -> Result<Outcome, AllocError>
     ensures brought { IfOk result (IsBrought done) }
 {
@@ -53,7 +54,7 @@ fn put_together(alloc: Global, done: Jobs) -> Result<Outcome, AllocError>
     })
 }
 
-// Carries out the script's records by a writer and its readers, each in a thread of its own.
+// Carries out the script's records by a writer and its readers, each in a separate thread.
 pub(crate) fn carry_out<G: Gate, R: Threads + Wait + Sync>(
     rt: &R,
     alloc: Global,

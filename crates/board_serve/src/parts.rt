@@ -1,4 +1,4 @@
-//! The script's records, by who carries them out.
+//! Divides the script's records among the writer and the readers.
 ghost use Rattle.std.specs.Prelude.{◌≡◌, ◌<◌, ◌+◌, ◌^◌, ◌∷◌, [], true, length, map, IfOk, IfErr, OnOk};
 ghost use Rattle.csv.specs.Records.{fields_of};
 ghost use Rattle.board_text.specs.Output.{Fails};
@@ -13,10 +13,10 @@ use csv::ByteRecord;
 use majority_rule::Majority;
 use std::alloc::{AllocError, Global};
 
-// How many readers a run has.
+// The number of readers of a run.
 pub(crate) const READERS: usize = 2;
 
-// The records of a script, by who carries them out: the writer's, and each reader's, each in order.
+// The records of a script, divided: the writer's, and each reader's, each in order.
 #[derive(Drop)]
 pub(crate) struct Parts {
     pub(crate) writer: Vec<Order>,
@@ -24,7 +24,7 @@ pub(crate) struct Parts {
 }
 
 impl Parts {
-    // No records yet.
+    // No records.
     fn new(alloc: Global) -> Parts
         ensures none { shares_of result ≡ no_parts }
     {
@@ -34,7 +34,7 @@ impl Parts {
         }
     }
 
-    // Gives a request to whoever carries it out.
+    // Appends a request to the records of the writer or of its reader.
     fn add(&mut self, request: Request) -> Result<(), AllocError>
         requires served { is_served (two_readers 0) request ≡ true }
         ensures added { OnOk result (shares_of self.new ≡ with_request (shares_of self.old) request) }
@@ -47,7 +47,7 @@ impl Parts {
         Ok(())
     }
 
-    // The records of each.
+    // The records of the writer, of reader 1 and of reader 2.
     pub(crate) fn apart(self) -> (Vec<Order>, Vec<Majority>, Vec<Majority>)
         ensures writer { result.0 ≡ self.writer }
         ensures asked { self.asked ≡ result.1 ∷ result.2 ∷ [] }
@@ -59,7 +59,7 @@ impl Parts {
         (writer, first, second)
     }
 
-    // How many readings each reader is asked for.
+    // The number of readings of each reader.
     pub(crate) fn counts(&self) -> [u64; READERS]
         ensures same { result ≡ map length (shares_of self.now).asked }
     {
@@ -68,7 +68,7 @@ impl Parts {
     }
 }
 
-// What a record asks for, where it is well formed and of a reader that there is.
+// The request of a record, if it is well formed and its reader number is in range.
 pub(crate) fn asked_in(limits: Limits, row: &ByteRecord) -> Result<Request, Refusal>
     ensures same { result ≡ asked limits (fields_of row.now) }
     ensures served { IfOk result (λ q. is_served limits q ≡ true) }
@@ -82,7 +82,7 @@ pub(crate) fn asked_in(limits: Limits, row: &ByteRecord) -> Result<Request, Refu
     Ok(request)
 }
 
-// Looks at all of the script's records. `first` is the number of the first.
+// Reads and divides all of the script's records. `first` is the number of the first.
 pub(crate) fn read_parts(
     alloc: Global,
     script: &mut Script<'_>,

@@ -1,4 +1,4 @@
-//! What a run of the threads is asked.
+//! Reads the plan of a run with threads.
 ghost use Rattle.std.specs.Prelude.{◌≡◌, ◌≤◌, ◌+◌, Ok, false, length, IfOk, IfErr, IsErrOf};
 ghost use Rattle.council_core.specs.declared.refusals.Refusal.TheVariants as why;
 ghost use Rattle.told_streams.specs.Tapes.{OfInput};
@@ -17,14 +17,14 @@ use std::alloc::Global;
 use std::io::Read;
 use told_streams::Given;
 
-// A register at its start, and the script's records by who carries them out.
+// A register at its start, and the script's records divided among the writer and the readers.
 #[derive(Drop)]
 pub(crate) struct Plan {
     pub(crate) begun: Beginning,
     pub(crate) parts: Parts,
 }
 
-// Looks at all records of a text.
+// Reads all records of a text.
 fn plan_text(alloc: Global, text: &[u8], limits: Limits) -> Result<Plan, Stop>
     requires two { limits.readers ≡ READERS }
     requires short { length text.now ≤ INPUT_LIMIT }
@@ -43,7 +43,7 @@ fn plan_text(alloc: Global, text: &[u8], limits: Limits) -> Result<Plan, Stop>
     Ok(Plan { begun, parts })
 }
 
-// Reads the input, and looks at all of its records.
+// Reads the whole input and all of its records.
 pub(crate) fn read_plan<R: Read + Drop>(
     alloc: Global,
     input: &mut Given<R>,

@@ -12,7 +12,7 @@ use council_core::Sheet;
 use majority_rule::Majority;
 use std::alloc::{AllocError, Global};
 
-// The sheets that a reader read, and the number of winning coalitions that it answered for each.
+// The sheets that a reader read, and for each the number of winning coalitions that it returned.
 #[derive(Drop)]
 pub(crate) struct Readings {
     pub(crate) sheets: Vec<Sheet>,
@@ -33,7 +33,7 @@ impl Readings {
     }
 }
 
-// Asks at these majorities in order, one reading each.
+// Takes one reading at each of these majorities, in order.
 fn ask_in_order<G: Gate>(
     gate: &G,
     number: u8,
@@ -60,7 +60,7 @@ fn ask_in_order<G: Gate>(
     Ok(())
 }
 
-// Does a reader's job, and gives it back.
+// Does a reader's job and returns it.
 pub(crate) fn ask_all<G: Gate>(gate: &G, job: ReaderJob) -> Result<ReaderJob, Stop>
     requires ready { CanAsk job }
     ensures asked { HasAsked job result }

@@ -1,4 +1,4 @@
-//! A board with its writer and its readers, each with its job.
+//! Starts a board and gives the writer and each reader their job.
 ghost use Rattle.std.specs.Prelude.{◌≡◌, ◌<◌, ◌^◌, ◌∷◌, [], length, map, IfOk, IsOkUnless};
 ghost use Rattle.board_share.specs.Openings.{beginning_of, new_readers, new_publisher};
 ghost use Rattle.board_serve.specs.Jobs.{AreReady};
@@ -32,7 +32,7 @@ pub(crate) fn seat_all(alloc: Global, register: Register, parts: Parts) -> Resul
     ensures ready { IfOk result AreReady }
     ensures memory { IsOkUnless result stop.OutOfMemory }
 
-    // The writer and each reader are those of the board's start, with their records.
+    // The writer and each reader are those of the board's start, and have their records.
     ensures writer { IfOk result (λ j. j.writer.writer ≡ new_publisher j.writer.writer.table register READERS) }
     ensures orders { IfOk result (λ j. j.writer.orders ≡ parts.writer) }
     ensures readers { IfOk result

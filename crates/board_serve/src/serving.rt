@@ -1,4 +1,4 @@
-//! A run of one writer thread and two reader threads.
+//! Serves an input with one writer thread and two reader threads.
 ghost use Rattle.std.specs.Prelude.{◌≡◌, ◌≤◌, ◌+◌, true, false, IfOk, IfErr, IsErrOf};
 ghost use Rattle.council_core.specs.declared.refusals.Refusal.TheVariants as why;
 ghost use Rattle.board_text.specs.Inputs.{RetriesAtMost, RunRetriesAtMost, WastesAtMost};
@@ -25,7 +25,7 @@ use std::sync::Wait;
 use std::thread::Threads;
 use told_streams::Given;
 
-// Carries out a plan, and looks whether what it brought back are legal records.
+// Carries out a plan, and checks whether the results are legal records.
 fn perform<G: Gate, R: Threads + Wait + Sync>(
     rt: &R,
     alloc: Global,
@@ -49,7 +49,7 @@ fn perform<G: Gate, R: Threads + Wait + Sync>(
     Ok((outcome, legal))
 }
 
-// Serves the input, and leaves out the line of a fault.
+// Serves the input, without the line of a fault.
 fn serve_to<G: Gate, T: Threads + Wait + Sync, R: Read + Drop, W: Write>(
     rt: &T,
     alloc: Global,
@@ -74,7 +74,7 @@ fn serve_to<G: Gate, T: Threads + Wait + Sync, R: Read + Drop, W: Write>(
     Ok(outcome.served)
 }
 
-// Serves the input.
+// Serves the input and writes the line of a fault.
 fn serve_all<G: Gate, T: Threads + Wait + Sync, R: Read + Drop, W: Write>(
     rt: &T,
     alloc: Global,
@@ -102,17 +102,36 @@ fn serve_all<G: Gate, T: Threads + Wait + Sync, R: Read + Drop, W: Write>(
     Err(end_with(out, fault))
 }
 
-/// Serves an input: reads it whole, looks at all records of its script, and then carries them out by
-/// a writer and two readers, each in a thread of its own. What is written and answered is what
-/// `plan_of` says of the bytes that the reader gave; where they weren't read to their end, of these
-/// however they go on.
+/// Serves an input: reads it whole, checks all records of its script, and then carries them out by
+/// a writer and two readers, each in a separate thread. `journal_limit` is the most commands
+/// accepted, from 1 to `MAX_COMMANDS`. The lines are written after all threads have ended and the
+/// audit is done.
 ///
-/// A fault's number is its refusal's, in this order: those of `replay` with limits of two readers,
-/// all before a thread is started; once all threads have ended `OutOfMemory`, `GateClosed`, and what
-/// the audit finds. `OutOfMemory` may come at any time, `WriteFault` at any write.
+/// The contract relates the text written and the result to `plan_of` of the input's bytes. If the
+/// input was not read to its end, this holds for every continuation of the bytes that were read.
 ///
-/// The input is asked for at most `READS` reads, and for none after the one that found its end or
-/// failed. At most `INTERRUPTIONS` interrupted reads are retried: the next one is a failed read.
+/// At most `READS` reads of the input are made, and none after the read that reported its end or
+/// failed. At most `INTERRUPTIONS` interrupted reads are retried: the next interruption is a failed
+/// read.
+///
+/// ```rust
+/// let mut input = RecordingReader::new(text); // `text` is a `&[u8]`
+/// let mut lines = Vec::new(rt.alloc());
+/// let served = serve(&rt, rt.alloc(), &FreeGate, &mut input, &mut lines, MAX_COMMANDS);
+/// ```
+///
+/// # Errors
+///
+/// The fault that ended the run. Its line is the only line, except that `Mismatch` has its line
+/// after those of the writer and the readers, and that `WriteFault` has none and leaves a prefix of
+/// the text. Faults are looked for in this order:
+///
+/// - The faults of `replay` with limits of two readers, before any thread is started.
+/// - After all threads have ended `OutOfMemory`, also if a thread could not be started;
+///   `GateClosed` if a gate was closed; and `Mismatch` if the audit finds a reading that the
+///   register does not give.
+///
+/// `OutOfMemory` is possible at any time, and `WriteFault` at any write.
 pub fn serve<G: Gate, T: Threads + Wait + Sync, R: Read + Drop, W: Write>(
     rt: &T,
     alloc: Global,

@@ -1,4 +1,4 @@
-//! Writing what came of the work of all threads.
+//! Writes the lines of a run with threads.
 ghost use Rattle.std.specs.Prelude.{map, IsOkUnless, ◌∷◌, []};
 ghost use Rattle.board_text.specs.Replies.{reply_of};
 ghost use Rattle.board_text.specs.Lines.{reply_line};
@@ -15,7 +15,7 @@ use board_text::{Answer, Output, Stop, line_of_answer, line_of_audit, line_of_co
 use council_core::Refusal;
 use std::io::Write;
 
-// Writes the lines of some answers.
+// Writes the lines of these answers.
 fn write_answers<W: Write>(out: &mut Output<'_, W>, answers: &[Answer]) -> Result<(), Stop>
     ensures wrote { Plays out.old.held out.new.held result (prints (map (λ a. reply_line (reply_of a)) answers.now)) }
     ensures on { GoesOn out.old out.new }
@@ -27,7 +27,7 @@ fn write_answers<W: Write>(out: &mut Output<'_, W>, answers: &[Answer]) -> Resul
     Ok(())
 }
 
-// Writes how many readings a reader took.
+// Writes the number of readings of a reader.
 fn write_count<W: Write>(out: &mut Output<'_, W>, reader: u64, count: u64) -> Result<(), Stop>
     ensures wrote { Plays out.old.held out.new.held result (prints (reader_line reader count ∷ [])) }
     ensures on { GoesOn out.old out.new }
@@ -36,7 +36,7 @@ fn write_count<W: Write>(out: &mut Output<'_, W>, reader: u64, count: u64) -> Re
     out.write_line(line_of_count(reader, count))
 }
 
-// Writes the answers, and how many readings each reader took.
+// Writes the answers, and the number of readings of each reader.
 fn write_work<W: Write>(
     out: &mut Output<'_, W>,
     answers: &[Answer],
@@ -53,7 +53,7 @@ fn write_work<W: Write>(
     write_count(out, 2, second)
 }
 
-// The same, and then what the audit found.
+// Writes the answers, the number of readings of each reader, and the result of the audit.
 pub(crate) fn tell<W: Write>(
     out: &mut Output<'_, W>,
     answers: &[Answer],

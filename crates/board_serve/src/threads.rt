@@ -1,4 +1,4 @@
-//! One writer thread and its reader threads.
+//! Starts the threads of a run and waits for them.
 ghost use Rattle.std.specs.Prelude.{◌≡◌, ◌∷◌, [], Ok, Err, map, IfOk, IfErr, IsOkUnless};
 ghost use Rattle.board_serve.specs.Jobs.{AreDone, AreReady, CanAsk, CanWrite, HasAsked, HasWritten};
 ghost use Rattle.board_serve.specs.Work.{IsClosed, IsHeldUp};
@@ -15,7 +15,7 @@ use std::sync::Wait;
 use std::thread;
 use std::thread::{Promise, PromisedHandle, Scope, Threads};
 
-// The writer's thread gives its job back, done.
+// The writer's thread returns its job, done.
 #[derive(Drop)]
 struct WillWrite(Snapshot<WriterJob>);
 
@@ -23,7 +23,7 @@ impl Promise<Result<WriterJob, Stop>> for WillWrite {
     ghost kept_by = { λ p r. HasWritten p.0.value r };
 }
 
-// A reader's thread gives its job back, done.
+// A reader's thread returns its job, done.
 #[derive(Drop)]
 struct WillAsk(Snapshot<ReaderJob>);
 
@@ -74,7 +74,7 @@ fn start_reader<'s, E, G: Gate>(
     }
 }
 
-// The jobs of all, where none was held up; else why the first in this order was.
+// The jobs of all threads if all are done, or else the first error, in this order.
 fn all_done(
     writer: Result<WriterJob, Stop>,
     first: Result<ReaderJob, Stop>,
@@ -105,7 +105,8 @@ pub(crate) fn apart(readers: [ReaderJob; READERS]) -> (ReaderJob, ReaderJob)
     (first, second)
 }
 
-// Starts all threads, and waits for them. Where one can't be started, the scope waits for those that were.
+// Starts all threads and waits for them. If one can't be started, the scope waits for those that
+// were.
 fn run_in<'s, E, G: Gate, R: Threads + Wait + Sync>(
     scope: &Scope<'s, E>,
     rt: &'s R,
@@ -123,8 +124,8 @@ fn run_in<'s, E, G: Gate, R: Threads + Wait + Sync>(
     all_done(writer?.join(rt), first?.join(rt), second?.join(rt))
 }
 
-// Runs all threads at once, and answers once all that were started have ended: out of memory where one can't be
-// started.
+// Runs all threads at once, and returns after all that were started have ended. Out of memory if
+// one can't be started.
 pub(crate) fn run_all<G: Gate, R: Threads + Wait + Sync>(
     rt: &R,
     gate: &G,

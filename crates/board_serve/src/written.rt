@@ -19,7 +19,7 @@ use council_core::{Command, Refusal};
 use std::alloc::{AllocError, Global};
 use std::sync::Wait;
 
-// The answers to the writer's records, and the numbers that its publications answered.
+// The answers to the writer's records, and the numbers that its publications returned.
 #[derive(Drop)]
 pub(crate) struct Written {
     pub(crate) answers: Vec<Answer>,
@@ -39,12 +39,12 @@ impl Written {
         })
     }
 
-    // Keeps an answer.
+    // Stores an answer.
     fn add(&mut self, answer: Answer)
         requires answers_fit { vec_len self.old.answers < vec_capacity self.old.answers }
         requires cuts_fit { vec_len self.old.cuts < vec_capacity self.old.cuts }
 
-        // The answer, and what it says of a publication.
+        // The answer is stored, and its number if it is the answer to a publication.
         ensures answers { self.new.answers.items ≡ self.old.answers.items ++ answer ∷ [] }
         ensures cuts { self.new.cuts.items ≡ self.old.cuts.items ++ cuts_of_reply (reply_of answer) }
 
@@ -61,7 +61,7 @@ impl Written {
     }
 }
 
-// Hands a command to the writer.
+// Submits a command to the writer.
 fn submit(writer: &mut Writer, command: Command) -> Result<Answer, Stop>
     ensures replied { IfOk result (λ a. reply_of a ≡ (respond (register_of writer.old) (submit command)).1) }
     ensures after { OnOk result (register_of writer.new ≡ (respond (register_of writer.old) (submit command)).0) }
@@ -75,7 +75,7 @@ fn submit(writer: &mut Writer, command: Command) -> Result<Answer, Stop>
     }
 }
 
-// Hands a command to the writer, or publishes.
+// Submits a command to the writer, or publishes.
 fn obey<R: Wait>(rt: &R, writer: &mut Writer, order: Order) -> Result<Answer, Stop>
     ensures replied { IfOk result (λ a. reply_of a ≡ (respond (register_of writer.old) (call_of_order order)).1) }
     ensures after { OnOk result
@@ -89,7 +89,8 @@ fn obey<R: Wait>(rt: &R, writer: &mut Writer, order: Order) -> Result<Answer, St
     }
 }
 
-// The same, past a gate before and after a publication. `publications` counts these.
+// Carries out an order, and passes the gate before and after a publication. `publications` counts
+// the publications.
 fn obey_past<G: Gate, R: Wait>(
     rt: &R,
     gate: &G,
@@ -149,7 +150,7 @@ fn write_orders<G: Gate, R: Wait>(
     Ok(())
 }
 
-// Does the writer's job, and gives it back.
+// Does the writer's job and returns it.
 pub(crate) fn write_all<G: Gate, R: Wait>(
     rt: &R,
     gate: &G,

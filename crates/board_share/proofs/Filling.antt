@@ -1,4 +1,4 @@
--- The words of a sheet stored one behind the other.
+-- The words of a sheet, stored one after another.
 use Rattle.std.proofs.Common.{◌≡◌, ℕ, ◌+◌, ◌<◌, Bool, cond, List, None, Some, get_or, refl, sym, ap, ◌∙◌, subst, arith, ne_eqb}
 use Rattle.std.proofs.lemmas.List.{replicate-append-replicate}
 use Rattle.atomic_table.specs.Table.{Me}

@@ -123,7 +123,7 @@ module _ (h : History) (r : ℕ) (v : ReaderView) (there : slice_get (known_afte
       ap (λ (m : MachineState). m.ledger) (machine_longer h (Reader (suc r) ∷ []))
       ∙ ap (λ (o : Option Stage). (reader_transition (machine_of h) r o).0.ledger) found_there.0
 
--- the writer hands over commands that the register accepts
+-- the writer submits commands that the register accepts
 and_left : (a b : Bool) → IsTrue (a && b) → IsTrue a
 and_left true b h = refl
 and_left false b h = cc

@@ -19,12 +19,12 @@ use Rattle.board_share.specs.Rule.{IsAfter, KnowsPrefix}
 use Rattle.board_share.specs.Writers.{Publisher}
 use Rattle.board_share.proofs.Histories.{longer_none, longer_twice}
 
--- of some events none is of those for whom a seat stands
+-- none of these events belongs to an actor of the seat
 pub record NoneOf (v : View) (events : List Event) : Type 0 where
   pub writer : (x : Opening × WriterView) → v.writer ≡ Some x → filter is_writers events ≡ []
   pub readers : (r : ℕ) (x : Part) → as_reader r v ≡ Some x → filter (is_readers (suc r)) events ≡ []
 
--- two lists without any, one behind the other
+-- two lists without such events, one after the other
 none_both : (own : Event → Bool) (xs ys : List Event) → filter own xs ≡ [] → filter own ys ≡ [] → filter own (xs ++ ys) ≡ []
 none_both own xs ys e f = filter-append own xs ys ∙ (λ i. e i ++ f i)
 

@@ -19,7 +19,7 @@ use Rattle.board_share.specs.Writers.{WriterSeen, known_at, WroteSteps, Wrote, U
 use Rattle.board_share.proofs.Prefixes.{adds_then}
 use Rattle.board_share.proofs.WriterSeats.{action_in}
 
--- who is seen out, one by one
+-- the quiescent readers, one by one
 pub first_at : (bs : List Bool) (r : ℕ) → slice_get bs r ≡ Some false → all_true (take r bs) ≡ true → (first_false bs ≡ r) × (all_true bs ≡ false)
 first_at [] r e h = absurd (none-some false e)
 first_at (true ∷ bs) zero e h = absurd cc
@@ -101,7 +101,7 @@ module _ (d d' : WriterSeen) (found : ℕ) (w : Wrote d d' found) (e : (known_at
   pub in_idle : out ≡ false → IsIdle d'
   in_idle h = record { due = w.due; phase = ap (λ (x : WriterView). x.state.phase) (look_at false h) }
 
--- where somebody isn't seen out, a pin is loaded next
+-- if some reader is not quiescent, a pin is loaded next
 pub seeing_next : (d : WriterSeen) → IsSeeing d → all_true (known_at d).state.seen_out ≡ false → (known_at d).state.phase ≡ Seeing
 seeing_next d s e = s.phase ∙ ap (λ (b : Bool). cond b (Filling 0) Seeing) e
 
@@ -155,7 +155,7 @@ from_rest n rest begun after events same is none wrote =
     sym (append-nil wrote.own) ∙ (ap (λ (x : Option (List Command)). wrote.own ++ begin_events x after.held) (sym none) ∙ (wrote.whole ∙ ap (λ (l : List Event). l ++ replicate n Writer) is)) in
     subst (λ (h : History). Adds is_writers (events ++ replicate n Writer) h after.history) same (subst (λ (l : List Event). Adds is_writers l begun.history after.history) own wrote.adds)
 
--- one reader more is seen out
+-- one more reader is quiescent
 pub unseen_set : (bs : List Bool) (r : ℕ) → slice_get bs r ≡ Some false → unseen (set bs r true) + 1 ≡ unseen bs
 unseen_set [] r e = absurd (none-some false e)
 unseen_set (true ∷ bs) zero e = absurd cc
@@ -168,7 +168,7 @@ none_unseen [] e = refl
 none_unseen (true ∷ bs) e = none_unseen bs e
 none_unseen (false ∷ bs) e = absurd cc
 
--- the reader in the way is told
+-- the blocking reader is reported
 pub told_busy : (d d' : WriterSeen) (found : ℕ) (out : Bool) → Wrote d d' found → (known_at d).state.phase ≡ Seeing → out ≡ eqb found 0 → out ≡ false → last_told d'.history ≡ Some (Busy (suc (first_false (known_at d).state.seen_out)))
 told_busy d d' found out w e is was_in =
     w.told ∙ (ap (λ (p : Phase). Some (step_note (known_at d).state p found)) e ∙ ap (λ (b : Bool). Some (let n : Note = cond b Moved (Busy (suc (first_false (known_at d).state.seen_out))) in n)) (sym is ∙ was_in))

@@ -7,7 +7,7 @@ use Rattle.board_share.specs.Histories.{Adds, KnowsAfter, is_writers}
 use Rattle.board_share.specs.Steps.{begun_with}
 use Rattle.board_share.specs.Writers.{WriterSeen, IsIdle, Publisher, TookTry, known_at, looks, publication, publication_steps, publisher_of}
 
--- a writer at rest after so many steps from another
+-- a writer at rest after n steps from another
 took_try : (n : ℕ) (old d : WriterSeen) → Adds is_writers (publication old.history old.ledger.journal n) old.history d.history → IsIdle d → KnowsAfter d.history d.held → TookTry n (publisher_of old) (publisher_of d)
 took_try n old d adds idle knows =
     let same : known_at d ≡ _ = ap (λ (x : Option (List Command)). begun_with x d.held) idle.due ∙ sym knows.writer in

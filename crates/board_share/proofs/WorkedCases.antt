@@ -36,18 +36,20 @@ both_done = 11 ∷ replicate 31 0 ++ 10 ∷ 2 ∷ []
 abbrev begun : Beginning
 begun = record { register = record { opening = one_member; journal = []; limit = 100 }; readers = 1 }
 
--- the events of a publication: the commands are handed over, it begins, and steps are taken
+-- the events of a publication: the commands are submitted, it begins, and steps are taken
 pub handed : publication (longer (first_history begun) (Submit (Open 1) ∷ [])) seated 2 ≡ Submit (Move (65 ∷ 65 ∷ 65 ∷ []) (Some 1)) ∷ Publish ∷ Writer ∷ Writer ∷ []
 handed = refl
 
--- with one of two readers seen out, it takes a load, the stores of the words, and the store of side
+-- with one of two readers quiescent, it needs a load, the stores of the words, and the store of
+-- side
 pub steps_of_one : publication_steps (true ∷ false ∷ []) ≡ 36
 steps_of_one = refl
 
 pub looks_at_two : looks (false ∷ false ∷ []) (true ∷ false ∷ []) ≡ 2
 looks_at_two = refl
 
--- the last step of a publication tells how many commands are published, and that of a reading what was read
+-- the output of a publication's last step is the number of published commands, and that of a
+-- reading is the sheet read
 abbrev after_events : List Event → History
 after_events events = longer (first_history begun) events
 
@@ -57,7 +59,7 @@ tells_published = refl
 pub tells_the_reader : last_told (after_events (replicate 37 (Reader 1))) ≡ Some (Read 1 none_done)
 tells_the_reader = refl
 
--- behind the second step of the reader a second publication is given up
+-- after the second step of the reader a second publication is abandoned
 pub tells_busy : last_told (after_events (Submit (Open 1) ∷ Publish ∷ [] ++ replicate 35 Writer ++ Reader 1 ∷ Submit (Move (65 ∷ 65 ∷ 65 ∷ []) (Some 1)) ∷ Publish ∷ Writer ∷ [])) ≡ Some (Busy 1)
 tells_busy = refl
 
@@ -72,7 +74,7 @@ uncounted h = none (ap (filter is_writers) (ap (λ (x : History). x.events) h.lo
 abbrev table : TableId
 table = record { words = 70; slots = 0; views_name = 0; atom = 0; block = 0; offset = 0; slot_names = [] }
 
--- the front of the last reading, and 0 before the first
+-- the front of the last reading, or 0 before the first
 abbrev having_read : List (List ℕ) → ReaderSeen
 having_read readings = record (new_reader table begun 0) { readings = readings }
 

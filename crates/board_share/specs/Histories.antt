@@ -1,4 +1,4 @@
--- What happened on a board: how it began, and the events since, of all seats.
+-- The history of a board: its start, and the events of all seats since.
 use Rattle.std.specs.Prelude.{◌≡◌, ℕ, ◌==◌, Bool, true, false, List, [], ◌∷◌, ◌++◌, map, drop, length}
 use Rattle.std.specs.Prelude.{Option, None, Some}
 use Rattle.std.specs.List.{filter}
@@ -14,62 +14,63 @@ use Rattle.two_copy_steps.specs.Runs.{machine_after, auxiliary_after}
 use Rattle.board_share.specs.declared.views.Beginning.{Beginning}
 use Rattle.board_share.specs.declared.views.History.{History}
 
--- the machine of one thread after the events
+-- the machine of one thread after these events
 abbrev pub machine_of : History → MachineState
 machine_of h = machine_after h.begun.register h.begun.readers h.events
 
--- the words, and what the writer and each reader know then
+-- the words, and the views of the writer and of each reader, after these events
 abbrev pub known_after : History → State
 known_after h = state_of (machine_of h) (auxiliary_after h.begun.register h.begun.readers h.events)
 
--- after a history the machine's writer knows this, and its register holds the commands taken
+-- after a history, the machine's writer has this view, and its register holds the staged commands
 pub record KnowsAfter (h : History) (v : WriterView) : Type 0 where
   pub writer : (known_after h).writer ≡ v
   pub register : (machine_of h).ledger ≡ record h.begun.register { journal = v.state.taken }
 
--- what the events told
+-- the outputs of the events, in order
 abbrev pub told_in : History → List Note
 told_in h = notes (started h.begun.register h.begun.readers) h.events
 
--- the last of some notes
+-- the last of these outputs
 abbrev pub last_note : List Note → Option Note
 last_note [] = None
 last_note (note ∷ []) = Some note
 last_note (note ∷ more ∷ rest) = last_note (more ∷ rest)
 
--- what the last event told
+-- the output of the last event
 abbrev pub last_told : History → Option Note
 last_told h = last_note (told_in h)
 
--- before anything happened
+-- the history at the start, with no events
 abbrev pub first_history : Beginning → History
 first_history begun = record { begun = begun; events = [] }
 
--- with more events
+-- a history with more events appended
 abbrev pub longer : History → List Event → History
 longer h events = record h { events = h.events ++ events }
 
--- whether an event is the writer's
+-- whether an event belongs to the writer
 abbrev pub is_writers : Event → Bool
 is_writers (Submit command) = true
 is_writers Publish = true
 is_writers Writer = true
 is_writers (Reader number) = false
 
--- whether it is that of the reader of a number
+-- whether an event belongs to the reader of this number
 abbrev pub is_readers : ℕ → Event → Bool
 is_readers number (Submit command) = false
 is_readers number Publish = false
 is_readers number Writer = false
 is_readers number (Reader n) = n == number
 
--- from one history to a later one, in which of all events that came between just these are an actor's own
+-- the later history extends the earlier one, and the events added for which `is_own` holds are
+-- exactly `own`
 pub record Adds (is_own : Event → Bool) (own : List Event) (before after : History) : Type 0 where
   pub events : List Event
   pub longer_by : after ≡ longer before events
   pub own_are : filter is_own events ≡ own
 
--- the commands of a journal that the writer hands over where it begins to publish them: those behind the ones that it
--- took before
+-- the submit events at the start of a publication: the commands of the journal after those already
+-- staged
 abbrev pub handed_over : List Command → List Command → List Event
 handed_over taken journal = map Submit (drop (length taken) journal)

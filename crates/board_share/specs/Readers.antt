@@ -1,4 +1,4 @@
--- What contracts see of a reader, and how its seat keeps it.
+-- The state of a reader in contracts, and how its seat holds it.
 use Rattle.std.specs.Prelude.{◌≡◌, ℕ, suc, ◌<◌, ◌++◌, List, [], ◌∷◌, Option, None, Some}
 use Rattle.std.specs.Prelude.{replicate, slice_get}
 use Rattle.std.specs.Option.{option_map_or}
@@ -26,8 +26,9 @@ use Rattle.board_share.specs.Seats.{Part, reads}
 use Rattle.board_share.specs.Rule.{first_reader}
 use Rattle.board_share.specs.Steps.{bare}
 
--- the table of shared words that it reads, the members and votes of the opening, which reader it is, counted from 0,
--- how far it is in its reading, its readings so far, and what happened on the board up to its last step
+-- the table of shared words that the reader reads, the members and votes of the opening, the
+-- reader's index, counted from 0, its stage, its readings so far, and the history of the board up
+-- to its last step
 pub record ReaderSeen : Type 0 where
   pub table : TableId
   pub opening : Opening
@@ -39,7 +40,7 @@ pub record ReaderSeen : Type 0 where
 abbrev pub known_by : ReaderSeen → ReaderView
 known_by p = record { stage = p.stage; readings = p.readings }
 
--- a reader of a table that has read nothing
+-- a reader of a table with no readings
 abbrev pub new_reader : TableId → Beginning → ℕ → ReaderSeen
 new_reader table begun r = record {
   table = table;
@@ -50,36 +51,37 @@ new_reader table begun r = record {
   history = first_history begun;
 }
 
--- the reader took one step of the machine, on some word found
+-- the reader took one step of the machine, with some number found in its word
 pub record TookStep (before after : ReaderSeen) : Type 0 where
   pub found : ℕ
   pub knows : known_by after ≡ (reader_action before.index (known_by before)).after found
 
--- which reader it is, counted from 1
+-- the reader's number, counted from 1
 abbrev pub number_of : ReaderSeen → ℕ
 number_of p = suc p.index
 
--- its history grew by so many steps of its own, and it knows what the machine's reader does after them
+-- the reader added exactly `steps` steps to its history, and has the view of the machine's reader
+-- after them
 pub record TookSteps (steps : ℕ) (before after : ReaderSeen) : Type 0 where
   pub adds : Adds (is_readers (number_of before)) (replicate steps (Reader (number_of before))) before.history
       after.history
   pub knows : slice_get (known_after after.history).readers after.index ≡ Some (known_by after)
 
--- the machine told at the last step of its history that this reader ended a reading with these words
+-- the last output in the reader's history is that it ended a reading with these words
 abbrev pub WasTold : ReaderSeen → List ℕ → Type 0
 WasTold p words = last_told p.history ≡ Some (Read (number_of p) words)
 
--- the last of some readings, if there is one
+-- the last of these readings, if any
 abbrev pub last_read : List (List ℕ) → Option (List ℕ)
 last_read [] = None
 last_read (words ∷ []) = Some words
 last_read (words ∷ more ∷ rest) = last_read (more ∷ rest)
 
--- the sheet that it read last, if it has read
+-- the sheet that the reader read last, if any
 abbrev pub last_of : ReaderSeen → Option (List ℕ)
 last_of p = last_read p.readings
 
--- the front of that sheet, and 0 where there is none
+-- the front of the sheet that the reader read last, or 0 if there is none
 abbrev pub last_front_of : ReaderSeen → ℕ
 last_front_of p = option_map_or front_of (last_of p) 0
 
@@ -87,17 +89,17 @@ last_front_of p = option_map_or front_of (last_of p) 0
 abbrev pub HasLegalRecord : ReaderSeen → Type 0
 HasLegalRecord p = (list : List Command) × (cuts : List ℕ) × AreLegalRecords p.opening list cuts (p.readings ∷ [])
 
--- the sheet of some legal list of commands
+-- the sheet after some legal list of commands
 abbrev pub IsLegalSheet : Opening → List ℕ → Type 0
 IsLegalSheet opening words = (list : List Command) × IsLegal opening list × (words ≡ sheet opening list)
 
--- the one reader of a seat
+-- the part of the one reader of a seat
 abbrev pub sole : List (Option Part) → Part
 sole [] = ([], first_reader)
 sole (None ∷ xs) = sole xs
 sole (Some x ∷ xs) = x
 
--- by what the reader keeps beside its seat: its table, which one it is, and its stage
+-- a reader, from its table, the view of its seat, its index and its stage
 abbrev pub reader_at : TableId → View → ℕ → Stage → ReaderSeen
 reader_at table v r stage = record {
   table = table;
@@ -108,7 +110,7 @@ reader_at table v r stage = record {
   history = v.history;
 }
 
--- what the seat of a reader knows
+-- the view of a reader's seat
 abbrev pub seat_view : ReaderSeen → View
 seat_view p = reads p.history p.index (p.opening, known_by p)
 
@@ -120,7 +122,7 @@ pub record IsReader (table seat : TableId) (me : Me Unit View) (p : ReaderSeen) 
   pub alone : me ≡ bare (seat_view p)
   pub known : IsKnown p.opening (known_by p)
 
--- after a step the seat is that of the same reader, at this stage
+-- after one step the seat is that of the same reader, at this stage
 pub record Stepped (table : TableId) (p : ReaderSeen) (seat : TableId) (me : Me Unit View) (stage : Stage)
     : Type 0 where
   pub seat_is : IsReader table seat me (reader_at table me.0 p.index stage)
@@ -129,7 +131,8 @@ pub record Stepped (table : TableId) (p : ReaderSeen) (seat : TableId) (me : Me 
   pub steps : TookSteps 1 p (reader_at table me.0 p.index stage)
   pub told : last_told me.0.history ≡ Some (stage_note (number_of p) p.stage)
 
--- after a whole reading the seat is that of the same reader at the same stage, and its record has one sheet more
+-- after a whole reading the seat is that of the same reader at the same stage, and its record has
+-- one more sheet
 pub record HasRead (table : TableId) (p : ReaderSeen) (seat : TableId) (me : Me Unit View) (words : List ℕ)
     : Type 0 where
   pub seat_is : IsReader table seat me (reader_at table me.0 p.index p.stage)

@@ -1,4 +1,4 @@
--- What a step tells the seat that takes it.
+-- The effect of a step on the seat that takes it.
 use Rattle.std.specs.Prelude.{◌≡◌, ℕ, suc, ◌==◌, List, [], ◌∷◌, ◌++◌, length, slice_get}
 use Rattle.std.specs.Prelude.{if◌then◌else◌, Option, Some, None}
 use Rattle.atomic_table.specs.Table.{Me, Step}
@@ -21,11 +21,11 @@ use Rattle.board_share.specs.declared.views.History.{History}
 use Rattle.board_share.specs.Histories.{Adds, KnowsAfter, handed_over, is_readers, is_writers, known_after, last_told}
 use Rattle.board_share.specs.Seats.{reads}
 
--- the seat with no slot
+-- the seat with this view and no slot
 abbrev pub bare : View → Me Unit View
 bare v = (v, [])
 
--- one event of the reader at r was added: what it told, and what the reader knows after it
+-- one event of the reader at r was added, with its output and with the reader's view after it
 pub record ReaderActed (r : ℕ) (before after : History) (v w : ReaderView) : Type 0 where
   pub adds : Adds (is_readers (suc r)) (Reader (suc r) ∷ []) before after
   pub knows : slice_get (known_after after).readers r ≡ Some w
@@ -41,36 +41,37 @@ IsStepOn me found me' =
 abbrev pub read_then : Step Unit → Me Unit View → ℕ → Me Unit View → Type 0
 read_then st me found me' = IsStepOn me found me'
 
--- the writer begins to publish these commands, if there are some
+-- the writer begins to publish these commands, if any
 abbrev pub begun_with : Option (List Command) → WriterView → WriterView
 begun_with None v = v
 begun_with (Some list) v = record v { state = begun list v.state }
 
--- the seat with another writer, after a history
+-- the view with another writer, after a history
 abbrev pub with_writer : View → Opening → WriterView → History → View
 with_writer v opening w h = record v { writer = Some (opening, w); history = h }
 
--- the events of that beginning: the commands are handed over, and a publication begins
+-- the events at the start of a publication: its new commands are submitted, and the publication
+-- begins
 abbrev pub begin_events : Option (List Command) → WriterView → List Event
 begin_events None v = []
 begin_events (Some list) v = handed_over v.state.taken list ++ Publish ∷ []
 
--- what a step of the writer tells that found this number
+-- the output of a step of the writer that found this number
 abbrev pub step_note : Writing → Phase → ℕ → Note
 step_note w Idle found = Skipped
 step_note w Seeing found = if found == 0 then Moved else Busy (suc (first_false w.seen_out))
 step_note w (Filling k) found = Moved
 step_note w Swapping found = Published (length w.taken)
 
--- a step of the writer was added, and a beginning before it, if there was one: what it told, and what the writer knows
--- after it
+-- a step of the writer was added, after the start of a publication if there was one, with its
+-- output and with the writer's view after it
 pub record WriterActed (list : Option (List Command)) (found : ℕ) (before after : History) (v w : WriterView)
     : Type 0 where
   pub adds : Adds is_writers (begin_events list v ++ Writer ∷ []) before after
   pub knows : KnowsAfter after w
   pub told : last_told after ≡ Some (step_note (begun_with list v).state (begun_with list v).state.phase found)
 
--- the writer took its step, and began to publish these commands before it, if there are some
+-- the writer took its step, and began to publish these commands before it, if any
 abbrev pub write_then : Option (List Command) → Step Unit → Me Unit View → ℕ → Me Unit View → Type 0
 write_then list st me found me' =
     (opening : Opening) (v : WriterView) → me.0.writer ≡ Some (opening, v)

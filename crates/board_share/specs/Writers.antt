@@ -1,4 +1,4 @@
--- What contracts see of the writer, and how its seat keeps it.
+-- The state of the writer in contracts, and how its seat holds it.
 use Rattle.std.specs.Prelude.{◌≡◌, ℕ, zero, suc, ◌+◌, ◌-◌, ◌<◌, ◌≤◌, Bool, true, false, List, [], ◌∷◌, ◌++◌}
 use Rattle.std.specs.Prelude.{◌==◌, if◌then◌else◌, length, replicate, nat_lt, Option, Some, None, not}
 use Rattle.std.specs.List.{filter}
@@ -21,9 +21,9 @@ use Rattle.board_share.specs.declared.views.History.{History}
 use Rattle.board_share.specs.Histories.{Adds, KnowsAfter, handed_over, is_writers, known_after, last_told, machine_of}
 use Rattle.board_share.specs.Steps.{WriterActed, begin_events, begun_with, step_note, with_writer}
 
--- what contracts see of a `WordWriter`, step by step: the table of shared words, the register, what its seat knows, the
--- commands of a publication that has begun and has not taken a step yet, and what happened on the board up to the
--- writer's last step
+-- the state of a `WordWriter`, step by step: the table of shared words, the register, the view of
+-- its seat, the commands of a publication that has begun but has taken no step yet, and the history
+-- of the board up to the writer's last step
 pub record WriterSeen : Type 0 where
   pub table : TableId
   pub ledger : Ledger
@@ -31,19 +31,19 @@ pub record WriterSeen : Type 0 where
   pub due : Option (List Command)
   pub history : History
 
--- what the writer knows
+-- the writer's view, including a publication that has begun but has taken no step yet
 abbrev pub known_at : WriterSeen → WriterView
 known_at d = begun_with d.due d.held
 
 abbrev pub seen_out_of : WriterSeen → List Bool
 seen_out_of d = (known_at d).state.seen_out
 
--- a publication of all commands is due, or none is
+-- the commands of a publication of the whole journal, or of none
 abbrev pub due_of : Bool → List Command → Option (List Command)
 due_of true journal = Some journal
 due_of false journal = None
 
--- the writer of a view, and some writer where it has none
+-- the writer's part of a view, or some writer if it has none
 abbrev pub writer_or : Option (Opening × WriterView) → Opening × WriterView
 writer_or (Some x) = x
 writer_or None = (
@@ -54,14 +54,15 @@ writer_or None = (
 abbrev pub held_by : View → WriterView
 held_by v = (writer_or v.writer).1
 
--- by what the writer keeps: its table, its register, its seat, and whether a publication has begun and has taken no
--- step yet
+-- a writer, from its table, its register, the view of its seat, and whether a publication has begun
+-- and has taken no step yet
 abbrev pub writer_at : TableId → Ledger → View → Bool → WriterSeen
 writer_at table ledger v begun = record
     { table = table; ledger = ledger; held = held_by v; due = due_of begun ledger.journal; history = v.history }
 
--- a publication of these commands may begin: none is under way, and they are a publishable list within the register's
--- limit that extends the one last taken and has more commands than are published
+-- a publication of these commands may begin: none is in progress, and they are a publishable list
+-- within the register's limit that extends the list staged last and is longer than the published
+-- list
 pub record MayPublish (h : History) (opening : Opening) (v : WriterView) (list : List Command) : Type 0 where
   pub idle : v.state.phase ≡ Idle
   pub publishable : IsPublishable opening list
@@ -69,16 +70,17 @@ pub record MayPublish (h : History) (opening : Opening) (v : WriterView) (list :
   pub extends : (rest : List Command) × (v.state.taken ++ rest ≡ list)
   pub more : length v.state.published < length list
 
--- if one begins
+-- a publication of these commands, if any, may begin
 abbrev pub MayBegin : History → Opening → WriterView → Option (List Command) → Type 0
 MayBegin h opening v None = Unit {0}
 MayBegin h opening v (Some list) = MayPublish h opening v list
 
--- one list begins another
+-- the first list is a prefix of the second
 abbrev pub IsPrefix : List Command → List Command → Type 0
 IsPrefix list longer = (rest : List Command) × (list ++ rest ≡ longer)
 
--- a seat of the table is the writer's, whose side, number of published commands and readers seen out are kept beside it
+-- a seat of the table is the writer's; its side, the number of its published commands and its
+-- quiescent readers are stored alongside it
 pub record IsWriter (table seat : TableId) (me : Me Unit View) (d : WriterSeen) (side published : ℕ)
     (seen_out : List Bool) : Type 0 where
   pub same : seat ≡ table
@@ -96,7 +98,7 @@ pub record IsWriter (table seat : TableId) (me : Me Unit View) (d : WriterSeen) 
   pub ledger_is : d.ledger ≡ record d.history.begun.register { journal = d.ledger.journal }
   pub knows : KnowsAfter d.history d.held
 
--- the writer took one step of the machine, on the word found
+-- the writer took one step of the machine, with this number found in its word
 pub record Wrote (before after : WriterSeen) (found : ℕ) : Type 0 where
   pub table : after.table ≡ before.table
   pub adds : Adds is_writers (begin_events before.due before.held ++ Writer ∷ []) before.history after.history
@@ -106,11 +108,11 @@ pub record Wrote (before after : WriterSeen) (found : ℕ) : Type 0 where
   pub knows : known_at after ≡ (writer_action (sheet before.ledger.opening) (known_at before)).after found
   pub machine : KnowsAfter after.history after.held
 
--- the next step of a seat that is the writer's, where a publication of these commands begins with it, if there are some
+-- the next step of the writer's seat; it begins a publication of these commands, if any
 abbrev pub next_action : Option (List Command) → Me Unit View → Action WriterView
 next_action list me = let w = writer_or me.0.writer in writer_action (sheet w.0) (begun_with list w.1)
 
--- what a step of the writer's seat asks: its word, and what becomes of it
+-- the requirements of a step of the writer's seat: its word, and what the word becomes
 pub record MayWrite (table seat : TableId) (me : Me Unit View) (list : Option (List Command)) (place : ℕ)
     : Type 0 where
   pub same : seat ≡ table
@@ -120,7 +122,7 @@ pub record MayWrite (table seat : TableId) (me : Me Unit View) (list : Option (L
   pub may_begin : MayBegin me.0.history (writer_or me.0.writer).0 (writer_or me.0.writer).1 list
   pub word : place ≡ (next_action list me).word
 
--- and what it leaves, after a history
+-- the writer's seat after that step, with a history
 abbrev pub next_me : Option (List Command) → Me Unit View → ℕ → History → Me Unit View
 next_me list me found h = (with_writer me.0 (writer_or me.0.writer).0 ((next_action list me).after found) h, me.1)
 
@@ -131,14 +133,14 @@ pub record SeatStepped (list : Option (List Command)) (found : ℕ) (seat seat' 
   pub next : me' ≡ next_me list me found me'.0.history
   pub acted : WriterActed list found me.0.history me'.0.history (writer_or me.0.writer).1 (writer_or me'.0.writer).1
 
--- the writer's seat where word k of its sheet is stored next, after a history
+-- the writer's seat, after a history, when word k of its sheet is the next to be stored
 abbrev pub at_word : Me Unit View → ℕ → History → Me Unit View
 at_word me k h =
     let w = writer_or me.0.writer in
     let phase = if k == COPY_WORDS then Swapping else Filling k in
     (with_writer me.0 w.0 (record w.1 { state = record w.1.state { phase = phase } }) h, me.1)
 
--- what is asked of the writer's seat where it stores word k of a register's sheet, in this copy
+-- the requirements of the writer's seat for storing word k of a register's sheet in this copy
 pub record MayFill (table seat : TableId) (me : Me Unit View) (ledger : Ledger) (copy k : ℕ) : Type 0 where
   pub same : seat ≡ table
   pub within : pin 0 ≤ table.words
@@ -149,21 +151,21 @@ pub record MayFill (table seat : TableId) (me : Me Unit View) (ledger : Ledger) 
   pub copy_is : copy ≡ other (writer_or me.0.writer).1.state.side
   pub knows : KnowsAfter me.0.history (writer_or me.0.writer).1
 
--- so many steps were taken, and word k is stored next
+-- `steps` steps were taken, and word k is the next to be stored
 pub record FilledTo (steps k : ℕ) (me me' : Me Unit View) : Type 0 where
   pub next : me' ≡ at_word me k me'.0.history
   pub adds : Adds is_writers (replicate steps Writer) me.0.history me'.0.history
   pub knows : KnowsAfter me'.0.history (writer_or me'.0.writer).1
 
--- from one moment to a later one so many steps were taken, behind the beginning that was due if there was one
+-- between two states `steps` steps were taken, after the start of a publication if one was due
 pub record WroteSteps (steps : ℕ) (before after : WriterSeen) : Type 0 where
   pub own : List Event
   pub adds : Adds is_writers own before.history after.history
   pub whole : own ++ begin_events after.due after.held
       ≡ begin_events before.due before.held ++ replicate steps Writer
 
--- from one moment to a later one of the same publication: the table, the register, the side, what is published and
--- taken, and the cuts are the same
+-- between two states of one publication the table, the register, the side, the published and staged
+-- commands and the cuts stay the same
 pub record Underway (before after : WriterSeen) : Type 0 where
   pub table : after.table ≡ before.table
   pub ledger : after.ledger ≡ before.ledger
@@ -172,22 +174,22 @@ pub record Underway (before after : WriterSeen) : Type 0 where
   pub taken : (known_at after).state.taken ≡ (known_at before).state.taken
   pub cuts : (known_at after).cuts ≡ (known_at before).cuts
 
--- no publication is under way
+-- no publication is in progress
 pub record IsIdle (d : WriterSeen) : Type 0 where
   pub due : d.due ≡ None
   pub phase : (known_at d).state.phase ≡ Idle
 
--- all commands are taken, and the readers are looked at until all are seen out
+-- all commands are staged, and the writer looks for readers that are not quiescent
 pub record IsSeeing (d : WriterSeen) : Type 0 where
   pub taken : (known_at d).state.taken ≡ d.ledger.journal
   pub phase : (known_at d).state.phase ≡ (if all_true (known_at d).state.seen_out then Filling 0 else Seeing)
 
--- all commands are taken, and word k of their sheet is stored next
+-- all commands are staged, and word k of their sheet is the next to be stored
 pub record IsFilling (d : WriterSeen) (k : ℕ) : Type 0 where
   pub taken : (known_at d).state.taken ≡ d.ledger.journal
   pub phase : (known_at d).state.phase ≡ (if k == COPY_WORDS then Swapping else Filling k)
 
--- of a publication under way the words from one on and before another were stored
+-- in a publication the words from `from` up to, but not including, `to` were stored
 pub record Filled (from to : ℕ) (before after : WriterSeen) : Type 0 where
   pub way : Underway before after
   pub seen : seen_out_of after ≡ seen_out_of before
@@ -195,9 +197,9 @@ pub record Filled (from to : ℕ) (before after : WriterSeen) : Type 0 where
   pub stored : IsFilling after to
   pub steps : WroteSteps (to - from) before after
 
--- what contracts see of a `Writer`, whose calls are whole: the table of shared words that it writes, its register, the
--- commands published, the lengths of the lists published so far, who is seen out, and what happened on the board up to
--- its last step
+-- the state of a `Writer`, whose calls are whole: the table of shared words that it writes, its
+-- register, the published commands, the lengths of the lists published so far, the quiescent
+-- readers, and the history of the board up to its last step
 pub record Publisher : Type 0 where
   pub table : TableId
   pub ledger : Ledger
@@ -216,7 +218,7 @@ publisher_of d = record {
   history = d.history;
 }
 
--- a view is that of the seat of this writer
+-- a view is that of this writer's seat
 pub record IsViewOf (b : Publisher) (v : View) : Type 0 where
   pub held : WriterView
   pub writes : v.writer ≡ Some (b.ledger.opening, held)
@@ -226,37 +228,39 @@ pub record IsViewOf (b : Publisher) (v : View) : Type 0 where
 abbrev pub is_pending : Publisher → Bool
 is_pending b = nat_lt (length b.published) (length b.ledger.journal)
 
--- the events of a publication that begins after a history with this journal, and takes so many steps
+-- the events of a publication that begins after a history with this journal and takes `steps` steps
 abbrev pub publication : History → List Command → ℕ → List Event
 publication h journal steps = handed_over (machine_of h).ledger.journal journal ++ Publish ∷ replicate steps Writer
 
--- one publication was begun, and given up or ended, in so many steps; and what the writer shows besides its register is
--- what the machine's writer knows after them
+-- one publication was begun, and completed or abandoned, in `steps` steps; the rest of the writer's
+-- state agrees with the machine's writer after them
 pub record TookTry (steps : ℕ) (before after : Publisher) : Type 0 where
   pub adds : Adds is_writers (publication before.history before.ledger.journal steps) before.history after.history
   pub published : after.published ≡ (known_after after.history).writer.state.published
   pub cuts : after.cuts ≡ (known_after after.history).writer.cuts
   pub seen_out : after.seen_out ≡ (known_after after.history).writer.state.seen_out
 
--- how many readers are not seen out
+-- the number of readers that are not quiescent
 abbrev pub unseen : List Bool → ℕ
 unseen seen_out = length (filter not seen_out)
 
--- the steps of a publication: a load of the pin of each reader that isn't seen out, a store of each word, and one of
--- side
+-- the steps of a publication: a load of the pin of each reader that is not quiescent, a store of
+-- each word, and a store of side
 abbrev pub publication_steps : List Bool → ℕ
 publication_steps seen_out = unseen seen_out + (COPY_WORDS + 1)
 
--- the steps of one that is given up: a load for each reader that was seen out by it, and one for the reader in the way
+-- the steps of an abandoned publication: a load for each reader that it found quiescent, and one
+-- for the blocking reader
 abbrev pub looks : List Bool → List Bool → ℕ
 looks before after = unseen before - unseen after + 1
 
--- the events of a publication that begins at a moment, and takes so many steps, were added
+-- the events of a publication that begins in the first state and takes `steps` steps were added
 abbrev pub AddsTry : ℕ → WriterSeen → WriterSeen → Type 0
 AddsTry steps before after =
     Adds is_writers (publication before.history before.ledger.journal steps) before.history after.history
 
--- a publication was given up, since a reader is in the way: the least that isn't seen out, counted from 1
+-- a publication was abandoned because of the blocking reader: the first that is not quiescent,
+-- counted from 1
 pub record GaveUp (before after : WriterSeen) (reader : ℕ) : Type 0 where
   pub idle : IsIdle after
   pub stay : StaySeen (seen_out_of before) (seen_out_of after)
@@ -264,17 +268,17 @@ pub record GaveUp (before after : WriterSeen) (reader : ℕ) : Type 0 where
   pub told : last_told after.history ≡ Some (Busy reader)
   pub machine : KnowsAfter after.history after.held
 
--- after so many tries that were given up, one publication was ended
+-- one publication was completed after this number of abandoned attempts
 abbrev pub TookTries : ℕ → Publisher → Publisher → Type 0
 TookTries zero before after = TookTry (publication_steps before.seen_out) before after
 TookTries (suc tries) before after =
     (between : Publisher) × TookTry (looks before.seen_out between.seen_out) before between
     × (between.ledger ≡ before.ledger) × TookTries tries between after
 
--- with a cut more, if something is pending
+-- the cuts after a publication: one more if a command was pending
 abbrev pub cuts_after : Publisher → List ℕ
 cuts_after b = if is_pending b then b.cuts ++ length b.ledger.journal ∷ [] else b.cuts
 
--- nobody is seen out after a publication of something pending
+-- the quiescent readers after a publication: none if a command was pending
 abbrev pub seen_out_after : Publisher → List Bool
 seen_out_after b = if is_pending b then replicate (length b.seen_out) false else b.seen_out

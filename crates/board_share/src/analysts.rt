@@ -1,4 +1,4 @@
-//! A reader that answers indices.
+//! A reader that returns the indices of what it reads.
 ghost use Rattle.std.specs.Prelude.{◌≡◌, ◌≤◌, ◌++◌, ◌∷◌, [], Some, replicate, IfOk, IfErr};
 ghost use Rattle.council_core.specs.Sheets.{front_of};
 ghost use Rattle.council_core.specs.declared.refusals.Refusal.TheVariants.{OutOfMemory};
@@ -15,7 +15,8 @@ use power_index::{Evaluator, Indices};
 use std::alloc::Global;
 use std::marker::Model;
 
-/// A reader with the room to count indices.
+/// A reader with an evaluator: it reads sheets and returns their indices. In contracts, it is
+/// always at rest.
 #[derive(Drop)]
 pub struct Analyst {
     reader: Reader,
@@ -35,7 +36,11 @@ impl Model for Analyst {
 }
 
 impl Analyst {
-    /// An analyst that has asked nothing. With `OutOfMemory`, its only refusal, the reader is handed back.
+    /// An analyst with no readings over `reader`, which must be at rest.
+    ///
+    /// # Errors
+    ///
+    /// `OutOfMemory`, the only refusal. It comes with the reader, unchanged.
     pub fn new(alloc: Global, reader: Reader) -> Result<Analyst, (Reader, Refusal)>
         requires rest { reader.stage ≡ AtRest }
         ensures reader { IfOk result (λ a. a.reader ≡ reader) }
@@ -49,13 +54,20 @@ impl Analyst {
         }
     }
 
-    /// The indices of the sheet of one reading.
+    /// Takes one reading, as by `Reader::read`, and returns the indices of its sheet at this
+    /// majority.
+    ///
+    /// ```rust
+    /// let indices = analyst.ask(Majority::Half);
+    /// let winning = indices.winning; // of `indices.coalitions` coalitions
+    /// let sheet = analyst.sheet(); // the sheet that was read
+    /// ```
     pub fn ask(&mut self, majority: Majority) -> Indices
         ensures table { self.new.reader.table ≡ self.old.reader.table }
         ensures opening { self.new.reader.opening ≡ self.old.reader.opening }
         ensures number { number_of self.new.reader ≡ number_of self.old.reader }
 
-        // The sheet that its reader read.
+        // The sheet that the reader read.
         ensures reading { self.new.reader.readings ≡ self.old.reader.readings ++ self.new.sheet ∷ [] }
         ensures last { last_of self.new.reader ≡ Some self.new.sheet }
         ensures sheet { IsLegalSheet self.old.reader.opening self.new.sheet }
@@ -66,7 +78,7 @@ impl Analyst {
         ensures exact { AreIndices majority self.new.sheet result }
         ensures same { result ≡ indices_of majority self.new.sheet }
 
-        // The events that it added to the board's history, and what the last of them tells.
+        // The events that the call added to the board's history, and the output of the last one.
         ensures steps { TookSteps reading_steps self.old.reader self.new.reader }
         ensures told { WasTold self.new.reader self.new.sheet }
     {
@@ -82,7 +94,7 @@ impl Analyst {
         self.evaluator.sheet()
     }
 
-    /// The reader, at rest.
+    /// Returns the reader, at rest.
     pub fn into_reader(self) -> Reader
         ensures same { result ≡ self.reader }
         ensures rest { result.stage ≡ AtRest }

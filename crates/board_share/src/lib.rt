@@ -1,5 +1,5 @@
-//! The running board: left-right publication by one writer to its readers, in threads of their own, over two copies of
-//! a sheet in shared atomic words.
+//! The running board: left-right publication by one writer to several readers, each in a separate
+//! thread, over two copies of a sheet in shared atomic words.
 #![tactic(auto)]
 
 mod analysts;

@@ -1,4 +1,4 @@
-//! How a board begins.
+//! Starts a board.
 ghost use Rattle.std.specs.Prelude.{◌≡◌, ◌-◌, ◌≤◌, IfOk, IfErr, OnOk};
 ghost use Rattle.std.specs.Arc.{arc_value};
 ghost use Rattle.council_core.specs.declared.refusals.Refusal.TheVariants.{OutOfMemory, BadLimit};
@@ -16,9 +16,23 @@ use std::alloc::{AllocError, Global};
 use std::sync::Arc;
 use two_copy_steps::READERS;
 
-/// A board over this register, with readers numbered from 1. The register's sheet is published, and
-/// nobody has read. It is refused, and the register handed back, with `BadLimit` unless there are one
-/// to `READERS` readers, and then with `OutOfMemory`.
+/// Starts a board over this register and returns its writer and its readers, numbered from 1. The
+/// sheet of the register is published, and no reader has read.
+///
+/// ```rust
+/// let register = Register::start(alloc, members, MAX_COMMANDS)?;
+/// let (mut writer, readers) = match start(alloc, register, 2) {
+///     Ok(board) => board,
+///     Err((_register, why)) => return Err(why),
+/// };
+/// ```
+///
+/// # Errors
+///
+/// Both errors come with the register, unchanged.
+///
+/// - `BadLimit`: `readers` is not from 1 to `READERS`.
+/// - `OutOfMemory`, for a number in range.
 pub fn start(
     alloc: Global,
     register: Register,
@@ -64,7 +78,7 @@ fn seat_all(
     Ok((board, seat, readers))
 }
 
-// The shared words, and a seat for the writer and all readers.
+// The shared words, and one seat for the writer and all readers.
 fn lay(alloc: Global, begun: &Beginning) -> Result<(Arc<Board>, Seat<(), View>), AllocError>
     requires few { begun.now.readers ≤ READERS }
     ensures laid { IfOk result
@@ -76,7 +90,7 @@ fn lay(alloc: Global, begun: &Beginning) -> Result<(Arc<Board>, Seat<(), View>),
     Ok((Arc::new(alloc, table)?, seat))
 }
 
-// Gives each reader a seat of its own.
+// Splits off a separate seat for each reader.
 fn seat_readers(
     alloc: Global,
     board: &Arc<Board>,

@@ -1,4 +1,4 @@
-//! A publication of all commands, from its beginning to the store of side.
+//! A publication of all commands, from its start to the store of side.
 ghost use Rattle.std.specs.Prelude.{◌≡◌, ◌<◌, ◌∷◌, ◌++◌, [], true, false, Some, length, replicate};
 ghost use Rattle.std.specs.Prelude.{OnOk, IfOk, OnErr, IfErr, IsOk};
 ghost use Rattle.two_copy_steps.specs.declared.events.Note.TheVariants.{Published};
@@ -12,8 +12,8 @@ use crate::writer_steps::WordWriter;
 use std::marker::Brand;
 use two_copy_steps::COPY_WORDS;
 
-// Publishes all commands and answers how many there are, or gives it up where a reader is found in the middle of a
-// reading.
+// Publishes all commands and returns their number, or abandons the publication if a reader is found
+// in the middle of a reading.
 pub(crate) fn publish_all(words: &mut WordWriter) -> Result<u32, Busy>
     requires idle { IsIdle words.old }
     requires pending { length (known_at words.old).state.published < length words.old.ledger.journal }
@@ -33,7 +33,7 @@ pub(crate) fn publish_all(words: &mut WordWriter) -> Result<u32, Busy>
     ensures steps { OnOk result (AddsTry (publication_steps (seen_out_of words.old)) words.old words.new) }
     ensures told { IfOk result (λ n. last_told words.new.history ≡ Some (Published n)) }
 
-    // A reader is in the way.
+    // A reader blocks the publication.
     ensures unchanged { OnErr result
         (((known_at words.new).state.published ≡ (known_at words.old).state.published)
         × ((known_at words.new).cuts ≡ (known_at words.old).cuts)) }
@@ -49,8 +49,8 @@ pub(crate) fn publish_all(words: &mut WordWriter) -> Result<u32, Busy>
     Ok(front)
 }
 
-// Looks for each reader that isn't seen out, by one load of its pin. The first whose pin is at 1 is answered, and the
-// publication given up.
+// Loads the pin of each reader that is not quiescent. The first whose pin is 1 is returned, and the
+// publication abandoned.
 fn see_all(words: &mut WordWriter) -> Result<(), Busy>
     requires { IsSeeing words.old }
     ensures way { Underway words.old words.new }

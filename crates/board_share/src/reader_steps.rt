@@ -14,7 +14,7 @@ use atomic_table::Seat;
 use council_core::Sheet;
 use two_copy_steps::{Access, COPY_WORDS, ReaderStage, SIDE, Stage, pin, place};
 
-// One step of the reader at r, and after the last step the reading.
+// One step of the reader at r. The last step of a reading returns the reading.
 pub(crate) fn advance(
     board: &Board,
     seat: &mut Seat<(), View>,
@@ -32,7 +32,8 @@ pub(crate) fn advance(
     Some(Reading { sheet })
 }
 
-// Does to its word what the next step of the reader at r does, and answers the number left there.
+// Carries out the next step of the reader at r on its word, and returns the number left in the
+// word.
 fn touch(board: &Board, seat: &mut Seat<(), View>, r: u8, stage: &ReaderStage) -> u64
     requires reader { IsReader board.now.shared.table_id seat.old.table_id seat.old.me
         (reader_at board.now.shared.table_id seat.old.me.0 r stage.now) }
@@ -48,7 +49,7 @@ fn touch(board: &Board, seat: &mut Seat<(), View>, r: u8, stage: &ReaderStage) -
     }
 }
 
-// A whole reading, from rest to rest: the same 37 steps, without a look at how far the reader is before
+// A whole reading, from rest to rest: the same 37 steps, without testing the reader's stage before
 // each of them.
 pub(crate) fn read_all(board: &Board, seat: &mut Seat<(), View>, r: u8) -> Reading
     requires rest { IsReader board.now.shared.table_id seat.old.table_id seat.old.me
@@ -68,7 +69,7 @@ pub(crate) fn read_all(board: &Board, seat: &mut Seat<(), View>, r: u8) -> Readi
     }
 }
 
-// The first step: its pin goes to 1.
+// The first step: its pin becomes 1.
 fn arrive(board: &Board, seat: &mut Seat<(), View>, r: u8)
     requires { IsReader board.now.shared.table_id seat.old.table_id seat.old.me
         (reader_at board.now.shared.table_id seat.old.me.0 r AtRest) }
@@ -78,7 +79,7 @@ fn arrive(board: &Board, seat: &mut Seat<(), View>, r: u8)
     board.shared.store::<Reads>(seat, pin(r as usize), 1);
 }
 
-// The second step: the side that is published.
+// The second step: loads the side that is published.
 fn load_side(board: &Board, seat: &mut Seat<(), View>, r: u8) -> u64
     requires { IsReader board.now.shared.table_id seat.old.table_id seat.old.me
         (reader_at board.now.shared.table_id seat.old.me.0 r Arrived) }
@@ -88,7 +89,7 @@ fn load_side(board: &Board, seat: &mut Seat<(), View>, r: u8) -> u64
     board.shared.load::<Reads>(seat, SIDE)
 }
 
-// One of the next 34 steps: word k of the copy that side names joins those loaded before.
+// One of the next 34 steps: loads word k of the copy that side names.
 fn load_word(
     board: &Board,
     seat: &mut Seat<(), View>,
@@ -107,7 +108,7 @@ fn load_word(
     words[k] = board.shared.load::<Reads>(seat, place(side, k));
 }
 
-// The last step: its pin goes to 0.
+// The last step: its pin becomes 0.
 fn leave(board: &Board, seat: &mut Seat<(), View>, r: u8, side: u64, words: &[u64; COPY_WORDS])
     requires { IsReader board.now.shared.table_id seat.old.table_id seat.old.me
         (reader_at board.now.shared.table_id seat.old.me.0 r (Leaving side words.now)) }

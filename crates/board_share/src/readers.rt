@@ -1,4 +1,4 @@
-//! One reader.
+//! The readers of a board.
 ghost use Rattle.std.specs.Prelude.{◌≡◌, ◌↔◌, ◌+◌, ◌≤◌, ◌++◌, ◌∷◌, ◌==◌, [], Some};
 ghost use Rattle.std.specs.Prelude.{IsSome, IfSome, IsTrue, if◌then◌else◌};
 ghost use Rattle.std.specs.Option.{option_map};
@@ -18,7 +18,8 @@ use std::marker::Model;
 use std::sync::Arc;
 use two_copy_steps::{READERS, ReaderStage};
 
-/// One reader. It reads one sheet after another, each in 37 steps.
+/// A reader of a board. It reads one sheet after another, each in 37 steps. It never waits for the
+/// writer, and may move to another thread.
 #[derive(Drop)]
 pub struct Reader {
     board: Arc<Board>,
@@ -41,7 +42,7 @@ impl Model for Reader {
 }
 
 impl Reader {
-    // The reader of a seat, which has read nothing.
+    // The reader of a seat, with no readings.
     pub(crate) fn new(board: Arc<Board>, seat: Seat<(), View>, index: u8) -> Reader
         requires { IsReader (arc_value board).shared.table_id seat.table_id seat.me
             (reader_at (arc_value board).shared.table_id seat.me.0 index AtRest) }
@@ -55,7 +56,7 @@ impl Reader {
         }
     }
 
-    /// Which reader it is, counted from 1.
+    /// The reader's number, counted from 1.
     pub fn number(&self) -> u8
         ensures same { result ≡ number_of self.now }
         ensures few { result ≤ READERS }
@@ -63,15 +64,15 @@ impl Reader {
         self.index + 1
     }
 
-    /// No reading is in progress.
+    /// Whether no reading is in progress.
     pub fn at_rest(&self) -> bool
         ensures same { IsTrue result ↔ (self.now.stage ≡ AtRest) }
     {
         self.stage.is_at_rest()
     }
 
-    /// The next of the 37 steps of a reading: one load or one store of one word. The last step
-    /// answers the reading.
+    /// Takes the next of the 37 steps of a reading: one load or one store of one word. The last
+    /// step returns the reading; every other step returns `None`.
     pub fn step(&mut self) -> Option<Reading>
         ensures table { self.new.table ≡ self.old.table }
         ensures opening { self.new.opening ≡ self.old.opening }
@@ -80,21 +81,29 @@ impl Reader {
         ensures count { steps_taken self.new.stage
             ≡ (if steps_taken self.old.stage == last_step then 0 else steps_taken self.old.stage + 1) }
 
-        // The reading that it ends, if it is the last step of one.
+        // The reading that the step ends, if it is the last step of one.
         ensures answer { IsSome result ↔ (steps_taken self.old.stage ≡ last_step) }
         ensures words { option_map (λ x. x.sheet) result ≡ sheet_read self.old.stage }
         ensures last { IfSome result (λ x. last_of self.new ≡ Some x.sheet) }
         ensures record_legal { HasLegalRecord self.new }
 
-        // The event that it added to the board's history, and what that tells.
+        // The event that the step added to the board's history, and its output.
         ensures steps { TookSteps 1 self.old self.new }
         ensures told { IfSome result (λ x. WasTold self.new x.sheet) }
     {
         advance(&self.board, &mut self.seat, self.index, &mut self.stage)
     }
 
-    /// One reading, all 37 steps of it: the sheet that is published when the second step is taken. In
-    /// the middle of a reading, where no proved caller comes, that one is given up, and a new one begins.
+    /// Takes one reading, all of its 37 steps, and returns the sheet that is published at its
+    /// second step.
+    ///
+    /// The reader must be at rest. If a caller that isn't proved calls it in the middle of a
+    /// reading, that reading is abandoned and a new one begins.
+    ///
+    /// ```rust
+    /// let reading = reader.read();
+    /// let front = reading.sheet.front(); // the commands accepted in the version that was read
+    /// ```
     pub fn read(&mut self) -> Reading
         requires rest { self.old.stage ≡ AtRest }
         ensures table { self.new.table ≡ self.old.table }
@@ -102,14 +111,14 @@ impl Reader {
         ensures number { number_of self.new ≡ number_of self.old }
         ensures rest { self.new.stage ≡ AtRest }
 
-        // The sheet that it read.
+        // The sheet that was read.
         ensures reading { self.new.readings ≡ self.old.readings ++ result.sheet ∷ [] }
         ensures last { last_of self.new ≡ Some result.sheet }
         ensures sheet { IsLegalSheet self.old.opening result.sheet }
         ensures not_older { last_front_of self.old ≤ front_of result.sheet }
         ensures record_legal { HasLegalRecord self.new }
 
-        // The events that it added to the board's history, and what the last of them tells.
+        // The events that the call added to the board's history, and the output of the last one.
         ensures steps { TookSteps reading_steps self.old self.new }
         ensures told { WasTold self.new result.sheet }
     {

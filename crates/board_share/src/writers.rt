@@ -1,4 +1,4 @@
-//! The writer.
+//! The writer of a board.
 ghost use Rattle.std.specs.Prelude.{◌≡◌, ℕ, suc, true, false, length, None, Some, IfOk, IfErr, OnOk, OnErr, IsOk};
 ghost use Rattle.std.specs.List.{last_or};
 ghost use Rattle.std.specs.List.Sorted.{IsStrictlyIncreasing};
@@ -21,7 +21,8 @@ use std::marker::Model;
 use std::sync::Wait;
 use std::thread;
 
-/// The writer of a board: it hands commands to the register, and publishes all that were accepted.
+/// The writer of a board: it submits commands to the register and publishes those that were
+/// accepted. Between its calls no publication is in progress.
 #[derive(Drop)]
 pub struct Writer {
     words: WordWriter,
@@ -38,7 +39,7 @@ impl Model for Writer {
 }
 
 impl Writer {
-    // A writer with no publication under way.
+    // A writer with no publication in progress.
     pub(crate) fn new(words: WordWriter) -> Writer
         requires { IsIdle words }
         ensures { result ≡ publisher_of words }
@@ -46,8 +47,17 @@ impl Writer {
         Writer { words }
     }
 
-    /// Hands a command to the register, and answers how many commands were accepted, this one with
-    /// them. Nothing is published. It is refused as `Register::apply` says, and nothing changes then.
+    /// Submits a command to the register and returns the number of commands accepted so far,
+    /// including this one. Nothing is published.
+    ///
+    /// ```rust
+    /// let accepted = writer.submit(Command::Open(chair))?;
+    /// let published = writer.publish(rt);
+    /// ```
+    ///
+    /// # Errors
+    ///
+    /// Those of `Register::apply`, in the same order. The writer is then unchanged.
     pub fn submit(&mut self, command: Command) -> Result<u32, Refusal>
         ensures verdict { Follows (verdict_of self.old.ledger command) result OutOfMemory }
         ensures accepted { IfOk result
@@ -62,14 +72,26 @@ impl Writer {
         self.words.submit(command)
     }
 
-    /// Publishes all commands, and answers how many there are. It is `Busy`, and publishes nothing,
-    /// where a reader is found in the middle of a reading; those that were seen out stay so.
+    /// Publishes all accepted commands and returns their number. Does not wait for readers. With
+    /// nothing pending, it returns the number published and changes nothing.
+    ///
+    /// ```rust
+    /// match writer.try_publish() {
+    ///     Ok(front) => published = front,
+    ///     Err(busy) => blocking = busy.reader,
+    /// }
+    /// ```
+    ///
+    /// # Errors
+    ///
+    /// `Busy` if a reader is found in the middle of a reading. Nothing is published then, and
+    /// readers that were quiescent stay quiescent.
     pub fn try_publish(&mut self) -> Result<u32, Busy>
         ensures table { self.new.table ≡ self.old.table }
         ensures ledger { self.new.ledger ≡ self.old.ledger }
         ensures readers { length self.new.seen_out ≡ length self.old.seen_out }
 
-        // Which of the two it is.
+        // Whether it succeeds.
         ensures sure { all_true self.old.seen_out ≡ true → IsOk result }
         ensures nothing_pending { is_pending self.old ≡ false → IsOk result }
         ensures still { is_pending self.old ≡ false → self.new ≡ self.old }
@@ -80,14 +102,14 @@ impl Writer {
         ensures cuts { OnOk result (self.new.cuts ≡ cuts_after self.old) }
         ensures seen_out { OnOk result (self.new.seen_out ≡ seen_out_after self.old) }
 
-        // A reader is in the way.
+        // A reader blocks the publication.
         ensures unchanged { OnErr result
             ((self.new.published ≡ self.old.published) × (self.new.cuts ≡ self.old.cuts)) }
         ensures stay { OnErr result (StaySeen self.old.seen_out self.new.seen_out) }
         ensures busy { IfErr result
             (λ b. (b.reader ≡ suc (first_false self.new.seen_out)) × (all_true self.new.seen_out ≡ false)) }
 
-        // The events that it added to the board's history, and what the last of them tells.
+        // The events that the call added to the board's history, and the output of the last one.
         ensures steps { is_pending self.old ≡ true
             → OnOk result (TookTry (publication_steps self.old.seen_out) self.old self.new) }
         ensures gave_up { OnErr result (TookTry (looks self.old.seen_out self.new.seen_out) self.old self.new) }
@@ -101,8 +123,9 @@ impl Writer {
         publish_all(&mut self.words)
     }
 
-    /// Publishes all commands, and answers how many there are. It waits for readers, for good where
-    /// one was dropped in the middle of a reading.
+    /// Publishes all accepted commands and returns their number, by `try_publish` until it
+    /// succeeds. It waits for readers that are in the middle of a reading, and waits forever if one
+    /// was dropped there.
     pub fn publish<R: Wait>(&mut self, rt: &R) -> u32
         ensures table { self.new.table ≡ self.old.table }
         ensures ledger { self.new.ledger ≡ self.old.ledger }
@@ -112,7 +135,7 @@ impl Writer {
         ensures seen_out { self.new.seen_out ≡ seen_out_after self.old }
         ensures still { is_pending self.old ≡ false → self.new ≡ self.old }
 
-        // The events that it added to the board's history, and what the last of them tells.
+        // The events that the call added to the board's history, and the output of the last one.
         ensures steps { is_pending self.old ≡ true → (tries : ℕ) × TookTries tries self.old self.new }
         ensures told { is_pending self.old ≡ true → last_told self.new.history ≡ Some (Published result) }
     {
@@ -125,7 +148,7 @@ impl Writer {
         unreachable!()
     }
 
-    /// The commands accepted, in order.
+    /// The accepted commands, in order.
     pub fn journal(&self) -> &[Command]
         ensures commands { result.now ≡ self.now.ledger.journal }
         ensures legal { IsLegal self.now.ledger.opening self.now.ledger.journal }
@@ -133,7 +156,7 @@ impl Writer {
         self.words.register().journal()
     }
 
-    /// How many commands are published: the last cut.
+    /// The number of published commands: the last cut.
     pub fn published(&self) -> u32
         ensures number { result ≡ length self.now.published }
         ensures begins { IsPrefix self.now.published self.now.ledger.journal }
@@ -143,8 +166,9 @@ impl Writer {
         self.words.published()
     }
 
-    /// Whether the reader of a number, counted from 1, is seen out: it was at rest at some time since
-    /// the last publication, or nothing was published yet. False where there is no such reader.
+    /// Whether the reader of this number, counted from 1, is quiescent: since the last publication
+    /// the writer has found it at rest, or no publication was made since the start. False for a
+    /// number out of range.
     pub fn seen_out(&self, reader: u8) -> bool
         ensures same { result ≡ seen_out_at self.now.seen_out reader }
     {

@@ -5,7 +5,7 @@ use std::io::{Read, Write};
 use std::sync::Wait;
 use std::thread::Threads;
 
-/// The limits that most inputs are run with.
+/// The limits of most runs.
 pub(crate) const LIMITS: Limits = Limits {
     readers: 1,
     journal: 1_000_000,
@@ -19,7 +19,7 @@ pub(crate) enum Call {
     Serve,
 }
 
-/// Makes a call on an input, and answers its fault.
+/// Makes a call on an input, and returns its fault.
 pub(crate) fn run<T: Threads + Wait + Sync, R: Read + Drop, W: Write>(
     rt: &T,
     alloc: Global,
@@ -36,7 +36,7 @@ pub(crate) fn run<T: Threads + Wait + Sync, R: Read + Drop, W: Write>(
     }
 }
 
-/// What a call writes on a text, and its fault.
+/// The text that a call writes for an input, and its fault.
 fn written<T: Threads + Wait + Sync>(
     rt: &T,
     alloc: Global,
@@ -63,7 +63,7 @@ pub(crate) fn writes<T: Threads + Wait + Sync>(
     out.as_slice() == wanted.as_bytes() && end == fault
 }
 
-/// Whether a call on a text writes so many bytes, and ends well.
+/// Whether a call on a text writes `count` bytes, and ends without a fault.
 pub(crate) fn writes_bytes<T: Threads + Wait + Sync>(
     rt: &T,
     alloc: Global,

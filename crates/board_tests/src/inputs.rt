@@ -1,4 +1,4 @@
-//! Inputs at the limit of their length, and a field that is far too long.
+//! Tests of inputs at the limit of their length, and of a field that is far too long.
 use crate::calls::{Call, LIMITS, writes, writes_bytes};
 use board_report::Fault;
 use std::alloc::{AllocError, Global};
@@ -11,7 +11,7 @@ const LONGEST: usize = 4_194_304;
 
 const TOO_LONG: Fault = Fault { code: 29, place: 0 };
 
-// Some first records, and then one record so many times.
+// The first records, and then one record `times` times.
 fn repeated(
     alloc: Global,
     head: &[u8],
@@ -26,7 +26,7 @@ fn repeated(
     Ok(text)
 }
 
-// The longest input gives so many bytes, and one that is a byte longer is refused.
+// The longest input writes `count` bytes, and an input that is a byte longer is refused.
 fn is_longest<R: Abort + Threads + Wait + Sync>(
     rt: &R,
     alloc: Global,
@@ -51,6 +51,8 @@ fn is_longest<R: Abort + Threads + Wait + Sync>(
     Ok(())
 }
 
+// Catches a `replay` of the longest input that runs out of memory or of stack: the proofs bound
+// neither.
 #[test]
 fn longest_input(rt: HostRuntime) -> Result<(), Fail> {
     let head = b"member,votes\nAAA,0000010\nscript\n";
@@ -59,6 +61,8 @@ fn longest_input(rt: HostRuntime) -> Result<(), Fail> {
     Ok(())
 }
 
+// Catches a `trace` of the longest input that runs out of memory or of stack: the proofs bound
+// neither.
 #[test]
 fn longest_schedule(rt: HostRuntime) -> Result<(), Fail> {
     let head = b"member,votes\nAAA,000000010\nscript\n";
@@ -67,6 +71,8 @@ fn longest_schedule(rt: HostRuntime) -> Result<(), Fail> {
     Ok(())
 }
 
+// Catches a `serve` of the longest input that runs out of memory or of stack: the proofs bound
+// neither.
 #[test]
 fn longest_work_for_threads(rt: HostRuntime) -> Result<(), Fail> {
     let head = b"member,votes\nAAA,0000010\nscript\n";
@@ -81,7 +87,7 @@ fn longest_work_for_threads(rt: HostRuntime) -> Result<(), Fail> {
     Ok(())
 }
 
-// Some first records, and then a field of a million bytes after so many bytes of its record.
+// The first records, and then a field of a million bytes after `head`.
 fn with_a_long_field(alloc: Global, head: &[u8]) -> Result<Vec<u8>, AllocError> {
     let mut text: Vec<u8> = Vec::new(alloc);
     text.extend_from_slice(b"member,votes\nAAA,10\nscript\n")?;
@@ -93,6 +99,8 @@ fn with_a_long_field(alloc: Global, head: &[u8]) -> Result<Vec<u8>, AllocError> 
     Ok(text)
 }
 
+// Catches a long field that ends a run in OutOfMemory in place of BadRecord, which the contracts
+// allow.
 #[test]
 fn a_field_of_a_million_bytes(rt: HostRuntime) -> Result<(), Fail> {
     for (call, head, wanted) in [

@@ -1,4 +1,4 @@
-//! Tests of the program and of its calls, by their public names.
+//! Tests of the program and of its calls through their public names.
 #![tactic(auto)]
 
 #[cfg(test)]

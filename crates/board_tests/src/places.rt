@@ -1,4 +1,4 @@
-//! The order of all places of a run of the threads.
+//! A test of the order of all places of a run with threads.
 use board_report::{Gate, GateClosed, Given, Place, Served, serve};
 use std::alloc::Global;
 use std::sync::Wait;
@@ -38,7 +38,7 @@ const LAST: u32 = 5;
 // All places, as bits.
 const ALL: u64 = (1 << 30) - 1;
 
-// Kinds of places, by the number of their first bit.
+// The kinds of places, by the number of their first bit.
 const BEFORE_PUBLISH: u32 = 0;
 
 const AFTER_PUBLISH: u32 = 5;
@@ -51,7 +51,7 @@ const BEFORE_SECOND: u32 = 20;
 
 const AFTER_SECOND: u32 = 25;
 
-// The bit of the k-th place of a kind, and none for a number that no place of the run has.
+// The bit of the k-th place of a kind; 0 for a number that no place of the run has.
 fn bit(kind: u32, k: u32) -> u64 {
     if k == 0 || k > LAST || kind > AFTER_SECOND {
         return 0;
@@ -59,7 +59,7 @@ fn bit(kind: u32, k: u32) -> u64 {
     1 << (kind + k - 1)
 }
 
-// A place's bit, and those of the places that must be reached before a thread may leave it.
+// The bit of a place, and those of the places that must be reached before a thread may leave it.
 fn order(at: Place) -> (u64, u64) {
     match at {
         Place::BeforePublish(k) => (bit(BEFORE_PUBLISH, k), before_publication(k)),
@@ -79,15 +79,16 @@ fn next(k: u32) -> u32 {
     k.saturating_add(1)
 }
 
-// Before a publication each reader has taken its reading of the one before, and the second waits at its next reading.
+// Before a publication, each reader has taken its reading of the previous one, and the second waits
+// at its next reading.
 fn before_publication(k: u32) -> u64 {
     let last = k.saturating_sub(1);
     bit(AFTER_FIRST, last) | bit(AFTER_SECOND, last) | bit(BEFORE_SECOND, k)
 }
 
-// A gate at which each thread waits for the others: each place is passed once, the k-th readings come while the k-th
-// publication is the last, and the threads are held on both sides of each call, so that a call at another place reads
-// or publishes too early or too late.
+// A gate at which each thread waits for the others. Each place is passed once, and the k-th
+// readings come while the k-th publication is the last. The threads are held on both sides of each
+// call, so a call at another place reads or publishes too early or too late.
 #[derive(Drop)]
 struct OrderedGate<'a, C> {
     clock: &'a C,
@@ -95,7 +96,7 @@ struct OrderedGate<'a, C> {
 }
 
 impl<'a, C: Clock> OrderedGate<'a, C> {
-    // Waits until all of these have been reached, or 5,000 turns of a millisecond have gone by.
+    // Waits until all of these have been reached, or 5,000 turns of a millisecond have passed.
     fn hold(&self, all: u64) -> Result<(), GateClosed> {
         for _ in 0..5000u32 {
             if self.reached.load(Ordering::SeqCst) & all == all {
@@ -139,8 +140,8 @@ fn runs_in_order<G: Gate, R: Threads + Wait + Sync>(rt: &R, alloc: Global, gate:
     }
 }
 
-// A gate that is passed before a publication or a reading and not after it, or the other way round, a publication or a
-// reading without its gates, and numbers that stop at one.
+// Catches a gate that is passed before a publication or a reading and not after it, or the reverse,
+// a publication or a reading without its gates, and numbers that stop at one.
 #[test]
 fn all_places_in_order(rt: HostRuntime) -> Result<(), Fail> {
     let gate = OrderedGate {

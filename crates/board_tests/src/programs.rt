@@ -1,4 +1,4 @@
-//! The program on its words, and its calls on whole inputs.
+//! Tests of the program with its arguments, and of its calls on whole inputs.
 use crate::calls::{Call, LIMITS, writes};
 use board_report::{Fault, Given, Limits, Streams, program, words_out_of_memory, words_refused};
 use std::alloc::{AllocError, Global};
@@ -35,6 +35,8 @@ const OUTPUT: &str = "accepted,1\n\
      chair,2,49,1,1/4,1/5,1/3,1/5\n\
      chair,3,1,1,1/4,1/5,1/3,1/5\n";
 
+// Catches a `replay` that ends in OutOfMemory or WriteFault though nothing failed, which its
+// contract allows.
 #[test]
 fn replays_three_chairs(rt: HostRuntime) -> Result<(), Fail> {
     let alloc = rt.alloc();
@@ -42,6 +44,7 @@ fn replays_three_chairs(rt: HostRuntime) -> Result<(), Fail> {
     Ok(())
 }
 
+// Catches a WriteFault in place of BadLimit though no write failed, which the contract allows.
 #[test]
 fn refuses_limits_out_of_range(rt: HostRuntime) -> Result<(), Fail> {
     let (alloc, told) = (rt.alloc(), "fault,0,BadLimit\n");
@@ -60,7 +63,7 @@ fn a_fault_has_its_name(rt: HostRuntime) -> Result<(), Fail> {
     Ok(())
 }
 
-// One reader, that is in the way of a publication.
+// One reader, which blocks a publication.
 const SCHEDULE: &[u8] = b"member,votes\n\
      AAA,10\n\
      script\n\
@@ -79,6 +82,8 @@ const SCHEDULE: &[u8] = b"member,votes\n\
 const TOLD: &str =
     "accepted,1\nbegan\npublished,1\naccepted,2\nbegan\nbusy,1\nsheet,1,0,0,10\nbegan\npublished,2\nsheet,1,2,10,10\n";
 
+// Catches a `trace` that ends in OutOfMemory or WriteFault though nothing failed, which its
+// contract allows.
 #[test]
 fn traces_a_reader_in_the_way(rt: HostRuntime) -> Result<(), Fail> {
     let alloc = rt.alloc();
@@ -86,7 +91,7 @@ fn traces_a_reader_in_the_way(rt: HostRuntime) -> Result<(), Fail> {
     Ok(())
 }
 
-// A schedule whose fourth record is this.
+// A schedule with this fourth record.
 fn with_record(alloc: Global, record: &str) -> Result<Vec<u8>, AllocError> {
     let mut text: Vec<u8> = Vec::new(alloc);
     text.extend_from_slice(b"member,votes\nscript\nwriter,1\n")?;
@@ -94,6 +99,7 @@ fn with_record(alloc: Global, record: &str) -> Result<Vec<u8>, AllocError> {
     Ok(text)
 }
 
+// Catches a `trace` that ends in another fault than the bad record's though nothing failed.
 #[test]
 fn a_trace_stops_at_a_bad_record(rt: HostRuntime) -> Result<(), Fail> {
     let rows: [(&str, u8, &str); 4] = [
@@ -110,7 +116,7 @@ fn a_trace_stops_at_a_bad_record(rt: HostRuntime) -> Result<(), Fail> {
     Ok(())
 }
 
-// The words that the program is given, its name first.
+// The program's arguments, starting with its name.
 fn words_of(alloc: Global, texts: &[&str]) -> Result<Vec<String>, AllocError> {
     let mut words: Vec<String> = Vec::new(alloc);
     words.push(String::from_str(alloc, "board")?)?;
@@ -120,8 +126,8 @@ fn words_of(alloc: Global, texts: &[&str]) -> Result<Vec<String>, AllocError> {
     Ok(words)
 }
 
-// The program's status, and whether the streams got what they are to get: something on standard output or nothing, and
-// these bytes on standard error, or with status 2 any.
+// The program's status, and whether both output streams got what they should: any text or none on
+// standard output, and these bytes on standard error, or any bytes with status 2.
 fn status_of<R: Threads + Wait + Sync>(
     rt: &R,
     alloc: Global,
@@ -145,7 +151,7 @@ fn status_of<R: Threads + Wait + Sync>(
     (status, is_said && streams.out.is_empty() != writes)
 }
 
-// A status, whether something is on standard output, and what is on standard error.
+// A status, whether standard output has any text, and the text on standard error.
 type Wanted = (u8, bool, &'static str);
 
 const FINE: Wanted = (0, true, "");
@@ -154,7 +160,7 @@ const BAD_READER: Wanted = (1, true, "board: BadReader\n");
 
 const BAD_WORDS: Wanted = (2, false, "");
 
-// Runs the program, and looks at its status and at which stream got what.
+// Runs the program, and checks its status and what each stream got.
 fn runs<R: Abort + Threads + Wait + Sync>(
     rt: &R,
     alloc: Global,
@@ -168,12 +174,14 @@ fn runs<R: Abort + Threads + Wait + Sync>(
     Ok(())
 }
 
-// An input that reader 2 is asked in.
+// An input with a reading by reader 2.
 const SECOND: &[u8] = b"member,votes\nscript\nread,2,half\n";
 
-// A schedule of reader 2.
+// A schedule with steps of reader 2.
 const STEPS: &[u8] = b"member,votes\nscript\nreader,2,37\n";
 
+// Catches a missing or cut line on standard error, and help or a reason that isn't written: of
+// these texts the contract of `program` promises a prefix of the line, and no more.
 #[test]
 fn replay_answers_a_status(rt: HostRuntime) -> Result<(), Fail> {
     let alloc = rt.alloc();
@@ -190,6 +198,8 @@ fn replay_answers_a_status(rt: HostRuntime) -> Result<(), Fail> {
     Ok(())
 }
 
+// Catches a missing or cut line on standard error after `trace` or `serve`, and a reason that isn't
+// written.
 #[test]
 fn trace_and_serve_answer_a_status(rt: HostRuntime) -> Result<(), Fail> {
     let alloc = rt.alloc();
@@ -200,6 +210,7 @@ fn trace_and_serve_answer_a_status(rt: HostRuntime) -> Result<(), Fail> {
     Ok(())
 }
 
+// Catches a version, help or reason that isn't written: no clause says what these texts are.
 #[test]
 fn words_answer_a_status(rt: HostRuntime) -> Result<(), Fail> {
     let alloc = rt.alloc();
@@ -209,6 +220,8 @@ fn words_answer_a_status(rt: HostRuntime) -> Result<(), Fail> {
     Ok(())
 }
 
+// Catches a missing or cut line or reason where the arguments can't be read: the contracts promise
+// a prefix.
 #[test]
 fn words_that_could_not_be_read(rt: HostRuntime) -> Result<(), Fail> {
     let mut err: Vec<u8> = Vec::new(rt.alloc());
@@ -220,9 +233,11 @@ fn words_that_could_not_be_read(rt: HostRuntime) -> Result<(), Fail> {
     Ok(())
 }
 
-// More readings of each reader than a gate might be thought to let pass.
+// More readings of each reader than a faulty gate would let pass.
 const READINGS: usize = 3_000;
 
+// Catches a `board serve` whose gate closes: no clause says that `program` uses the gate that never
+// does.
 #[test]
 fn serve_passes_every_gate(rt: HostRuntime) -> Result<(), Fail> {
     let mut text: Vec<u8> = Vec::new(rt.alloc());

@@ -1,4 +1,4 @@
-//! A run of one writer thread and two reader threads, held up by gates.
+//! Tests of a run with one writer thread and two reader threads, held up by gates.
 use board_report::{FreeGate, Gate, GateClosed, Given, Place, Served, serve};
 use std::alloc::Global;
 use std::sync::Wait;
@@ -49,8 +49,8 @@ impl Gate for ClosesAt {
     }
 }
 
-// A gate that holds three places until others have been reached, so that each thread waits for the
-// others. What is reached is kept as bits.
+// A gate that holds the threads at three places until others have been reached, so that each thread
+// waits for the others. The places reached are kept as bits.
 #[derive(Drop)]
 struct MeetingGate<'a, C> {
     clock: &'a C,
@@ -68,7 +68,7 @@ const OTHER_BEGINS: u64 = 8;
 const FIRST_ENDS: u64 = 16;
 
 impl<'a, C: Clock> MeetingGate<'a, C> {
-    // Waits until all of these have been reached, or 5,000 turns of a millisecond have gone by.
+    // Waits until all of these have been reached, or 5,000 turns of a millisecond have passed.
     fn hold(&self, all: u64) -> Result<(), GateClosed> {
         for _ in 0..5000u32 {
             if self.reached.load(Ordering::SeqCst) & all == all {
@@ -112,8 +112,8 @@ impl<'a, C: Clock + Sync> Gate for MeetingGate<'a, C> {
     }
 }
 
-// Serves an input, and answers what was written with the fault's number, which is 0 for none, and
-// the front of reader 1's first sheet.
+// Serves an input, and returns the text written, the number of the fault, 0 for none, and the front
+// of reader 1's first sheet.
 fn run<G: Gate, R: Threads + Wait + Sync>(
     rt: &R,
     alloc: Global,
@@ -135,6 +135,8 @@ fn first_front(served: &Served) -> Option<u32> {
     Some(sheet.front())
 }
 
+// Catches a `serve` that ends in OutOfMemory, GateClosed or Mismatch though nothing failed, which
+// its contract allows.
 #[test]
 fn serves_three_publications(rt: HostRuntime) -> Result<(), Fail> {
     let (out, code, _) = run(&rt, rt.alloc(), &FreeGate, INPUT, 1000);
@@ -143,6 +145,7 @@ fn serves_three_publications(rt: HostRuntime) -> Result<(), Fail> {
     Ok(())
 }
 
+// Catches threads that run one after another: no contract says that they run at once.
 #[test]
 fn two_threads_meet(rt: HostRuntime) -> Result<(), Fail> {
     let gate = MeetingGate {
@@ -156,6 +159,7 @@ fn two_threads_meet(rt: HostRuntime) -> Result<(), Fail> {
     Ok(())
 }
 
+// Catches a fault that is reported as another one, such as OutOfMemory, though nothing failed.
 #[test]
 fn serves_faults_alone(rt: HostRuntime) -> Result<(), Fail> {
     let rows: [(&str, u32, u8, &str); 4] = [
@@ -187,6 +191,7 @@ fn serves_faults_alone(rt: HostRuntime) -> Result<(), Fail> {
     Ok(())
 }
 
+// Catches a closed gate that is passed over: no contract says that the gates are passed.
 #[test]
 fn a_closed_gate_is_told(rt: HostRuntime) -> Result<(), Fail> {
     let text = "member,votes\nAAA,10\nscript\npublish\n";
@@ -196,7 +201,7 @@ fn a_closed_gate_is_told(rt: HostRuntime) -> Result<(), Fail> {
     Ok(())
 }
 
-// Places, and whether the run passes there.
+// Places, and whether the run passes them.
 const PLACES: [(Place, bool); 17] = [
     (Place::BeforePublish(1), true),
     (Place::BeforePublish(2), true),
@@ -217,6 +222,7 @@ const PLACES: [(Place, bool); 17] = [
     (Place::AfterReading(2, 2), false),
 ];
 
+// Catches a place whose gate isn't passed, or is passed with another number.
 #[test]
 fn a_gate_may_close_at_each_place(rt: HostRuntime) -> Result<(), Fail> {
     for (place, passed) in PLACES {
@@ -232,6 +238,8 @@ fn a_gate_may_close_at_each_place(rt: HostRuntime) -> Result<(), Fail> {
     Ok(())
 }
 
+// Catches a `serve` that ends in a fault though nothing failed, when commands are refused and
+// nothing is published.
 #[test]
 fn serves_what_was_read(rt: HostRuntime) -> Result<(), Fail> {
     let text = "member,votes\nAAA,10\nscript\nopen,1\nmove,AAA,1\nmove,AAA,1\nread,2,85\n";

@@ -1,4 +1,5 @@
-//! Readers and writers over memory that interrupt, fail, give or take single bytes, or take none.
+//! Tests with readers and writers in memory that are interrupted, fail, move single bytes, or move
+//! none.
 use crate::calls::{Call, run};
 use board_report::{Fault, Limits};
 use std::alloc::Global;
@@ -18,8 +19,9 @@ const LIMITS: Limits = Limits {
 // The most bytes that a reader is asked for at once.
 const PIECE: usize = 4096;
 
-// A reader that is interrupted some times, then gives a byte at a time. It may fail once after its bytes, and gives the
-// rest to whoever asks again. It fails, too, where it is asked for too many bytes at once.
+// A reader that is interrupted some times, then returns a byte at a time. It may fail once after
+// its bytes, and returns the rest to a caller that reads again. It also fails if it is asked for
+// too many bytes at once.
 #[derive(Drop)]
 struct Choppy<'a> {
     bytes: &'a [u8],
@@ -54,8 +56,9 @@ impl<'a> Read for Choppy<'a> {
     }
 }
 
-// A writer that takes a byte at a time, one after each hundred of its interruptions and the rest after the last; at its
-// limit it takes nothing, or fails, once, and then takes what whoever asks again hands it.
+// A writer that accepts a byte at a time, one after each hundred of its interruptions and the rest
+// after the last. At its limit it accepts nothing, or fails, once, and then accepts what a caller
+// writes again.
 #[derive(Drop)]
 struct Narrow {
     taken: Vec<u8>,
@@ -119,7 +122,7 @@ fn number_of(fault: Option<Fault>) -> u8 {
     fault.map(|fault| fault.code).unwrap_or_default()
 }
 
-// Reads through a choppy reader: the fault's number, and whether these bytes were written.
+// Reads through a choppy reader: the number of the fault, and whether these bytes were written.
 fn reads<T: Threads + Wait + Sync>(
     rt: &T,
     alloc: Global,
@@ -133,7 +136,7 @@ fn reads<T: Threads + Wait + Sync>(
     (number_of(fault), out.as_slice() == wanted)
 }
 
-// Writes through a narrow writer: the fault's number, and whether these bytes were taken.
+// Writes through a narrow writer: the number of the fault, and whether these bytes were accepted.
 fn writes<T: Threads + Wait + Sync>(
     rt: &T,
     alloc: Global,
@@ -158,6 +161,8 @@ const READ_FAULT: &[u8] = b"fault,0,ReadFault\n";
 
 const BAD_LIMIT: &[u8] = b"fault,0,BadLimit\n";
 
+// Catches a ReadFault where the reader didn't fail, and a read of more than 4,096 bytes: no
+// contract excludes them.
 #[test]
 fn readers_that_interrupt_or_fail(rt: HostRuntime) -> Result<(), Fail> {
     for place in 0..3usize {
@@ -188,6 +193,7 @@ fn readers_that_interrupt_or_fail(rt: HostRuntime) -> Result<(), Fail> {
     Ok(())
 }
 
+// Catches a WriteFault in place of BadLimit over a reader that fails, which the contracts allow.
 #[test]
 fn bad_limits_come_before_a_failed_read(rt: HostRuntime) -> Result<(), Fail> {
     for place in 0..3usize {
@@ -206,6 +212,7 @@ fn bad_limits_come_before_a_failed_read(rt: HostRuntime) -> Result<(), Fail> {
     Ok(())
 }
 
+// Catches a WriteFault where the writer didn't fail, which the contracts allow.
 #[test]
 fn writers_that_interrupt_or_fail(rt: HostRuntime) -> Result<(), Fail> {
     let rows: [(u32, usize, bool, u8); 5] = [
@@ -229,7 +236,7 @@ fn writers_that_interrupt_or_fail(rt: HostRuntime) -> Result<(), Fail> {
     Ok(())
 }
 
-// Interruptions of a stream: this many where it stands behind this many bytes.
+// Interruptions of a stream: `count` of them after `behind` bytes.
 #[derive(Clone, Copy)]
 struct Halt {
     behind: usize,
@@ -237,7 +244,7 @@ struct Halt {
 }
 
 impl Halt {
-    // Whether a call behind this many bytes is interrupted.
+    // Whether a call after `place` bytes is interrupted.
     fn interrupts(&mut self, place: usize) -> bool {
         if self.behind != place || self.count == 0 {
             return false;
@@ -247,8 +254,8 @@ impl Halt {
     }
 }
 
-// A reader that gives a byte at a time, is interrupted at two places, may fail for good behind some bytes, and counts
-// its calls.
+// A reader that returns a byte at a time, is interrupted at two places, may fail for good after
+// some bytes, and counts its calls.
 #[derive(Drop)]
 struct Counted<'a> {
     bytes: &'a [u8],
@@ -280,7 +287,8 @@ impl<'a> Read for Counted<'a> {
     }
 }
 
-// Reads through a counting reader: the fault's number, whether these bytes were written, and how many reads it got.
+// Reads through a counting reader: the number of the fault, whether these bytes were written, and
+// the number of reads.
 fn reads_counted<T: Threads + Wait + Sync>(
     rt: &T,
     alloc: Global,
@@ -307,7 +315,7 @@ fn reads_counted<T: Threads + Wait + Sync>(
     )
 }
 
-// 600 interruptions at the start, and some behind the first byte.
+// 600 interruptions at the start, and `count` after the first byte.
 fn in_two_parts(count: u64) -> [Halt; 2] {
     [
         Halt {
@@ -318,6 +326,8 @@ fn in_two_parts(count: u64) -> [Halt; 2] {
     ]
 }
 
+// Catches reads of the device below that `RecordingReader` doesn't record, and a ReadFault before
+// the last retry.
 #[test]
 fn interrupted_reads_are_counted_over_a_run(rt: HostRuntime) -> Result<(), Fail> {
     for place in 0..3usize {
@@ -345,6 +355,7 @@ fn interrupted_reads_are_counted_over_a_run(rt: HostRuntime) -> Result<(), Fail>
     Ok(())
 }
 
+// Catches a read of the device below, after it failed, that `RecordingReader` doesn't record.
 #[test]
 fn a_failed_device_is_not_read_again(rt: HostRuntime) -> Result<(), Fail> {
     for place in 0..3usize {
@@ -355,7 +366,7 @@ fn a_failed_device_is_not_read_again(rt: HostRuntime) -> Result<(), Fail> {
     Ok(())
 }
 
-// A writer that takes whatever it gets, and is interrupted at two places.
+// A writer that accepts all bytes it gets, and is interrupted at two places.
 #[derive(Drop)]
 struct Halting {
     taken: Vec<u8>,
@@ -380,7 +391,8 @@ impl Write for Halting {
     }
 }
 
-// An input of two lines. Those of `replay` and `trace` end in a fault, whose line is the second.
+// An input with two lines of output. Those of `replay` and `trace` end in a fault, whose line is
+// the second.
 fn two_lines_of(call: Call) -> &'static [u8] {
     match call {
         Call::Replay => b"member,votes\nscript\nopen,1\nopen\n",
@@ -389,8 +401,8 @@ fn two_lines_of(call: Call) -> &'static [u8] {
     }
 }
 
-// Writes through a writer that is interrupted 600 times before the first line, and so often before the second: the
-// fault's number, and whether these bytes were taken.
+// Writes through a writer that is interrupted 600 times before the first line, and `count` times
+// before the second: the number of the fault, and whether these bytes were accepted.
 fn writes_two_lines<T: Threads + Wait + Sync>(
     rt: &T,
     alloc: Global,
@@ -414,6 +426,8 @@ fn writes_two_lines<T: Threads + Wait + Sync>(
     (number_of(fault), out.taken.as_slice() == wanted)
 }
 
+// Catches a count of interruptions that starts again with each line: no contract says that a run
+// makes one `Output`.
 #[test]
 fn interrupted_writes_are_counted_over_a_run(rt: HostRuntime) -> Result<(), Fail> {
     let rows: [(u8, &[u8]); 3] = [

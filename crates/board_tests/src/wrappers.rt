@@ -1,4 +1,5 @@
-//! The wrappers of streams: each call makes one call below, and answers what that one answers.
+//! Tests of `RecordingReader` and `RecordingWriter`: each call makes one call below and returns the
+//! result of that call.
 ghost use Rattle.std.specs.Prelude.{◌≤◌, IfOk};
 
 use board_report::{Given, Told};
@@ -7,7 +8,7 @@ use std::io::{ErrorKind, Read, Write};
 use std::sync::atomic::{AtomicU64, Ordering};
 use std::test::Fail;
 
-// What a device answers to a call.
+// The result of a call to a device.
 #[derive(Clone, Copy, Debug, PartialEq, Eq)]
 enum Answer {
     Moves(usize),
@@ -32,7 +33,8 @@ const ANSWERS: [Answer; 6] = [
     Answer::Fails(ErrorKind::WouldBlock),
 ];
 
-// A device that gives one answer to its first call, moves one byte at each later one, and counts its calls.
+// A device that gives one answer to its first call, moves one byte at each later call, and counts
+// its calls.
 #[derive(Drop)]
 struct Device<'a> {
     first: Answer,
@@ -72,6 +74,8 @@ impl<'a> Write for Device<'a> {
     }
 }
 
+// Catches a read that makes no call or two calls below, or returns another result: contracts can't
+// name those calls.
 #[test]
 fn a_read_is_one_read_below(rt: HostRuntime) -> Result<(), Fail> {
     for first in ANSWERS {
@@ -87,6 +91,8 @@ fn a_read_is_one_read_below(rt: HostRuntime) -> Result<(), Fail> {
     Ok(())
 }
 
+// Catches a write that makes no call or two calls below, or returns another result: contracts can't
+// name those calls.
 #[test]
 fn a_write_is_one_write_below(rt: HostRuntime) -> Result<(), Fail> {
     for first in ANSWERS {

@@ -1,4 +1,4 @@
--- What an input begins with, and why nothing comes of it.
+-- The start of an input, and the errors before the script.
 use Rattle.std.proofs.Common.{◌≡◌, ◌<◌, ◌≤◌, ◌⊎◌, inl, inr, ℕ, true, false, List, length, IfErr, Result, Ok, Err, refl, ap}
 use Rattle.std.proofs.lemmas.Bool.{le-leb, lt-leb}
 use Rattle.csv.specs.Reading.{default_config, records, strip_bom}

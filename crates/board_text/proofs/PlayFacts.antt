@@ -20,7 +20,7 @@ front-none xs = (xs, refl)
 pub front-after : {A : Type 0} (done f xs : List A) → IsFrontOf f xs → IsFrontOf (done ++ f) (done ++ xs)
 front-after done f xs h = (h.0, ap (λ l. done ++ l) h.1 ∙ sym (append_assoc done f h.0))
 
--- a front of a front
+-- a prefix of a list is a prefix of a longer list
 pub front-before : {A : Type 0} (f xs ys : List A) → IsFrontOf f xs → IsFrontOf f (xs ++ ys)
 front-before f xs ys h = (h.0 ++ ys, ap (λ l. l ++ ys) h.1 ∙ append_assoc f h.0 ys)
 
@@ -111,7 +111,7 @@ plays-whole a b c r whole left so_far q = rw so_far.goes_on (plays-after a b c s
 pub plays-nothing : (a : Option (List ℕ)) (u : Unit {0}) → Plays a a (Ok u) (prints [])
 plays-nothing a u = (refl, Appends-nil a)
 
--- what stands at an index in a list, and its line
+-- the item at an index of a list, and its line
 pub record RowAt {X : Type 0} (f : X → Line) (xs : List X) (i : ℕ) : Type 0 where
   pub thing : X
   pub line : Line
@@ -140,7 +140,7 @@ rows-stop f a b c e xs i row p q =
     let so_far : PlayedTo a b (prints (map f xs)) (prints (f x ∷ rest)) = record { lines = map f (take i xs); written = p; goes_on = ap prints split } in
     plays-whole a b c (Err e) _ _ so_far (plays-more b c e (f x ∷ []) (prints rest) (plays-spelled b c (Err e) row.line (f x) row.spelled q))
 
--- a line with others behind it, as they are written and as they are spelled
+-- a line with others after it, as they are written and as they are spelled
 pub record FirstLine (spelled : Line) (behind : List Line) : Type 0 where
   pub line : Line
   pub others : List Line
@@ -169,7 +169,7 @@ plays-broken a b e whole left causes so_far = plays-whole a b b (Err e) whole le
 pub line-then : (a b c : Option (List ℕ)) (ls : List Line) (l : Line) → Appends a b (text_of ls) → Appends b c (line_text l) → Appends a c (text_of (ls ++ l ∷ []))
 line-then a b c ls l p q = lines-then a b c ls (l ∷ []) p (appends-same b c _ _ (sym (append-nil (line_text l))) q)
 
--- lines, and a front of one more
+-- lines, and a prefix of one more
 pub front-then : (a b c : Option (List ℕ)) (ls : List Line) (l : Line) → Appends a b (text_of ls) → AppendsFront b c (line_text l) → AppendsFront a c (text_of (ls ++ l ∷ []))
 front-then a b c ls l p q =
     let P : List ℕ → Type 0 = λ t. IsFrontOf (text_of ls ++ q.0) t in

@@ -55,7 +55,8 @@ pub second_chair : chair_line record {
 unfolding digits
 second_chair = refl
 
--- a sink after so many interruptions that were retried, so many writes, and so many of these that took no byte
+-- a sink after `interrupted` retried interruptions and `asks` writes, `vain` of which accepted no
+-- byte
 abbrev sink : ℕ → ℕ → ℕ → Sink
 sink interrupted asks vain = record { lender = 0; held = None; interrupted = interrupted; asks = asks; vain = vain }
 
@@ -106,7 +107,7 @@ written_after_a_failure h = absurd (omega (arith, h))
 abbrev reader : ℕ → ℕ → Giving
 reader vain interruptions = record { left = None; gave = []; ended = false; asks = vain; vain = vain; interruptions = interruptions }
 
--- one read found the end, or failed, behind an interruption
+-- one read found the end, or failed, after an interruption
 end_found : NoReadInVain {A = Unit {0}} (reader 0 0) (reader 2 1) (Ok tt)
 end_found = omega arith
 

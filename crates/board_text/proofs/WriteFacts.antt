@@ -12,20 +12,20 @@ use Rattle.board_text.specs.declared.stops.Stop.{Stop}
 pub rest-of : (i : ℕ) (text : List ℕ) → take (length text - i) (drop i text) ≡ drop i text
 rest-of i text = take_all _ _ (omega (arith, length-drop i text))
 
--- a front of a text, and then the next bytes of it
+-- a prefix of a text, and then the next bytes of it
 pub appends-on : (a b c : Option (List ℕ)) (i n : ℕ) (text : List ℕ) → Appends a b (take i text) → Appends b c (take n (take (length text - i) (drop i text))) → Appends a c (take (i + n) text)
 appends-on a b c i n text p q =
     let P : List ℕ → Type 0 = λ bs. Appends a c bs in
     subst P (sym (take-add i n text)) (Appends-trans a b c _ _ p (rw rest-of at q))
 
--- bytes so far, and then a front of the rest
+-- bytes so far, and then a prefix of the rest
 pub front-and-front : (a b c : Option (List ℕ)) (i : ℕ) (text : List ℕ) → Appends a b (take i text) → AppendsFront b c (take (length text - i) (drop i text)) → AppendsFront a c text
 front-and-front a b c i text p q =
     let rest : drop i text ≡ q.0 ++ q.1.0 = sym (rest-of i text) ∙ q.1.1 in
     let whole : text ≡ (take i text ++ q.0) ++ q.1.0 = sym (take-append-drop i text) ∙ ap (λ l. take i text ++ l) rest ∙ sym (append_assoc (take i text) q.0 q.1.0) in
     (take i text ++ q.0, (q.1.0, whole), Appends-trans a b c _ _ p q.2)
 
--- what was written of a text is a front of it
+-- the bytes written of a text are a prefix of it
 pub front-written_by : (a b : Option (List ℕ)) (r : Result (Unit {0}) Stop) (text : List ℕ) → Writes a b r text → AppendsFront a b text
 front-written_by a b (Ok u) text p = (text, ([], sym (append-nil text)), p)
 front-written_by a b (Err e) text p = p.1

@@ -1,4 +1,4 @@
--- The lines of the output, each without its end.
+-- The lines of the output, each without its line end.
 use Rattle.std.specs.Prelude.{ℕ, List, [], ◌∷◌, ◌++◌, Option, Some, None, map, codes, decimal}
 use Rattle.std.specs.Option.{option_map_or}
 use Rattle.council_core.specs.Refusals.{code_of, name_of, refusal_of}
@@ -21,7 +21,7 @@ use Rattle.board_text.specs.declared.requests.Request.TheVariants as ask
 abbrev pub Line : Type 0
 Line = List ℕ
 
--- a word, and then fields, each after a comma
+-- a word, followed by fields, each after a comma
 abbrev pub line_of : List ℕ → List (List ℕ) → Line
 line_of word [] = word
 line_of word (field ∷ fields) = line_of (word ++ 44 ∷ field) fields
@@ -39,7 +39,7 @@ published_line n = line_of (codes "published") (decimal n ∷ [])
 abbrev pub fraction : Fraction → List ℕ
 fraction f = decimal f.num ++ 47 ∷ decimal f.den
 
--- the same, or `-` where it is absent
+-- a fraction, or `-` where it is absent
 abbrev pub fraction_if_any : Option Fraction → List ℕ
 fraction_if_any None = codes "-"
 fraction_if_any (Some f) = fraction f
@@ -56,17 +56,17 @@ chair_line c =
     (decimal c.chair ∷ decimal c.weight ∷ decimal c.swings ∷ fraction c.banzhaf ∷ fraction_if_any c.share
     ∷ fraction_if_any c.prevent ∷ fraction c.initiate ∷ [])
 
--- a reader that is in the way of a publication
+-- names the reader that blocked a publication
 abbrev pub busy_line : ℕ → Line
 busy_line reader = line_of (codes "busy") (decimal reader ∷ [])
 
--- what a reader of the machine read
+-- one reading in `trace`: the reader, and the front, cast and total of the sheet that it read
 abbrev pub sheet_line : ℕ → List ℕ → Line
 sheet_line reader words =
     line_of (codes "sheet")
     (decimal reader ∷ decimal (front_of words) ∷ decimal (cast_of words) ∷ decimal (total_of words) ∷ [])
 
--- what is printed of a note of the machine
+-- the lines printed for an output of the machine
 abbrev pub note_lines : Note → List Line
 note_lines (note.Accepted n) = accepted_line n ∷ []
 note_lines (note.Refused why) = refused_line why ∷ []
@@ -77,15 +77,15 @@ note_lines (note.Busy reader) = busy_line reader ∷ []
 note_lines (note.Read reader words) = sheet_line reader words ∷ []
 note_lines note.Skipped = codes "skipped" ∷ []
 
--- a reading's lines: the sheet's indices, and a line for each open chair by number
+-- the lines of a reading: the indices of the sheet, then one line for each open chair by number
 abbrev pub reading_lines : ℕ → Majority → List ℕ → List Line
 reading_lines reader m words = let i = indices_of m words in reading_line reader i ∷ map chair_line i.rows.items
 
--- the name of a fault; none where no refusal has its number
+-- the name of the refusal with this number; empty if there is none
 abbrev pub fault_name : ℕ → List ℕ
 fault_name code = option_map_or name_of (refusal_of code) []
 
--- the last line of a run that a fault ends
+-- the last line of a run that ends in a fault
 abbrev pub fault_line : Fault → Line
 fault_line f = line_of (codes "fault") (decimal f.place ∷ fault_name f.code ∷ [])
 
@@ -96,7 +96,7 @@ reply_line (refused why) = refused_line why
 reply_line (published n) = published_line n
 reply_line (reading words) = []
 
--- what is printed of a reply of the sequential register to a request
+-- the lines printed for the sequential register's reply to a request
 abbrev pub reply_lines : Request → Reply → List Line
 reply_lines (ask.Submit c) r = reply_line r ∷ []
 reply_lines ask.Publish r = reply_line r ∷ []
@@ -105,7 +105,7 @@ reply_lines (ask.Read reader m) (accepted n) = []
 reply_lines (ask.Read reader m) (refused why) = []
 reply_lines (ask.Read reader m) (published n) = []
 
--- how many readings a reader took
+-- the number of readings by a reader
 abbrev pub reader_line : ℕ → ℕ → Line
 reader_line reader count = line_of (codes "reader") (decimal reader ∷ decimal count ∷ [])
 

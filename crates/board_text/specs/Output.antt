@@ -1,4 +1,4 @@
--- What a run has written, by how it ended.
+-- The text that a run has written, by its result.
 use Rattle.std.specs.Prelude.{◌≡◌, ◌≤◌, ℕ, length, take, ◌⊎◌, List, ◌++◌, Option}
 use Rattle.std.specs.Prelude.{Some, None, Result, Ok, Err}
 use Rattle.std.specs.Io.KnownBytes.{Appends}
@@ -15,29 +15,30 @@ use Rattle.board_text.specs.declared.faults.Fault.{Fault}
 use Rattle.board_text.specs.declared.stops.Stop.{Stop}
 use Rattle.board_text.specs.declared.stops.Stop.TheVariants as stop
 
--- a list begins with these
+-- the first list is a prefix of the second
 abbrev pub IsFrontOf : {A : Type 0} → List A → List A → Type 0
 IsFrontOf {A} front whole = (rest : List A) × (whole ≡ front ++ rest)
 
--- a front of the text was appended
+-- a prefix of the text was appended
 abbrev pub AppendsFront : Option (List ℕ) → Option (List ℕ) → List ℕ → Type 0
 AppendsFront old new text = (front : List ℕ) × IsFrontOf front text × Appends old new front
 
--- at `Ok` the whole text was appended; the one error leaves a front of it
+-- `Ok`: the whole text was appended. WriteFault, the only error: a prefix of it was appended
 abbrev pub Writes : Option (List ℕ) → Option (List ℕ) → Result (Unit {0}) Stop → List ℕ → Type 0
 Writes old new (Ok _) text = Appends old new text
 Writes old new (Err e) text = (e ≡ stop.WriteFault) × AppendsFront old new text
 
--- one write: at `Ok` so many first bytes of the text were appended; the one error leaves a front of it
+-- one write. `Ok n`: the first n bytes of the text were appended. WriteFault, the only error: a
+-- prefix of it was appended
 abbrev pub WritesSome : Option (List ℕ) → Option (List ℕ) → Result ℕ Stop → List ℕ → Type 0
 WritesSome old new (Ok n) text = (n ≤ length text) × Appends old new (take n text)
 WritesSome old new (Err e) text = (e ≡ stop.WriteFault) × AppendsFront old new text
 
--- some first lines of a run were appended
+-- a prefix of these lines was appended
 abbrev pub AppendsLines : Option (List ℕ) → Option (List ℕ) → List Line → Type 0
 AppendsLines old new lines = (front : List Line) × IsFrontOf front lines × Appends old new (text_of front)
 
--- what stands before the fault's line
+-- the text that was appended before the line of the fault
 abbrev pub StopsIn : Option (List ℕ) → Option (List ℕ) → Stop → Run → Type 0
 StopsIn old new stop.OutOfMemory run = AppendsLines old new run.lines
 StopsIn old new stop.ReadFault run = AppendsLines old new run.lines
@@ -48,19 +49,21 @@ abbrev pub Plays : Option (List ℕ) → Option (List ℕ) → Result (Unit {0})
 Plays old new (Ok _) run = (run.end ≡ None) × Appends old new (text_of run.lines)
 Plays old new (Err e) run = StopsIn old new e run
 
--- why nothing came of a reading of the input: out of memory, a failed read, or the fault that its definition says
+-- the error of a read of the input: out of memory, a failed read, or the fault that the definition
+-- gives
 abbrev pub Fails : {A : Type 0} → Stop → Result A Fault → Type 0
 Fails stop.OutOfMemory spec = Unit {0}
 Fails stop.ReadFault spec = Unit {0}
 Fails stop.WriteFault spec = ⊥
 Fails (stop.Told f) spec = spec ≡ Err f
 
--- how the opening was read: it leaves the script's records, or stopped as its definition says
+-- the result of reading the opening: the script's records are left, or the error is allowed by
+-- `Fails`
 abbrev pub Opens : Result OpeningRead Stop → List Row → Result Opened Fault → Type 0
 Opens (Ok o) left spec = spec ≡ Ok (o.members.items, o.number, left)
 Opens (Err e) left spec = Fails e spec
 
--- how a register was started over these members: as its definition says, or not at all
+-- the result of starting a register over these members: the definition's, or out of memory
 abbrev pub Starts : Limits → Opening → Result Ledger Stop → Type 0
 Starts lim members (Ok ledger) = (start_verdict members lim.journal ≡ Ok tt) × (ledger ≡ started lim members)
 Starts lim members (Err stop.OutOfMemory) = Unit {0}
@@ -69,23 +72,24 @@ Starts lim members (Err stop.WriteFault) = ⊥
 Starts lim members (Err (stop.Told f)) = (e : Refusal) × (start_verdict members lim.journal ≡ Err e)
     × (f ≡ fault_at e 0)
 
--- the fault whose line is to be written
+-- the fault whose line is to be written; none after a failed write
 abbrev pub fault_of : Stop → Option Fault
 fault_of stop.OutOfMemory = Some (fault_at why.OutOfMemory 0)
 fault_of stop.ReadFault = Some (fault_at why.ReadFault 0)
 fault_of stop.WriteFault = None
 fault_of (stop.Told f) = Some f
 
--- out of memory, or a failed read: a fault that may come at any time and tells of no record
+-- out of memory or a failed read: a fault that is possible at any time and names no record
 abbrev pub IsBroken : Fault → Type 0
 IsBroken f = (f ≡ fault_at why.OutOfMemory 0) ⊎ (f ≡ fault_at why.ReadFault 0)
 
--- the fault's line was written, or the writer failed
+-- the line of the fault was written, or the writer failed
 abbrev pub Ends : Option (List ℕ) → Option (List ℕ) → Fault → Fault → Type 0
 Ends old new f result =
     ((result ≡ f) × Appends old new (line_text (fault_line f)))
     ⊎ ((result ≡ fault_at why.WriteFault 0) × AppendsFront old new (line_text (fault_line f)))
 
--- limits out of range are the fault, or its line could not be written
+-- the limits are out of range: the fault is BadLimit, or WriteFault if its line could not be
+-- written
 abbrev pub IsBadLimit : {A : Type 0} → Result A Fault → Type 0
 IsBadLimit r = (r ≡ Err (fault_at why.BadLimit 0)) ⊎ (r ≡ Err (fault_at why.WriteFault 0))

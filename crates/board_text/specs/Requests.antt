@@ -1,4 +1,4 @@
--- What the records of an input ask for.
+-- The meaning of the records of an input.
 use Rattle.std.specs.Prelude.{ℕ, List, [], ◌∷◌, Bool, false, ◌&&◌, Option, Some, None, if◌then◌else◌}
 use Rattle.std.specs.Prelude.{option_map, codes}
 use Rattle.std.specs.Str.{bytes_eq}
@@ -15,12 +15,12 @@ use Rattle.board_text.specs.declared.requests.Request.TheVariants as ask
 abbrev pub Row : Type 0
 Row = List (List ℕ)
 
--- the first record of an input
+-- the record is the header, the first record of an input
 abbrev pub is_header : Row → Bool
 is_header (a ∷ b ∷ []) = bytes_eq a (codes "member") && bytes_eq b (codes "votes")
 is_header _ = false
 
--- the record between the members and the script
+-- the record is the mark between the members and the script
 abbrev pub is_mark : Row → Bool
 is_mark (a ∷ []) = bytes_eq a (codes "script")
 is_mark _ = false
@@ -30,7 +30,7 @@ abbrev pub member_of : Row → Option (List ℕ × ℕ)
 member_of (a ∷ b ∷ []) = both (λ code votes. (code, votes)) (code_of_member a) (votes_of b)
 member_of _ = None
 
--- a command of a word and a field
+-- the command of a word and one field
 abbrev pub command_of_one : List ℕ → List ℕ → Option Command
 command_of_one word a =
     if bytes_eq word (codes "open") then option_map Open (chair_of a)
@@ -40,7 +40,7 @@ command_of_one word a =
     else if bytes_eq word (codes "withdraw") then option_map Withdraw (code_of_member a)
     else None
 
--- a command of a word and two fields
+-- the command of a word and two fields
 abbrev pub command_of_two : List ℕ → List ℕ → List ℕ → Option Command
 command_of_two word a b =
     if bytes_eq word (codes "move") then both Move (code_of_member a) (seat_of b)
@@ -54,28 +54,28 @@ command_of (word ∷ a ∷ []) = command_of_one word a
 command_of (word ∷ a ∷ b ∷ []) = command_of_two word a b
 command_of _ = None
 
--- a reading by a reader at a majority
+-- a reading by a numbered reader at a majority
 abbrev pub reading_of : Row → Option Request
 reading_of (word ∷ a ∷ b ∷ []) = if bytes_eq word (codes "read") then both ask.Read (number_of a) (majority_of b)
     else None
 reading_of _ = None
 
--- a publication
+-- the record asks for a publication
 abbrev pub is_publish : Row → Bool
 is_publish (word ∷ []) = bytes_eq word (codes "publish")
 is_publish _ = false
 
--- the first of two that is there
+-- the first of two options that is present
 abbrev pub first_of : {A : Type 0} → Option A → Option A → Option A
 first_of None other = other
 first_of (Some a) other = Some a
 
--- what a record of the script of `replay` asks for, if it is well formed
+-- the request of a record in the script of `replay`, if it is well formed
 abbrev pub request_of : Row → Option Request
 request_of row = if is_publish row then Some ask.Publish
     else first_of (reading_of row) (option_map ask.Submit (command_of row))
 
--- the call of the sequential register that a request is
+-- the sequential register's call for a request
 abbrev pub call_of : Request → Call
 call_of (ask.Submit c) = submit c
 call_of ask.Publish = publish

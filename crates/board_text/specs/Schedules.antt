@@ -1,4 +1,4 @@
--- What the records of a schedule ask for.
+-- The meaning of the records of a schedule.
 use Rattle.std.specs.Prelude.{ℕ, List, [], ◌∷◌, Bool, true, Option, Some, None}
 use Rattle.std.specs.Prelude.{if◌then◌else◌, option_map, codes}
 use Rattle.std.specs.Option.{option_and_then}
@@ -11,15 +11,15 @@ use Rattle.board_text.specs.declared.bounds.Limits.{Limits}
 use Rattle.board_text.specs.declared.schedules.Act.{Act}
 use Rattle.board_text.specs.declared.schedules.Act.TheVariants as act
 
--- how many steps: a number from 1 to 1,000
+-- a number of steps: from 1 to 1,000
 abbrev pub count_of : List ℕ → Option ℕ
 count_of field = option_and_then (within 1 1000) (number_of field)
 
--- `submit` and the fields of a command record
+-- `submit` followed by the fields of a command record
 abbrev pub submission_of : List ℕ → Row → Option Act
 submission_of word fields = if bytes_eq word (codes "submit") then option_map act.Submit (command_of fields) else None
 
--- what a record of a schedule asks for, if it is well formed
+-- the act of a record in a schedule, if it is well formed
 abbrev pub act_of : Row → Option Act
 act_of (word ∷ []) = if bytes_eq word (codes "publish") then Some act.Publish else None
 act_of (word ∷ a ∷ []) = if bytes_eq word (codes "writer") then option_map act.Writer (count_of a) else None
@@ -29,7 +29,7 @@ act_of (word ∷ a ∷ b ∷ []) =
 act_of (word ∷ a ∷ b ∷ c ∷ []) = submission_of word (a ∷ b ∷ c ∷ [])
 act_of _ = None
 
--- whether that is of a reader that there is
+-- whether the reader number of an act is in range
 abbrev pub is_scheduled : Limits → Act → Bool
 is_scheduled lim (act.Reader number count) = is_reader lim number
 is_scheduled lim (act.Submit c) = true

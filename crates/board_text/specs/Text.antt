@@ -1,4 +1,4 @@
--- What a run writes and how it ends, as a function of the bytes that it reads.
+-- The text that a run writes and the fault that ends it, as a function of the bytes of its input.
 use Rattle.std.specs.Prelude.{ℕ, ◌+◌, ◌==◌, ◌&&◌, List, [], ◌∷◌, ◌++◌, Bool, true, Option, Some}
 use Rattle.std.specs.Prelude.{None, Result, Ok, Err, ⊤, length, nat_le, if◌then◌else◌}
 use Rattle.std.specs.List.{flat_map}
@@ -19,12 +19,12 @@ use Rattle.board_text.specs.declared.faults.Fault.{Fault}
 use Rattle.board_text.specs.declared.requests.Request.{Request}
 use Rattle.board_text.specs.declared.requests.Request.TheVariants as ask
 
--- the lines of a run, each without its end, and the fault that ended it, if one did
+-- the lines of a run, each without its line end, and the fault that ended it, if any
 pub record Run : Type 0 where
   pub lines : List Line
   pub end : Option Fault
 
--- the fault of a refusal at a record's number, or at 0
+-- the fault of a refusal at a record number, or at 0
 abbrev pub fault_at : Refusal → ℕ → Fault
 fault_at why number = record { code = code_of why; place = number }
 
@@ -34,38 +34,39 @@ stops f = record { lines = []; end = Some f }
 abbrev pub prints : List Line → Run
 prints ls = record { lines = ls; end = None }
 
--- these lines, and then a run
+-- a run with these lines before its own
 abbrev pub after : List Line → Run → Run
 after ls r = record { lines = ls ++ r.lines; end = r.end }
 
--- a line with its end
+-- a line with its line end
 abbrev pub line_text : Line → List ℕ
 line_text l = l ++ 10 ∷ []
 
 abbrev pub text_of : List Line → List ℕ
 text_of ls = flat_map line_text ls
 
--- whether there is a reader of that number
+-- whether the reader number is in range
 abbrev pub is_reader : Limits → ℕ → Bool
 is_reader lim number = nat_le 1 number && nat_le number lim.readers
 
--- whether a request is of a reader that there is
+-- whether the reader number of a request is in range
 abbrev pub is_served : Limits → Request → Bool
 is_served lim (ask.Read reader m) = is_reader lim reader
 is_served lim (ask.Submit c) = true
 is_served lim ask.Publish = true
 
--- what the records before the script say: the members, the number of the script's first record, and its records
+-- the contents of the records before the script: the members, the number of the script's first
+-- record, and its records
 abbrev pub Opened : Type 0
 Opened = Opening × ℕ × List Row
 
--- a member's record that is well formed, and what comes after it
+-- the fault of a malformed member record, or else the rest of the opening after that member
 abbrev pub member_then : ℕ → Option (List ℕ × ℕ) → (List ℕ × ℕ → Result Opened Fault)
     → Result Opened Fault
 member_then k None more = Err (fault_at BadRecord k)
 member_then k (Some m) more = more m
 
--- the members' records up to the mark, after these members; k is the number of the next record
+-- reads the members' records up to the mark, after `members`; k is the number of the next record
 unfoldable pub opening_of : Opening → ℕ → List Row → Result Opened Fault
 opening_of members k [] = Err (fault_at NoScript 0)
 opening_of members k (r ∷ rs) =
@@ -73,11 +74,11 @@ opening_of members k (r ∷ rs) =
     else if length members == 256 then Err (fault_at TooManyMembers 0)
     else member_then k (member_of r) (λ m. opening_of (members ++ m ∷ []) (k + 1) rs)
 
--- a register with these members, which has accepted nothing
+-- a register with these members and an empty journal
 abbrev pub started : Limits → Opening → Ledger
 started lim members = record { opening = members; journal = []; limit = lim.journal }
 
--- what a script begins with: the register, the number of its first record, and its records
+-- the start of a script: the register, the number of the script's first record, and its records
 abbrev pub Begun : Type 0
 Begun = Ledger × ℕ × List Row
 
@@ -89,17 +90,17 @@ abbrev pub begun_with : Limits → Result Opened Fault → Result Begun Fault
 begun_with lim (Err f) = Err f
 begun_with lim (Ok p) = started_with lim (start_verdict p.0 lim.journal) p
 
--- what the records of an input say before the script
+-- the members and the script of the records of an input, or the first fault before the script
 abbrev pub opened_of : List Row → Result Opened Fault
 opened_of [] = Err (fault_at BadHeader 0)
 opened_of (r ∷ rs) = if is_header r then opening_of [] 2 rs else Err (fault_at BadHeader 0)
 
--- readers and a journal's commands: one at least, and no more than there may be
+-- both limits are in range: readers from 1 to READERS, journal from 1 to MAX_COMMANDS
 abbrev pub in_range : Limits → Bool
 in_range lim =
     nat_le 1 lim.readers && nat_le lim.readers READERS && nat_le 1 lim.journal && nat_le lim.journal MAX_COMMANDS
 
--- what the script of these bytes begins with, or the fault before it
+-- the start of the script of these bytes, or the fault before it
 unfoldable pub begun_of : Limits → List ℕ → Result Begun Fault
 begun_of lim bytes =
     if in_range lim
@@ -107,7 +108,7 @@ begun_of lim bytes =
     else Err (fault_at TooLong 0)
     else Err (fault_at BadLimit 0)
 
--- a register with no command published, which is the start of a replay
+-- the sequential register at the start of a replay: no command is published
 abbrev pub fresh : Ledger → Sequential
 fresh ledger = record { ledger = ledger; published = 0 }
 
@@ -115,6 +116,6 @@ abbrev pub end_lines : Option Fault → List Line
 end_lines None = []
 end_lines (Some f) = fault_line f ∷ []
 
--- all that a run writes
+-- all bytes that a run writes
 abbrev pub output : Run → List ℕ
 output run = text_of (run.lines ++ end_lines run.end)

@@ -1,4 +1,4 @@
--- What the fields of a record say.
+-- The meaning of the fields of a record.
 use Rattle.std.specs.Prelude.{ℕ, List, [], ◌∷◌, Option, Some, None, nat_le, ◌&&◌, ◌^◌, if◌then◌else◌, option_map}
 use Rattle.std.specs.Prelude.{codes}
 use Rattle.std.specs.Option.{option_and_then}
@@ -8,7 +8,7 @@ use Rattle.majority_rule.specs.declared.majorities.Majority.{Majority}
 use Rattle.majority_rule.specs.declared.majorities.Majority.TheVariants.{Half, Seventy, EightyFive, Quorum}
 use Rattle.board_text.specs.Numbers.{number_of}
 
--- a number, where it lies between two others
+-- a number, if it lies between two others
 abbrev pub within : ℕ → ℕ → ℕ → Option ℕ
 within low high n = if nat_le low n && nat_le n high then Some n else None
 
@@ -35,7 +35,7 @@ word_of_majority Seventy = codes "70"
 word_of_majority EightyFive = codes "85"
 word_of_majority Quorum = codes "quorum"
 
--- the first of these whose word a field is
+-- the first of these majorities whose word is this field
 abbrev pub first_worded : List Majority → List ℕ → Option Majority
 first_worded [] field = None
 first_worded (m ∷ ms) field = if bytes_eq field (word_of_majority m) then Some m else first_worded ms field
@@ -44,7 +44,7 @@ first_worded (m ∷ ms) field = if bytes_eq field (word_of_majority m) then Some
 abbrev pub majority_of : List ℕ → Option Majority
 majority_of field = first_worded (Half ∷ Seventy ∷ EightyFive ∷ Quorum ∷ []) field
 
--- two things that are both there, joined
+-- two options combined, if both are present
 abbrev pub both : {A B C : Type 0} → (A → B → C) → Option A → Option B → Option C
 both f None other = None
 both f (Some a) None = None

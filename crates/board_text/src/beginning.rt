@@ -1,4 +1,4 @@
-//! The beginning of a run: its input read whole, and the records before the script.
+//! The start of a run: reads the whole input, then the records before the script.
 ghost use Rattle.std.specs.Prelude.{◌≡◌, ◌≤◌, ◌<◌, ◌+◌, ◌^◌, [], Ok, true, false, length};
 ghost use Rattle.std.specs.Prelude.{IfOk, IfErr, IsErrOf, OnOk};
 ghost use Rattle.told_streams.specs.Tapes.{OfInput};
@@ -20,15 +20,27 @@ use std::alloc::Global;
 use std::io::Read;
 use told_streams::Given;
 
-/// A register of an opening's members, with the number of the script's first record.
+/// The start of a script: a register with the members of the input's opening.
 #[derive(Drop)]
 pub struct Beginning {
+    /// The register, with an empty journal.
     pub register: Register,
+    /// The members of the opening, in input order.
     pub members: Vec<(MemberCode, Votes)>,
+    /// The number of the script's first record, counted from 1 over all records of the input.
     pub place: u32,
 }
 
-/// Reads the input whole, where the limits are in range.
+/// Reads the whole input, if the limits are in range.
+///
+/// # Errors
+///
+/// - `Stop::Told` with `BadLimit` at 0: a limit is out of range. Nothing was read.
+/// - `Stop::ReadFault`: a read failed, or was interrupted after `INTERRUPTIONS` retries.
+/// - `Stop::Told` with `TooLong` at 0: the input has more than `INPUT_LIMIT` bytes.
+/// - `Stop::OutOfMemory`.
+///
+/// After each of the last three some of the input has been read, and none of it is returned.
 pub fn read_within<R: Read + Drop>(
     alloc: Global,
     input: &mut Given<R>,
@@ -50,7 +62,7 @@ pub fn read_within<R: Read + Drop>(
     read_input(alloc, input)
 }
 
-// A register of these members.
+// A register with these members.
 fn start_register(
     alloc: Global,
     members: &[(MemberCode, Votes)],
@@ -66,7 +78,21 @@ fn start_register(
     }
 }
 
-/// Reads the records before the script, and starts the register.
+/// Reads the header and the members' records, and starts the register. The next record of `script`
+/// is then the script's first.
+///
+/// # Errors
+///
+/// All are `Stop::Told` except the last two; the first fault in the order of the records is
+/// returned.
+///
+/// - `BadHeader` at 0: there is no first record, or it isn't `member,votes`.
+/// - `BadRecord` at the number of the record: a member's record isn't well formed.
+/// - `TooManyMembers` at 0: there are more than `MAX_MEMBERS` members.
+/// - `NoScript` at 0: the input ends before the record `script`.
+/// - `BadLimit` at 0: the journal limit is out of range; `DuplicateMember` at 0: two members have
+///   the same code.
+/// - `Stop::OutOfMemory` and `Stop::ReadFault`: possible at any record.
 pub fn begin(
     alloc: Global,
     script: &mut Script<'_>,
@@ -75,12 +101,12 @@ pub fn begin(
 ) -> Result<Beginning, Stop>
     requires { length script.old < 2 ^ 31 }
 
-    // What the records say, or the first fault in them.
+    // The contents of the records, or the first fault in them.
     ensures begun { IfOk result
         (λ b. begun_with limits (opened_of script.old) ≡ Ok (b.register, b.place, script.new)) }
     ensures fault { IfErr result (λ e. Fails e (begun_with limits (opened_of script.old))) }
 
-    // The register is at its start, and the records that are left can be numbered.
+    // The register is at its start, and the remaining records can be numbered.
     ensures members { IfOk result (λ b. b.register.opening ≡ b.members.items) }
     ensures starts { IfOk result (λ b. start_verdict b.members.items MAX_COMMANDS ≡ Ok tt) }
     ensures none { IfOk result (λ b. b.register.journal ≡ []) }

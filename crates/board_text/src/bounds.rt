@@ -5,15 +5,18 @@ ghost use Rattle.board_text.specs.Text.{in_range, is_reader};
 use council_core::MAX_COMMANDS;
 use two_copy_steps::READERS;
 
-/// How many readers there are, from 1 to `READERS`, and how many commands the journal takes, from 1 to `MAX_COMMANDS`.
+/// The limits of a run, chosen by its caller. Limits out of range are the fault `BadLimit` of the
+/// run.
 #[derive(Clone, Copy, Debug, PartialEq, Eq)]
 pub struct Limits {
+    /// The number of readers, from 1 to `READERS`.
     pub readers: u8,
+    /// The most commands that the journal accepts, from 1 to `MAX_COMMANDS`.
     pub journal: u32,
 }
 
 impl Limits {
-    // Whether both lie in their ranges.
+    // Whether both limits are in range.
     pub(crate) fn is_in_range(self) -> bool
         ensures known { result ≡ in_range self }
     {
@@ -21,7 +24,7 @@ impl Limits {
         1 <= readers && readers <= READERS && 1 <= self.journal && self.journal <= MAX_COMMANDS
     }
 
-    // Whether there is a reader of that number.
+    // Whether the reader number is in range.
     pub(crate) fn has_reader(self, number: u64) -> bool
         ensures known { result ≡ is_reader self number }
     {

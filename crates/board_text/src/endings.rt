@@ -8,7 +8,8 @@ use crate::output::Output;
 use council_core::Refusal;
 use std::io::Write;
 
-/// Writes the line of a fault, and answers the fault, or that of the writer.
+/// Writes the line of a fault and returns that fault, or `WriteFault` at 0 if the line could not be
+/// written.
 pub fn end_with<W: Write>(out: &mut Output<'_, W>, fault: Fault) -> Fault
     ensures ends { Ends out.old.held out.new.held fault result }
     ensures on { GoesOn out.old out.new }

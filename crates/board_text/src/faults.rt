@@ -1,20 +1,21 @@
-//! How a run ends that does not end well.
+//! The public error of a run.
 ghost use Rattle.std.specs.Prelude.{◌≡◌, ◌≤◌, length};
 ghost use Rattle.board_text.specs.Lines.{fault_name};
 ghost use Rattle.board_text.specs.Text.{fault_at};
 
 use council_core::Refusal;
 
-/// What ended a run: the number of a refusal, and the number of the record that it is of, counted
-/// from 1, or 0 where it is of no record.
+/// The error that ended a run.
 #[derive(Clone, Copy, Debug, PartialEq, Eq)]
 pub struct Fault {
+    /// The number of the refusal, as by `Refusal::code`.
     pub code: u8,
+    /// The number of the record at fault, counted from 1, or 0 if the fault concerns no record.
     pub place: u32,
 }
 
 impl Fault {
-    /// The fault of a refusal at the number of a record, or at 0.
+    /// The fault of a refusal at a record's number, or at 0.
     pub fn new(why: Refusal, number: u32) -> Fault
         ensures same { result ≡ fault_at why number }
     {
@@ -24,7 +25,8 @@ impl Fault {
         }
     }
 
-    /// The name of the refusal of that number, as the output writes it; empty where there is none.
+    /// The name of the refusal of this fault, as the output writes it, in at most 16 bytes; empty
+    /// if no refusal has the number `code`.
     pub fn name(&self) -> &'static str
         ensures name { result.now ≡ fault_name self.now.code }
         ensures short { length result.now ≤ 16 }

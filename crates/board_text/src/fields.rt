@@ -1,4 +1,4 @@
-//! The fields of a record by their number.
+//! The fields of a record by number.
 ghost use Rattle.std.specs.Prelude.{◌≡◌};
 ghost use Rattle.std.specs.Str.{bytes_eq};
 ghost use Rattle.csv.specs.Records.{fields_of};
@@ -6,7 +6,7 @@ ghost use Rattle.board_text.specs.Fields.{AreFields};
 
 use csv::ByteRecord;
 
-// The fields of a record that has one to four.
+// The fields of a record that has one to four of them; `Other` is any other record.
 #[derive(Clone, Copy)]
 pub(crate) enum Fields<'a> {
     One(&'a [u8]),
@@ -16,7 +16,7 @@ pub(crate) enum Fields<'a> {
     Other,
 }
 
-// The fields of a record, by their number.
+// The fields of a record, by number.
 pub(crate) fn fields_in(row: &ByteRecord) -> Fields<'_>
     ensures { AreFields result (fields_of row.now) }
 {

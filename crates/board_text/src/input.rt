@@ -1,4 +1,4 @@
-//! Reading the whole input before anything is done with it.
+//! Reads the whole input before any record is interpreted.
 ghost use Rattle.std.specs.Prelude.{◌≡◌, ◌≤◌, ◌<◌, ◌+◌, length, IfOk, IfErr, ◌⊎◌, IsErrOf, IsOkUnless};
 ghost use Rattle.told_streams.specs.Tapes.{OfInput};
 ghost use Rattle.council_core.specs.declared.refusals.Refusal.TheVariants as why;
@@ -12,7 +12,7 @@ use std::alloc::Global;
 use std::io::{ErrorKind, Read};
 use told_streams::Given;
 
-// The bytes that one read asks for.
+// The number of bytes that one read asks for.
 const PIECE: usize = 4096;
 
 /// The most bytes that an input may have.
@@ -21,11 +21,12 @@ pub const INPUT_LIMIT: usize = 4_194_304;
 /// The most interrupted reads, and the most interrupted writes, that are retried in one run.
 pub const INTERRUPTIONS: u32 = 1000;
 
-/// The most reads of a run: each but the last gives a byte or is an interruption, and no read follows one that failed.
+/// The most reads of a run. Each read except the last returns a byte or is interrupted, and no read
+/// follows a failed one.
 pub const READS: u32 = INPUT_LIMIT as u32 + INTERRUPTIONS + 1;
 
-// One read: how many bytes it gave, or nothing where it was interrupted and may be retried. After an error nothing is
-// promised of the reader.
+// One read: the number of bytes returned, or `None` if the read was interrupted and may be retried.
+// After an error nothing is promised of the reader.
 fn read_some<R: Read + Drop>(
     input: &mut Given<R>,
     piece: &mut [u8],
@@ -49,7 +50,7 @@ fn read_some<R: Read + Drop>(
     }
 }
 
-// All bytes of the input, where there are at most `INPUT_LIMIT`.
+// Returns all bytes of the input, if there are at most `INPUT_LIMIT`.
 pub(crate) fn read_input<R: Read + Drop>(
     alloc: Global,
     input: &mut Given<R>,

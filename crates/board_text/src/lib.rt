@@ -1,5 +1,5 @@
-//! The text of a run: from the bytes of an input to its records and what they ask for, and from
-//! replies to lines and the bytes of an output.
+//! The text of a run: parses the bytes of an input into records and requests, and formats replies
+//! as the lines and bytes of an output.
 #![tactic(auto)]
 
 mod beginning;

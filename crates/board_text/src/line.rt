@@ -1,4 +1,4 @@
-//! One line of output, made in a buffer of fixed size: it takes no memory.
+//! One line of output in a buffer of fixed size, without allocation.
 ghost use Rattle.std.specs.Prelude.{◌≡◌, ◌≤◌, ◌+◌, ◌∷◌, ◌++◌, [], List, ℕ, length, decimal};
 ghost use Rattle.board_text.specs.Lines.{fraction, fraction_if_any};
 
@@ -7,16 +7,16 @@ use itoa::Buffer;
 use power_index::Fraction;
 use std::marker::Model;
 
-/// The bytes that a line may have, its end included.
+/// The most bytes of a line, including its line end.
 pub const LINE: usize = 256;
 
-// The bytes that a comma and a number take at most.
+// The most bytes of a comma and a number.
 const NUMBER: usize = 21;
 
-// The bytes that a comma and a fraction take at most.
+// The most bytes of a comma and a fraction.
 const FRACTION: usize = 2 * NUMBER;
 
-/// A line, seen as its bytes.
+/// A line of at most `LINE` bytes. In contracts, it is the list of its bytes.
 #[derive(Drop)]
 pub struct Line {
     text: ArrayString<LINE>,
@@ -29,7 +29,7 @@ impl Model for Line {
 }
 
 impl Line {
-    /// A line that begins with a word.
+    /// A line that starts with a word, which takes at most `LINE` bytes.
     pub fn new(word: &str) -> Line
         requires { length word.now ≤ LINE }
         ensures { result ≡ word.now }
@@ -39,7 +39,7 @@ impl Line {
         Line { text }
     }
 
-    /// Adds a text.
+    /// Appends a text, without a comma.
     pub fn text(&mut self, text: &str)
         requires { length self.old + length text.now ≤ LINE }
         ensures { self.new ≡ self.old ++ text.now }
@@ -47,7 +47,7 @@ impl Line {
         self.text.push_str(text);
     }
 
-    /// Adds a comma and a word.
+    /// Appends a comma and a word.
     pub fn word(&mut self, word: &str)
         requires { length self.old + length word.now + 1 ≤ LINE }
         ensures bytes { self.new ≡ self.old ++ 44 ∷ word.now }
@@ -57,7 +57,7 @@ impl Line {
         self.text.push_str(word);
     }
 
-    /// Adds a comma and a number.
+    /// Appends a comma and a number, in decimal without leading zeros.
     pub fn number(&mut self, number: u64)
         requires { length self.old + NUMBER ≤ LINE }
         ensures bytes { self.new ≡ self.old ++ 44 ∷ decimal number }
@@ -68,7 +68,7 @@ impl Line {
         self.text.push_str(digits.format(number));
     }
 
-    /// Adds a comma and a fraction.
+    /// Appends a comma and a fraction, `NUM/DEN`, not reduced.
     pub fn fraction(&mut self, value: Fraction)
         requires { length self.old + FRACTION ≤ LINE }
         ensures bytes { self.new ≡ self.old ++ 44 ∷ fraction value }
@@ -80,7 +80,7 @@ impl Line {
         self.text.push_str(digits.format(value.den));
     }
 
-    /// Adds a comma and a fraction, or `-` where it is absent.
+    /// Appends a comma and a fraction, or a comma and `-` if it is absent.
     pub fn fraction_if_any(&mut self, value: Option<Fraction>)
         requires { length self.old + FRACTION ≤ LINE }
         ensures bytes { self.new ≡ self.old ++ 44 ∷ fraction_if_any value }
@@ -92,7 +92,7 @@ impl Line {
         }
     }
 
-    /// Ends the line.
+    /// Appends the line end, LF.
     pub fn end(&mut self)
         requires { length self.old + 1 ≤ LINE }
         ensures { self.new ≡ self.old ++ 10 ∷ [] }
@@ -100,7 +100,7 @@ impl Line {
         self.text.push_str("\n");
     }
 
-    /// Its bytes so far.
+    /// The bytes of the line so far.
     pub fn as_bytes(&self) -> &[u8]
         ensures { result.now ≡ self.now }
     {

@@ -1,4 +1,4 @@
-//! The lines of the output.
+//! Formats the lines of the output.
 ghost use Rattle.std.specs.Prelude.{◌≡◌, ◌≤◌, ◌+◌, ◌∷◌, [], length, IfSome, IfNone};
 ghost use Rattle.board_text.specs.Replies.{reply_of};
 ghost use Rattle.board_text.specs.Lines.{accepted_line, busy_line, chair_line, fault_line, published_line};
@@ -13,7 +13,7 @@ use council_core::{Refusal, Sheet};
 use power_index::{ChairPower, Indices};
 use two_copy_steps::Note;
 
-// So many commands were accepted.
+// The line of an accepted command: `accepted` commands have been accepted so far.
 fn accepted_line(accepted: u32) -> Line
     ensures text { result ≡ accepted_line accepted }
     ensures fits { length result + 1 ≤ LINE }
@@ -23,7 +23,7 @@ fn accepted_line(accepted: u32) -> Line
     line
 }
 
-// Why a command was refused.
+// The line of a refused command: the number and the name of the refusal.
 fn refused_line(why: Refusal) -> Line
     ensures text { result ≡ refused_line why }
     ensures fits { length result + 1 ≤ LINE }
@@ -34,7 +34,7 @@ fn refused_line(why: Refusal) -> Line
     line
 }
 
-// How many commands a publication shows.
+// The line of a publication: `front` commands are published.
 fn published_line(front: u32) -> Line
     ensures text { result ≡ published_line front }
     ensures fits { length result + 1 ≤ LINE }
@@ -44,7 +44,7 @@ fn published_line(front: u32) -> Line
     line
 }
 
-/// The line of an answer to a command or to a publication.
+/// The line of an answer to a command or to a publication, without its line end.
 pub fn line_of_answer(answer: Answer) -> Line
     ensures text { result ≡ reply_line (reply_of answer) }
     ensures fits { length result + 1 ≤ LINE }
@@ -56,7 +56,8 @@ pub fn line_of_answer(answer: Answer) -> Line
     }
 }
 
-/// The line of a note of the machine, where it has one.
+/// The line of an output of the machine, without its line end; `None` for `Note::Moved`, which
+/// prints nothing.
 pub fn line_of_note(note: Note) -> Option<Line>
     ensures text { IfSome result (λ line. note_lines note ≡ line ∷ []) }
     ensures none { IfNone result (note_lines note ≡ []) }
@@ -74,7 +75,7 @@ pub fn line_of_note(note: Note) -> Option<Line>
     }
 }
 
-// A reader that is in the way of a publication.
+// The line of a publication that a reader blocked.
 fn busy_line(reader: u8) -> Line
     ensures text { result ≡ busy_line reader }
     ensures fits { length result + 1 ≤ LINE }
@@ -84,7 +85,7 @@ fn busy_line(reader: u8) -> Line
     line
 }
 
-// What a reader of the machine read.
+// The line of a reading in `trace`: the reader, and the front, cast and total of the sheet.
 fn sheet_line(reader: u8, sheet: &Sheet) -> Line
     ensures text { result ≡ sheet_line reader sheet.now }
     ensures fits { length result + 1 ≤ LINE }
@@ -97,7 +98,8 @@ fn sheet_line(reader: u8, sheet: &Sheet) -> Line
     line
 }
 
-/// What a reader reads of the board as a whole.
+/// The first line of a reading: the reader's number and the indices of the whole board, without its
+/// line end.
 pub fn line_of_reading(reader: u64, indices: &Indices) -> Line
     ensures text { result ≡ reading_line reader indices.now }
     ensures fits { length result + 1 ≤ LINE }
@@ -115,7 +117,7 @@ pub fn line_of_reading(reader: u64, indices: &Indices) -> Line
     line
 }
 
-/// What a reader reads of one chair.
+/// The line of one chair in a reading, without its line end.
 pub fn line_of_chair(row: &ChairPower) -> Line
     ensures text { result ≡ chair_line row.now }
     ensures fits { length result + 1 ≤ LINE }
@@ -131,7 +133,7 @@ pub fn line_of_chair(row: &ChairPower) -> Line
     line
 }
 
-/// How many readings a reader took.
+/// The line with the number of readings by a reader, without its line end.
 pub fn line_of_count(reader: u64, count: u64) -> Line
     ensures text { result ≡ reader_line reader count }
     ensures fits { length result + 1 ≤ LINE }
@@ -142,7 +144,7 @@ pub fn line_of_count(reader: u64, count: u64) -> Line
     line
 }
 
-/// The audit found nothing.
+/// The line of an audit that found no fault, without its line end.
 pub fn line_of_audit() -> Line
     ensures text { result ≡ audit_line }
     ensures fits { length result + 1 ≤ LINE }
@@ -152,7 +154,7 @@ pub fn line_of_audit() -> Line
     line
 }
 
-/// The last line of a run that a fault ends.
+/// The last line of a run that ends in a fault, without its line end.
 pub fn line_of_fault(fault: Fault) -> Line
     ensures text { result ≡ fault_line fault }
     ensures fits { length result + 1 ≤ LINE }

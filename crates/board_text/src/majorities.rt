@@ -1,18 +1,18 @@
-//! The words of the majorities, as records and lines have them.
+//! The words of the majorities, as they appear in records and in lines.
 ghost use Rattle.std.specs.Prelude.{◌≡◌, ◌≤◌, length};
 ghost use Rattle.board_text.specs.Words.{majority_of, word_of_majority};
 
 use crate::fields::is_word;
 use majority_rule::Majority;
 
-// Each majority once, with its word. What is read and what is written come of this list.
+// Each majority once, with its word. Reading and writing both use this list.
 macro_rules! majorities {
     ($make:ident $given:expr) => {
         $make! { $given => Half "half", Seventy "70", EightyFive "85", Quorum "quorum" }
     };
 }
 
-// The majority whose word above a field is.
+// Returns the majority in the list above whose word is the field.
 macro_rules! read {
     ($field:expr => $($name:ident $word:literal),*) => {{
         $(
@@ -24,7 +24,7 @@ macro_rules! read {
     }};
 }
 
-// The word above of a majority.
+// The word of a majority in the list above.
 macro_rules! written {
     ($majority:expr => $($name:ident $word:literal),*) => {
         match $majority {
@@ -33,7 +33,7 @@ macro_rules! written {
     };
 }
 
-// The majority of a field, if it is such a word.
+// The majority of a field, if the field is the word of one.
 pub(crate) fn majority_in(field: &[u8]) -> Option<Majority>
     ensures { result ≡ majority_of field.now }
 {

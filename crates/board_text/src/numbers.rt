@@ -1,8 +1,8 @@
-//! Numbers in records.
+//! Parses the decimal numbers in records.
 ghost use Rattle.std.specs.Prelude.{◌≡◌, ◌+◌, ◌*◌, nat_lt, if◌then◌else◌};
 ghost use Rattle.board_text.specs.Numbers.{number_of};
 
-// The number that one to twenty digits say, where it is below 2^64.
+// The number of one to twenty decimal digits, if it is below 2^64.
 pub(crate) fn number_of_field(field: &[u8]) -> Option<u64>
     ensures { result ≡ number_of field.now }
 {
@@ -19,7 +19,7 @@ pub(crate) fn number_of_field(field: &[u8]) -> Option<u64>
     Some(number)
 }
 
-// Ten times a number, and a digit more.
+// Ten times a number, plus a digit.
 fn next_number(number: u64, digit: u8) -> Option<u64>
     ensures { result ≡ (if nat_lt (number * 10 + digit) 0x1_0000_0000_0000_0000 then Some (number * 10 + digit)
         else None) }

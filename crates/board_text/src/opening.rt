@@ -1,4 +1,4 @@
-//! The records before the script.
+//! Reads the records before the script.
 ghost use Rattle.std.specs.Prelude.{◌≤◌, ◌<◌, ◌+◌, ◌^◌, length, IfOk, []};
 ghost use Rattle.board_text.specs.Output.{Opens};
 ghost use Rattle.board_text.specs.Text.{opening_of};
@@ -17,7 +17,7 @@ pub(crate) struct OpeningRead {
     pub(crate) number: u32,
 }
 
-// Reads the members' records, from the second record on, and the mark.
+// Reads the members' records, starting with the second record, up to the mark and including it.
 pub(crate) fn read_opening(
     alloc: Global,
     script: &mut Script<'_>,

@@ -1,4 +1,4 @@
-//! Writing a text whole.
+//! Writes whole texts, with a limited number of retries.
 ghost use Rattle.std.specs.Prelude.{◌≡◌, ◌⊎◌, ◌≤◌, ◌+◌, length, IfOk};
 ghost use Rattle.std.specs.Io.KnownBytes.{Appends};
 ghost use Rattle.board_text.specs.Output.{AppendsFront, Writes, WritesSome};
@@ -12,8 +12,8 @@ use std::io::{ErrorKind, Write};
 use std::marker::Model;
 use told_streams::Told;
 
-/// A writer, with how many of its interruptions were retried so far. At most 1,000 are, in a
-/// whole run.
+/// A writer that retries interrupted writes. At most `INTERRUPTIONS` interrupted writes are retried
+/// in one `Output`.
 #[derive(Drop)]
 pub struct Output<'a, W: Write> {
     out: Told<'a, W>,
@@ -38,7 +38,7 @@ impl<'a, W: Write> Model for Output<'a, W> {
 }
 
 impl<'a, W: Write> Output<'a, W> {
-    /// A writer of which nothing was asked yet.
+    /// An output over `out`, with no retries used.
     pub fn new(out: &'a mut W) -> Output<'a, W>
         ensures lender { result.lender ≡ out.entry.ghost_name }
         ensures held { result.held ≡ W.contents out.entry.now }
@@ -49,7 +49,7 @@ impl<'a, W: Write> Output<'a, W> {
         }
     }
 
-    /// The writer alone.
+    /// Returns the borrowed writer. Writes nothing.
     pub fn finish(self) -> &'a mut W
         ensures lender { result.ghost_name ≡ self.entry.lender }
         ensures held { W.contents result.now ≡ self.entry.held }
@@ -57,7 +57,8 @@ impl<'a, W: Write> Output<'a, W> {
         self.out.finish()
     }
 
-    // One write: how many bytes of a text it took, which is none where it was interrupted.
+    // One write: the number of bytes of the text that the writer accepted, or 0 if the write was
+    // interrupted.
     fn write_some(&mut self, text: &[u8]) -> Result<usize, Stop>
         ensures once { self.new.asks ≡ self.old.asks + 1 }
         ensures vain { NoWriteInVain self.old self.new result }
@@ -76,8 +77,9 @@ impl<'a, W: Write> Output<'a, W> {
         }
     }
 
-    // Writes all of a text. Each turn asks for one write, which takes a byte or is an interruption that is retried: so
-    // there are no more writes than bytes and retries, and none after one that failed or took nothing.
+    // Writes the whole text. Each turn makes one write, which accepts a byte or is an interruption
+    // that is retried. So there are no more writes than bytes and retries, and none after a write
+    // that failed or accepted nothing.
     pub(crate) fn write_text(&mut self, text: &[u8]) -> Result<(), Stop>
         ensures written { Writes self.old.held self.new.held result text.now }
         ensures asks { AsksAtMost self.old self.new (length text.now) }
@@ -95,7 +97,7 @@ impl<'a, W: Write> Output<'a, W> {
         unreachable!()
     }
 
-    // Writes a text, or a front of it where the writer fails.
+    // Writes the text, or a prefix of it if the writer fails.
     fn write_front(&mut self, text: &[u8])
         ensures front { AppendsFront self.old.held self.new.held text.now }
         ensures whole_or_failed { Appends self.old.held self.new.held text.now ⊎ HasFailed self.old self.new }
@@ -105,7 +107,12 @@ impl<'a, W: Write> Output<'a, W> {
         let _ = self.write_text(text);
     }
 
-    /// Writes a line with its end.
+    /// Writes a line and its line end.
+    ///
+    /// # Errors
+    ///
+    /// `Stop::WriteFault`, the only error: a write failed, accepted nothing, or was interrupted
+    /// after `INTERRUPTIONS` retries. A prefix of the line, possibly empty, was appended.
     pub fn write_line(&mut self, mut line: Line) -> Result<(), Stop>
         requires room { length line + 1 ≤ LINE }
         ensures written { Writes self.old.held self.new.held result (line_text line) }
@@ -118,7 +125,8 @@ impl<'a, W: Write> Output<'a, W> {
     }
 }
 
-/// Writes a text that is no part of a run, or a front of it where the writer fails.
+/// Writes a text that is not part of a run, or a prefix of it if the writer fails. A failure is
+/// ignored, and the contract promises only that a prefix was appended.
 pub fn say<W: Write>(out: &mut W, text: &[u8])
     ensures said { AppendsFront (W.contents out.old) (W.contents out.new) text.now }
 {

@@ -1,11 +1,13 @@
-//! What the register answers to a command and to a publication.
+//! The register's answers to commands and publications.
 use council_core::Refusal;
 
-/// An answer: how many commands were accepted so far, why a command was refused, or how many
-/// commands are published.
+/// The register's answer to a command or to a publication.
 #[derive(Clone, Copy)]
 pub enum Answer {
+    /// The command was accepted; the number of commands accepted so far.
     Accepted(u32),
+    /// The command was refused, and the register is unchanged.
     Refused(Refusal),
+    /// The publication is done; the number of commands published.
     Published(u32),
 }

@@ -1,4 +1,4 @@
-//! What the records of an input ask for.
+//! Parses the records of an input.
 ghost use Rattle.std.specs.Prelude.{◌≡◌};
 ghost use Rattle.csv.specs.Records.{fields_of};
 ghost use Rattle.board_text.specs.Requests.{command_of_one, command_of_two, is_header, is_mark, member_of};
@@ -16,11 +16,15 @@ use council_core::{ChairId, Command, MemberCode, Votes};
 use csv::ByteRecord;
 use majority_rule::Majority;
 
-/// What a record of the script asks for.
+/// A request of one record of the script.
 #[derive(Clone, Copy)]
 pub enum Request {
+    /// Submit this command to the register.
     Submit(Command),
+    /// Publish all accepted commands.
     Publish,
+    /// Read the published sheet as the reader of this number, not yet checked against the limits,
+    /// at this majority.
     Read(u64, Majority),
 }
 
@@ -33,7 +37,7 @@ fn chair_in(field: &[u8]) -> Option<ChairId>
     ChairId::new(number).ok()
 }
 
-// A member's votes.
+// The votes of a member.
 fn votes_in(field: &[u8]) -> Option<Votes>
     ensures { result ≡ votes_of field.now }
 {
@@ -41,14 +45,14 @@ fn votes_in(field: &[u8]) -> Option<Votes>
     Votes::new(number).ok()
 }
 
-// A member's code.
+// The code of a member.
 fn code_in(field: &[u8]) -> Option<MemberCode>
     ensures { result ≡ code_of_member field.now }
 {
     MemberCode::new(field).ok()
 }
 
-// Where a member is moved: to a chair, or to none.
+// The destination of a member: a chair, or none.
 fn seat_in(field: &[u8]) -> Option<Option<ChairId>>
     ensures { result ≡ seat_of field.now }
 {
@@ -59,7 +63,7 @@ fn seat_in(field: &[u8]) -> Option<Option<ChairId>>
     Some(Some(chair))
 }
 
-// The command of a word and a field.
+// The command of a word and one field.
 pub(crate) fn command_of_one(word: &[u8], argument: &[u8]) -> Option<Command>
     ensures { result ≡ command_of_one word.now argument.now }
 {
@@ -100,7 +104,7 @@ pub(crate) fn command_of_two(word: &[u8], first: &[u8], second: &[u8]) -> Option
     None
 }
 
-// A reading by a reader at a majority.
+// A reading by a numbered reader at a majority.
 fn reading_in(reader: &[u8], majority: &[u8]) -> Option<Request>
     ensures { result ≡ both Read (number_of reader.now) (majority_of majority.now) }
 {
@@ -109,7 +113,7 @@ fn reading_in(reader: &[u8], majority: &[u8]) -> Option<Request>
     Some(Request::Read(reader, majority))
 }
 
-/// The request of a record, if it is well formed.
+/// The request of a record, or `None` if the record isn't well formed.
 pub fn request_in(row: &ByteRecord) -> Option<Request>
     ensures { result ≡ request_of (fields_of row.now) }
 {
@@ -126,7 +130,7 @@ pub fn request_in(row: &ByteRecord) -> Option<Request>
     }
 }
 
-// Whether a record is the first of an input.
+// Whether a record is the header, `member,votes`.
 pub(crate) fn is_header_row(row: &ByteRecord) -> bool
     ensures { result ≡ is_header (fields_of row.now) }
 {
@@ -136,7 +140,7 @@ pub(crate) fn is_header_row(row: &ByteRecord) -> bool
     }
 }
 
-// Whether a record stands between the members and the script.
+// Whether a record is the mark between the members and the script, `script`.
 pub(crate) fn is_mark_row(row: &ByteRecord) -> bool
     ensures { result ≡ is_mark (fields_of row.now) }
 {
@@ -146,7 +150,7 @@ pub(crate) fn is_mark_row(row: &ByteRecord) -> bool
     }
 }
 
-// The member of a record, if it is well formed.
+// The member of a record, if the record is well formed.
 pub(crate) fn member_in(row: &ByteRecord) -> Option<(MemberCode, Votes)>
     ensures { result ≡ member_of (fields_of row.now) }
 {
@@ -160,7 +164,8 @@ pub(crate) fn member_in(row: &ByteRecord) -> Option<(MemberCode, Votes)>
     }
 }
 
-/// Whether a request is of a reader that there is.
+/// Whether the reader number of a request is in range. A request that isn't a reading always
+/// passes.
 pub fn is_served(limits: Limits, request: &Request) -> bool
     ensures known { result ≡ is_served limits request.now }
 {

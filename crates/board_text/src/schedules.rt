@@ -1,4 +1,4 @@
-//! What the records of a schedule ask of the two-copy machine.
+//! Parses the records of a schedule for the two-copy machine.
 ghost use Rattle.std.specs.Prelude.{◌≡◌};
 ghost use Rattle.csv.specs.Records.{fields_of};
 ghost use Rattle.board_text.specs.Numbers.{number_of};
@@ -13,17 +13,21 @@ use crate::requests::{command_of_one, command_of_two};
 use council_core::Command;
 use csv::ByteRecord;
 
-/// What a record of a schedule asks for: a command handed to the writer, the beginning of a
-/// publication, or so many steps of the writer or of the reader of a number.
+/// A request of one record of a schedule.
 #[derive(Clone, Copy)]
 pub enum Act {
+    /// Submit this command to the writer.
     Submit(Command),
+    /// Begin a publication.
     Publish,
+    /// Take this number of steps of the writer, from 1 to 1,000.
     Writer(u32),
+    /// Take steps of a reader: its number, not yet checked against the limits, and the number of
+    /// steps, from 1 to 1,000.
     Reader(u64, u32),
 }
 
-// How many steps: a number from 1 to 1,000.
+// A number of steps, from 1 to 1,000.
 fn count_in(field: &[u8]) -> Option<u32>
     ensures { result ≡ count_of field.now }
 {
@@ -34,7 +38,7 @@ fn count_in(field: &[u8]) -> Option<u32>
     Some(number as u32)
 }
 
-// So many steps of a reader.
+// A number of steps of a reader.
 fn steps_in(reader: &[u8], count: &[u8]) -> Option<Act>
     ensures { result ≡ both Reader (number_of reader.now) (count_of count.now) }
 {
@@ -43,7 +47,7 @@ fn steps_in(reader: &[u8], count: &[u8]) -> Option<Act>
     Some(Act::Reader(reader, count))
 }
 
-/// What a record asks for, if it is well formed.
+/// The request of a record, or `None` if the record isn't well formed.
 pub fn act_in(row: &ByteRecord) -> Option<Act>
     ensures { result ≡ act_of (fields_of row.now) }
 {
@@ -61,7 +65,7 @@ pub fn act_in(row: &ByteRecord) -> Option<Act>
     }
 }
 
-/// Whether it is of a reader that there is.
+/// Whether the reader number of an act is in range. An act of the writer always passes.
 pub fn is_scheduled(limits: Limits, act: &Act) -> bool
     ensures known { result ≡ is_scheduled limits act.now }
 {

@@ -1,4 +1,4 @@
-//! The records of a text, one at a time.
+//! Reads the records of a text one at a time.
 ghost use Rattle.std.specs.Prelude.{◌≡◌, ◌∷◌, [], true, false, List, ℕ, IfOk, IfErr, MatchBool, length};
 ghost use Rattle.std.specs.Prelude.{◌+◌, ◌≤◌, ◌⊎◌, ◌↔◌};
 ghost use Rattle.csv.specs.Reading.{default_config, error_kind, has_failed, is_flexible, reader_config, reader_trim};
@@ -13,7 +13,8 @@ use csv::{ByteRecord, Error, ErrorKind, Reader, ReaderBuilder};
 use std::alloc::Global;
 use std::marker::Model;
 
-/// A text, seen as the list of the records that it has left.
+/// A reader of the CSV records of a text. In contracts, it is the list of the records that are
+/// left.
 #[derive(Drop)]
 pub struct Script<'a> {
     reader: Reader<&'a [u8]>,
@@ -30,7 +31,14 @@ impl<'a> Model for Script<'a> {
 }
 
 impl<'a> Script<'a> {
-    /// The records of a text, with no header row.
+    /// A script over the records of `text`. The first record is returned like any other, and
+    /// records may differ in their number of fields.
+    ///
+    /// ```rust
+    /// let mut script = Script::new(alloc, b"member,votes\nAAA,10\nscript\n");
+    /// let mut row = ByteRecord::new(alloc);
+    /// let found = script.next(&mut row)?; // true, and `row` is `member,votes`
+    /// ```
     pub fn new(alloc: Global, text: &'a [u8]) -> Script<'a>
         ensures records { result ≡ records default_config (strip_bom text.entry.now) }
         ensures count { length result ≤ length text.entry.now + 1 }
@@ -42,7 +50,13 @@ impl<'a> Script<'a> {
         Script { reader }
     }
 
-    /// Takes the next record, where there is one.
+    /// Reads the next record into `row`. Returns `false` if there is none; `row` then has no
+    /// promised contents.
+    ///
+    /// # Errors
+    ///
+    /// `Stop::OutOfMemory` or `Stop::ReadFault`. Nothing is promised of `row` or of the records
+    /// that are left.
     pub fn next(&mut self, row: &mut ByteRecord) -> Result<bool, Stop>
         ensures causes { IfErr result (λ e. (e ≡ Stop.OutOfMemory) ⊎ (e ≡ Stop.ReadFault)) }
         ensures taken { IfOk result
@@ -55,8 +69,8 @@ impl<'a> Script<'a> {
     }
 }
 
-// The cause of an error of csv: of all its kinds only these two can come of a reader of bytes that
-// takes records of any length.
+// The cause of an error of csv. Of all its kinds only these two can occur in a reader of bytes that
+// accepts records of any length.
 fn cause_of(e: &Error) -> Stop
     requires { IsMemoryOrRead (error_kind e.now) }
     ensures causes { (result ≡ Stop.OutOfMemory) ⊎ (result ≡ Stop.ReadFault) }

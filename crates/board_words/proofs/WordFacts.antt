@@ -45,7 +45,7 @@ module _ (a : App) (words : List Text) (same : a ≡ board_app) where
   pub no-kinds : (is_simple_and_free a ≡ true → fault_of a words ≡ []) → fault_of board_app words ≡ []
   no-kinds none = sym (ap (λ x. fault_of x words) same) ∙ none (ap is_simple_and_free same ∙ is-free)
 
--- words that ask for a call are taken
+-- arguments that ask for a call are accepted
 module _ (a : App) (words : List Text) (same : a ≡ board_app) where
   takes-words : (name : Text) (rows : List Row) → IsTaken words name rows → takes a words ≡ true
   takes-words name rows taken = ap (λ x. takes x words) same ∙ taken.taken

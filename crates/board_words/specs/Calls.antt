@@ -1,4 +1,4 @@
--- The call that words ask for, and what is said of words of which none comes.
+-- The call that the arguments ask for, and the result of arguments that ask for none.
 use Rattle.std.specs.Prelude.{◌≡◌, ◌≢◌, ℕ, ◌<◌, ◌^◌, ◌⊎◌, ⊤, List, [], Option, Some, None, Result, Ok}
 use Rattle.std.specs.Prelude.{Err, codes}
 use Rattle.std.specs.Str.Parse.{IsNumeral, digits_value, without_leading_plus}
@@ -11,7 +11,7 @@ use Rattle.board_words.specs.declared.calls.Call.TheVariants.{Replay, Trace, Ser
 use Rattle.board_words.specs.declared.calls.NoCall.{NoCall}
 use Rattle.board_words.specs.declared.calls.NoCall.TheVariants.{Shown, Refused, OutOfMemory}
 
--- digits say a number below 2^bits
+-- the text is a decimal numeral, with or without a leading plus sign, of a number below 2^bits
 pub record Says (bits : ℕ) (text : Text) (n : ℕ) : Type 0 where
   pub numeral : IsNumeral 10 (without_leading_plus text)
   pub small : digits_value 10 (without_leading_plus text) < 2 ^ bits
@@ -21,11 +21,11 @@ abbrev pub IsSaid : ℕ → Option Text → ℕ → Type 0
 IsSaid bits None n = ⊥
 IsSaid bits (Some text) n = Says bits text n
 
--- what clap found says how many readers there are
+-- clap found this number of readers
 abbrev pub HasReaders : List Row → ℕ → Type 0
 HasReaders rows readers = IsSaid 8 (one_of (codes "readers") rows) readers
 
--- what clap found says how many commands the journal takes
+-- clap found this journal limit, in commands
 abbrev pub HasJournal : List Row → ℕ → Type 0
 HasJournal rows journal = IsSaid 32 (one_of (codes "journal") rows) journal
 
@@ -33,7 +33,7 @@ pub record HasLimits (rows : List Row) (readers journal : ℕ) : Type 0 where
   pub readers_said : HasReaders rows readers
   pub journal_said : HasJournal rows journal
 
--- clap takes the words, and they ask for this call
+-- clap accepts the arguments, and they ask for this call
 abbrev pub Asks : List Text → Call → Type 0
 Asks words (Replay readers journal) =
     (rows : List Row) × IsTaken words (codes "replay") rows × HasLimits rows readers journal
@@ -41,23 +41,23 @@ Asks words (Trace readers journal) =
     (rows : List Row) × IsTaken words (codes "trace") rows × HasLimits rows readers journal
 Asks words (Serve journal) = (rows : List Row) × IsTaken words (codes "serve") rows × HasJournal rows journal
 
--- this call is the answer, unless memory lacks
+-- the result is this call, or OutOfMemory
 abbrev pub IsAnswered : Result Call NoCall → Call → Type 0
 IsAnswered answer call = (answer ≡ Ok call) ⊎ (answer ≡ Err OutOfMemory)
 
--- what the words ask for is a text that clap shows
+-- the kind of a text that clap shows on request: the help or the version
 abbrev pub IsShown : ErrorKind → Type 0
 IsShown k = (k ≡ DisplayHelp) ⊎ (k ≡ DisplayVersion)
 
--- clap takes the words as no command: they ask for a text, or a fault is in them
+-- clap accepts the arguments as no command: they ask for a text, or have a fault
 abbrev pub AreNotTaken : List Text → Type 0
 AreNotTaken words = fault_of board_app words ≢ []
 
--- of what clap has to say of the words one is a text that they ask for
+-- one of the kinds that clap's definition gives for the arguments is a text that they ask for
 abbrev pub AskText : List Text → Type 0
 AskText words = (k : ErrorKind) × IsAmong k (fault_of board_app words) × IsShown k
 
--- of what clap has to say of the words one is a fault
+-- one of the kinds that clap's definition gives for the arguments is a fault
 abbrev pub HaveFault : List Text → Type 0
 HaveFault words = (k : ErrorKind) × IsAmong k (fault_of board_app words) × (IsShown k → ⊥)
 

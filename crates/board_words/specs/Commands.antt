@@ -1,4 +1,4 @@
--- The words that the program takes, as clap reads them.
+-- The arguments that the program accepts, in clap's definitions.
 use Rattle.std.specs.Prelude.{◌≡◌, ℕ, [], List, ◌∷◌, true, Some, pos, codes}
 use Rattle.clap.specs.Simple.{on_top}
 use Rattle.clap.specs.Words.{App, Row, Rule, Text, new_app, new_rule, subcommand_of, takes}
@@ -8,7 +8,7 @@ use Rattle.two_copy_steps.specs.declared.table.TheConstants.{READERS}
 use Rattle.clap.specs.declared.builder.ArgAction.TheVariants.{Set}
 use Rattle.clap.specs.declared.builder.value_parser.ValueParser.TheVariants as parser
 
--- an option `--NAME N`, a number from 1 to another, with a default
+-- an option `--NAME N` with a default; N is a number from 1 to `most`
 abbrev pub number_rule : Text → ℕ → Text → Rule
 number_rule name most default =
     record (new_rule name) {
@@ -25,15 +25,15 @@ readers_rule = number_rule (codes "readers") READERS (codes "1")
 abbrev pub journal_rule : Rule
 journal_rule = number_rule (codes "journal") MAX_COMMANDS (codes "1000000")
 
--- a command that takes both
+-- a command with the options `--readers` and `--journal`
 abbrev pub limited_app : Text → App
 limited_app name = with_rule (with_rule (new_app name) readers_rule) journal_rule
 
--- a command that takes the second
+-- the command `serve`, with the option `--journal`
 abbrev pub serve_app : App
 serve_app = with_rule (new_app (codes "serve")) journal_rule
 
--- the program asks for a command, and tells its version
+-- the program without its commands: it requires a command and has a version
 abbrev pub bare_app : App
 bare_app = on_top (λ s. record s { has_version = true; subcommand_required = true }) (new_app (codes "board"))
 
@@ -43,7 +43,7 @@ board_app =
     (with_subcommand (with_subcommand bare_app (limited_app (codes "replay")).top) (limited_app (codes "trace")).top)
     serve_app.top
 
--- clap takes the words as the command of this name, and this is what it found for it
+-- clap accepts the arguments as the command of this name, with these values
 pub record IsTaken (words : List Text) (name : Text) (rows : List Row) : Type 0 where
   pub taken : takes board_app words ≡ true
   pub found : subcommand_of board_app words ≡ Some (name, rows)

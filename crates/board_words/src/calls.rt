@@ -1,4 +1,4 @@
-//! The call that words ask for.
+//! Parses the arguments of the program into a call.
 ghost use Rattle.std.specs.Prelude.{◌≡◌, ℕ, List, IsErrAnd, codes, map};
 ghost use Rattle.std.specs.String.{string_bytes};
 ghost use Rattle.clap.specs.Words.{HasKind, Text, fault_of, found_of, kind_of, rows_of};
@@ -14,24 +14,26 @@ use clap::{ArgMatches, Error};
 use council_core::MAX_COMMANDS;
 use std::alloc::{AllocError, Global};
 
-/// What the words of a command line ask for.
+/// A call that the arguments of a command line ask for.
 #[derive(Clone, Copy, Debug, PartialEq, Eq)]
 pub enum Call {
-    /// `replay`, with how many readers there are, and how many commands the journal takes.
+    /// `replay`, with the number of readers, from 1 to `READERS`, and the most commands that the
+    /// journal accepts, from 1 to `MAX_COMMANDS`.
     Replay { readers: u8, journal: u32 },
-    /// `trace`, with the same limits.
+    /// `trace`, with the same limits as `replay`.
     Trace { readers: u8, journal: u32 },
-    /// `serve`, with how many commands the journal takes.
+    /// `serve`, with the most commands that the journal accepts, from 1 to `MAX_COMMANDS`.
     Serve { journal: u32 },
 }
 
-/// Why no call comes of the words of a command line.
+/// Why a command line gave no call.
 #[derive(Drop)]
 pub enum NoCall {
-    /// They ask for help or for the version: its text.
+    /// The arguments ask for the help or the version: its text.
     Shown(String),
-    /// They are refused: the reason.
+    /// The arguments were refused: the reason, as clap writes it.
     Refused(String),
+    /// Out of memory.
     OutOfMemory,
 }
 
@@ -43,21 +45,21 @@ impl From<AllocError> for NoCall {
     }
 }
 
-// How many commands the journal takes, as the command line says it.
+// The journal limit that clap found, in commands.
 fn journal_of(matches: &ArgMatches<'_>) -> u32
     ensures same { (journal : ℕ) → HasJournal (rows_of (found_of matches.now)) journal → result ≡ journal }
 {
     matches.get_one::<u32>("journal").unwrap_or(MAX_COMMANDS)
 }
 
-// How many readers there are, as the command line says it.
+// The number of readers that clap found.
 fn readers_of(matches: &ArgMatches<'_>) -> u8
     ensures same { (readers : ℕ) → HasReaders (rows_of (found_of matches.now)) readers → result ≡ readers }
 {
     matches.get_one::<u8>("readers").unwrap_or(1)
 }
 
-// What clap says of words of which no call comes.
+// The text of clap's error for arguments that gave no call.
 fn explanation(alloc: Global, error: &Error) -> NoCall
     ensures memory { kind_of error.now ≡ LackOfMemory → result ≡ OutOfMemory }
     ensures explained { (words : List Text) → HasKind (fault_of board_app words) error.now → Explains words result }
@@ -73,7 +75,7 @@ fn explanation(alloc: Global, error: &Error) -> NoCall
 }
 
 impl Call {
-    // The call of the command of this name. Clap finds no other name than the three.
+    // The call of the command of this name. Clap finds no name other than the three.
     fn of_command(name: &str, found: &ArgMatches<'_>) -> Call
         ensures replay { (readers journal : ℕ) → name.now ≡ codes "replay"
             → HasLimits (rows_of (found_of found.now)) readers journal → result ≡ Replay readers journal }
@@ -98,11 +100,13 @@ impl Call {
         Call::Serve { journal }
     }
 
-    /// The call that these words ask for, the first of which is the program's name.
+    /// The call that these arguments ask for. The first argument is the program's name.
     ///
     /// # Errors
-    /// `Shown` where they ask for help or for the version, `Refused` where clap finds a fault in them, also where the
-    /// command is missing, and `OutOfMemory`, which can come of any words.
+    ///
+    /// - `NoCall::Shown`: the arguments ask for the help or the version.
+    /// - `NoCall::Refused`: clap finds a fault in the arguments, or the command is missing.
+    /// - `NoCall::OutOfMemory`: possible for any arguments.
     pub fn from_words(alloc: Global, words: &[String]) -> Result<Call, NoCall>
         ensures asked { (call : Call) → Asks (map string_bytes words.now) call → IsAnswered result call }
         ensures refused { AreNotTaken (map string_bytes words.now)

@@ -1,4 +1,4 @@
-//! The command line of `board`, by clap: which call the words ask for, or the text that clap has for them.
+//! Parses the command line of `board` with clap: into a call, or into the text to show instead.
 #![tactic(auto)]
 
 mod calls;

@@ -15,7 +15,8 @@ fn board(alloc: Global) -> Option<(Writer, Vec<Reader>)> {
     start(alloc, begun(alloc)?, 2).ok()
 }
 
-// Adds a writer: its journal, how many commands are published, and which of two readers are seen out.
+// Adds a writer: its journal, the number of published commands, and which of two readers are
+// quiescent.
 fn add_writer(seen: &mut Vec<u64>, writer: &Writer) -> Option<()> {
     add_journal(seen, writer.journal())?;
     add_number(seen, u64::from(writer.published()))?;
@@ -29,7 +30,7 @@ fn add_reader(seen: &mut Vec<u64>, reader: &Reader) -> Option<()> {
     add_number(seen, u64::from(reader.at_rest()))
 }
 
-/// A register, or the board that was made of it.
+/// A register, or the board that was started over it.
 #[derive(Drop)]
 pub(crate) struct Begun {
     register: Option<Register>,
@@ -172,7 +173,7 @@ impl Call for Analysing {
     }
 }
 
-/// What is audited.
+/// The records to audit.
 #[derive(Drop)]
 pub(crate) struct Records {
     opening: [(MemberCode, Votes); 2],
@@ -250,7 +251,8 @@ impl Call for Auditing {
     }
 }
 
-// Whether an analyst of a reader answers that of 16 coalitions those 8 win that have chair 1, which has all votes cast.
+// Whether an analyst of a reader returns that 8 of 16 coalitions win: those with chair 1, which has
+// all votes cast.
 fn answers(alloc: Global, reader: Reader) -> bool {
     if !reader.at_rest() {
         return false;
@@ -261,7 +263,7 @@ fn answers(alloc: Global, reader: Reader) -> bool {
     }
 }
 
-// Takes all readers, and answers how many they were, where each of them has an analyst that answers so.
+// Makes an analyst of each reader: the number of readers, if each analyst returns that.
 fn answering(alloc: Global, readers: &mut Vec<Reader>) -> Option<usize> {
     let count = readers.len();
     for _ in 0..count {
@@ -272,12 +274,15 @@ fn answering(alloc: Global, readers: &mut Vec<Reader>) -> Option<usize> {
     Some(count)
 }
 
-// Begins a board with this number of readers over a register of five commands: how many they are, where all answer so.
+// Starts a board with this number of readers over a register of five commands: the number of
+// readers, if each analyst returns that.
 fn answering_of(alloc: Global, readers: u8) -> Option<usize> {
     let (_writer, mut readers) = start(alloc, with_commands(alloc, 5)?, readers).ok()?;
     answering(alloc, &mut readers)
 }
 
+// Catches a board that never starts with some number of readers, or an analyst that is never made:
+// contracts allow OutOfMemory at any time.
 #[test]
 fn each_number_of_readers(rt: HostRuntime) -> Result<(), Fail> {
     for readers in 1..=4 {

@@ -1,4 +1,5 @@
-//! Calls that take no memory, run with the next growth refused: they ask for none, and answer as ever.
+//! Calls that need no memory, run with the next allocation refused: they allocate nothing, and
+//! return the usual results.
 use crate::growth_calls::{NONE, begun, open, opens, seats};
 use crate::refused_growths::Call;
 use crate::seen::{add_machine, add_sheet};
@@ -28,11 +29,12 @@ fn seated(alloc: Global) -> Option<Register> {
     Some(register)
 }
 
-/// The constructors and readers of values, a code by number, a quota and a weight that wins.
+/// The constructors and accessors of values, a refusal by its number, a quota and a weight that
+/// wins.
 #[derive(Clone, Copy)]
 pub(crate) struct Valuing;
 
-// What the readers of a sheet answer.
+// The results of a sheet's accessors.
 fn looked_up(sheet: &Sheet, chair: ChairId) -> [u64; 9] {
     let weight = sheet.weight(chair).unwrap_or_default();
     let low = if weight <= 1_000_000 { weight } else { 0 };
@@ -49,7 +51,7 @@ fn looked_up(sheet: &Sheet, chair: ChairId) -> [u64; 9] {
     ]
 }
 
-// Whether values are made, and refused, by number.
+// Whether values are accepted and refused by number.
 fn are_checked() -> bool {
     let letters = match MemberCode::new(b"AAA") {
         Ok(code) => code.letters(),
@@ -105,8 +107,8 @@ impl Call for Valuing {
     }
 }
 
-/// `check`, `sheet`, `journal`, `accepted` and `member_at` of a register that has accepted this number of commands,
-/// at least two: the first room of the journal is full with four.
+/// `check`, `sheet`, `journal`, `accepted` and `member_at` of a register that has accepted this
+/// number of commands, at least two. Four commands fill the first room of the journal.
 #[derive(Clone, Copy)]
 pub(crate) struct Viewing {
     pub(crate) commands: u8,
@@ -128,7 +130,7 @@ fn is_checked(register: &Register) -> bool {
     }
 }
 
-// Opens chair 3 and each one up to the last, and answers whether all that was accepted.
+// Opens chair 3 and each one up to the last, and returns whether all were accepted.
 fn opens_up_to(register: &mut Register, last: u8) -> bool {
     let mut opened = true;
     for chair in 3..=last {
@@ -137,7 +139,8 @@ fn opens_up_to(register: &mut Register, last: u8) -> bool {
     opened
 }
 
-/// A register that has accepted this number of commands, at least two: AAA is in chair 1, and chairs 3 and up are open.
+/// A register that has accepted this number of commands, at least two: AAA is in chair 1, and
+/// chairs 3 and up are open.
 pub(crate) fn with_commands(alloc: Global, commands: u8) -> Option<Register> {
     let mut register = seated(alloc)?;
     if opens_up_to(&mut register, commands) {
@@ -147,7 +150,7 @@ pub(crate) fn with_commands(alloc: Global, commands: u8) -> Option<Register> {
     }
 }
 
-// Whether a register has accepted this number of commands, by each call that says so.
+// Whether a register has accepted this number of commands, by each call that returns the number.
 fn has_accepted(register: &Register, commands: u8) -> bool {
     let counted = register.accepted() == u32::from(commands);
     let listed = register.journal().len() == usize::from(commands);
@@ -184,7 +187,8 @@ impl Call for Viewing {
     }
 }
 
-/// `set`, `evaluate` and `sheet` of an evaluator, and so the lists, the walk and the swings of its halves.
+/// `set`, `evaluate` and `sheet` of an evaluator, and so the lists, the walk and the swings of its
+/// halves.
 #[derive(Clone, Copy)]
 pub(crate) struct Evaluating;
 
@@ -235,8 +239,8 @@ pub(crate) struct Listed {
     seen: [u64; 4],
 }
 
-// Lists the sets of a chair of two votes and one of one: how many sets there are, how many of one chair, the greatest
-// sum, and how many pairs of sets have three votes.
+// Lists the sets of a chair with two votes and one with one: the number of sets, the number of sets
+// of one chair, the greatest sum, and the number of pairs of sets that have three votes.
 fn counts_of_lists(half: &mut HalfSums) -> [u64; 4] {
     half.rebuild(&[(0, 2), (1, 1)]);
     let sets = half.ascending();
@@ -269,7 +273,8 @@ impl Call for Listing {
     }
 }
 
-/// `Machine::start`, events that hand over no command, and `register`, `published` and `seen_out` of the machine.
+/// `Machine::start`, events that submit no command, and `register`, `published` and `seen_out` of
+/// the machine.
 #[derive(Clone, Copy)]
 pub(crate) struct Turning;
 
@@ -279,7 +284,8 @@ pub(crate) struct Turned {
     machine: Option<Machine>,
 }
 
-// Takes a whole reading of a reader, a publication, and a step of the writer past a reader; whether none was refused.
+// Takes a whole reading of a reader, a publication, and a step of the writer during a reading of
+// another reader; returns whether no step was refused.
 fn takes_turns(machine: &mut Machine) -> bool {
     let mut taken = true;
     for _ in 0..37 {

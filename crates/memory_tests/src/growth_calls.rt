@@ -1,4 +1,5 @@
-//! The calls of the register, of the machine, of the counting and of the running board.
+//! The calls of the register, of the machine, of the counting and of the running board that
+//! allocate.
 use crate::refused_growths::Call;
 use crate::seen::{add_machine, add_number, add_register, add_sheet};
 use council_core::{ChairId, Command, MemberCode, Register, Votes};
@@ -26,7 +27,7 @@ pub(crate) fn open(chair: u8) -> Option<Command> {
     Some(Command::Open(ChairId::new(chair).ok()?))
 }
 
-/// Opens a chair, and answers whether that was accepted.
+/// Opens a chair, and returns whether that was accepted.
 pub(crate) fn opens(register: &mut Register, chair: u8) -> bool {
     match open(chair) {
         Some(command) => register.apply(command).is_ok(),
@@ -34,7 +35,7 @@ pub(crate) fn opens(register: &mut Register, chair: u8) -> bool {
     }
 }
 
-// AAA and BBB as above, and seven more: as many as the first room for members takes.
+// AAA and BBB as above, and seven more: as many members as fit into the first room.
 fn nine_members() -> Option<[(MemberCode, Votes); 9]> {
     Some([
         member(b"AAA", 10)?,
@@ -49,7 +50,8 @@ fn nine_members() -> Option<[(MemberCode, Votes); 9]> {
     ])
 }
 
-// Nine members and four commands, the first room of either: chair 1 is open, and BBB is suspended.
+// Nine members and four commands, which fill the first room of either: chair 1 is open, and BBB is
+// suspended.
 fn with_four(alloc: Global) -> Option<Register> {
     let mut register = Register::start(alloc, &nine_members()?, 100).ok()?;
     let other = MemberCode::new(b"BBB").ok()?;
@@ -59,7 +61,7 @@ fn with_four(alloc: Global) -> Option<Register> {
     Some(register)
 }
 
-/// Each command once, by a place from 0 to 7, as a register takes it after these four.
+/// Each command once, by a place from 0 to 7, as a register accepts it after these four.
 pub(crate) fn command_at(place: u8) -> Option<Command> {
     let chair = ChairId::new(1).ok()?;
     let code = MemberCode::new(b"AAA").ok()?;
@@ -75,7 +77,7 @@ pub(crate) fn command_at(place: u8) -> Option<Command> {
     }
 }
 
-/// Moves AAA to chair 1, and answers whether that was accepted.
+/// Moves AAA to chair 1, and returns whether that was accepted.
 pub(crate) fn seats(register: &mut Register) -> bool {
     match command_at(2) {
         Some(command) => register.apply(command).is_ok(),
@@ -83,7 +85,7 @@ pub(crate) fn seats(register: &mut Register) -> bool {
     }
 }
 
-/// An answer that no call gives.
+/// A number that no call returns.
 pub(crate) const NONE: u8 = 255;
 
 /// `Register::start`.
@@ -124,7 +126,7 @@ impl Call for Starting {
     }
 }
 
-/// The place of `Admit`, which asks for room in the journal and for room for a member.
+/// The place of `Admit`, which allocates room in the journal and room for a member.
 const ADMIT: u8 = 7;
 
 /// `Register::apply`, of the command at a place.
@@ -162,7 +164,7 @@ impl Call for Applying {
     }
 }
 
-/// `Machine::step`, of a command that is handed over.
+/// `Machine::step`, of a submitted command.
 #[derive(Clone, Copy)]
 pub(crate) struct Stepping;
 

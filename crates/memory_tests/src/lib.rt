@@ -1,4 +1,5 @@
-//! Tests of calls with each growth of memory refused in turn, and of calls that ask for none.
+//! Tests of calls with each of their allocations refused in turn, and of calls that allocate
+//! nothing.
 #![tactic(auto)]
 
 #[cfg(test)]

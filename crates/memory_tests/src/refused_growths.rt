@@ -1,5 +1,6 @@
-//! Calls that may run out of memory, with each growth that they ask for refused in turn. That takes
-//! `tests/memory/refuse.c`; where it isn't loaded nothing is refused, and the calls are compared with themselves.
+//! Calls that may run out of memory, with each of their allocations ("growths") refused in turn.
+//! That needs `tests/memory/refuse.c`; where it isn't loaded nothing is refused, and the calls are
+//! compared with themselves.
 ghost use Rattle.std.specs.Thread.{IsSync};
 
 use crate::board_calls::{Analysing, Auditing, Opening, Submitting};
@@ -13,52 +14,54 @@ use std::sync::Wait;
 use std::test::Fail;
 use std::thread::Threads;
 
-/// The number of out of memory.
+/// The number of the refusal OutOfMemory.
 pub(crate) const OUT_OF_MEMORY: u8 = 10;
 
-// While a block of this many bytes and N more is held, the Nth growth after it is refused.
+// While a block of this many bytes plus N is held, the Nth growth after it is refused.
 const COUNTING: usize = 77_000_000;
 
-// More growths than any of the calls asks for.
+// More growths than any of the calls makes.
 const MOST: usize = 2_000;
 
 /// A call that may run out of memory.
 pub(crate) trait Call {
-    /// What the call is made on, and what it hands back.
+    /// The state that the call works on and changes.
     type State: Drop;
 
     /// The state before the call.
     fn prepare(&self, alloc: Global) -> Option<Self::State>;
 
-    /// Makes the call on the state, and answers its refusal's number, 0 for none.
+    /// Makes the call on the state, and returns the number of its refusal, 0 for none.
     fn call<R: Threads + Wait + Sync>(&self, rt: &R, alloc: Global, state: &mut Self::State) -> u8
         requires shared { IsSync R.row };
 
-    /// What there is to see of the state.
+    /// The observable state, as numbers.
     fn shown(&self, alloc: Global, state: &Self::State) -> Option<Vec<u64>>;
 
-    /// How many growths it asks for at least.
+    /// The least number of growths that the call makes.
     fn growths(&self) -> usize {
         1
     }
 
-    /// The number that it answers with ample memory.
+    /// The number that the call returns with ample memory.
     fn wanted(&self) -> u8 {
         0
     }
 
-    /// Whether this may stand after it ran out of memory, by what stood before and what stands with ample memory.
+    /// Whether `after` is an allowed state following an allocation failure, given the state before
+    /// the call and the state that the call leaves with ample memory.
     fn may_stand(&self, _alloc: Global, before: &[u64], after: &[u64], _ample: &[u64]) -> bool {
         before == after
     }
 
-    /// Whether the call, made again on what stands after it ran out of memory, does what it would have done at first.
+    /// Whether the call, repeated on the state that an allocation failure left, does what it would
+    /// have done at first.
     fn is_asked_again(&self) -> bool {
         true
     }
 }
 
-// What stands once a call has been made with ample memory.
+// The state after the call has been made with ample memory.
 fn with_memory<C: Call, R: Threads + Wait + Sync>(
     rt: &R,
     alloc: Global,
@@ -71,7 +74,7 @@ fn with_memory<C: Call, R: Threads + Wait + Sync>(
     call.shown(alloc, &state)
 }
 
-// Whether one of so many growths is refused.
+// Whether one of `tries` growths is refused.
 fn is_refused(alloc: Global, tries: usize) -> bool {
     for _ in 0..tries {
         let tried: Result<Vec<u8>, AllocError> = Vec::with_capacity(alloc, 8);
@@ -94,8 +97,8 @@ fn can_refuse(alloc: Global) -> Option<bool> {
     Some(refused)
 }
 
-// Makes a call with a growth refused: its answer, and whether it asked for that growth. Where it did, none of as many
-// growths after it is refused.
+// Makes a call with one growth refused: its result, and whether it reached that growth. If it did,
+// none of `number` growths after it is refused.
 fn call_refused<C: Call, R: Threads + Wait + Sync>(
     rt: &R,
     alloc: Global,
@@ -110,7 +113,8 @@ fn call_refused<C: Call, R: Threads + Wait + Sync>(
     Some((answer, met))
 }
 
-// Whether a call that was refused answers with memory what it would have answered at first.
+// Whether a call that ran out of memory has, repeated with memory, the result that it would have
+// had at first.
 fn is_mended<C: Call, R: Threads + Wait + Sync>(
     rt: &R,
     alloc: Global,
@@ -126,7 +130,8 @@ fn is_mended<C: Call, R: Threads + Wait + Sync>(
     Some(answer == call.wanted() && shown.as_slice() == ample)
 }
 
-// Whether the answer is out of memory and what stands is right, or all is as with ample memory.
+// Whether the result is OutOfMemory and the state after it is allowed, or result and state are
+// those with ample memory.
 fn is_right<C: Call, R: Threads + Wait + Sync>(
     rt: &R,
     alloc: Global,
@@ -146,8 +151,8 @@ fn is_right<C: Call, R: Threads + Wait + Sync>(
     is_mended(rt, alloc, call, state, ample)
 }
 
-// Makes a call with a growth refused, on a state of its own: whether all is right, whether it met that growth, and its
-// answer.
+// Makes a call with one growth refused, on a new state: whether result and state are right, whether
+// it reached that growth, and its result.
 fn try_once<C: Call, R: Threads + Wait + Sync>(
     rt: &R,
     alloc: Global,
@@ -170,8 +175,8 @@ fn try_once<C: Call, R: Threads + Wait + Sync>(
     Some((right && (met || answer != OUT_OF_MEMORY), met, answer))
 }
 
-// Whether all is right with each growth refused in turn and each is answered OutOfMemory, until the call asks for
-// no more, and it asks for as many as it is to ask for.
+// Whether each growth refused in turn gives OutOfMemory and an allowed state, until the call makes
+// no more growths, and whether it makes as many as it should.
 fn is_right_throughout<C: Call, R: Threads + Wait + Sync>(
     rt: &R,
     alloc: Global,
@@ -194,7 +199,7 @@ fn is_right_throughout<C: Call, R: Threads + Wait + Sync>(
     Some(false)
 }
 
-/// Whether a call keeps what is said of running out of memory, and asks for memory.
+/// Whether a call behaves as it should with each of its growths refused, and makes any.
 pub(crate) fn survives<C: Call, R: Threads + Wait + Sync>(rt: &R, alloc: Global, call: &C) -> bool {
     is_right_throughout(rt, alloc, call).unwrap_or(false)
 }
@@ -209,7 +214,7 @@ fn is_right_without<C: Call, R: Threads + Wait + Sync>(
     Some(right && (!met || !can_refuse(alloc)?))
 }
 
-/// Whether a call asks for no memory, and answers as ever where the next growth would be refused.
+/// Whether a call makes no growth, and has the usual result while the next growth would be refused.
 pub(crate) fn asks_for_none<C: Call, R: Threads + Wait + Sync>(
     rt: &R,
     alloc: Global,
@@ -218,6 +223,8 @@ pub(crate) fn asks_for_none<C: Call, R: Threads + Wait + Sync>(
     is_right_without(rt, alloc, call).unwrap_or(false)
 }
 
+// Catches a `start` or `apply` that returns OutOfMemory though nothing was refused, or that doesn't
+// succeed when it is repeated with memory. Contracts allow OutOfMemory at any time.
 #[test]
 fn register_calls(rt: HostRuntime) -> Result<(), Fail> {
     assert!(rt; survives(&rt, rt.alloc(), &Starting));
@@ -230,6 +237,7 @@ fn register_calls(rt: HostRuntime) -> Result<(), Fail> {
     Ok(())
 }
 
+// Catches a `Machine::step` or `run` that returns OutOfMemory though nothing was refused.
 #[test]
 fn machine_calls(rt: HostRuntime) -> Result<(), Fail> {
     assert!(rt; survives(&rt, rt.alloc(), &Stepping));
@@ -237,6 +245,8 @@ fn machine_calls(rt: HostRuntime) -> Result<(), Fail> {
     Ok(())
 }
 
+// Catches a `HalfSums::new` or `Evaluator::new` that returns OutOfMemory though nothing was
+// refused, or never succeeds.
 #[test]
 fn counting_calls(rt: HostRuntime) -> Result<(), Fail> {
     assert!(rt; survives(&rt, rt.alloc(), &Halving));
@@ -244,6 +254,8 @@ fn counting_calls(rt: HostRuntime) -> Result<(), Fail> {
     Ok(())
 }
 
+// Catches a `start`, `submit`, `Analyst::new` or `audit` that returns OutOfMemory though nothing
+// was refused, or that doesn't succeed when it is repeated with memory.
 #[test]
 fn board_calls(rt: HostRuntime) -> Result<(), Fail> {
     assert!(rt; survives(&rt, rt.alloc(), &Opening));
@@ -255,6 +267,8 @@ fn board_calls(rt: HostRuntime) -> Result<(), Fail> {
     Ok(())
 }
 
+// Catches a run that returns OutOfMemory though nothing was refused, or another result after a
+// refused growth.
 #[test]
 fn whole_runs(rt: HostRuntime) -> Result<(), Fail> {
     assert!(rt; survives(&rt, rt.alloc(), &Replaying));
@@ -265,6 +279,7 @@ fn whole_runs(rt: HostRuntime) -> Result<(), Fail> {
     Ok(())
 }
 
+// Catches a call that allocates: no contract states that a call needs no memory.
 #[test]
 fn calls_without_memory(rt: HostRuntime) -> Result<(), Fail> {
     assert!(rt; asks_for_none(&rt, rt.alloc(), &Valuing));

@@ -11,7 +11,7 @@ use std::sync::Wait;
 use std::thread::Threads;
 use two_copy_steps::{Event, RunLog, run};
 
-/// A register and events; how many were done, or what they told.
+/// A register and events; the number of events done, or their outputs.
 #[derive(Drop)]
 pub(crate) struct Ran {
     register: Option<Register>,
@@ -36,7 +36,8 @@ fn events(alloc: Global) -> Option<Vec<Event>> {
     Some(events)
 }
 
-// What stands where so many events were done: the register with the commands of all but the first, which is a reader's.
+// The state after `done` events: the register with the commands of all of them except the first,
+// which is a reader's.
 fn stands_after(alloc: Global, done: u64) -> Option<Vec<u64>> {
     let mut register = begun(alloc)?;
     for chair in 1..6u8 {
@@ -109,7 +110,7 @@ impl Call for Running {
     }
 }
 
-// The case of three chairs, and what a run of it writes.
+// The input of three chairs.
 const THREE_CHAIRS: &str = "member,votes\nAAA,50\nBBB,49\nCCC,1\nscript\nopen,1\nopen,2\nopen,3\n\
     move,AAA,1\nmove,BBB,2\nmove,CCC,3\npublish\nread,1,half\n";
 
@@ -126,13 +127,13 @@ const LIMITS: Limits = Limits {
     journal: 1_000,
 };
 
-// The line of out of memory.
+// The line of the fault OutOfMemory.
 const LINE: &[u8] = b"fault,0,OutOfMemory\n";
 
-// The number of a gate that is closed.
+// The number of the fault GateClosed.
 const GATE_CLOSED: u8 = 27;
 
-// The room of an output: more than any of these runs writes, so that writing asks for no memory.
+// The room of an output: more than any of these runs writes, so that writing allocates nothing.
 const ROOM: usize = 4_096;
 
 fn output(alloc: Global) -> Option<Vec<u8>> {
@@ -155,7 +156,7 @@ fn is_line(numbers: &[u64], bytes: &[u8]) -> bool {
             .all(|pair| *pair.0 == u64::from(*pair.1))
 }
 
-// Whether some first lines of a text stand, whole, and then the line of out of memory.
+// Whether the text is a prefix of the lines, each whole, followed by the line of OutOfMemory.
 fn is_cut(after: &[u64], ample: &[u64]) -> bool {
     let Some(kept) = after.len().checked_sub(LINE.len()) else {
         return false;
@@ -232,7 +233,7 @@ impl Call for Tracing {
     }
 }
 
-/// `serve`, with a gate that is always free.
+/// `serve`, with a gate that is always open.
 #[derive(Clone, Copy)]
 pub(crate) struct Serving;
 
@@ -264,7 +265,7 @@ impl Call for Serving {
     }
 }
 
-/// `serve`, with a gate that is closed to the first reader: OutOfMemory comes before that.
+/// `serve`, with a gate that is closed to the first reader. OutOfMemory comes before GateClosed.
 #[derive(Clone, Copy)]
 pub(crate) struct ServingClosed;
 
@@ -312,14 +313,14 @@ impl Call for ServingClosed {
     }
 }
 
-/// Words, and the streams of the program.
+/// The arguments and the streams of the program.
 #[derive(Drop)]
 pub(crate) struct WordsAndStreams {
     words: Vec<String>,
     streams: Streams<&'static [u8], Vec<u8>, Vec<u8>>,
 }
 
-/// `program`, on the words of a replay.
+/// `program`, with the arguments of a replay.
 #[derive(Clone, Copy)]
 pub(crate) struct Programming;
 

@@ -1,4 +1,4 @@
-//! What there is to see of values, as numbers.
+//! The observable state of values, as numbers.
 use council_core::{ChairId, Command, MemberCode, MemberRow, Register, Sheet};
 use two_copy_steps::{Machine, Note};
 
@@ -45,7 +45,7 @@ fn add_member(seen: &mut Vec<u64>, row: &MemberRow) -> Option<()> {
     )
 }
 
-// Which command it is, and its chair and votes.
+// The kind of a command, its chair and its votes.
 fn command_numbers(command: &Command) -> [u64; 3] {
     match command {
         Command::Open(chair) => [1, u64::from(chair.number()), 0],
@@ -92,7 +92,7 @@ fn add_members(seen: &mut Vec<u64>, register: &Register) -> Option<()> {
     Some(())
 }
 
-/// Adds a register: how many commands it accepted, its journal, its members and its sheet.
+/// Adds a register: the number of accepted commands, its journal, its members and its sheet.
 pub(crate) fn add_register(seen: &mut Vec<u64>, register: &Register) -> Option<()> {
     add_number(seen, u64::from(register.accepted()))?;
     add_journal(seen, register.journal())?;
@@ -100,7 +100,8 @@ pub(crate) fn add_register(seen: &mut Vec<u64>, register: &Register) -> Option<(
     add_sheet(seen, &register.sheet())
 }
 
-/// Adds a machine: its register, how many commands are published, and which of two readers are seen out.
+/// Adds a machine: its register, the number of published commands, and which of two readers are
+/// quiescent.
 pub(crate) fn add_machine(seen: &mut Vec<u64>, machine: &Machine) -> Option<()> {
     add_register(seen, machine.register())?;
     add(
@@ -113,7 +114,7 @@ pub(crate) fn add_machine(seen: &mut Vec<u64>, machine: &Machine) -> Option<()> 
     )
 }
 
-/// Adds a note: which it is, its number, and its sheet where it has one.
+/// Adds an output of the machine: its kind, its number, and its sheet if it has one.
 pub(crate) fn add_note(seen: &mut Vec<u64>, note: &Note) -> Option<()> {
     match note {
         Note::Accepted(count) => add(seen, &[1, u64::from(*count)]),

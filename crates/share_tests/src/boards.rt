@@ -1,4 +1,4 @@
-//! The running board on one thread.
+//! Tests of the running board on one thread.
 use board_share::{Analyst, Reader, Writer, start};
 use council_core::{ChairId, Command, MemberCode, Refusal, Register, Sheet, Votes};
 use majority_rule::Majority;
@@ -9,7 +9,7 @@ use std::sync::Wait;
 use std::test::Fail;
 use two_copy_steps::READERS;
 
-// AAA with 10 votes.
+// A register of AAA with 10 votes.
 pub(crate) fn one_member(alloc: Global) -> Result<Register, Refusal> {
     Register::start(
         alloc,
@@ -18,10 +18,10 @@ pub(crate) fn one_member(alloc: Global) -> Result<Register, Refusal> {
     )
 }
 
-// A function that owns a board is proved slowly; one that is lent it isn't. So each kind of board is made in one
-// function here, and lent.
+// Functions that own a board take long to prove; functions that borrow it do not. So each kind of
+// board is made by one function here, which lends it.
 
-// What a board over this register, with so many readers, is asked.
+// Runs `ask` on a new board over `register`.
 fn with_board<T: Drop, F: FnOnce(&mut Writer, &mut Vec<Reader>) -> Result<T, Refusal>>(
     alloc: Global,
     register: Register,
@@ -36,7 +36,7 @@ fn with_board<T: Drop, F: FnOnce(&mut Writer, &mut Vec<Reader>) -> Result<T, Ref
     }
 }
 
-// What a board of AAA with 10 votes, with so many readers, is asked.
+// Runs `ask` on a new board over AAA with 10 votes.
 pub(crate) fn with_readers<T: Drop, F: FnOnce(&mut Writer, &mut Vec<Reader>) -> Result<T, Refusal>>(
     alloc: Global,
     readers: u8,
@@ -47,7 +47,7 @@ pub(crate) fn with_readers<T: Drop, F: FnOnce(&mut Writer, &mut Vec<Reader>) -> 
     with_board(alloc, one_member(alloc)?, readers, ask)
 }
 
-// What a board of one reader is asked.
+// Runs `ask` on a new board with one reader.
 fn with_one<T: Drop, F: FnOnce(&mut Writer, &mut Reader) -> Result<T, Refusal>>(
     alloc: Global,
     ask: F,
@@ -57,7 +57,7 @@ fn with_one<T: Drop, F: FnOnce(&mut Writer, &mut Reader) -> Result<T, Refusal>>(
     with_readers(alloc, 1, |writer, readers| ask(writer, first_of(readers)?))
 }
 
-// What a board of two readers is asked.
+// Runs `ask` on a new board with two readers.
 pub(crate) fn with_two<
     T: Drop,
     F: FnOnce(&mut Writer, &mut Reader, &mut Reader) -> Result<T, Refusal>,
@@ -74,7 +74,7 @@ fn first_of(readers: &mut [Reader]) -> Result<&mut Reader, Refusal> {
     readers.get_mut(0).ok_or(Refusal::BadReader)
 }
 
-// A reader is taken from those of a board, the last first.
+// Removes and returns the last of a board's readers.
 fn taken(readers: &mut Vec<Reader>) -> Result<Reader, Refusal> {
     readers.pop().ok_or(Refusal::BadReader)
 }
@@ -109,7 +109,7 @@ pub(crate) fn submit_votes(writer: &mut Writer, votes: u64) -> Result<u32, Refus
     }
 }
 
-// The number published, or else the reader in the way.
+// The number published, or else the blocking reader.
 #[derive(Clone, Copy, Debug, PartialEq)]
 enum Tried {
     Published(u32),
@@ -123,7 +123,7 @@ fn try_now(writer: &mut Writer) -> Tried {
     }
 }
 
-// Takes so many steps, and answers the sheet of the last reading that ended.
+// Takes `count` steps, and returns the sheet of the last reading that ended.
 pub(crate) fn steps(reader: &mut Reader, count: u32) -> Option<Sheet> {
     let mut sheet = None;
     for _ in 0..count {
@@ -156,7 +156,7 @@ pub(crate) fn read_front(reader: &mut Reader) -> Option<u32> {
     Some(reader.read().sheet.front())
 }
 
-// Opens chair 1 and moves AAA into it, publishing after each: what each call answers.
+// Opens chair 1 and moves AAA into it, publishing after each: the result of each call.
 fn open_and_move<R: Wait>(
     rt: &R,
     writer: &mut Writer,
@@ -178,7 +178,8 @@ fn open_and_move<R: Wait>(
     ])
 }
 
-// Front, quota, winning coalitions, all coalitions, rows, and the swings of the first.
+// Front, quota, winning coalitions, all coalitions, number of rows, and the swings of the first
+// row.
 fn numbers_of(indices: &Indices) -> [u64; 6] {
     let rows = indices.rows.as_slice();
     let swings = match rows.first() {
@@ -206,7 +207,7 @@ fn analyst_of(alloc: Global, reader: Reader) -> Result<Analyst, Refusal> {
     }
 }
 
-// What an analyst over a reader at rest is asked.
+// Runs `ask` on a new analyst over a reader at rest.
 fn with_analyst<T: Drop, F: FnOnce(&mut Analyst) -> T>(
     alloc: Global,
     reader: Reader,
@@ -218,8 +219,8 @@ fn with_analyst<T: Drop, F: FnOnce(&mut Analyst) -> T>(
     Ok(ask(&mut analyst))
 }
 
-// One question at more than half of the votes cast, by an analyst made for it. Its sheet is that of the
-// question, and the reader that comes back still reads it.
+// One question at the majority `half`, by a new analyst. Its sheet is that of the question, and the
+// reader that it returns still reads that sheet.
 fn ask_half(alloc: Global, reader: Reader) -> Result<[u64; 6], Refusal> {
     let mut analyst = analyst_of(alloc, reader)?;
     let indices = analyst.ask(Majority::Half);
@@ -231,7 +232,8 @@ fn ask_half(alloc: Global, reader: Reader) -> Result<[u64; 6], Refusal> {
     Ok(numbers_of(&indices))
 }
 
-// What a writer answers that has published all: to publish again, to a command that is refused, and its counts.
+// The results of a writer that has published all: of publishing again, of a command that is
+// refused, and its counts.
 fn goes_on<R: Wait>(rt: &R, writer: &mut Writer) -> (u32, Result<u32, Refusal>, [usize; 2]) {
     let again = writer.publish(rt);
     let refused = submit_open(writer, 1);
@@ -267,6 +269,8 @@ fn runs_on_one_thread<R: Wait + Abort>(
     Ok(())
 }
 
+// Catches a `start`, `submit` or `Analyst::new` that always returns OutOfMemory, which their
+// contracts allow.
 #[test]
 fn board_on_one_thread(rt: HostRuntime) -> Result<(), Fail> {
     let alloc = rt.alloc();
@@ -278,7 +282,8 @@ fn board_on_one_thread(rt: HostRuntime) -> Result<(), Fail> {
     Ok(())
 }
 
-// How so many readers are refused, and whether the register comes back.
+// The refusal of this number of readers, and the number of commands of the register that comes
+// back.
 fn refusal_of(alloc: Global, readers: u8) -> Result<(Refusal, u32), Refusal> {
     match start(alloc, one_member(alloc)?, readers) {
         Ok(_) => Err(Refusal::BadReader),
@@ -294,7 +299,7 @@ fn no_reader_and_one_too_many_refused(rt: HostRuntime) -> Result<(), Fail> {
     Ok(())
 }
 
-// Whether so many steps end no reading, and leave the reader in one.
+// Whether `count` steps end no reading, and leave the reader in the middle of one.
 fn are_within(reader: &mut Reader, count: u32) -> bool {
     for _ in 0..count {
         if reader.step().is_some() || reader.at_rest() {
@@ -316,6 +321,8 @@ fn reads_in_37_steps<R: Abort>(
     Ok(())
 }
 
+// Catches a reading that misses the publication before it: no contract says which publication a
+// reading returns.
 #[test]
 fn reader_in_37_steps(rt: HostRuntime) -> Result<(), Fail> {
     with_one(
@@ -345,6 +352,7 @@ fn reads_the_command<R: Abort>(
     Ok(())
 }
 
+// Catches a first reading that misses the commands accepted before the board was started.
 #[test]
 fn reads_a_register_with_a_command_in_37_steps(rt: HostRuntime) -> Result<(), Fail> {
     let register = with_a_command(rt.alloc())?;
@@ -354,8 +362,8 @@ fn reads_a_register_with_a_command_in_37_steps(rt: HostRuntime) -> Result<(), Fa
     Ok(())
 }
 
-// A reader is stopped after two steps, and goes on after two tries to publish: what three tries answer, and the fronts
-// that it reads.
+// A reader is stopped after two steps, and goes on after two attempts to publish: the results of
+// three attempts, and the fronts that it reads.
 fn past_a_stopped_reader(
     writer: &mut Writer,
     reader: &mut Reader,
@@ -374,6 +382,8 @@ fn past_a_stopped_reader(
     ))
 }
 
+// Catches a publication that misses a reader stopped in the middle of a reading, or is still
+// blocked after it went on.
 #[test]
 fn publish_past_a_stopped_reader(rt: HostRuntime) -> Result<(), Fail> {
     let tried = [Tried::Published(1), Tried::Busy(1), Tried::Published(2)];
@@ -382,8 +392,8 @@ fn publish_past_a_stopped_reader(rt: HostRuntime) -> Result<(), Fail> {
     Ok(())
 }
 
-// A reader is stopped after so many steps, and two publications are tried: what they answer, the front
-// that the reader reads, and what a last try answers.
+// A reader is stopped after `count` steps, and two publications are attempted: their results, the
+// front that the reader reads, and the result of a last attempt.
 fn stopped_after(
     writer: &mut Writer,
     reader: &mut Reader,
@@ -402,6 +412,8 @@ fn stopped_after(
     Ok((one, two, front_of(late), try_now(writer)))
 }
 
+// Catches a publication that misses a reader stopped after any of its 37 steps, or is blocked by a
+// reader at rest.
 #[test]
 fn reader_stopped_at_each_step(rt: HostRuntime) -> Result<(), Fail> {
     for count in 0..38u32 {
@@ -425,8 +437,8 @@ fn reader_stopped_at_each_step(rt: HostRuntime) -> Result<(), Fail> {
     Ok(())
 }
 
-// Opens chair 1 past the second reader, and moves AAA into it with both readers in the way in turn: what each try
-// answers, and which of the readers 0 to 3 the writer has seen out.
+// Opens chair 1 while the second reader is in a reading, and moves AAA into it while both readers
+// block in turn: the result of each attempt, and which of the readers 0 to 3 are quiescent.
 fn two_in_the_way(
     writer: &mut Writer,
     first: &mut Reader,
@@ -445,7 +457,8 @@ fn two_in_the_way(
     ))
 }
 
-// Both readers go on, the second first, and AAA's votes are set between: what each try answers, and what they read.
+// Both readers go on, the second first, and AAA's votes are set in between: the result of each
+// attempt, and what they read.
 fn both_go_on(
     writer: &mut Writer,
     first: &mut Reader,
@@ -482,6 +495,8 @@ fn stop_in_turn<R: Abort>(
     Ok(())
 }
 
+// Catches a publication that misses one of two readers stopped in turn, or is still blocked after
+// both went on.
 #[test]
 fn two_readers_stopped(rt: HostRuntime) -> Result<(), Fail> {
     with_two(
@@ -491,7 +506,7 @@ fn two_readers_stopped(rt: HostRuntime) -> Result<(), Fail> {
     Ok(())
 }
 
-// Opens chairs 1 and 2: what a try to publish answers after each.
+// Opens chairs 1 and 2: the result of an attempt to publish after each.
 fn open_two(writer: &mut Writer) -> Result<[Tried; 2], Refusal> {
     submit_open(writer, 1)?;
     let one = try_now(writer);
@@ -499,8 +514,9 @@ fn open_two(writer: &mut Writer) -> Result<[Tried; 2], Refusal> {
     Ok([one, try_now(writer)])
 }
 
-// Reader 1 is stopped after so many steps, or dropped there, and chairs 1 and 2 are opened: what both tries to publish
-// answer, and the fronts that reader 2 then reads at once, step by step, and as it asks.
+// Reader 1 is stopped after `count` steps, or dropped there, and chairs 1 and 2 are opened: the
+// results of both attempts to publish, and the fronts that reader 2 then reads by `read`, step by
+// step, and through an analyst.
 fn beside_a_stopped_reader(
     alloc: Global,
     writer: &mut Writer,
@@ -520,6 +536,8 @@ fn beside_a_stopped_reader(
     Ok((tried, [at_once, by_steps], front))
 }
 
+// Catches a reader that misses a publication while another reader is stopped or dropped in the
+// middle of a reading.
 #[test]
 fn reader_goes_on_beside_a_stopped_one(rt: HostRuntime) -> Result<(), Fail> {
     let (alloc, tried) = (rt.alloc(), [Tried::Published(1), Tried::Busy(1)]);
@@ -534,7 +552,8 @@ fn reader_goes_on_beside_a_stopped_one(rt: HostRuntime) -> Result<(), Fail> {
     Ok(())
 }
 
-// Opens chairs 1 and 2 past a reader that was dropped after so many steps: what four tries answer.
+// Opens chairs 1 and 2 after a reader was dropped after `count` steps: the results of four attempts
+// to publish.
 fn past_a_dropped_reader(
     writer: &mut Writer,
     readers: &mut Vec<Reader>,
@@ -547,6 +566,8 @@ fn past_a_dropped_reader(
     Ok((tried, writer.published(), writer.journal().len()))
 }
 
+// Catches a reader that blocks publications after it was dropped at rest, or no longer blocks them
+// after it was dropped in the middle of a reading.
 #[test]
 fn reader_dropped(rt: HostRuntime) -> Result<(), Fail> {
     let (busy, done) = (Tried::Busy(1), Tried::Published(2));
@@ -560,7 +581,7 @@ fn reader_dropped(rt: HostRuntime) -> Result<(), Fail> {
     Ok(())
 }
 
-// Publishes one command, and hands over another.
+// Publishes one command, and submits another.
 fn publish_one(writer: &mut Writer) -> Result<Tried, Refusal> {
     submit_open(writer, 1)?;
     let tried = try_now(writer);
@@ -568,7 +589,8 @@ fn publish_one(writer: &mut Writer) -> Result<Tried, Refusal> {
     Ok(tried)
 }
 
-// The same by a writer that is then dropped: what its try to publish answered, and the readers of its board.
+// Does the same by a writer that is then dropped: the result of its attempt to publish, and the
+// readers of its board.
 fn publish_and_go(alloc: Global) -> Result<(Tried, Vec<Reader>), Refusal> {
     match start(alloc, one_member(alloc)?, 2) {
         Ok((mut writer, readers)) => Ok((publish_one(&mut writer)?, readers)),
@@ -576,7 +598,7 @@ fn publish_and_go(alloc: Global) -> Result<(Tried, Vec<Reader>), Refusal> {
     }
 }
 
-// What the first reader reads, the second, and the first again.
+// What the first reader reads, then the second, then the first again.
 fn read_in_turn(readers: &mut Vec<Reader>) -> Result<[Option<u32>; 3], Refusal> {
     let mut second = taken(readers)?;
     let first = first_of(readers)?;
@@ -587,6 +609,8 @@ fn read_in_turn(readers: &mut Vec<Reader>) -> Result<[Option<u32>; 3], Refusal> 
     ])
 }
 
+// Catches a publication that is lost when its writer is dropped, or a command that is published by
+// the drop.
 #[test]
 fn writer_dropped(rt: HostRuntime) -> Result<(), Fail> {
     let (tried, mut readers) = publish_and_go(rt.alloc())?;
@@ -595,11 +619,11 @@ fn writer_dropped(rt: HostRuntime) -> Result<(), Fail> {
     Ok(())
 }
 
-// While a block of this size is held, `tests/memory` refuses all growth.
+// While a block of this size is held, `tests/memory` refuses every allocation.
 const REFUSING: usize = 77_777_777;
 
-// What calls answer while all growth is refused, where something refuses it. One growth is tried on
-// purpose; whether it was refused can't be told here.
+// The results of calls made while every allocation is refused, if anything refuses them. One
+// allocation is attempted on purpose; whether it was refused can't be observed here.
 fn answers_without_memory(
     alloc: Global,
     writer: &mut Writer,
@@ -620,7 +644,7 @@ fn answers_without_memory(
     Ok([published, u64::from(stepped), u64::from(read), asked, out])
 }
 
-// The same of a board with two commands to publish, whose second reader is the analyst's.
+// The same results for a board with two commands to publish, whose second reader is the analyst's.
 fn two_commands_without_memory(
     alloc: Global,
     writer: &mut Writer,
@@ -636,6 +660,8 @@ fn two_commands_without_memory(
     Ok(answers?)
 }
 
+// Catches a call that allocates: no contract states that a call needs no memory. Only
+// `tests/memory` refuses allocations.
 #[test]
 fn calls_that_take_no_memory(rt: HostRuntime) -> Result<(), Fail> {
     let alloc = rt.alloc();

@@ -1,4 +1,4 @@
-//! Tests of the running board, by its public names.
+//! Tests of the running board through its public names.
 #![tactic(auto)]
 
 #[cfg(test)]

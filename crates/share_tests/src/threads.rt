@@ -1,4 +1,4 @@
-//! The running board in threads.
+//! Tests of the running board in several threads.
 use crate::boards::{read_front, steps, submit_open, submit_votes, with_readers, with_two};
 use board_share::{AuditFault, Reader, Writer, audit};
 use council_core::{Command, MemberCode, Refusal, Sheet, Votes};
@@ -17,8 +17,7 @@ fn publish_five<R: Wait>(rt: &R, writer: &mut Writer) -> Result<u32, Refusal> {
     Ok(writer.published())
 }
 
-// Whether the words are those of AAA's 10 votes with the first chairs open, as many as the front says,
-// and nobody in them.
+// Whether the words are those of AAA's 10 votes in no chair, with the first `front` chairs open.
 fn is_prefix_sheet(words: &[u64; 34]) -> bool {
     for place in 0..32 {
         let open = (place as u64) < words[33];
@@ -29,7 +28,7 @@ fn is_prefix_sheet(words: &[u64; 34]) -> bool {
     words[32] == 10
 }
 
-// Whether each of a hundred readings is the sheet of its prefix, and no front falls.
+// Whether each of a hundred readings is the sheet of its prefix, and fronts never decrease.
 fn read_often(reader: &mut Reader) -> bool {
     let mut low = 0;
     for _ in 0..100u32 {
@@ -62,6 +61,8 @@ fn read_beside<R: Threads + Wait + Sync + Abort>(
     assert_eq!(rt; (read_front(first), read_front(second)), (Some(5), Some(5)));
 }
 
+// Catches a torn or older sheet in real threads: the proofs assume that the steps on the words act
+// one after another.
 #[test]
 fn reads_from_threads(rt: HostRuntime) -> Result<(), Fail> {
     with_two(rt.alloc(), |writer, first, second| {
@@ -71,7 +72,7 @@ fn reads_from_threads(rt: HostRuntime) -> Result<(), Fail> {
     Ok(())
 }
 
-// Whether a hundred readings, step by step, are each of the sheet with nothing accepted.
+// Whether each of a hundred readings, step by step, is the sheet with nothing accepted.
 fn step_often(reader: &mut Reader) -> bool {
     for _ in 0..100u32 {
         match steps(reader, 37) {
@@ -82,6 +83,8 @@ fn step_often(reader: &mut Reader) -> bool {
     true
 }
 
+// Catches steps of two readers that disturb each other in real threads: the proofs assume that
+// steps act one after another.
 #[test]
 fn steps_from_threads(rt: HostRuntime) -> Result<(), Fail> {
     let fine = with_two(rt.alloc(), |_writer, first, second| {
@@ -95,7 +98,7 @@ const READINGS: usize = 1000;
 
 const PUBLICATIONS: u32 = 1000;
 
-// What one reader reads.
+// The sheets that one reader reads.
 fn read_all(alloc: Global, reader: &mut Reader) -> Result<Vec<Sheet>, AllocError> {
     let mut sheets = Vec::new(alloc);
     for _ in 0..READINGS {
@@ -106,7 +109,7 @@ fn read_all(alloc: Global, reader: &mut Reader) -> Result<Vec<Sheet>, AllocError
     Ok(sheets)
 }
 
-// Hands over as many commands as there are to be publications, and publishes each: the cuts.
+// Submits one command for each of `PUBLICATIONS` publications and publishes each: the cuts.
 fn publish_each<R: Wait>(rt: &R, alloc: Global, writer: &mut Writer) -> Result<Vec<u32>, Refusal> {
     let mut cuts = Vec::new(alloc);
     for count in 0..PUBLICATIONS {
@@ -136,7 +139,7 @@ fn audit_of(
 
 type Read = Result<Vec<Sheet>, AllocError>;
 
-// What four readers read, each in a thread of its own.
+// The sheets of four readers, each in a separate thread.
 fn read_by_four<R: Threads + Sync>(
     rt: &R,
     alloc: Global,
@@ -155,7 +158,7 @@ fn read_by_four<R: Threads + Sync>(
     }
 }
 
-// What readers read, where none lacked memory.
+// The sheets of all readers, if none ran out of memory.
 fn listed(alloc: Global, reads: [Read; 4]) -> Result<Vec<Vec<Sheet>>, AllocError> {
     let mut readings = Vec::new(alloc);
     for sheets in reads {
@@ -164,7 +167,7 @@ fn listed(alloc: Global, reads: [Read; 4]) -> Result<Vec<Vec<Sheet>>, AllocError
     Ok(readings)
 }
 
-// Publishes in one thread while four others read: the cuts, and what each of them read.
+// Publishes in one thread while four others read: the cuts, and the sheets of each reader.
 fn publish_beside_four<R: Threads + Wait + Sync>(
     rt: &R,
     alloc: Global,
@@ -179,7 +182,8 @@ fn publish_beside_four<R: Threads + Wait + Sync>(
     Ok((cuts?, listed(alloc, reads?)?))
 }
 
-// Whether the cuts and the readings of a run are as many as they are to be, and an audit finds no fault.
+// Checks that the cuts and the readings of a run have the wanted numbers, and that an audit finds
+// no fault.
 fn are_right<R: Abort>(
     rt: &R,
     alloc: Global,
@@ -203,6 +207,8 @@ fn audits_four<R: Threads + Wait + Sync + Abort>(
     Ok(())
 }
 
+// Catches a reading in real threads that no publication explains, with four readers and a thousand
+// publications.
 #[test]
 fn four_readers_audited(rt: HostRuntime) -> Result<(), Fail> {
     let alloc = rt.alloc();
@@ -216,11 +222,11 @@ fn four_readers_audited(rt: HostRuntime) -> Result<(), Fail> {
 
 const LAST: u32 = 2_000;
 
-// So that a test that goes wrong ends. A reader goes through ten million readings while a busy machine holds up the
-// writer for a second.
+// A limit, so that a failing test ends. A reader takes ten million readings while a busy machine
+// delays the writer for a second.
 const MOST_READINGS: u32 = 1_000_000_000;
 
-// AAA's votes are set to 0, 1, 2 and so on, and each is published at full speed.
+// Sets AAA's votes to 0, 1, 2 and so on, and publishes each at full speed.
 fn publish_to_the_last<R: Wait>(rt: &R, writer: &mut Writer) -> Result<u32, Refusal> {
     for count in 0..LAST {
         submit_votes(writer, u64::from(count))?;
@@ -229,7 +235,7 @@ fn publish_to_the_last<R: Wait>(rt: &R, writer: &mut Writer) -> Result<u32, Refu
     Ok(writer.published())
 }
 
-// Whether the words are those of AAA's votes after so many of these commands as the front says.
+// Whether the words are those of AAA's votes after as many of these commands as the front says.
 fn is_sheet_of_its_front(words: &[u64; 34]) -> bool {
     let votes = if words[33] == 0 { 10 } else { words[33] - 1 };
     words[32] == votes && words[..32].iter().all(|word| *word == 0)
@@ -245,7 +251,8 @@ fn next_sheet(reader: &mut Reader, by_steps: bool) -> Option<Sheet> {
     Some(reader.read().sheet)
 }
 
-// Whether each reading up to the last publication is the sheet of its front, and no front falls.
+// Whether each reading up to the last publication is the sheet of its front, and fronts never
+// decrease.
 fn follow(reader: &mut Reader, by_steps: bool) -> bool {
     let mut low = 0;
     for _ in 0..MOST_READINGS {
@@ -263,7 +270,8 @@ fn follow(reader: &mut Reader, by_steps: bool) -> bool {
     false
 }
 
-// Whether each of four readers, in a thread of its own, follows the publications: two at once, and two by steps.
+// Whether each of four readers, in separate threads, follows the publications: two by `read`, and
+// two step by step.
 fn follow_by_four<R: Threads + Sync>(rt: &R, readers: &mut [Reader]) -> Result<[bool; 4], Refusal> {
     match readers {
         [a, b, c, d] => {
@@ -278,6 +286,8 @@ fn follow_by_four<R: Threads + Sync>(rt: &R, readers: &mut [Reader]) -> Result<[
     }
 }
 
+// Catches a reading in real threads that isn't the sheet of its front, or is older than the one
+// before, at full speed.
 #[test]
 fn four_readers_beside_publications_at_full_speed(rt: HostRuntime) -> Result<(), Fail> {
     let (front, fine) = with_readers(rt.alloc(), 4, |writer, readers| {
@@ -317,7 +327,7 @@ fn three_read_back<R: Wait>(
     Ok(true)
 }
 
-// A publication that reaches only some of the readers.
+// Catches a publication that reaches only some of the readers.
 #[test]
 fn each_of_four_reads_back(rt: HostRuntime) -> Result<(), Fail> {
     let fine = with_readers(

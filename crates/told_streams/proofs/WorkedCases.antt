@@ -12,7 +12,7 @@ one = 7 ∷ []
 abbrev two : List ℕ
 two = 7 ∷ 8 ∷ []
 
--- a writer after so many writes, and a reader after so many reads, none in vain or interrupted
+-- a writer after `asks` writes, and a reader after `asks` reads, none in vain or interrupted
 abbrev taking : List ℕ → ℕ → Taking
 taking took asks = record { lender = 0; held = None; took = took; asks = asks; vain = 0; interruptions = 0 }
 
@@ -39,7 +39,7 @@ uncounted_write h = let e = h.0 in cc e
 unnoted_write : Takes (taking [] 0) (taking [] 1) (Ok 1) two → ⊥
 unnoted_write h = let e = h.2.0 in cc e
 
--- so is a read, which tells whether it was the last
+-- so is a read, which reports whether it was the last
 gives_one : Gives (giving [] false 0) (giving one false 1) (Ok 1) two
 gives_one = (refl, refl, (refl, refl, refl))
 
@@ -103,7 +103,7 @@ begins_otherwise : IsInput (giving [] false 0) (giving one false 1) (8 ∷ []) �
 begins_otherwise (inl told) = cc told
 begins_otherwise (inr more) = let e = more.1 in cc e
 
--- a reader that tells its bytes has these as its input
+-- a reader whose contents are known has them as its input
 told : IsInput (record (giving [] false 0) { left = Some two }) (giving one false 1) two
 told = inl refl
 

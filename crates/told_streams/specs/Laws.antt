@@ -2,11 +2,12 @@
 use Rattle.std.specs.Prelude.{◌≡◌, ℕ, true, List, None}
 use Rattle.told_streams.specs.Tapes.{Giving, IsInput, given_since}
 
--- what was given may be the input
+-- the bytes that the reader returned are a possible input
 abbrev pub GivenIsInput : Type 0
 GivenIsInput = (from to : Giving) → IsInput from to (given_since from to)
 
--- nothing else may be, where a reader that tells no bytes said that this is all
+-- no other bytes are a possible input, where the reader's contents aren't known and it reported its
+-- end
 abbrev pub AreAll : Type 0
 AreAll = (from to : Giving) (bytes : List ℕ) → from.left ≡ None → to.ended ≡ true → IsInput from to bytes
     → bytes ≡ given_since from to

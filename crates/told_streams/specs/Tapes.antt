@@ -1,4 +1,4 @@
--- What contracts see of a writer and of a reader with a tape.
+-- What contracts can state of a recording writer and a recording reader.
 use Rattle.std.specs.Prelude.{◌≡◌, ℕ, ◌+◌, Bool, true, ◌&&◌, nat_eq, nat_lt, ◌⊎◌, List, [], ◌++◌, length, take, drop}
 use Rattle.std.specs.Prelude.{if◌then◌else◌, Option, Some, Result, Ok, Err, MatchResult, ◌≢◌}
 use Rattle.std.specs.IoError.{error_kind}
@@ -6,16 +6,18 @@ use Rattle.std.specs.declared.io.Error.{Error}
 use Rattle.std.specs.declared.io.ErrorKind.TheVariants.{Interrupted}
 use Rattle.std.specs.Io.KnownBytes.{Consumes, IsAtEnd}
 
--- whether a count of bytes says that no more can go past: none did, though there was room
+-- whether moving `count` bytes reports the end: no byte moved although there was room
 abbrev pub is_last : List ℕ → ℕ → Bool
 is_last room count = nat_eq count 0 && nat_lt 0 (length room)
 
--- a call that moves no byte is in vain
+-- the number of vain calls, 1 or 0, that a call moving `count` bytes is: a call is vain if it moves
+-- no byte
 abbrev pub vain_of : ℕ → ℕ
 vain_of count = if nat_eq count 0 then 1 else 0
 
--- of a writer that is lent: whose it is, and what it holds by its own account; and since it was wrapped what its writes
--- said were taken, how many writes it was asked for, how many of these took no byte, and how many were interrupted
+-- the state of a recording writer: the ghost name of the borrowed writer and the contents of that
+-- writer, where known; and, since it was wrapped, the bytes that its writes accepted, the number of
+-- writes, the number of writes that accepted no byte, and the number of interrupted writes
 pub record Taking : Type 0 where
   pub lender : ℕ
   pub held : Option (List ℕ)
@@ -24,9 +26,9 @@ pub record Taking : Type 0 where
   pub vain : ℕ
   pub interruptions : ℕ
 
--- of a reader: what it will give by its own account; and since it was wrapped what its reads gave, whether the last one
--- said that this is all, how many reads it was asked for, how many of these gave no byte, and how many were
--- interrupted
+-- the state of a recording reader: the bytes that its reader has left, where known; and, since it
+-- was wrapped, the bytes that its reads returned, whether the last read reported the end, the
+-- number of reads, the number of reads that returned no byte, and the number of interrupted reads
 pub record Giving : Type 0 where
   pub left : Option (List ℕ)
   pub gave : List ℕ
@@ -35,20 +37,20 @@ pub record Giving : Type 0 where
   pub vain : ℕ
   pub interruptions : ℕ
 
--- how many interruptions there were before a call, and after it answered so
+-- the numbers of interruptions before and after a call with this result
 abbrev pub CountsInterruptions : ℕ → ℕ → Result ℕ Error → Type 0
 CountsInterruptions before after (Ok n) = after ≡ before
 CountsInterruptions before after (Err e) =
     (error_kind e ≡ Interrupted → after ≡ before + 1) × (error_kind e ≢ Interrupted → after ≡ before)
 
--- one write: at `Ok` what was taken, and at `Err` nothing
+-- one write: `Ok` records the accepted bytes, `Err` records none
 abbrev pub Takes : Taking → Taking → Result ℕ Error → List ℕ → Type 0
 Takes old new r buf = (new.asks ≡ old.asks + 1) × CountsInterruptions old.interruptions new.interruptions r
     × MatchResult r
     (λ n. (new.took ≡ old.took ++ take n buf) × (new.vain ≡ old.vain + vain_of n))
     (λ _. (new.took ≡ old.took) × (new.vain ≡ old.vain + 1))
 
--- one read: at `Ok` what was given and whether that is all, and at `Err` nothing
+-- one read: `Ok` records the bytes returned and whether they report the end, `Err` records none
 abbrev pub Gives : Giving → Giving → Result ℕ Error → List ℕ → Type 0
 Gives old new r buf = (new.asks ≡ old.asks + 1) × CountsInterruptions old.interruptions new.interruptions r
     × MatchResult r
@@ -56,25 +58,25 @@ Gives old new r buf = (new.asks ≡ old.asks + 1) × CountsInterruptions old.int
     × (new.vain ≡ old.vain + vain_of n))
     (λ _. (new.gave ≡ old.gave) × (new.vain ≡ old.vain + 1))
 
--- a reader gave just these from one moment to a later one
+-- the reader returned exactly these bytes between two states
 pub record WasGiven (from to : Giving) (given : List ℕ) : Type 0 where
   pub gave : to.gave ≡ from.gave ++ given
   pub left : Consumes from.left to.left given
 
--- a reader said that this is all
+-- the reader has reported its end
 abbrev pub HasEnded : Giving → Type 0
 HasEnded to = (to.ended ≡ true) × IsAtEnd to.left
 
--- what a reader gave from one moment to a later one
+-- the bytes that a reader returned between two states
 abbrev pub given_since : Giving → Giving → List ℕ
 given_since from to = drop (length from.gave) to.gave
 
--- these may be the bytes of an input that was read: its reader tells them; or they begin with what it gave, and end
--- there where it said that this is all
+-- these are possibly the bytes of an input that was read: they are the reader's known contents, or
+-- they begin with the bytes that it returned, and end there if it reported its end
 abbrev pub IsInput : Giving → Giving → List ℕ → Type 0
 IsInput from to bytes = (from.left ≡ Some bytes)
     ⊎ ((rest : List ℕ) × (bytes ≡ given_since from to ++ rest) × (to.ended ≡ true → rest ≡ []))
 
--- this holds of whatever may be the input
+-- P holds of every possible input
 abbrev pub OfInput : Giving → Giving → (List ℕ → Type 0) → Type 0
 OfInput from to P = (bytes : List ℕ) → IsInput from to bytes → P bytes

@@ -1,4 +1,5 @@
-//! A reader whose bytes contracts know, over any reader, as a process's own.
+//! A reader that wraps any reader, such as a process's standard input, and records what it returned
+//! in ghost state.
 ghost use Rattle.std.specs.Prelude.{◌≡◌, false, []};
 ghost use Rattle.std.specs.Io.{ReadsAtMost};
 ghost use Rattle.std.specs.Io.KnownBytes.{ReadConsumes};
@@ -9,12 +10,15 @@ use std::io;
 use std::io::{ErrorKind, Read};
 use std::marker::Model;
 
-/// A reader, with the bytes that its reads gave.
+/// A reader that owns another reader and records the bytes that its reads returned.
+///
+/// The record is ghost state: contracts can refer to it, and it takes no room in the running
+/// program.
 #[derive(Drop)]
 pub struct Given<R: Read + Drop> {
     from: R,
     tape: Tape,
-    // one call for each interruption
+    // counts one call for each interruption
     interruptions: Tape,
 }
 
@@ -34,7 +38,13 @@ impl<R: Read + Drop> Model for Given<R> {
 }
 
 impl<R: Read + Drop> Given<R> {
-    /// A reader of which nothing was asked yet.
+    /// A reader over `from` with an empty record.
+    ///
+    /// ```rust
+    /// let mut input = RecordingReader::new(rt.stdin());
+    /// let mut piece = [0u8; 16];
+    /// let count = input.read(&mut piece);
+    /// ```
     pub fn new(from: R) -> Given<R>
         ensures left { result.left ≡ R.remaining from }
         ensures gave { result.gave ≡ [] }
@@ -53,6 +63,13 @@ impl<R: Read + Drop> Given<R> {
 impl<R: Read + Drop> Read for Given<R> {
     ghost remaining = { λ g. g.left };
 
+    /// Reads once from the reader below, into `buf`, and returns the result of that read. `Ok(0)`
+    /// with room in `buf` means that the input has ended.
+    ///
+    /// # Errors
+    ///
+    /// Every error is the error of the reader below. No byte is recorded, and an error of the kind
+    /// `ErrorKind::Interrupted` counts as an interruption.
     fn read(&mut self, buf: &mut [u8]) -> io::Result<usize>
         ensures bound { ReadsAtMost result buf.new }
         ensures bytes { ReadConsumes self.old.left self.new.left result buf.new }

@@ -1,8 +1,9 @@
-//! Laws of the definitions.
+//! Laws of the definitions of an input.
 ghost use Rattle.told_streams.specs.Laws.{AreAll, GivenIsInput};
 
-/// What a reader gave may be its input; and of a reader that tells no bytes, where it said that this
-/// is all, nothing else may be.
+/// States two laws of `IsInput`: the bytes that a reader returned are a possible input, and they
+/// are the only possible input of a reader that has reported its end and whose contents aren't
+/// known.
 pub fn input_laws()
     ensures given { GivenIsInput }
     ensures all { AreAll }

@@ -1,4 +1,4 @@
-//! Writers and readers that tell what went through them.
+//! Wrappers of readers and writers that record, for contracts, the bytes that pass through them.
 #![tactic(auto)]
 
 mod given;

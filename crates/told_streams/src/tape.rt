@@ -1,12 +1,13 @@
-//! The bytes that went past. They stand in the proofs alone, and take no room.
+//! The ghost record of a stream: the bytes that passed and counts of the calls, at no cost at run
+//! time.
 ghost use Rattle.std.specs.Prelude.{◌≡◌, ℕ, ◌+◌, Bool, false, List, ◌++◌, [], take};
 ghost use Rattle.std.specs.Borrow.{ftrue};
 ghost use Rattle.told_streams.specs.Tapes.{is_last, vain_of};
 
 use std::marker::Model;
 
-// The bytes that went past since the tape was made, whether the last call moved none though there
-// was room, how many calls there were, and how many of these moved none.
+// The bytes that have passed since the tape was made, whether the last call moved no byte although
+// there was room, the number of calls, and the number of calls that moved no byte.
 #[derive(Drop)]
 pub(crate) struct Tape {
     ghost bytes: { List ℕ },
@@ -19,18 +20,18 @@ impl Model for Tape {
     ghost also_owns = { λ _. ftrue };
 }
 
-// It takes no room.
+// A tape takes no room.
 const _: () = prove!(size_of::<Tape>() == 0);
 
 impl Tape {
-    // A tape of no bytes.
+    // An empty tape.
     pub(crate) fn new() -> Tape
         ensures { (result.bytes ≡ []) × (result.ended ≡ false) × (result.asks ≡ 0) × (result.vain ≡ 0) }
     {
         Tape {}
     }
 
-    // One call: the first bytes of these went past.
+    // Records one call, which moved the first `_count` bytes of `_room`.
     #[inline(always)]
     pub(crate) fn note(&mut self, _room: &[u8], _count: usize)
         ensures { (self.new.bytes ≡ self.old.bytes ++ take _count _room.now)

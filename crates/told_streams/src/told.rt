@@ -1,4 +1,5 @@
-//! A writer whose bytes contracts know, over any writer, as a process's own.
+//! A writer that wraps any writer, such as a process's standard output, and records what was
+//! written in ghost state.
 ghost use Rattle.std.specs.Prelude.{◌≡◌, Some, []};
 ghost use Rattle.std.specs.Io.{WritesAtMost};
 ghost use Rattle.std.specs.Io.KnownBytes.{Keeps, WriteAppends};
@@ -9,13 +10,16 @@ use std::io;
 use std::io::{ErrorKind, Write};
 use std::marker::Model;
 
-/// A writer that is lent, with the bytes that its writes said were taken. What it holds, to whoever
-/// is handed it as a writer, is these bytes.
+/// A writer that borrows another writer and records the bytes that its writes accepted.
+///
+/// The record is ghost state: contracts can refer to it, and it takes no room in the running
+/// program. To code that uses it as a `Write`, its contents are the recorded bytes, even where the
+/// contents of the writer below aren't known.
 #[derive(Drop)]
 pub struct Told<'a, W: Write> {
     to: &'a mut W,
     tape: Tape,
-    // one call for each interruption
+    // counts one call for each interruption
     interruptions: Tape,
 }
 
@@ -35,7 +39,14 @@ impl<'a, W: Write> Model for Told<'a, W> {
 }
 
 impl<'a, W: Write> Told<'a, W> {
-    /// A writer of which nothing was asked yet.
+    /// A writer over `to` with an empty record.
+    ///
+    /// ```rust
+    /// let mut stdout = rt.stdout();
+    /// let mut out = RecordingWriter::new(&mut stdout);
+    /// let written = out.write(b"accepted,1\n");
+    /// let _stdout = out.finish();
+    /// ```
     pub fn new(to: &'a mut W) -> Told<'a, W>
         ensures lender { result.lender ≡ to.entry.ghost_name }
         ensures held { result.held ≡ W.contents to.entry.now }
@@ -50,7 +61,7 @@ impl<'a, W: Write> Told<'a, W> {
         }
     }
 
-    /// The writer alone.
+    /// Returns the borrowed writer and drops the record. Writes nothing.
     pub fn finish(self) -> &'a mut W
         ensures lender { result.ghost_name ≡ self.entry.lender }
         ensures held { W.contents result.now ≡ self.entry.held }
@@ -65,6 +76,12 @@ impl<'a, W: Write> Write for Told<'a, W> {
 
     ghost contents = { λ t. Some t.took };
 
+    /// Writes once to the writer below, from `buf`, and returns the result of that write.
+    ///
+    /// # Errors
+    ///
+    /// Every error is the error of the writer below. No byte is recorded, and an error of the kind
+    /// `ErrorKind::Interrupted` counts as an interruption.
     fn write(&mut self, buf: &[u8]) -> io::Result<usize>
         ensures bound { WritesAtMost result buf.now }
         ensures bytes { WriteAppends (Some self.old.took) (Some self.new.took) result buf.now }
@@ -87,6 +104,11 @@ impl<'a, W: Write> Write for Told<'a, W> {
         }
     }
 
+    /// Flushes the writer below; the record stays as it is.
+    ///
+    /// # Errors
+    ///
+    /// Every error is the error of the writer below. The record stays as it is.
     fn flush(&mut self) -> io::Result<()>
         ensures held { Keeps self.old.held self.new.held }
         ensures same { (self.new.took ≡ self.old.took) × (self.new.asks ≡ self.old.asks) }

@@ -1,4 +1,4 @@
--- What comes of a session on a running board.
+-- The result of a session on a running board.
 use Rattle.std.specs.Prelude.{◌≡◌, ℕ, List, [], ◌∷◌, map, All}
 use Rattle.council_core.specs.Rolls.{Opening}
 use Rattle.council_core.specs.Sequential.{AreLegalRecords}
@@ -9,19 +9,19 @@ use Rattle.two_copy_steps.specs.declared.views.Stage.TheVariants.{AtRest}
 use Rattle.board_share.specs.Readers.{IsLegalSheet, ReaderSeen}
 use Rattle.two_threads.specs.declared.sessions.Session.{Session}
 
--- a reader that has read nothing
+-- a reader with no readings
 pub record IsNew (p : ReaderSeen) : Type 0 where
   pub rest : p.stage ≡ AtRest
   pub none : p.readings ≡ []
 
--- sheets that one reader may read of some legal list of commands and its cuts: each is the sheet of a cut, and no
--- front falls
+-- sheets that one reader can read of some legal list of commands and its cuts: each is the sheet of
+-- a cut, and fronts never decrease
 abbrev pub IsRecord : Opening → List (List ℕ) → Type 0
 IsRecord members sheets =
     (list : List Command) × (cuts : List ℕ) × AreLegalRecords members list cuts (sheets ∷ [])
 
--- what each reader read is such a record; journal, cuts and all readings are legal records together; and the last
--- answer has the indices of a legal register's sheet
+-- the sheets of each reader are such a record; journal, cuts and all readings together are legal
+-- records; and the last answer has the indices of a legal register's sheet
 pub record IsSession (members : Opening) (session : Session) : Type 0 where
   pub each : All (λ sheets. IsRecord members sheets.items) session.readings.items
   pub together : AreLegalRecords members session.journal.items (0 ∷ session.cuts.items)

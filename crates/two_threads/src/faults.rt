@@ -1,14 +1,14 @@
-//! Why a session ends early.
+//! The errors that end a session early.
 use board_share::AuditFault;
 use council_core::Refusal;
 use std::alloc::{AllocError, AllocFailed};
 
-// Why a session ends early.
+// An error that ends a session early.
 #[derive(Debug, Clone, Copy, PartialEq, Eq)]
 pub(crate) enum Fault {
     /// A call was refused.
     Refused(Refusal),
-    /// The audit found that something isn't as it must be.
+    /// The audit found a fault.
     Audit(AuditFault),
 }
 

@@ -1,4 +1,5 @@
-//! A writer, two readers and an analyst over one board, each in a thread of its own, and an audit of what they bring.
+//! An example program: a writer, two readers and an analyst of one board, each in a separate
+//! thread, and an audit of their results.
 #![tactic(auto)]
 
 mod faults;
@@ -24,7 +25,7 @@ fn members() -> Result<[(MemberCode, Votes); 3], Refusal> {
     ])
 }
 
-// A chair for each of them.
+// Opens a chair for each member and moves the member there.
 fn commands(members: &[(MemberCode, Votes); 3]) -> Result<[Command; 6], Refusal> {
     let [(a, _), (b, _), (c, _)] = *members;
     let (one, two, three) = (ChairId::new(1)?, ChairId::new(2)?, ChairId::new(3)?);
@@ -38,7 +39,8 @@ fn commands(members: &[(MemberCode, Votes); 3]) -> Result<[Command; 6], Refusal>
     ])
 }
 
-// Prints what is the same whatever the threads' schedule was: how much was published and read, and the last answer.
+// Prints what doesn't depend on the threads' schedule: the numbers of publications and readings,
+// and the last answer.
 fn tell(rt: &(impl Print + Alloc), session: &Session) -> io::Result<()> {
     println!(rt; "published {} times", session.cuts.len())?;
     for (at, sheets) in session.readings.iter().enumerate() {
@@ -48,7 +50,7 @@ fn tell(rt: &(impl Print + Alloc), session: &Session) -> io::Result<()> {
     println!(rt; "audit: ok")
 }
 
-// Prints the indices, a line for each chair.
+// Prints the indices, with one line for each chair.
 fn tell_indices(rt: &(impl Print + Alloc), indices: &Indices) -> io::Result<()> {
     println!(rt;
         "after {} commands {} of {} coalitions win",
@@ -65,7 +67,7 @@ fn tell_indices(rt: &(impl Print + Alloc), indices: &Indices) -> io::Result<()> 
     Ok(())
 }
 
-// Holds a session, and answers what came of it or why it ended early.
+// Holds a session and returns its result, or the error that ended it early.
 fn held<R: Threads + Wait + Sync>(rt: &R, alloc: Global) -> Result<Session, Fault> {
     let members = members()?;
     let commands = commands(&members)?;

@@ -10,7 +10,8 @@ use std::alloc::Global;
 use std::sync::Wait;
 use std::thread::{Threads, join};
 
-// What came of a session: the journal, its cuts, what each reader read, and the last answer.
+// The result of a session: the journal, its cuts, the sheets that each reader read, and the last
+// answer.
 #[derive(Drop)]
 pub(crate) struct Session {
     pub(crate) journal: Vec<Command>,
@@ -19,7 +20,7 @@ pub(crate) struct Session {
     pub(crate) answer: Answer,
 }
 
-// A board's seats.
+// The writer, the readers and the analyst of a board.
 #[derive(Drop)]
 struct Seats {
     writer: Writer,
@@ -28,7 +29,7 @@ struct Seats {
     analyst: Analyst,
 }
 
-// What the readers and the analyst bring back.
+// The results of the readers and of the analyst.
 #[derive(Drop)]
 struct Brought {
     first: Vec<Sheet>,
@@ -53,7 +54,7 @@ fn three(mut readers: Vec<Reader>) -> (Reader, Reader, Reader)
     (first, second, third)
 }
 
-// A board over these members: a writer, two readers and an analyst, who have read nothing.
+// A board over these members: a writer, two readers and an analyst, none of which has read.
 fn seat(alloc: Global, members: &[(MemberCode, Votes)]) -> Result<Seats, Fault>
     ensures writer { IfOk result (λ s. s.writer.ledger.journal ≡ []) }
     ensures new { IfOk result (λ s. IsNew s.first × IsNew s.second × IsNew s.analyst.reader) }
@@ -78,7 +79,7 @@ fn seat(alloc: Global, members: &[(MemberCode, Votes)]) -> Result<Seats, Fault>
     }
 }
 
-// The second reader reads while the analyst asks.
+// Runs the second reader and the analyst at once.
 fn ask_beside<R: Threads + Sync>(
     rt: &R,
     alloc: Global,
@@ -103,7 +104,7 @@ fn ask_beside<R: Threads + Sync>(
     Ok((sheets?, asked?))
 }
 
-// Both readers read while the analyst asks.
+// Runs both readers and the analyst at once.
 fn read_beside<R: Threads + Sync>(
     rt: &R,
     alloc: Global,
@@ -136,7 +137,7 @@ fn read_beside<R: Threads + Sync>(
     })
 }
 
-// Runs all four at once, and answers once all have ended.
+// Runs all four at once, and returns after all have ended.
 fn run_all<R: Threads + Wait + Sync>(
     rt: &R,
     alloc: Global,
@@ -172,11 +173,15 @@ fn run_all<R: Threads + Wait + Sync>(
     Ok((written?, brought?))
 }
 
-// Holds a session over these members: the writer hands over and publishes each command, two readers and an analyst
-// read beside it, and an audit looks at what they bring back. What comes are legal records, so each reading is the
-// sheet of a cut of a legal list and no reader's front falls; the last answer has the indices of a legal register.
+// Holds a session over these members: the writer submits and publishes each command, two readers
+// and an analyst read at the same time, and an audit checks their results. The results are legal
+// records, so each reading is the sheet of a cut of a legal list, and the fronts of a reader never
+// decrease; the last answer has the indices of a legal register.
 //
-// `Refused` has the refusal of the members or of a command, or `OutOfMemory`; `Audit` what the audit finds.
+// # Errors
+//
+// - `Refused`: the refusal of the members or of a command, or `OutOfMemory`.
+// - `Audit`: the fault that the audit found.
 pub(crate) fn hold<R: Threads + Wait + Sync>(
     rt: &R,
     alloc: Global,

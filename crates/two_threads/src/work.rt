@@ -1,4 +1,4 @@
-//! What each thread does.
+//! The work of each thread.
 ghost use Rattle.std.specs.Prelude.{◌≡◌, [], vec_len, IfOk};
 ghost use Rattle.majority_rule.specs.declared.majorities.Majority.TheVariants.{EightyFive};
 ghost use Rattle.power_index.specs.Indices.{AreIndices};
@@ -13,31 +13,32 @@ use power_index::Indices;
 use std::alloc::Global;
 use std::sync::Wait;
 
-// How often each reader reads.
+// The number of readings of each reader.
 pub(crate) const READINGS: u32 = 100;
 
-// What the writer's thread brings back: the commands accepted, and the number that each publication answered.
+// The result of the writer's thread: the accepted commands, and the number returned by each
+// publication.
 #[derive(Drop)]
 pub(crate) struct Written {
     pub(crate) journal: Vec<Command>,
     pub(crate) cuts: Vec<u32>,
 }
 
-// What the analyst's thread brings back: the analyst, and the sheets that it read.
+// The result of the analyst's thread: the analyst, and the sheets that it read.
 #[derive(Drop)]
 pub(crate) struct Asked {
     pub(crate) analyst: Analyst,
     pub(crate) sheets: Vec<Sheet>,
 }
 
-// The indices of a sheet.
+// A sheet and its indices.
 #[derive(Drop)]
 pub(crate) struct Answer {
     pub(crate) sheet: Sheet,
     pub(crate) indices: Indices,
 }
 
-// Hands over each command and publishes it, and waits for readers that are in the middle of a reading.
+// Submits and publishes each command, and waits for readers that are in the middle of a reading.
 pub(crate) fn write_all<R: Wait>(
     rt: &R,
     alloc: Global,
@@ -57,7 +58,8 @@ pub(crate) fn write_all<R: Wait>(
     Ok(Written { journal, cuts })
 }
 
-// Reads a hundred times: the sheets are the record of a legal register, whose fronts never fall.
+// Reads `READINGS` times. The sheets are the record of a legal register, and their fronts never
+// decrease.
 pub(crate) fn read_often(alloc: Global, mut reader: Reader) -> Result<Vec<Sheet>, Fault>
     requires new { IsNew reader }
     ensures record { IfOk result (λ sheets. IsRecord reader.opening sheets.items) }
@@ -70,7 +72,7 @@ pub(crate) fn read_often(alloc: Global, mut reader: Reader) -> Result<Vec<Sheet>
     Ok(sheets)
 }
 
-// Asks a hundred times, and keeps the sheets: they are such a record, too.
+// Asks `READINGS` times and keeps the sheets, which are such a record, too.
 pub(crate) fn ask_often(alloc: Global, mut analyst: Analyst) -> Result<Asked, Fault>
     requires new { IsNew analyst.reader }
     ensures opening { IfOk result (λ a. a.analyst.reader.opening ≡ analyst.reader.opening) }
@@ -85,7 +87,7 @@ pub(crate) fn ask_often(alloc: Global, mut analyst: Analyst) -> Result<Asked, Fa
     Ok(Asked { analyst, sheets })
 }
 
-// Asks once: the indices of the sheet of a legal register.
+// Asks once, and returns the indices of the sheet of a legal register.
 pub(crate) fn ask_once(analyst: &mut Analyst) -> Answer
     ensures legal { IsLegalSheet analyst.old.reader.opening result.sheet }
     ensures exact { AreIndices EightyFive result.sheet result.indices }

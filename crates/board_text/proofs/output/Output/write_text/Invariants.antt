@@ -3,7 +3,8 @@ use Rattle.std.specs.Io.KnownBytes.{Appends}
 use Rattle.board_text.specs.Sinks.{GoesOn}
 use Rattle.board_text.proofs.output.Output.write_text.Given as goal
 
--- a front of the text was written, and each turn so far asked for one write, which took a byte or was an interruption
+-- a prefix of the text was written, and each turn so far made one write, which accepted a byte or
+-- was an interruption
 abbrev pub invariant-loop-turn : goal.invariant-loop-turn
 invariant-loop-turn g l = record {
   front : Appends l.fn.self.held l.self.held (take l.at l.text);
