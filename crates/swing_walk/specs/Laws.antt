@@ -74,7 +74,7 @@ abbrev pub PairLaw : Type 0
 PairLaw = (quota least_size : ℕ) (left right : List Chair) (from to : List Entry) → AreHalf left → AreHalf right
     → AreSubsets left from → AreSubsets right to → PairsAreCoalitions quota least_size left right from to
 
--- what the counts of two halves come to, chair by chair
+-- what `swings` computes from the counts of a board is the number of swings of each chair
 abbrev pub CountLaw : Type 0
 CountLaw = (quota least_size : ℕ) (before after : List Chair) (chair : Chair)
     → has_chair chair.0 (before ++ after) ≡ false →
@@ -82,13 +82,13 @@ CountLaw = (quota least_size : ℕ) (before after : List Chair) (chair : Chair)
     (omega_with (reaching quota least_size) chair.0 (before ++ chair ∷ after))
     ≡ eta_of (reaching quota least_size) chair (before ++ chair ∷ after)
 
--- no more winning coalitions have a chair than there are
+-- at most all winning coalitions have a chair
 abbrev pub BoundLaw : Type 0
 BoundLaw = (quota least_size place : ℕ) (chairs : List Chair)
     → omega_with (reaching quota least_size) place chairs ≤ omega_of (reaching quota least_size) chairs
 
--- the counts of two halves are what `swings` asks for, and its answer is the swings of each chair, 0 where there is
--- none
+-- the counts of two halves meet the requirements of `swings`, and its results are the swings of
+-- each chair, 0 at a place without a chair
 pub record CountsMeet (quota least_size : ℕ) (left right : List Chair) (from to : List Entry) : Type 0 where
   pub few : large_pairs quota least_size from to ≤ 2 ^ 32
   pub within : (place : ℕ) → large_with quota least_size place from to ≤ large_pairs quota least_size from to
