@@ -40,7 +40,7 @@ abbrev pub large_with : ℕ → ℕ → ℕ → List Entry → List Entry → �
 large_with quota least_size place left right = pairs_where
     (λ l r. is_enough quota least_size l r && has_place place l r) left right
 
--- the swings of a chair from the numbers of winning sets and of those that have it: 2 * with_chair
--- - winning (Banzhaf 1965)
+-- the swings of a chair (Banzhaf 1965): 2 * with_chair - winning, from the number of winning sets
+-- and the number of those that have the chair
 abbrev pub swings_of : ℕ → ℕ → ℕ
 swings_of winning with_chair = if with_chair == 0 then 0 else 2 * with_chair - winning
