@@ -20,7 +20,7 @@ open_chairs words = open_from 1 (take CHAIRS words)
 abbrev pub weight_of : List Chair → ℕ
 weight_of chairs = sum_by (λ c. c.1) chairs
 
--- the weight that a chair's word stands for
+-- the weight that a chair's word represents
 abbrev pub weight_in : ℕ → ℕ
 weight_in word = word - 1
 

@@ -60,7 +60,7 @@ impl Standing {
         ensures same { result ≡ fresh votes }
         ensures small { votes ≤ MAX_VOTES }
     {
-        // The prover asks for this line: the votes are in range.
+        // The prover needs this line: the votes are in range.
         let _votes = votes.number();
         Standing {
             votes,

@@ -21,7 +21,7 @@ pub enum Refusal {
     UnknownMember = 4,
     /// The member's voting rights are suspended, so it cannot move.
     MemberSuspended = 5,
-    /// The member already sits in this chair, or in no chair.
+    /// The member is already where it is to move: in this chair, or in no chair.
     AlreadyThere = 6,
     /// The member is already suspended.
     AlreadySuspended = 7,
