@@ -1,4 +1,5 @@
--- Entries: the sets of a half's chairs by weight and slots, as lists of subset sums (Horowitz and Sahni 1974).
+-- Entries: the sets of a half's chairs by weight and slots, as lists of subset sums (Horowitz and
+-- Sahni 1974).
 use Rattle.std.specs.Prelude.{ℕ, ◌+◌, ◌^◌, ◌<◌, ◌≤◌, List, [], ◌∷◌, map}
 use Rattle.std.specs.Prelude.{length, take, bit_or}
 use Rattle.std.specs.Simd.Lanes.{zip2}
