@@ -1,4 +1,4 @@
--- Amounts stored by the bytes of a mask, and what walks add to them.
+-- Amounts stored by the bytes of a mask, and the amounts that walks add.
 use Rattle.std.specs.Prelude.{ℕ, ◌≡◌, ◌+◌, ◌*◌, Bool, List, [], ◌∷◌, suc, ◌&&◌}
 use Rattle.std.specs.List.{sum_by}
 use Rattle.std.specs.Int.{bit_at}
