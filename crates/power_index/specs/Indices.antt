@@ -1,6 +1,6 @@
--- The voting power indices of a sheet, counted over all coalitions of its open chairs. Swings and the Banzhaf measure:
--- Banzhaf 1965. The powers to prevent, to initiate and of the board to act: Coleman 1971. Names and fractions:
--- Felsenthal and Machover 1998.
+-- The voting power indices of a sheet, counted over all coalitions of its open chairs. Swings and
+-- the Banzhaf measure: Banzhaf 1965. The powers to prevent, to initiate and of the board to act:
+-- Coleman 1971. Names and fractions: Felsenthal and Machover 1998.
 use Rattle.std.specs.Prelude.{◌≡◌, ℕ, ◌-◌, ◌^◌, ◌≤◌, ◌==◌, ◌↔◌, IsTrue}
 use Rattle.std.specs.Prelude.{if◌then◌else◌, List, length, map, sum_by, Option, None, Some}
 use Rattle.council_core.specs.Sheets.{Chair, open_chairs, cast_of, total_of, front_of}
