@@ -43,7 +43,7 @@ way_notes : notes (started one_member 1) in_the_way
     ++ replicate 36 Moved ++ Read 1 last_sheet ∷ []
 way_notes = refl
 
--- six of these 151 events stand for a call of the sequential register, in this order
+-- six of these 151 events represent a call of the sequential register, in this order
 way_effects : effects (started one_member 1) in_the_way
     ≡ read ∷ submit (Open 1) ∷ publish ∷ submit (Move (65 ∷ 65 ∷ 65 ∷ []) (Some 1)) ∷ publish ∷ read ∷ []
 way_effects = refl

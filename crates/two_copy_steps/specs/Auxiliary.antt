@@ -1,5 +1,5 @@
--- Auxiliary variables of the machine: the cuts of the writer and the records of the readers. The machine doesn't store
--- them and no step reads them.
+-- Auxiliary variables of the machine: the cuts of the writer and the records of the readers. The
+-- machine does not store them, and no step reads them.
 use Rattle.std.specs.Prelude.{◌≡◌, ℕ, zero, suc, false, List, [], ◌∷◌, ◌++◌, length, replicate}
 use Rattle.std.specs.Prelude.{slice_index, slice_index_or, slice_get, slice_set, Option, None, Some}
 use Rattle.council_core.specs.declared.commands.Command.{Command}
@@ -71,7 +71,8 @@ pub record IsLawful (Legal : Opening → List Command → Type 0) (m : MachineSt
   pub whole : is_idle m.writer.phase ≡ false → m.writer.taken ≡ m.ledger.journal
   pub each_record : length a.records ≡ length m.readers
 
--- the published list is legal, the cuts are in order, and the records hold sheets of cuts whose fronts never fall
+-- the published list is legal, the cuts are in order, and the records hold sheets of cuts whose
+-- fronts never fall
 abbrev pub HasLegalRecords : MachineState → Auxiliary → Type 0
 HasLegalRecords m a = AreLegalRecords m.ledger.opening m.writer.published a.cuts a.records
 

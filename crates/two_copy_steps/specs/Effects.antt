@@ -1,4 +1,4 @@
--- The sequential register alongside the machine: the calls for which events stand, and its replies.
+-- The sequential register alongside the machine: the calls that events represent, and its replies.
 use Rattle.std.specs.Prelude.{◌≡◌, ℕ, zero, suc, Bool, true, false, List, [], ◌∷◌, ◌++◌, length}
 use Rattle.std.specs.Prelude.{slice_get, if◌then◌else◌, ◌==◌, Option, None, Some}
 use Rattle.council_core.specs.Ledgers.{Ledger}
@@ -34,7 +34,7 @@ abbrev pub reader_effect : Option Stage → List Call
 reader_effect None = []
 reader_effect (Some stage) = stage_effect stage
 
--- the call of the sequential register for which an event stands, or none; `m` is the machine before
+-- the call of the sequential register that an event represents, or none; `m` is the machine before
 -- the event
 abbrev pub effect : MachineState → Event → List Call
 effect m (Submit command) = if is_idle m.writer.phase then submit command ∷ [] else []
@@ -43,7 +43,7 @@ effect m Writer = phase_effect m.writer.phase
 effect m (Reader zero) = []
 effect m (Reader (suc r)) = reader_effect (slice_get m.readers r)
 
--- the calls for which a list of events stands, in order
+-- the calls that a list of events represents, in order
 abbrev pub effects : MachineState → List Event → List Call
 effects m [] = []
 effects m (event ∷ events) = effect m event ++ effects (transition m event).0 events
@@ -104,8 +104,8 @@ sequential_step t m event =
       begun = begun_after t.begun (transition m event).1;
     }
 
--- the output of an event is the sequential register's reply: to the call for which the event
--- stands, or, for a reading, at that reader's last load of side since it arrived
+-- the output of an event is the sequential register's reply: to the call that the event represents,
+-- or, for a reading, at that reader's last load of side since it arrived
 abbrev pub Tells : List Reply → (ℕ → Option Reply) → Note → Type 0
 Tells replies replied (Accepted count) = replies ≡ accepted count ∷ []
 Tells replies replied (Refused refusal) = replies ≡ refused refusal ∷ []
@@ -136,7 +136,7 @@ abbrev pub sequential_steps : SequentialRun → MachineState → List Event → 
 sequential_steps t m [] = t
 sequential_steps t m (event ∷ events) = sequential_steps (sequential_step t m event) (transition m event).0 events
 
--- its replies to the calls for which each event stands, event by event
+-- its replies to the calls that each event represents, event by event
 abbrev pub sequential_replies : SequentialRun → MachineState → List Event → List Reply
 sequential_replies t m [] = []
 sequential_replies t m (event ∷ events) = replies_of t.register (effect m event)

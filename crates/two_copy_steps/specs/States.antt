@@ -16,7 +16,8 @@ LawfulFor opening s = Lawful opening (IsPublishable opening) s
 abbrev pub readings_of : ReaderView → List (List ℕ)
 readings_of v = v.readings
 
--- the published list is legal, the cuts are in order, and the records hold sheets of cuts whose fronts never fall
+-- the published list is legal, the cuts are in order, and the records hold sheets of cuts whose
+-- fronts never fall
 abbrev pub HasRecords : Opening → State → Type 0
 HasRecords opening s = AreLegalRecords opening s.writer.state.published s.writer.cuts (map readings_of s.readers)
 

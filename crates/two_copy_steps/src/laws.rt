@@ -84,7 +84,7 @@ pub fn record_laws()
 {}
 
 /// The outputs of events are compared with one run of the sequential register: its replies to the
-/// list of calls for which the events stand, starting from the given register.
+/// list of calls that the events represent, starting from the given register.
 pub fn effects_law()
     ensures run { EffectsLaw }
 {}
