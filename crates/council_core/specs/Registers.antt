@@ -1,4 +1,4 @@
--- What a register stores in addition to its journal, and that it agrees with the roll.
+-- The data that a register stores in addition to its journal, and their agreement with the roll.
 use Rattle.std.specs.Prelude.{◌≡◌, ℕ, ◌+◌, ◌≤◌, ◌<◌, true, false, if◌then◌else◌}
 use Rattle.std.specs.Prelude.{List, length, sum_by, All, slice_index, None, Some, Ok}
 use Rattle.council_core.specs.Rolls.{Roll, Entry, chair_word, sits_in, total, is_open, can_receive, standing_among}

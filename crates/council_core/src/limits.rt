@@ -9,7 +9,7 @@ pub const TOTAL: usize = CHAIRS;
 /// The index of the front in a sheet's numbers.
 pub const FRONT: usize = TOTAL + 1;
 
-/// The number of numbers in a sheet: one word for each chair, the total and the front.
+/// The length of a sheet: one word for each chair, the total and the front.
 pub const SHEET_WORDS: usize = FRONT + 1;
 
 /// The largest number of members at any moment.

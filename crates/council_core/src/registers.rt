@@ -372,7 +372,7 @@ impl Register {
     pub fn check(&self, command: Command) -> Result<(), Refusal>
         ensures verdict { result ≡ verdict_of self.now command }
     {
-        // The prover needs a match: with `?`, the change would be dropped without a fact about it.
+        // The prover needs a match: `?` would drop the change implicitly.
         match self.plan(command) {
             Ok(_) => self.check_room(),
             Err(why) => Err(why),
