@@ -75,7 +75,7 @@ abbrev pub PairLaw : Type 0
 PairLaw = (quota least_size : ℕ) (left right : List Chair) (from to : List Entry) → AreHalf left → AreHalf right
     → AreSubsets left from → AreSubsets right to → PairsAreCoalitions quota least_size left right from to
 
--- what `swings` computes from the counts of a board is the number of swings of each chair
+-- the results of `swings` for the counts of a board are the swings of each chair
 abbrev pub CountLaw : Type 0
 CountLaw = (quota least_size : ℕ) (before after : List Chair) (chair : Chair)
     → has_chair chair.0 (before ++ after) ≡ false →
@@ -83,7 +83,7 @@ CountLaw = (quota least_size : ℕ) (before after : List Chair) (chair : Chair)
     (omega_with (reaching quota least_size) chair.0 (before ++ chair ∷ after))
     ≡ eta_of (reaching quota least_size) chair (before ++ chair ∷ after)
 
--- at most all winning coalitions have a chair
+-- the winning coalitions that have a chair are at most as many as all winning coalitions
 abbrev pub BoundLaw : Type 0
 BoundLaw = (quota least_size place : ℕ) (chairs : List Chair)
     → omega_with (reaching quota least_size) place chairs ≤ omega_of (reaching quota least_size) chairs

@@ -32,7 +32,8 @@ pub record IsBetween (quota up rest : ℕ) (rising falling : List Entry) : Type 
   pub reached : AllReach quota up rest rising falling
 
 -- the entry that is passed next is the falling one if it reaches the quota with the rising one, or
--- if there is no rising one; otherwise it is the rising one, which falls short with the falling one
+-- if there is no rising one; otherwise it is the rising one, which falls short with the falling
+-- one, if there is one
 abbrev pub IsPassed : Bool → ℕ → Entry → Entry → ℕ → ℕ → List Entry → List Entry → Type 0
 IsPassed true quota low high up rest rising falling = (0 < rest) × (high ≡ entry_at falling (rest - 1))
     × (up < length rising → quota ≤ (entry_at rising up).sum + high.sum)
