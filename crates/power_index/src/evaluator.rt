@@ -56,9 +56,9 @@ impl Evaluator {
     /// whose words differ from the previous sheet: 0, 1 or 2. The total and the front belong to
     /// neither block.
     ///
-    /// Independently of these numbers, the first half of the open chairs, including the middle one
-    /// of an odd number, make one list, and the other open chairs make the other. A list is rebuilt
-    /// if its weights differ from the previous ones.
+    /// Independently of the chairs' numbers, the first half of the open chairs, including the
+    /// middle one of an odd number, make one list, and the other open chairs make the other. A list
+    /// is rebuilt if its weights differ from the previous ones.
     pub fn set(&mut self, sheet: &Sheet) -> u8
         ensures changed { result ≡ changed_halves self.old sheet.now }
         ensures held { self.new ≡ sheet.now }
