@@ -85,7 +85,7 @@ fn rows_of(rows: &[ChairPower]) -> [BoardChair; CHAIRS]
     chairs
 }
 
-// The counts that are among these indices.
+// The counts that these indices contain.
 fn counts_of(indices: &Indices) -> BoardCounts
     ensures { AreCountsAmong indices.now result }
 {
