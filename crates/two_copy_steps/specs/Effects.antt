@@ -104,8 +104,8 @@ sequential_step t m event =
       begun = begun_after t.begun (transition m event).1;
     }
 
--- the output of an event is the sequential register's reply: to the call that the event represents,
--- or, for a reading, at that reader's last load of side since it arrived
+-- an output that answers a call is the sequential register's reply: to the call that the event
+-- represents, or, for a reading, at that reader's last load of side since it arrived
 abbrev pub Tells : List Reply → (ℕ → Option Reply) → Note → Type 0
 Tells replies replied (Accepted count) = replies ≡ accepted count ∷ []
 Tells replies replied (Refused refusal) = replies ≡ refused refusal ∷ []

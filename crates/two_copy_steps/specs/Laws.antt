@@ -162,8 +162,8 @@ abbrev pub UnderLaw : Type 0
 UnderLaw = (ledger : Ledger) (readers : ℕ) → IsLedger ledger → (events : List Event)
     → NoneUnder (machine_after ledger readers events)
 
--- over every list of events every output equals the sequential register's reply at its
--- linearization point
+-- over every list of events every output that answers a call equals the sequential register's reply
+-- at the call's linearization point
 abbrev pub RepliesLaw : Type 0
 RepliesLaw = (ledger : Ledger) (readers : ℕ) → IsLedger ledger → (events : List Event)
     → TellsReplies ledger readers events

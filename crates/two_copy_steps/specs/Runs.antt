@@ -19,7 +19,8 @@ machine_after ledger readers events = after (started ledger readers) events
 abbrev pub auxiliary_after : Ledger → ℕ → List Event → Auxiliary
 auxiliary_after ledger readers events = auxiliary_steps (started ledger readers) (auxiliary_start ledger readers) events
 
--- every output equals the sequential register's reply at its linearization point
+-- every output that answers a call equals the sequential register's reply at the call's
+-- linearization point
 abbrev pub TellsReplies : Ledger → ℕ → List Event → Type 0
 TellsReplies ledger readers events = AllAnswer (sequential_start ledger) (started ledger readers) events
 

@@ -65,9 +65,9 @@ pub fn event_law()
 {}
 
 /// Over every list of events: the records are legal, no reader holds the copy into which the
-/// writer's next step stores a word, every output equals the sequential register's reply at its
-/// linearization point, and a reading that begins after a publication is no older than that
-/// publication.
+/// writer's next step stores a word, every output that answers a call equals the sequential
+/// register's reply at the call's linearization point, and a reading that begins after a
+/// publication is no older than that publication.
 pub fn run_laws()
     ensures records { RecordsLaw }
     ensures apart { UnderLaw }
