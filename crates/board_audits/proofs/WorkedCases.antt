@@ -42,7 +42,7 @@ stale = refl
 pub unpublished : audit_of one_member seated (2 ∷ []) ((one_done ∷ []) ∷ []) ≡ Err (Mismatch 1 1)
 unpublished = refl
 
--- a chair can't be opened twice, and no publication lies behind the journal's end
+-- a chair cannot be opened twice, and no publication is after the journal's end
 pub opened_twice : audit_of one_member (Open 1 ∷ Open 1 ∷ []) [] [] ≡ Err (BadJournal 2)
 opened_twice = refl
 
@@ -59,7 +59,8 @@ journal_before_cuts = refl
 pub cuts_before_readings : audit_of one_member seated (1 ∷ 3 ∷ []) (([] ∷ []) ∷ []) ≡ Err (BadCuts 2)
 cuts_before_readings = refl
 
--- where nothing is found no fault is answered but want of memory, and no fault at another place than the one found
+-- if nothing is found, no fault is returned except out of memory, and no fault at another place
+-- than the one found
 no_fault_made_up : Answers (Ok tt) (Err (Mismatch 1 1)) → ⊥
 no_fault_made_up h = ⊎_elim is_fault is_memory h
   where

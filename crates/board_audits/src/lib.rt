@@ -1,4 +1,4 @@
-//! An audit of a journal, its cuts and the sheets that readers brought back.
+//! Audits: checks a journal, its cuts and the sheets that readers returned.
 #![tactic(auto)]
 
 mod audits;

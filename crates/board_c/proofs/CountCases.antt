@@ -1,4 +1,4 @@
--- What is shown of three chairs, and which answers are due: worked cases, and what the definitions exclude.
+-- The counts and results for three chairs: worked examples, and what the definitions exclude.
 use Rattle.std.proofs.Common.{◌≡◌, ◌≤◌, ◌++◌, ℕ, List, [], ◌∷◌, replicate, refl, subst, sym, arith, None, Some}
 use Rattle.std.proofs.lemmas.List.Elements.{All-from_recursion, recursion_from_All}
 use Rattle.majority_rule.specs.declared.majorities.Majority.{Majority}
@@ -66,7 +66,7 @@ empty_not_refused = ((λ h. h empty_board), (λ h. h), (λ h. h))
 members_come_first : AreRefusedAs 4 (member 1 33 0 ∷ []) BadRecord → ⊥
 members_come_first h = omega (arith, (recursion_from_All (λ (m : BoardMember). m.chair ≤ 32) (member 1 33 0 ∷ []) h.0.seated).0)
 
--- by the laws, some roll of the register has the words of whatever members
+-- by the laws, for any members some roll of the register has their words
 members_of_a_roll : MembersLaw → RollLaw → (members : List BoardMember) (mask : ℕ) → (roll : Roll) × (roll_words roll 0 ≡ member_words members mask)
 members_of_a_roll same found members mask =
     let roll = found members mask in

@@ -1,4 +1,4 @@
--- The words of members are those of a roll on which they stand so.
+-- The words of members are those of a roll with the same standings.
 use Rattle.std.proofs.Common.{◌≡◌, ℕ, ◌+◌, ◌≤◌, ◌==◌, Bool, true, false, cond, ◌&&◌, List, [], ◌∷◌, ◌++◌, map, filter, sum_by, refl, sym, ap, ◌∙◌, subst, arith}
 use Rattle.std.specs.List.{AllByRecursion, list_any}
 use Rattle.std.proofs.lemmas.List.Elements.{All-weaker, recursion_from_All}
@@ -24,7 +24,7 @@ sum_of_standings stand f [] = refl
 sum_of_standings {X} stand f (x ∷ xs) = omega (arith, sum_by-cons (λ (y : X). f (stand y)) x xs, sum_by-cons f (stand x) (map stand xs), sum_of_standings stand f xs)
 
 module _ (members : List BoardMember) (mask : ℕ) (roll : Roll) (same : IsRollOf members mask roll) where
-  -- a sum over the roll's members is the sum over those that stand so
+  -- a sum over the roll's members is the sum over the members with the same standings
   sum_same : (f : Standing → ℕ) → sum_by (λ m. f m.1) roll.members ≡ sum_by (λ m. f (standing_of m)) members
   sum_same f = sum_of_standings (λ m. m.1) f roll.members ∙ ap (sum_by f) same.standings ∙ sym (sum_of_standings standing_of f members)
 
@@ -44,7 +44,7 @@ module _ (members : List BoardMember) (mask : ℕ) (roll : Roll) (same : IsRollO
 pub words_of_members : MembersLaw
 words_of_members members mask roll same = words_same members mask roll same
 
--- the roll on which the members stand so, each without a code
+-- the roll with the standings of these members, each without a code
 abbrev roll_of : List BoardMember → ℕ → Roll
 roll_of members mask = record { members = map (λ m. ([], standing_of m)) members; open_chairs = filter (is_open_by members mask) chair_numbers }
 

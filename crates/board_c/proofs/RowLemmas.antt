@@ -15,7 +15,7 @@ first_left room at z inside =
     let left : room - at ≡ suc (room - (at + 1)) = omega arith in
     rw left
 
--- the image of one more element, over the first value behind the images of those before it
+-- the image of one more element, written over the first value after the images of those before it
 pub next_image : {X Y : Type 0} → (f : X → Y) (xs : List X) (at : ℕ) (x : X) (z : Y) (rest : List Y) → at < length xs → x ≡ get_or xs at x
     → set (map f (take at xs) ++ z ∷ rest) at (f x) ≡ map f (take (at + 1) xs) ++ rest
 next_image f xs at x z rest inside is =
@@ -31,7 +31,7 @@ map_rows : (rule : Rule) (board chairs : List Chair) → map without_indices (ro
 map_rows rule board [] = refl
 map_rows rule board (c ∷ rest) = ap (λ rows. counted rule board c ∷ rows) (map_rows rule board rest)
 
--- and so with what stands behind
+-- the same with the zeros that follow
 pub shown_rows : (rule : Rule) (board : List Chair) (rows : List ChairPower) → rows ≡ rows_among rule board board
     → map without_indices rows ++ replicate (32 - length rows) no_chair ≡ map (counted rule board) board ++ replicate (32 - length board) no_chair
 shown_rows rule board rows is =

@@ -1,4 +1,4 @@
--- Worked cases, computed by the definitions.
+-- Worked examples, computed by the definitions.
 use Rattle.std.proofs.Common.{◌≡◌, ℕ, List, [], ◌∷◌, ◌++◌, take, Some, refl, replicate}
 use Rattle.council_core.specs.Rolls.{Opening, sheet}
 use Rattle.council_core.specs.declared.commands.Command.{Command}

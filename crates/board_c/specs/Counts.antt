@@ -1,4 +1,5 @@
--- The majority of a number, the words of a board that is given by its weights, and the counts that a caller gets.
+-- The majority with a number, the words of a board that is given by its weights, and the counts
+-- that a caller gets.
 use Rattle.std.specs.Prelude.{◌≡◌, ℕ, ◌+◌, ◌-◌, ◌^◌, ◌≤◌, ◌==◌, ◌↔◌}
 use Rattle.std.specs.Prelude.{IsTrue, if◌then◌else◌}
 use Rattle.std.specs.Prelude.{Option, None, Some, List, [], ◌∷◌, ◌++◌, length, map, replicate}
@@ -15,18 +16,18 @@ use Rattle.board_c.specs.declared.counts.BoardChair.{BoardChair}
 use Rattle.board_c.specs.declared.counts.BoardCounts.{BoardCounts}
 use Rattle.board_c.specs.declared.counts.BoardAllCounts.{BoardAllCounts}
 
--- the majority of a number
+-- the majority with this number, or None
 abbrev pub majority_of : ℕ → Option Majority
 majority_of n =
     if n == 0 then Some Half else if n == 1 then Some Seventy else if n == 2 then Some EightyFive
     else if n == 3 then Some Quorum else None
 
--- words are a whole sheet, each in its range
+-- words are a complete sheet, each in its range
 pub record IsWhole (words : List ℕ) : Type 0 where
   pub long : length words ≡ SHEET_WORDS
   pub sheet : IsSheet words
 
--- the words of a sheet whose first chairs are open, with these weights, and on which no command was accepted
+-- the words of a sheet whose first chairs are open with these weights, before any command
 abbrev pub words_of : List ℕ → ℕ → List ℕ
 words_of weights total = map (λ w. w + 1) weights ++ (replicate (CHAIRS - length weights) 0 ++ total ∷ 0 ∷ [])
 
@@ -34,12 +35,12 @@ words_of weights total = map (λ w. w + 1) weights ++ (replicate (CHAIRS - lengt
 abbrev pub counted : Rule → List Chair → Chair → BoardChair
 counted rule board c = record { chair = c.0; weight = c.1; swings = eta_of rule c board }
 
--- no chair
+-- a row without a chair
 abbrev pub no_chair : BoardChair
 no_chair = record { chair = 0; weight = 0; swings = 0 }
 
--- the counts of a sheet by a majority: a weight and a size win where they reach the quota and the least size, and there
--- is a row for each open chair, by number, then zeros
+-- the counts of a sheet by a majority: a weight and a size win exactly if they reach the quota and
+-- the least size, and there is a row for each open chair, by number, followed by zeros
 pub record AreCountsOf (majority : Majority) (words : List ℕ) (counts : BoardCounts) : Type 0 where
   pub least_winning : (w k : ℕ)
       → ((counts.quota ≤ w) × (counts.least_size ≤ k)) ↔ IsTrue (wins majority words w k)
@@ -52,7 +53,7 @@ pub record AreCountsOf (majority : Majority) (words : List ℕ) (counts : BoardC
       ≡ map (counted (rule_of majority words) (open_chairs words)) (open_chairs words)
       ++ replicate (CHAIRS - length (open_chairs words)) no_chair
 
--- the counts of a sheet by the majority of a number
+-- the counts of a sheet by the majority with this number
 pub record ShowsCounts (number : ℕ) (words : List ℕ) (counts : BoardCounts) : Type 0 where
   pub majority : Majority
   pub known : majority_of number ≡ Some majority
@@ -67,8 +68,8 @@ pub record ShowsAllCounts (words : List ℕ) (counts : BoardAllCounts) : Type 0 
   pub eighty_five : AreCountsOf EightyFive words counts.eighty_five
   pub quorum : AreCountsOf Quorum words counts.quorum
 
--- why a call by the majority of a number is refused: the words are not a sheet's; or they are, and there is no majority
--- of this number
+-- the reason for which a call by the majority with this number is refused: the words are not a
+-- sheet's; or they are, and no majority has this number
 abbrev pub IsRefusedAs : ℕ → List ℕ → Refusal → Type 0
 IsRefusedAs number words BadSheet = IsWhole words → ⊥
 IsRefusedAs number words BadRecord = IsWhole words × (majority_of number ≡ None)
@@ -78,6 +79,6 @@ IsRefusedAs number words _ = ⊥
 abbrev pub IsRefusal : ℕ → List ℕ → ℕ → Type 0
 IsRefusal number words answer = (why : Refusal) × (answer ≡ code_of why) × IsRefusedAs number words why
 
--- the number of the refusal of words by all majorities: the words are not a sheet's
+-- the number of the refusal of a call by all majorities: the words are not a sheet's
 abbrev pub IsRefusalOfWords : List ℕ → ℕ → Type 0
 IsRefusalOfWords words answer = (answer ≡ code_of BadSheet) × (IsWhole words → ⊥)

@@ -12,7 +12,7 @@ use Rattle.council_core.specs.Refusals.{code_of}
 use Rattle.board_c.specs.Counts.{majority_of}
 use Rattle.board_c.specs.declared.members.BoardMember.{BoardMember}
 
--- the standing of a member: chair 0 is no chair, and any number but 0 is a suspension
+-- the standing of a member: chair 0 means no chair, and any number except 0 means suspended
 abbrev pub standing_of : BoardMember → Standing
 standing_of m = record {
   votes = m.votes;
@@ -20,15 +20,16 @@ standing_of m = record {
   suspended = not (m.suspended == 0);
 }
 
--- the mask names chair c: its bit c - 1 is set
+-- whether the mask names chair c: its bit c - 1 is set
 abbrev pub is_named : ℕ → ℕ → Bool
 is_named mask c = bit_at mask (c - 1) == 1
 
--- a chair is open where the mask names it or a member sits in it, suspended or not
+-- whether a chair is open: the mask names it or a member sits in it, suspended or not
 abbrev pub is_open_by : List BoardMember → ℕ → ℕ → Bool
 is_open_by members mask c = is_named mask c || list_any (λ m. sits_in c (standing_of m)) members
 
--- the word of a chair: 0 where it is closed, else one more than the votes of its members that are not suspended
+-- the word of a chair: 0 if it is closed, else the votes of its members that are not suspended,
+-- plus 1
 abbrev pub member_word : List BoardMember → ℕ → ℕ → ℕ
 member_word members mask c =
     if is_open_by members mask c then sum_by (λ m. votes_in c (standing_of m)) members + 1 else 0
@@ -37,16 +38,18 @@ member_word members mask c =
 abbrev pub member_total : List BoardMember → ℕ
 member_total members = sum_by (λ m. counted (standing_of m)) members
 
--- the words of the board's sheet, on which no command was accepted
+-- the words of the board's sheet, before any command
 abbrev pub member_words : List BoardMember → ℕ → List ℕ
 member_words members mask = map (member_word members mask) chair_numbers ++ member_total members ∷ 0 ∷ []
 
--- the members of a board: each is in a chair from 1 to 32 or in none, and their total is one that a sheet can have
+-- the members of a board: each is in a chair from 1 to 32 or in none, and their total is one that a
+-- sheet can have
 pub record IsBoard (members : List BoardMember) : Type 0 where
   pub seated : All (λ m. m.chair ≤ CHAIRS) members
   pub small : member_total members ≤ MAX_TOTAL
 
--- why a call for members is refused: they are not a board's; or they are, and there is no majority of this number
+-- the reason for which a call for members is refused: they are not a board's; or they are, and no
+-- majority has this number
 abbrev pub AreRefusedAs : ℕ → List BoardMember → Refusal → Type 0
 AreRefusedAs number members BadSheet = IsBoard members → ⊥
 AreRefusedAs number members BadRecord = IsBoard members × (majority_of number ≡ None)

@@ -1,4 +1,4 @@
--- The counts among the indices.
+-- The counts that indices contain.
 use Rattle.std.specs.Prelude.{ℕ, List}
 use Rattle.majority_rule.specs.declared.majorities.Majority.{Majority}
 use Rattle.power_index.specs.declared.indices.ChairPower.{ChairPower}

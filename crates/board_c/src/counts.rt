@@ -1,4 +1,4 @@
-//! The counts, as a caller in C sees them.
+//! The counts in the form in which a caller in C gets them.
 ghost use Rattle.std.specs.Prelude.{◌≡◌, ◌≤◌, ◌-◌, ◌++◌, length, map, replicate};
 ghost use Rattle.majority_rule.specs.declared.majorities.Majority.TheVariants.{Half, Seventy, EightyFive, Quorum};
 ghost use Rattle.board_c.specs.Counts.{AreCountsOf, no_chair};
@@ -8,55 +8,57 @@ use council_core::{CHAIRS, Sheet};
 use majority_rule::Majority;
 use power_index::{ChairPower, Indices, LentEvaluator, ListRoom};
 
-/// An open chair.
+/// An open chair, as `struct board_chair` in `board.h`.
 #[repr(C)]
 #[derive(Clone, Copy)]
 pub struct BoardChair {
-    /// Its number, from 1 to 32.
+    /// The chair's number, from 1 to 32.
     pub chair: u64,
-    /// Its weight, in votes.
+    /// The chair's weight, in votes.
     pub weight: u64,
-    /// Its swings: the coalitions of the other chairs that lose, and that win once it is added.
+    /// The chair's swings: the number of coalitions of the other open chairs that lose, and that
+    /// win once the chair is added (Banzhaf 1965).
     pub swings: u64,
 }
 
-/// What wins on a board, and how many coalitions do.
+/// The least weight and size that win on a board, and the counts of its coalitions, as `struct
+/// board_counts` in `board.h`.
 #[repr(C)]
 #[derive(Clone, Copy)]
 pub struct BoardCounts {
     /// The least weight that wins, in votes.
     pub quota: u64,
-    /// The least number of chairs that wins, 0 where the majority asks for none.
+    /// The least number of chairs that wins; 0 if the majority requires none.
     pub least_size: u64,
-    /// The votes of the open chairs.
+    /// The votes of all open chairs together.
     pub cast: u64,
     /// The total voting power, in votes.
     pub total: u64,
-    /// How many chairs are open: the first `chairs` rows are theirs.
+    /// The number of open chairs. The first `chairs` rows are theirs.
     pub chairs: u64,
-    /// How many coalitions win.
+    /// Omega: the number of winning coalitions.
     pub omega: u64,
-    /// How many coalitions there are.
+    /// The number of all coalitions, 2^`chairs`.
     pub coalitions: u64,
-    /// The open chairs, by number, then zeros.
+    /// A row for each open chair, in ascending order of the chairs' numbers, followed by zeros.
     pub rows: [BoardChair; CHAIRS],
 }
 
-/// The counts by each of the four majorities.
+/// The counts by each of the four majorities, as `struct board_all_counts` in `board.h`.
 #[repr(C)]
 #[derive(Clone, Copy)]
 pub struct BoardAllCounts {
-    /// More than half of the votes cast.
+    /// By more than half of the votes cast.
     pub half: BoardCounts,
-    /// At least 70 per cent of the total.
+    /// By at least 70 per cent of the total.
     pub seventy: BoardCounts,
-    /// At least 85 per cent of the total.
+    /// By at least 85 per cent of the total.
     pub eighty_five: BoardCounts,
-    /// More than half of the open chairs, having at least half of the total.
+    /// By more than half of the open chairs, with at least half of the total.
     pub quorum: BoardCounts,
 }
 
-// A chair without its indices.
+// The chair, weight and swings of a row, without its indices.
 fn chair_of(row: &ChairPower) -> BoardChair
     ensures { result ≡ without_indices row.now }
 {
@@ -67,7 +69,7 @@ fn chair_of(row: &ChairPower) -> BoardChair
     }
 }
 
-// The rows of the open chairs, then zeros.
+// The rows of the open chairs, followed by zeros.
 fn rows_of(rows: &[ChairPower]) -> [BoardChair; CHAIRS]
     requires { length rows.now ≤ CHAIRS }
     ensures { result ≡ map without_indices rows.now ++ replicate (CHAIRS - length rows.now) no_chair }
@@ -83,7 +85,7 @@ fn rows_of(rows: &[ChairPower]) -> [BoardChair; CHAIRS]
     chairs
 }
 
-// The counts among the indices.
+// The counts that these indices contain.
 fn counts_of(indices: &Indices) -> BoardCounts
     ensures { AreCountsAmong indices.now result }
 {
@@ -99,14 +101,14 @@ fn counts_of(indices: &Indices) -> BoardCounts
     }
 }
 
-// The counts of a sheet by a majority, with its lists in the room.
+// The counts of a sheet by a majority, with its lists in `room`.
 pub(crate) fn counts_of_sheet(sheet: &Sheet, majority: Majority, room: &mut ListRoom) -> BoardCounts
     ensures counts { AreCountsOf majority sheet.now result }
 {
     counts_by(&LentEvaluator::over(sheet, room), majority)
 }
 
-// The counts of a sheet by each majority, from lists that are made once.
+// The counts of a sheet by each majority, from lists that are built once.
 pub(crate) fn all_counts_of_sheet(sheet: &Sheet, room: &mut ListRoom) -> BoardAllCounts
     ensures half { AreCountsOf Half sheet.now result.half }
     ensures seventy { AreCountsOf Seventy sheet.now result.seventy }

@@ -1,4 +1,5 @@
-//! A caller's input: a majority by its number, and the words of a sheet or the weights of a board.
+//! The input of a caller: the number of a majority, and the words of a sheet or the weights of a
+//! board.
 ghost use Rattle.std.specs.Prelude.{◌≡◌, ◌↔◌, IfOk, IfErr, IsOk, IsOkUnless};
 ghost use Rattle.council_core.specs.declared.refusals.Refusal.TheVariants.{BadSheet};
 ghost use Rattle.board_c.specs.Counts.{IsWhole, majority_of, words_of};
@@ -6,7 +7,7 @@ ghost use Rattle.board_c.specs.Counts.{IsWhole, majority_of, words_of};
 use council_core::{CHAIRS, Refusal, SHEET_WORDS, Sheet, TOTAL};
 use majority_rule::Majority;
 
-// The majority of a number.
+// The majority with this number, or `None`.
 pub(crate) fn majority_at(number: u32) -> Option<Majority>
     ensures { result ≡ majority_of number }
 {
@@ -19,7 +20,7 @@ pub(crate) fn majority_at(number: u32) -> Option<Majority>
     }
 }
 
-// The sheet of 34 words.
+// The sheet with these words, which must be 34.
 pub(crate) fn sheet_of(words: &[u64]) -> Result<Sheet, Refusal>
     ensures in_range { IsOk result ↔ IsWhole words.now }
     ensures kept { IfOk result (λ sheet. sheet ≡ words.now) }
@@ -33,8 +34,8 @@ pub(crate) fn sheet_of(words: &[u64]) -> Result<Sheet, Refusal>
     Sheet::from_words(&all)
 }
 
-// The words of a sheet whose first chairs are open with these weights. It refuses too many weights, and a weight that a
-// word can't hold.
+// The words of a sheet whose first chairs are open with these weights. Too many weights, and a
+// weight that does not fit in a word, are refused.
 pub(crate) fn words_at(weights: &[u64], total: u64) -> Result<[u64; SHEET_WORDS], Refusal>
     ensures same { IfOk result (λ words. words ≡ words_of weights.now total) }
     ensures refused { IfErr result (λ why. (why ≡ BadSheet) × (IsWhole (words_of weights.now total) → ⊥)) }

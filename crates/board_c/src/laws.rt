@@ -1,8 +1,8 @@
-//! Laws of the definitions.
+//! Laws about the definitions.
 ghost use Rattle.board_c.specs.Laws.{MembersLaw, RollLaw};
 
-/// The words of members are those that the register's own definitions give each roll on which the members stand so and
-/// the same chairs are open, and there is such a roll.
+/// The words computed from members are those that the register's own definitions give for each roll
+/// with the same standings and the same open chairs, and such a roll exists.
 pub fn members_law()
     ensures words { MembersLaw }
     ensures roll { RollLaw }

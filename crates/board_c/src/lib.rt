@@ -1,7 +1,8 @@
-//! The counts of a board for programs in C, and for all that can call C.
+//! The counts of a board for programs in C and in every language that can call C.
 //!
-//! A static library without a heap. Each export answers 0 once it has written the counts, else the number of a refusal.
-//! What the contracts say ends at the exports: nothing checks the program that calls them.
+//! A static library without a heap. Each export returns 0 after it has written the counts,
+//! otherwise the number of a refusal. The contracts end at the exports: nothing checks the program
+//! that calls them.
 #![tactic(auto)]
 
 ghost use Rattle.std.specs.Prelude.{◌≡◌, ◌↔◌, ◌⊎◌, None, IfOk, IfErr, IsOk};
@@ -25,10 +26,10 @@ pub use members::BoardMember;
 use members::sheet_of_members;
 use power_index::ListRoom;
 
-/// The answer of a call that has written the counts.
+/// The result of a call that has written the counts.
 pub const DONE: u8 = 0;
 
-// The counts of a sheet by the majority of a number.
+// The counts of a sheet by the majority with this number.
 fn counts_by_number(sheet: &Sheet, number: u32, room: &mut ListRoom) -> Result<BoardCounts, Refusal>
     requires whole { IsWhole sheet.now }
     ensures counts { IfOk result (λ c. ShowsCounts number sheet.now c) }
@@ -40,8 +41,8 @@ fn counts_by_number(sheet: &Sheet, number: u32, room: &mut ListRoom) -> Result<B
     Ok(counts_of_sheet(sheet, majority, room))
 }
 
-// The counts of a sheet that is given by its words. Words that are not a sheet's are refused first, then a number of no
-// majority.
+// The counts of a sheet that is given by its words. Words that are not a sheet's are refused first,
+// and then a number of no majority.
 fn counts_of_words(words: &[u64], number: u32, room: &mut ListRoom) -> Result<BoardCounts, Refusal>
     ensures counts { IfOk result (λ c. ShowsCounts number words.now c) }
     ensures refused { IfErr result (λ why. IsRefusedAs number words.now why) }
@@ -79,7 +80,7 @@ fn counts_of_members(
     counts_by_number(&sheet, number, room)
 }
 
-// Writes the counts and answers 0, or leaves them as they were and answers the number of the refusal.
+// Writes the counts and returns 0, or leaves them unchanged and returns the number of the refusal.
 fn answer(found: Result<BoardCounts, Refusal>, counts: &mut BoardCounts) -> u8
     ensures done { (result ≡ DONE) ↔ IsOk found }
     ensures written { IfOk found (λ c. counts.new ≡ c) }
@@ -97,13 +98,18 @@ fn answer(found: Result<BoardCounts, Refusal>, counts: &mut BoardCounts) -> u8
 
 /// Counts the coalitions of a sheet that win by a majority, and the swings of its open chairs.
 ///
-/// `words` are the 34 of a sheet. `majority` is 0 for more than half of the votes cast, 1 for at least 70 and 2 for at
-/// least 85 per cent of the total, where a coalition with no vote never wins, and 3 for more than half of the open
-/// chairs, having at least half of the total. `room` is for the lists of a call: its content before the call has no
-/// effect, and is lost.
+/// `words` are the 34 words of a sheet. `majority` is 0 for more than half of the votes cast, 1 for
+/// at least 70 and 2 for at least 85 per cent of the total, each with at least one vote, and 3 for
+/// more than half of the open chairs with at least half of the total. `room` is memory for the
+/// lists of the call: its contents before the call have no effect, and are lost. Returns `DONE`
+/// after writing `counts`.
 ///
-/// `BadSheet` (32): the words are not a sheet's, or not 34. Else `BadRecord` (17): there is no majority of this number.
-/// `counts` is then as it was.
+/// # Errors
+///
+/// Returns the number of a refusal, and leaves `counts` unchanged:
+///
+/// - 32, `BadSheet`, if the words are not 34 or not those of a sheet;
+/// - otherwise 17, `BadRecord`, if no majority has this number.
 #[unsafe(no_mangle)]
 pub extern "C" fn board_counts(
     words: &[u64],
@@ -118,9 +124,12 @@ pub extern "C" fn board_counts(
     answer(counts_of_words(words, majority, room), counts)
 }
 
-/// As `board_counts`, by each of the four majorities: the lists are made once.
+/// Like `board_counts`, by each of the four majorities, from lists that are built once.
 ///
-/// `BadSheet` (32): the words are not a sheet's, or not 34. `counts` is then as it was.
+/// # Errors
+///
+/// Returns 32, `BadSheet`, and leaves `counts` unchanged, if the words are not 34 or not those of a
+/// sheet.
 #[unsafe(no_mangle)]
 pub extern "C" fn board_all_counts(
     words: &[u64],
@@ -139,11 +148,22 @@ pub extern "C" fn board_all_counts(
     DONE
 }
 
-/// As `board_counts`, for a board without a register: chairs 1, 2 and so on are open, with these weights in votes. The
-/// total, in votes too, is at least their sum and at most 2^48.
+/// Like `board_counts`, for a board without a register: chairs 1, 2 and so on are open, with these
+/// weights in votes. `total`, also in votes, is at least their sum and at most 2^48.
 ///
-/// `BadSheet` (32): there are more than 32 weights, their sum is above the total, or that is above 2^48. Else
-/// `BadRecord` (17): there is no majority of this number. `counts` is then as it was.
+/// # Errors
+///
+/// Returns the number of a refusal, and leaves `counts` unchanged:
+///
+/// - 32, `BadSheet`, if there are more than 32 weights, their sum is above the total, or the total
+///   is above 2^48;
+/// - otherwise 17, `BadRecord`, if no majority has this number.
+///
+/// ```text
+/// uint64_t weights[3] = {50, 49, 1};
+/// board_counts_of_weights(weights, 3, 100, BOARD_HALF, &room, &counts);
+/// /* returns 0: counts.quota is 51, counts.omega 3, counts.rows[0].swings 3 */
+/// ```
 #[unsafe(no_mangle)]
 pub extern "C" fn board_counts_of_weights(
     weights: &[u64],
@@ -159,12 +179,17 @@ pub extern "C" fn board_counts_of_weights(
     answer(counts_of_weights(weights, total, majority, room), counts)
 }
 
-/// As `board_counts`, for a board that is given by its members, in any order. Chair k is open where bit k - 1 of
-/// `open_chairs` is set, and where a member sits in it, suspended or not. Its weight is the votes of its members that
-/// are not suspended, and the total is the votes of all members that are not suspended, in a chair or in none.
+/// Like `board_counts`, for a board that is given by its members, in any order. Chair k is open if
+/// bit k - 1 of `open_chairs` is set or a member sits in it, suspended or not. Its weight is the
+/// votes of its members that are not suspended. The total is the votes of all members that are not
+/// suspended, in a chair or in none.
 ///
-/// `BadSheet` (32): a member's chair is above 32, or the total is above 2^48. Else `BadRecord` (17): there is no
-/// majority of this number. `counts` is then as it was.
+/// # Errors
+///
+/// Returns the number of a refusal, and leaves `counts` unchanged:
+///
+/// - 32, `BadSheet`, if a member's chair is above 32, or the total is above 2^48;
+/// - otherwise 17, `BadRecord`, if no majority has this number.
 #[unsafe(no_mangle)]
 pub extern "C" fn board_counts_of_members(
     members: &[BoardMember],

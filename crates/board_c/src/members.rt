@@ -9,19 +9,19 @@ ghost use Rattle.board_c.specs.Members.{standing_of, is_named, member_word, memb
 use crate::inputs::sheet_of;
 use council_core::{CHAIRS, MAX_TOTAL, Refusal, SHEET_WORDS, Sheet, TOTAL};
 
-/// A member.
+/// A member, as `struct board_member` in `board.h`.
 #[repr(C)]
 #[derive(Clone, Copy)]
 pub struct BoardMember {
-    /// Its votes.
+    /// The member's votes.
     pub votes: u64,
-    /// The number of its chair, from 1 to 32, or 0 for a member in no chair.
+    /// The number of the member's chair, from 1 to 32, or 0 for a member in no chair.
     pub chair: u64,
-    /// 0 for a member that votes, any other number for one that is suspended.
+    /// 0 for a member that votes, any other number for a suspended member.
     pub suspended: u64,
 }
 
-// The votes of a member, 0 where it is suspended.
+// The votes of a member that count: 0 if it is suspended.
 fn counted_votes(member: &BoardMember) -> u64
     ensures { result ≡ counted (standing_of member.now) }
 {
@@ -32,7 +32,7 @@ fn counted_votes(member: &BoardMember) -> u64
     }
 }
 
-// Whether a member sits in a chair.
+// Whether a member sits in this chair.
 fn sits(member: &BoardMember, chair: u64) -> bool
     requires some { 0 < chair }
     ensures sits { result ≡ sits_in chair (standing_of member.now) }
@@ -40,7 +40,7 @@ fn sits(member: &BoardMember, chair: u64) -> bool
     member.chair == chair
 }
 
-// The votes that a member adds to the weight of a chair.
+// The votes that a member adds to the weight of this chair.
 fn votes_for(member: &BoardMember, chair: u64) -> u64
     requires some { 0 < chair }
     ensures votes { result ≡ votes_in chair (standing_of member.now) }
@@ -52,7 +52,7 @@ fn votes_for(member: &BoardMember, chair: u64) -> u64
     }
 }
 
-// Whether a mask of chairs names a chair.
+// Whether a mask names this chair.
 fn names(mask: u32, chair: u64) -> bool
     requires some { 0 < chair }
     requires few { chair ≤ CHAIRS }

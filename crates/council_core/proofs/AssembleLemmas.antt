@@ -1,10 +1,10 @@
--- A sheet's words: those of the chairs, and the two written behind them.
+-- A sheet's words: those of the chairs, and the two written after them.
 use Rattle.std.proofs.Common.{◌≡◌, ℕ, zero, suc, ◌+◌, ◌<◌, ◌≤◌, List, [], ◌∷◌, ◌++◌, length, take, sym, ap, refl, arith, slice_set, subst, sum_by, ◌^◌, slice_index}
 use Rattle.std.proofs.lemmas.Grind.{common_steps}
 use Rattle.std.proofs.lemmas.List.{take_at, get_or_append_left}
 use Rattle.council_core.specs.Sheets.{IsSheet, weight_in, cast_of, total_of, front_of}
 
--- the words, and the two written into the room behind them
+-- the words, and the two written into the room after them
 pub written_behind : (n : ℕ) (words : List ℕ) (t f : ℕ) → length words ≡ suc (suc n) → slice_set (slice_set words n t) (suc n) f ≡ take n words ++ t ∷ f ∷ []
 written_behind zero (a ∷ b ∷ []) t f long = refl
 written_behind zero [] t f long = absurd (omega (arith, long))

@@ -1,4 +1,4 @@
--- How many coalitions there are, and that each stands once.
+-- The number of coalitions, and that each appears once.
 use Rattle.std.proofs.Common.{◌≡◌, ℕ, ◌+◌, ◌^◌, Bool, true, false, cond, ◌&&◌, List, [], ◌∷◌, ◌++◌, length, map, filter, refl, ap, arith, nat_eq}
 use Rattle.std.specs.List.{count_by, AllByRecursion, IsDistinct}
 use Rattle.std.proofs.lemmas.List.{length-append, length-map}
@@ -40,7 +40,7 @@ count_agrees p q (s ∷ ss) h =
     let here : value (p s) ≡ value (q s) = ap value (h s) in
     omega (arith, here, count_agrees p q ss h, counted p s ss, counted q s ss)
 
--- whether a chair of this number stands first
+-- whether a chair with this number is first
 abbrev leads : Chair → List Chair → Bool
 leads x [] = false
 leads x (y ∷ s) = nat_eq x.0 y.0
@@ -87,7 +87,7 @@ all_without x f (s ∷ ss) h = (other_second x f s h, all_without x f ss h)
 itself : (n : ℕ) → nat_eq n n ≡ true
 itself n = grind (arith, nat_tests)
 
--- whichever chairs are chosen, just one coalition is the set of these
+-- each choice of chairs is exactly one coalition
 pub each_once : (chairs : List Chair) → IsDistinct nat_eq (map (λ (c : Chair). c.0) chairs) → (chosen : Chair → Bool) → count_by (same_set (filter chosen chairs)) (subsets chairs) ≡ 1
 unfolding IsDistinct
 each_once [] apart chosen = refl

@@ -1,4 +1,4 @@
--- What the laws say of worked cases, whose premises hold there, and what doesn't meet these premises.
+-- Instances of the laws at worked examples, which meet their premises, and examples that do not.
 use Rattle.std.proofs.Common.{rules, ◌≡◌, ◌^◌, ◌+◌, List, [], ◌∷◌, ◌++◌, take, map, filter, nat_eq, Some, refl, arith, All, count_by, true≢false}
 use Rattle.std.specs.List.{IsDistinct}
 use Rattle.std.proofs.lemmas.List.Elements.{All-from_recursion}

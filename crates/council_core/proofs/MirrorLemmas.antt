@@ -17,7 +17,8 @@ use Rattle.council_core.specs.Laws.{SetsInRange}
 use Rattle.council_core.specs.Registers.{Mirrors, IsKept, seated, sits_as}
 use Rattle.council_core.proofs.RollLemmas.{fold_from-push, all_accepted-push, sum_with_standing, sum_without, part_of_sum, length-with_standing, length-without, all_with_standing, all_without}
 
--- what a register keeps beside its journal: its members, and the running numbers of the chairs
+-- what a register stores in addition to its journal: its members, and the running numbers of the
+-- chairs
 pub record Kept : Type 0 where
   pub entries : List Entry
   pub totals : ChairTotals
@@ -30,7 +31,7 @@ kept_of r = record { entries = r.members.entries; totals = r.totals }
 abbrev pub IsMirror : Roll → Kept → Type 0
 IsMirror roll kept = Mirrors roll kept.entries kept.totals.words kept.totals.counts kept.totals.total
 
--- what is kept stands beside this ledger
+-- what is stored agrees with this ledger
 abbrev pub IsBeside : Ledger → Kept → Type 0
 IsBeside l kept = IsKept l kept.entries kept.totals.words kept.totals.counts kept.totals.total
 
@@ -87,7 +88,7 @@ seat_is_open roll None c fits shut = refl
 seat_is_open roll (Some d) c fits shut =
     elim (d == c) as (λ b. (d == c) ≡ b → b ≡ false) [ true ↦ λ e. absurd (true≢false (sym fits ∙ ap (is_open roll) (eqb-true d c e) ∙ shut)) | false ↦ λ e. refl ] refl
 
--- and nobody sits in an empty one
+-- and no member sits in an empty one
 pub seat_is_free : (c : ℕ) (roll : Roll) (code : List ℕ) (s : Standing) → standing_among code roll.members ≡ Some s → seated roll.members c ≡ 0 → sits_in c s ≡ false
 seat_is_free c roll code s found none =
     let here : sits_as c s ≡ 0 = omega (arith, part_of_sum code (sits_as c) roll.members s found) in

@@ -95,7 +95,7 @@ distinct_more c word chairs above apart =
     (All-weaker (λ (ch : Chair). c + 1 ≤ ch.0) (λ ch. eqb c ch.0 ≡ false) (λ ch h. ne_eqb c ch.0 (λ e. absurd (omega arith))) chairs above)))
     apart)
 
--- each number stands once
+-- each number appears once
 pub numbers_distinct : (c : ℕ) (words : List ℕ) → IsDistinct eqb (map (λ ch. ch.0) (open_from c words))
 unfolding IsDistinct
 numbers_distinct c [] = tt
@@ -104,7 +104,7 @@ numbers_distinct c (x ∷ xs) =
     (All-weaker (λ (ch : Chair). (c + 1 ≤ ch.0) × (ch.0 < c + 1 + length xs)) (λ ch. c + 1 ≤ ch.0) (λ ch h. h.0) (open_from (c + 1) xs) (numbers_within (c + 1) xs))
     (numbers_distinct (c + 1) xs))
 
--- the chair of a number, by what a sheet answers of its weight
+-- the chair with this number, by the weight that a sheet gives for it
 abbrev listed : ℕ → Option ℕ → List Chair
 listed c None = []
 listed c (Some weight) = (c, weight) ∷ []
@@ -125,7 +125,7 @@ none_past words i past =
     ∙ sym (append-nil (open_from 1 (take i words)))
     ∙ sym (ap (λ l. open_from 1 (take i words) ++ l) (chair_of-shut (i + 1) (get_or words i 0) (get_or_past words i 0 past)))
 
--- one more chair, by what its sheet answers of its weight
+-- one more chair, by the weight that its sheet gives for it
 pub listed_more : (words : List ℕ) (i : ℕ) (weight : Option ℕ) → weight ≡ weight_word words (i + 1) → open_from 1 (take (i + 1) words) ≡ open_from 1 (take i words) ++ listed (i + 1) weight
 listed_more words i weight same =
     let number : 1 + i ≡ i + 1 = omega arith in

@@ -77,7 +77,7 @@ module _ (roll : Roll) (kept : Kept) (m : IsMirror roll kept) where
       elim (is_open roll (k + 1)) as (λ b. slice_index kept.totals.words k ≡ cond b (weight roll (k + 1) + 1) 0 → slice_index kept.totals.words k ≤ 2 ^ 48 + 1)
       [ true ↦ λ e. omega (arith, e, weight_small (k + 1), total_small) | false ↦ λ e. omega (arith, e) ] (m.each_word k h)
 
-  -- a member's part is there to be taken away
+  -- a member's part can be subtracted
   module _ (code : List ℕ) (old : Standing) (found : standing_among code roll.members ≡ Some old) where
     pub word_holds : (k : ℕ) → k < 32 → votes_in (k + 1) old ≤ slice_index kept.totals.words k
     word_holds k h =

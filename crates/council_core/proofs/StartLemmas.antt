@@ -61,7 +61,8 @@ pub start_small : (opening : Opening) → AllByRecursion (λ m. m.1 ≤ 2 ^ 40) 
 start_small [] h = tt
 start_small (m ∷ ms) h = (h.0, start_small ms h.1)
 
--- what a register begins with: the members given, no weight and nobody in a chair, and all their votes
+-- a register at its start: the members given, no weight and no member in any chair, and all their
+-- votes
 pub record IsStart (opening : Opening) (limit : ℕ) (kept : Kept) : Type 0 where
   pub made : kept.entries ≡ map entered opening
   pub few : length opening ≤ 256
@@ -112,7 +113,7 @@ is_above limit n h = grind (arith, nat_tests, h)
 is_some_number : (n : ℕ) → 1 ≤ n → (n == 0) ≡ false
 is_some_number n h = grind (arith, nat_tests, h)
 
--- a start is refused by no test just where the limit is in range and the members are an opening
+-- no test refuses a start exactly if the limit is in range and the members are an opening
 pub starts : (opening : Opening) (limit : ℕ) → All (λ m. m.1 ≤ 2 ^ 40) opening → (start_verdict opening limit ≡ Ok tt) ↔ ((1 ≤ limit) × (limit ≤ 1000000) × IsOpening opening)
 starts opening limit small = (
   λ h.

@@ -1,4 +1,4 @@
--- Worked cases, computed by the definitions.
+-- Worked examples, computed by the definitions.
 use Rattle.std.proofs.Common.{◌≡◌, ◌^◌, ℕ, List, [], ◌∷◌, ◌++◌, map, Some, None, Ok, Err, refl, replicate}
 use Rattle.std.specs.List.{range_with_len}
 use Rattle.council_core.specs.Refusals.{code_of, every_refusal, refusal_of}

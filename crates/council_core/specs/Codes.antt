@@ -4,7 +4,7 @@ use Rattle.std.specs.Prelude.{ℕ, List, [], ◌∷◌, Bool, false, ◌&&◌, n
 abbrev pub is_capital : ℕ → Bool
 is_capital b = nat_le 65 b && nat_le b 90
 
--- just three ASCII capitals
+-- exactly three ASCII capitals
 abbrev pub is_code : List ℕ → Bool
 is_code (a ∷ b ∷ c ∷ []) = is_capital a && is_capital b && is_capital c
 is_code [] = false

@@ -12,7 +12,7 @@ use Rattle.council_core.specs.declared.commands.Command.{Command}
 use Rattle.council_core.specs.declared.commands.Command.TheVariants.{Open, Close, Move, SetVotes, Suspend, Restore}
 use Rattle.council_core.specs.declared.commands.Command.TheVariants.{Admit, Withdraw}
 
--- the cast of a roll, by its members, is the cast that its sheet shows
+-- the cast of a roll, counted by its members, is the cast that its sheet shows
 abbrev pub CastLaw : Type 0
 CastLaw = (roll : Roll) (front : ℕ) → cast roll ≡ cast_of (words_of roll front)
 
@@ -28,34 +28,35 @@ CoalitionsLaw = (chairs : List Chair) → length (subsets chairs) ≡ 2 ^ length
 abbrev pub same_set : List Chair → List Chair → Bool
 same_set s t = pointwise (λ a b. nat_eq a.0 b.0) s t
 
--- whichever chairs are chosen, just one coalition is the set of these
+-- each choice of chairs is exactly one coalition
 abbrev pub EachOnceLaw : Type 0
 EachOnceLaw = (chairs : List Chair) → IsDistinct nat_eq (map (λ c. c.0) chairs) → (chosen : Chair → Bool)
     → count_by (same_set (filter chosen chairs)) (subsets chairs) ≡ 1
 
--- one more command leaves the sheet of every list of first commands
+-- appending a command leaves the sheets of all prefixes unchanged
 abbrev pub PrefixLaw : Type 0
 PrefixLaw = (opening : Opening) (commands : List Command) (command : Command) (front : ℕ)
     → front ≤ length commands
     → sheet opening (take front (commands ++ command ∷ [])) ≡ sheet opening (take front commands)
 
--- the front of the sheet of the first commands is how many they are
+-- the front of the sheet of a prefix is its length
 abbrev pub FrontLaw : Type 0
 FrontLaw = (opening : Opening) (commands : List Command) (front : ℕ) → front ≤ length commands
     → front_of (sheet opening (take front commands)) ≡ front
 
--- members that a register can start with: no more than there may be, no code twice, and votes in range
+-- members with which a register can start: at most MAX_MEMBERS, no code twice, and votes in range
 pub record IsOpening (opening : Opening) : Type 0 where
   pub few : length opening ≤ MAX_MEMBERS
   pub apart : has_duplicate opening ≡ false
   pub small : All (λ m. m.1 ≤ MAX_VOTES) opening
 
--- of members whose votes are in range: a register starts with just these, under a limit from one to a million
+-- for members whose votes are in range: the verdict of a start is Ok exactly if they are an opening
+-- and the limit is from 1 to MAX_COMMANDS
 abbrev pub OpeningLaw : Type 0
 OpeningLaw = (opening : Opening) (limit : ℕ) → All (λ m. m.1 ≤ MAX_VOTES) opening
     → (start_verdict opening limit ≡ Ok tt) ↔ ((1 ≤ limit) × (limit ≤ MAX_COMMANDS) × IsOpening opening)
 
--- the votes that a command sets, where it sets any, are in range
+-- the votes that a command sets are in range; a command that sets none always meets this
 abbrev pub SetsInRange : Command → Type 0
 SetsInRange (Open c) = Unit {0}
 SetsInRange (Close c) = Unit {0}
@@ -66,7 +67,7 @@ SetsInRange (Restore code) = Unit {0}
 SetsInRange (Admit code n) = n ≤ MAX_VOTES
 SetsInRange (Withdraw code) = Unit {0}
 
--- the sheet of a legal list of commands has the numbers of a sheet
+-- the numbers of the sheet of a legal list of commands are in range
 abbrev pub SheetLaw : Type 0
 SheetLaw = (opening : Opening) (commands : List Command) → IsOpening opening → All SetsInRange commands
     → IsLegal opening commands → IsSheet (sheet opening commands)

@@ -1,4 +1,4 @@
--- What a contract sees of a register: the members it began with, the commands accepted, and their limit.
+-- The abstract state of a register: its opening members, the accepted commands, and their limit.
 use Rattle.std.specs.Prelude.{ℕ, ◌≤◌, ◌==◌, if◌then◌else◌, List, [], ◌∷◌, ◌++◌, length}
 use Rattle.std.specs.Prelude.{Result, Ok, Err, ⊤, Bool, false, ◌||◌, nat_lt}
 use Rattle.std.specs.List.{list_any}
@@ -14,7 +14,8 @@ pub record Ledger : Type 0 where
   pub journal : List Command
   pub limit : ℕ
 
--- what holds of every register: its journal is legal and within its limit, which is at most a million
+-- the invariant of every register: its journal is legal and within its limit, which is at most
+-- MAX_COMMANDS
 pub record IsLedger (ledger : Ledger) : Type 0 where
   pub legal : IsLegal ledger.opening ledger.journal
   pub within : length ledger.journal ≤ ledger.limit
@@ -26,29 +27,29 @@ roll_of l = roll_after l.opening l.journal
 abbrev pub sheet_of : Ledger → List ℕ
 sheet_of l = sheet l.opening l.journal
 
--- one more command fits
+-- whether one more command fits
 abbrev pub room_of : Ledger → Result ⊤ Refusal
 room_of l = if length l.journal == l.limit then Err JournalFull else Ok tt
 
--- the refusal of the step, else of the journal
+-- the refusal of the step, or else the refusal of a full journal
 abbrev pub verdict : Result Roll Refusal → Result ⊤ Refusal → Result ⊤ Refusal
 verdict (Ok r) room = room
 verdict (Err e) room = Err e
 
--- what is answered to a command, out of memory aside: the refusal of the step, else that the journal is full
+-- the reply to a command, except out of memory: the refusal of the step, or else of a full journal
 abbrev pub verdict_of : Ledger → Command → Result ⊤ Refusal
 verdict_of l command = verdict (step (roll_of l) command) (room_of l)
 
--- with one more command accepted
+-- the ledger with one more accepted command
 abbrev pub appended : Ledger → Command → Ledger
 appended l command = record l { journal = l.journal ++ command ∷ [] }
 
--- whether two members have one code
+-- whether two members have the same code
 abbrev pub has_duplicate : Opening → Bool
 has_duplicate [] = false
 has_duplicate (m ∷ ms) = list_any (λ n. same_code n.0 m.0) ms || has_duplicate ms
 
--- what is answered to a start, out of memory aside
+-- the reply to a start, except out of memory
 abbrev pub start_verdict : Opening → ℕ → Result ⊤ Refusal
 start_verdict opening limit =
     if limit == 0 || nat_lt MAX_COMMANDS limit then Err BadLimit

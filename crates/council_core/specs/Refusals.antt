@@ -11,7 +11,7 @@ use Rattle.council_core.specs.declared.refusals.Refusal.TheVariants.{BadHeader, 
 use Rattle.council_core.specs.declared.refusals.Refusal.TheVariants.{MemberSeated, GateClosed, NoScript, TooLong}
 use Rattle.council_core.specs.declared.refusals.Refusal.TheVariants.{BadJournal, BadCuts, BadSheet, TooManyChairs}
 
--- its number
+-- the number of each refusal
 abbrev pub code_of : Refusal → ℕ
 code_of ChairOpen = 1
 code_of ChairNotOpen = 2
@@ -47,7 +47,7 @@ code_of BadCuts = 31
 code_of BadSheet = 32
 code_of TooManyChairs = 33
 
--- its name, in ASCII
+-- the name of each refusal, in ASCII
 abbrev pub name_of : Refusal → List ℕ
 name_of ChairOpen = codes "ChairOpen"
 name_of ChairNotOpen = codes "ChairNotOpen"
@@ -83,7 +83,7 @@ name_of BadCuts = codes "BadCuts"
 name_of BadSheet = codes "BadSheet"
 name_of TooManyChairs = codes "TooManyChairs"
 
--- each refusal once, by number
+-- every refusal once, by number
 abbrev pub every_refusal : List Refusal
 every_refusal = ChairOpen ∷ ChairNotOpen ∷ ChairHasMembers ∷ UnknownMember ∷ MemberSuspended ∷ AlreadyThere
     ∷ AlreadySuspended ∷ NotSuspended ∷ JournalFull ∷ OutOfMemory ∷ DuplicateMember ∷ TooManyMembers
@@ -91,6 +91,6 @@ every_refusal = ChairOpen ∷ ChairNotOpen ∷ ChairHasMembers ∷ UnknownMember
     ∷ BadHeader ∷ BadReader ∷ Busy ∷ Mismatch ∷ MemberExists ∷ MemberSeated ∷ GateClosed ∷ NoScript
     ∷ TooLong ∷ BadJournal ∷ BadCuts ∷ BadSheet ∷ TooManyChairs ∷ []
 
--- the refusal of a number, where there is one
+-- the refusal with this number, or None
 abbrev pub refusal_of : ℕ → Option Refusal
 refusal_of code = find (λ r. code_of r == code) every_refusal

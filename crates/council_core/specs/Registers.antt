@@ -1,4 +1,4 @@
--- What a register keeps beside its journal, and that it is what the roll says.
+-- The data that a register stores in addition to its journal, and their agreement with the roll.
 use Rattle.std.specs.Prelude.{◌≡◌, ℕ, ◌+◌, ◌≤◌, ◌<◌, true, false, if◌then◌else◌}
 use Rattle.std.specs.Prelude.{List, length, sum_by, All, slice_index, None, Some, Ok}
 use Rattle.council_core.specs.Rolls.{Roll, Entry, chair_word, sits_in, total, is_open, can_receive, standing_among}
@@ -13,15 +13,16 @@ use Rattle.council_core.specs.Ledgers.{Ledger, roll_of}
 use Rattle.council_core.specs.Laws.{SetsInRange}
 use Rattle.council_core.specs.Laws as laws
 
--- 1 for a member of the chair
+-- 1 for a member that sits in this chair, and 0 for any other
 abbrev pub sits_as : ℕ → Standing → ℕ
 sits_as c s = if sits_in c s then 1 else 0
 
--- how many members sit in a chair, suspended or not
+-- the number of members that sit in a chair, suspended or not
 abbrev pub seated : List Entry → ℕ → ℕ
 seated members c = sum_by (λ m. sits_as c m.1) members
 
--- the members kept are the roll's, and so are a word and a number of members for each chair, and the total
+-- the stored members are those of the roll, and so are each chair's word and number of members, and
+-- the total
 pub record Mirrors (roll : Roll) (entries : List Entry) (words counts : List ℕ) (sum : ℕ) : Type 0 where
   pub same_members : entries ≡ roll.members
   pub each_word : (k : ℕ) → k < CHAIRS → slice_index words k ≡ chair_word roll (k + 1)
@@ -31,8 +32,9 @@ pub record Mirrors (roll : Roll) (entries : List Entry) (words counts : List ℕ
   pub few : length entries ≤ max_members
   pub small : All (λ m. m.1.votes ≤ MAX_VOTES) entries
 
--- what holds of every register: members that a register can start with, commands that set votes in range, and a legal
--- journal within its limit, beside which stands what the roll after it says
+-- the invariant of every register: members with which a register can start, commands that set votes
+-- in range, a legal journal within its limit, and stored data that agree with the roll after this
+-- journal
 pub record IsKept (ledger : Ledger) (entries : List Entry) (words counts : List ℕ) (sum : ℕ) : Type 0 where
   pub begun : laws.IsOpening ledger.opening
   pub votes : All SetsInRange ledger.journal
@@ -51,25 +53,25 @@ pub record IsClosing (roll : Roll) (command : Command) (chair : ℕ) : Type 0 wh
   pub empty : has_members roll chair ≡ false
   pub effect : step roll command ≡ Ok (closed roll chair)
 
--- the command gives the member of that code a new standing, and nothing else
+-- the command gives the member with this code a new standing, and changes nothing else
 pub record IsChange (roll : Roll) (command : Command) (code : List ℕ) (old new : Standing) : Type 0 where
   pub known : standing_among code roll.members ≡ Some old
   pub seat : can_receive roll new.chair ≡ true
   pub effect : step roll command ≡ update roll code new
 
--- the command enters a member whose code is new
+-- the command adds a member whose code is new
 pub record IsEntry (roll : Roll) (command : Command) (code : List ℕ) (votes : ℕ) : Type 0 where
   pub unknown : standing_among code roll.members ≡ None
   pub room : length roll.members < max_members
   pub effect : step roll command ≡ Ok (admitted roll code votes)
 
--- the command takes out the member of that code, which sits in no chair
+-- the command removes the member with this code, which sits in no chair
 pub record IsLeaving (roll : Roll) (command : Command) (code : List ℕ) (old : Standing) : Type 0 where
   pub known : standing_among code roll.members ≡ Some old
   pub unseated : old.chair ≡ None
   pub effect : step roll command ≡ Ok (withdrawn roll code)
 
--- what the command does to the roll is this change
+-- the effect of the command on the roll is this change
 abbrev pub IsPlanned : Roll → Command → Change → Type 0
 IsPlanned roll command (change.Open chair) = IsOpening roll command chair
 IsPlanned roll command (change.Close chair) = IsClosing roll command chair

@@ -1,4 +1,4 @@
--- The roll: members in order of entry, and the open chairs. What a command makes of it.
+-- The roll: members in order of entry, and the open chairs. The effect of each command on it.
 use Rattle.std.specs.Prelude.{ℕ, ◌+◌, ◌≤◌, ◌==◌, Bool, true, false, not, ◌&&◌, if◌then◌else◌}
 use Rattle.std.specs.Prelude.{List, [], ◌∷◌, ◌++◌, length, map, filter, position, sum_by, Option, None, Some}
 use Rattle.std.specs.Prelude.{is_some, Result, Ok, Err, is_ok, IsTrue, nat_eq, nat_le}
@@ -22,7 +22,7 @@ use Rattle.council_core.specs.declared.commands.Standing.{Standing}
 abbrev pub Entry : Type 0
 Entry = List ℕ × Standing
 
--- code for code, letter by letter
+-- whether two codes are the same, letter by letter
 abbrev pub same_code : List ℕ → List ℕ → Bool
 same_code a b = pointwise nat_eq a b
 
@@ -36,11 +36,11 @@ pub record Roll : Type 0 where
   pub members : List Entry
   pub open_chairs : List ℕ
 
--- the members that a register begins with, and their votes
+-- the opening: the members with which a register begins, and their votes
 abbrev pub Opening : Type 0
 Opening = List (List ℕ × ℕ)
 
--- the standing of a member as it enters: in no chair, not suspended
+-- the standing of a newly entered member: in no chair, not suspended
 abbrev pub fresh : ℕ → Standing
 fresh votes = record { votes = votes; chair = None; suspended = false }
 
@@ -53,28 +53,28 @@ opening_roll opening = record { members = map entered opening; open_chairs = [] 
 abbrev pub is_open : Roll → ℕ → Bool
 is_open r c = list_any (λ d. c == d) r.open_chairs
 
--- a member of the chair, suspended or not
+-- whether a member sits in this chair, suspended or not
 abbrev pub sits_in : ℕ → Standing → Bool
 sits_in c s = same_chair s.chair (Some c)
 
 abbrev pub has_members : Roll → ℕ → Bool
 has_members r c = list_any (λ m. sits_in c m.1) r.members
 
--- the standing at a code, if there is a member of that code
+-- the standing of the member with this code, or None
 abbrev pub standing_among : List ℕ → List Entry → Option Standing
 standing_among code ms = lookup (same_code code) ms
 
--- the members, with a new standing for one
+-- the members with a new standing for the one with this code
 abbrev pub with_standing : List ℕ → Standing → List Entry → List Entry
 with_standing code s [] = []
 with_standing code s (m ∷ ms) = if same_code code m.0 then (m.0, s) ∷ ms else m ∷ with_standing code s ms
 
--- the members but the one of a code; those after it move up
+-- the members without the one with this code; those after it move up
 abbrev pub without : List ℕ → List Entry → List Entry
 without code [] = []
 without code (m ∷ ms) = if same_code code m.0 then ms else m ∷ without code ms
 
--- the place of the member of a code, if there is one
+-- the index of the member with this code, or None
 abbrev pub place_among : List ℕ → List Entry → Option ℕ
 place_among code ms = position (same_code code) (keys_of ms)
 
@@ -96,7 +96,7 @@ close_chair r c =
     then (if has_members r c then Err ChairHasMembers else Ok (closed r c))
     else Err ChairNotOpen
 
--- no chair, or an open one
+-- whether this is no chair or an open one
 abbrev pub can_receive : Roll → Option ℕ → Bool
 can_receive r to = option_map_or (is_open r) to true
 
@@ -113,15 +113,15 @@ suspend_member r code s = if s.suspended then Err AlreadySuspended else update r
 abbrev pub restore_member : Roll → List ℕ → Standing → Result Roll Refusal
 restore_member r code s = if s.suspended then update r code (record s { suspended = false }) else Err NotSuspended
 
--- what is done with the member of that code, if there is one
+-- applies a change to the member with this code, or refuses with UnknownMember
 abbrev pub with_member : Roll → List ℕ → (Standing → Result Roll Refusal) → Result Roll Refusal
 with_member r code f = option_map_or f (standing_among code r.members) (Err UnknownMember)
 
--- how many members there may be at any moment
+-- the largest number of members at any moment
 abbrev pub max_members : ℕ
 max_members = MAX_MEMBERS
 
--- with one more member, the last in order of entry
+-- the roll with one more member, last in the order of entry
 abbrev pub admitted : Roll → List ℕ → ℕ → Roll
 admitted r code votes = record r { members = r.members ++ entered (code, votes) ∷ [] }
 
@@ -133,7 +133,7 @@ admit_member r code votes =
 abbrev pub withdrawn : Roll → List ℕ → Roll
 withdrawn r code = record r { members = without code r.members }
 
--- a member in a chair, suspended or not, can't leave
+-- a member that sits in a chair, suspended or not, cannot leave
 abbrev pub withdraw_member : Roll → List ℕ → Standing → Result Roll Refusal
 withdraw_member r code s = if is_some s.chair then Err MemberSeated else Ok (withdrawn r code)
 
@@ -148,11 +148,11 @@ step r (Restore code) = with_member r code (restore_member r code)
 step r (Admit code votes) = admit_member r code votes
 step r (Withdraw code) = with_member r code (withdraw_member r code)
 
--- the roll after a command; a refused one leaves it
+-- the roll after a command; a refused command leaves it unchanged
 abbrev pub after : Roll → Command → Roll
 after r command = result_unwrap_or (step r command) r
 
--- the roll after each command in turn
+-- the roll after all commands of a list
 abbrev pub fold_from : Roll → List Command → Roll
 fold_from r [] = r
 fold_from r (command ∷ rest) = fold_from (after r command) rest
@@ -164,11 +164,11 @@ abbrev pub all_accepted : Roll → List Command → Bool
 all_accepted r [] = true
 all_accepted r (command ∷ rest) = is_ok (step r command) && all_accepted (after r command) rest
 
--- each command is accepted in its turn, and there are no more than a million
+-- each command is accepted at its turn, and there are at most MAX_COMMANDS
 abbrev pub IsLegal : Opening → List Command → Type 0
 IsLegal opening commands = IsTrue (all_accepted (opening_roll opening) commands) × (length commands ≤ MAX_COMMANDS)
 
--- a member's votes, unless it is suspended
+-- the votes of a member that count: none while it is suspended
 abbrev pub counted : Standing → ℕ
 counted s = if s.suspended then 0 else s.votes
 
@@ -188,11 +188,11 @@ chair_numbers = range_with_len 1 CHAIRS
 abbrev pub cast : Roll → ℕ
 cast r = sum_by (λ c. if is_open r c then weight r c else 0) chair_numbers
 
--- 0 for a closed chair, else its weight and one
+-- a chair's word: 0 if it is closed, else its weight plus 1
 abbrev pub chair_word : Roll → ℕ → ℕ
 chair_word r c = if is_open r c then weight r c + 1 else 0
 
--- the numbers of a roll's sheet after so many commands
+-- the numbers of a roll's sheet; `front` is the number of accepted commands
 abbrev pub words_of : Roll → ℕ → List ℕ
 words_of r front = map (chair_word r) chair_numbers ++ total r ∷ front ∷ []
 

@@ -1,4 +1,4 @@
--- The sequential register, and what the records of readers may hold.
+-- The sequential register, and the legal records of readers.
 use Rattle.std.specs.Prelude.{◌≡◌, ℕ, ◌+◌, ◌≤◌, List, [], ◌∷◌, length, take, Result, Ok, Err}
 use Rattle.std.specs.Prelude.{⊤, Contains, All}
 use Rattle.std.specs.List.Sorted.{IsNonDecreasing}
@@ -23,11 +23,11 @@ pub data Reply : Type 0 where
   published : ℕ → Reply
   reading : List ℕ → Reply
 
--- the sheet of the commands published
+-- the published sheet
 abbrev pub shown : Sequential → List ℕ
 shown s = sheet s.ledger.opening (take s.published s.ledger.journal)
 
--- a refused command changes nothing
+-- the state and the reply after a submitted command; a refused command changes nothing
 abbrev pub submitted : Sequential → Command → Result ⊤ Refusal → Sequential × Reply
 submitted s command (Ok u) = (record s { ledger = appended s.ledger command }, accepted (length s.ledger.journal + 1))
 submitted s command (Err e) = (s, refused e)
@@ -39,39 +39,41 @@ respond s (submit command) =
 respond s publish = (record s { published = length s.ledger.journal }, published (length s.ledger.journal))
 respond s read = (s, reading (shown s))
 
--- the replies to calls in turn
+-- the replies to a list of calls
 abbrev pub replies_of : Sequential → List Call → List Reply
 replies_of s [] = []
 replies_of s (call ∷ calls) = (respond s call).1 ∷ replies_of (respond s call).0 calls
 
--- the state after calls in turn
+-- the state after a list of calls
 abbrev pub state_after : Sequential → List Call → Sequential
 state_after s [] = s
 state_after s (call ∷ calls) = state_after (respond s call).0 calls
 
--- ascending, and each the length of a list of first commands
+-- cuts: ascending, each at most the number of commands
 abbrev pub AreCuts : List Command → List ℕ → Type 0
 AreCuts commands cuts = IsNonDecreasing cuts × All (λ cut. cut ≤ length commands) cuts
 
--- the sheet of one of the cuts
+-- these words are the sheet of one of the cuts
 abbrev pub IsCutSheet : Opening → List Command → List ℕ → List ℕ → Type 0
 IsCutSheet opening commands cuts words =
     (cut : ℕ) × Contains cuts cut × (words ≡ sheet opening (take cut commands))
 
--- readings, oldest first: each is the sheet of a cut, and none has a front below the one before
+-- readings of one reader, oldest first: each is the sheet of a cut, and no front is below the one
+-- before it
 abbrev pub IsRecordFrom : Opening → List Command → List ℕ → ℕ → List (List ℕ) → Type 0
 IsRecordFrom opening commands cuts low [] = Unit {0}
 IsRecordFrom opening commands cuts low (words ∷ rest) =
     IsCutSheet opening commands cuts words × (low ≤ front_of words)
     × IsRecordFrom opening commands cuts (front_of words) rest
 
--- the readings of each reader are such a record
+-- the readings of every reader are such a record
 abbrev pub AreRecords : Opening → List Command → List ℕ → List (List (List ℕ)) → Type 0
 AreRecords opening commands cuts [] = Unit {0}
 AreRecords opening commands cuts (sheets ∷ rest) =
     IsRecordFrom opening commands cuts 0 sheets × AreRecords opening commands cuts rest
 
--- legal records: a legal list of commands, cuts of it in order, and each reader's readings of sheets of cuts
+-- legal records: a legal list of commands, cuts of it in order, and each reader's readings of
+-- sheets of cuts
 pub record AreLegalRecords (opening : Opening) (commands : List Command) (cuts : List ℕ)
     (records : List (List (List ℕ))) : Type 0 where
   pub legal : IsLegal opening commands

@@ -7,12 +7,12 @@ use Rattle.council_core.specs.declared.limits.TheConstants.{CHAIRS, TOTAL, FRONT
 abbrev pub Chair : Type 0
 Chair = ℕ × ℕ
 
--- the open chairs among the words of the chairs from c on
+-- the open chairs among these words, which are those of the chairs from `c` on
 abbrev pub open_from : ℕ → List ℕ → List Chair
 open_from c [] = []
 open_from c (word ∷ rest) = if word == 0 then open_from (c + 1) rest else (c, word - 1) ∷ open_from (c + 1) rest
 
--- the open chairs of a sheet, by number
+-- the open chairs of a sheet, in ascending order of their numbers
 abbrev pub open_chairs : List ℕ → List Chair
 open_chairs words = open_from 1 (take CHAIRS words)
 
@@ -20,11 +20,11 @@ open_chairs words = open_from 1 (take CHAIRS words)
 abbrev pub weight_of : List Chair → ℕ
 weight_of chairs = sum_by (λ c. c.1) chairs
 
--- what a word says of its chair's weight
+-- the weight that a chair's word represents
 abbrev pub weight_in : ℕ → ℕ
 weight_in word = word - 1
 
--- the votes of the open chairs
+-- the votes of the open chairs, added up
 abbrev pub cast_of : List ℕ → ℕ
 cast_of words = sum_by weight_in (take CHAIRS words)
 

@@ -1,23 +1,23 @@
-//! What accepted commands change.
+//! The changes that accepted commands make.
 use crate::commands::Standing;
 use crate::values::{ChairId, MemberCode, Votes};
 
-// What an accepted command changes beside the journal.
+// The change that an accepted command makes in addition to the journal.
 #[derive(Clone, Copy)]
 pub(crate) enum Change {
     // A chair that was closed is open.
     Open(ChairId),
     // A chair that was open is closed.
     Close(ChairId),
-    // The member at a place, in the order of entry, has another standing.
+    // The member at `place`, in the order of entry, gets a new standing.
     Stand {
         place: usize,
         old: Standing,
         new: Standing,
     },
-    // A member is entered with its votes, last.
+    // A new member is added with its votes, last.
     Enter(MemberCode, Votes),
-    // The member at a place, which has this standing, leaves.
+    // The member at `place`, which has this standing, is removed.
     Leave {
         place: usize,
         old: Standing,

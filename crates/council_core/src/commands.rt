@@ -1,4 +1,4 @@
-//! What changes the register, and what it knows of a member.
+//! The commands that change the register, and its record of a member.
 ghost use Rattle.std.specs.Prelude.{◌≡◌, ◌≤◌};
 ghost use Rattle.council_core.specs.Rolls.{fresh};
 ghost use Rattle.council_core.specs.Laws.{SetsInRange};
@@ -6,33 +6,33 @@ ghost use Rattle.council_core.specs.Laws.{SetsInRange};
 use crate::limits::MAX_VOTES;
 use crate::values::{ChairId, MemberCode, Votes};
 
-/// A change of the register. `Register::apply` says which are refused, and why.
+/// A change of the register. `Register::apply` lists the refusals of each.
 #[derive(Clone, Copy, Debug, PartialEq, Eq, Hash)]
 pub enum Command {
     /// Opens a chair that is closed.
     Open(ChairId),
-    /// Closes an open chair that has no members, suspended ones counted.
+    /// Closes an open chair that has no members. Suspended members count as members.
     Close(ChairId),
-    /// Seats a member in an open chair, or in none: its constituency from then on (Article XII,
+    /// Seats a member in an open chair, or in none. Its chair is its constituency (Article XII,
     /// Section 3(i)).
     Move(MemberCode, Option<ChairId>),
-    /// Gives a member, suspended or not, a number of votes.
+    /// Sets the votes of a member, suspended or not.
     SetVotes(MemberCode, Votes),
     /// Suspends a member's voting rights: its votes are neither cast nor counted in the total
     /// voting power, and it keeps its place in its chair (Schedule L).
     Suspend(MemberCode),
-    /// Ends a suspension: the member's votes count again where it sits.
+    /// Ends a suspension: the member's votes count again in its chair.
     Restore(MemberCode),
-    /// Enters a new member with its votes, last in the order of entry, in no chair and not
-    /// suspended (Article II, Section 2).
+    /// Adds a new member with its votes, last in the order of entry, in no chair and not suspended
+    /// (Article II, Section 2).
     Admit(MemberCode, Votes),
-    /// Takes out a member that sits in no chair, suspended or not (Article XXVI, Section 1). Those
-    /// entered after it move up, and its code may be admitted again.
+    /// Removes a member that sits in no chair, suspended or not (Article XXVI, Section 1). The
+    /// members entered after it move up, and its code may be admitted again.
     Withdraw(MemberCode),
 }
 
 impl Command {
-    // How many votes it gives to a member, and 0 where it gives none.
+    // The number of votes that the command sets, and 0 if it sets none.
     pub(crate) fn votes(&self) -> u64
         ensures { SetsInRange self.now }
     {
@@ -43,24 +43,24 @@ impl Command {
     }
 }
 
-/// What the register knows of a member beside its code.
+/// The register's record of a member, except its code.
 #[derive(Clone, Copy, Debug, PartialEq, Eq, Hash)]
 pub struct Standing {
-    /// The member's votes, whether they count or not.
+    /// The member's votes, also while it is suspended.
     pub votes: Votes,
-    /// The open chair that casts its votes, where it sits in one.
+    /// The open chair in which the member sits and which casts its votes, or `None`.
     pub chair: Option<ChairId>,
-    /// Whether its voting rights are suspended, so that its votes count nowhere.
+    /// Whether the member's voting rights are suspended, so that its votes count nowhere.
     pub suspended: bool,
 }
 
 impl Standing {
-    // The standing of a member as it enters.
+    // The standing of a newly entered member.
     pub(crate) fn fresh(votes: Votes) -> Standing
         ensures same { result ≡ fresh votes }
         ensures small { votes ≤ MAX_VOTES }
     {
-        // The prover asks for this line: the votes are in range.
+        // The prover needs this line: the votes are in range.
         let _votes = votes.number();
         Standing {
             votes,
@@ -70,15 +70,15 @@ impl Standing {
     }
 }
 
-/// A member as it stands after the commands accepted.
+/// A member after the accepted commands.
 #[derive(Clone, Copy, Debug, PartialEq, Eq, Hash)]
 pub struct MemberRow {
-    /// The member.
+    /// The member's code.
     pub code: MemberCode,
-    /// Its votes, whether they count or not.
+    /// The member's votes, also while it is suspended.
     pub votes: Votes,
-    /// The open chair that casts its votes, where it sits in one.
+    /// The open chair in which the member sits and which casts its votes, or `None`.
     pub chair: Option<ChairId>,
-    /// Whether its voting rights are suspended, so that its votes count nowhere.
+    /// Whether the member's voting rights are suspended, so that its votes count nowhere.
     pub suspended: bool,
 }

@@ -1,5 +1,5 @@
-//! An event-sourced register of members, their votes and the chairs that cast them: its state is the fold of its
-//! journal.
+//! An event-sourced register of members, their votes and the chairs that cast them: its state is
+//! the fold of its journal.
 #![tactic(auto)]
 
 mod changes;

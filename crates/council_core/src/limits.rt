@@ -1,25 +1,25 @@
-//! The limits of a register, and the places of a sheet's numbers.
+//! The limits of a register, and the layout of a sheet's numbers.
 
-/// How many chairs there are, numbered from 1.
+/// The number of chairs. Chairs are numbered from 1.
 pub const CHAIRS: usize = 32;
 
-/// The place of the total among the numbers of a sheet: it stands behind a word for each chair.
+/// The index of the total in a sheet's numbers, after one word for each chair.
 pub const TOTAL: usize = CHAIRS;
 
-/// The place of the front among the numbers of a sheet.
+/// The index of the front in a sheet's numbers.
 pub const FRONT: usize = TOTAL + 1;
 
-/// How many numbers a sheet has.
+/// The length of a sheet: one word for each chair, the total and the front.
 pub const SHEET_WORDS: usize = FRONT + 1;
 
-/// How many members there may be at any moment.
+/// The largest number of members at any moment.
 pub const MAX_MEMBERS: usize = 256;
 
-/// How many commands a journal may have: the greatest journal limit.
+/// The largest journal limit: the most commands that a journal can have.
 pub const MAX_COMMANDS: u32 = 1_000_000;
 
-/// How many votes a member may have.
+/// The largest number of votes of one member.
 pub const MAX_VOTES: u64 = 1 << 40;
 
-/// The greatest total voting power: as many members as there may be, with as many votes as each may have.
+/// The largest total voting power in votes: `MAX_MEMBERS` members with `MAX_VOTES` votes each.
 pub const MAX_TOTAL: u64 = 1 << 48;

@@ -1,4 +1,4 @@
-//! The register.
+//! The register and its calls.
 ghost use Rattle.std.specs.Prelude.{◌≡◌, ◌≤◌, ◌<◌, ◌==◌, [], length, slice_get, None, Some, Ok};
 ghost use Rattle.std.specs.Prelude.{slice_index, Err, true, false, IfOk, IfErr, OnErr};
 ghost use Rattle.std.specs.List.{All, list_any};
@@ -28,8 +28,8 @@ use indexmap::IndexMap;
 use std::alloc::Global;
 use std::marker::Model;
 
-/// The members, their votes and the chairs that cast them, and the journal of the commands that
-/// made them so.
+/// The members, their votes and the chairs that cast them, with the journal of the accepted
+/// commands from which this state results.
 #[derive(Debug, Drop)]
 pub struct Register {
     opening: Vec<(MemberCode, Votes)>,
@@ -69,10 +69,27 @@ fn has_duplicate(members: &[(MemberCode, Votes)]) -> bool
 }
 
 impl Register {
-    /// A register of these members, with no command accepted: none sits in a chair or is
-    /// suspended, and no chair is open. Refused, in this order: a journal limit that is 0 or above
-    /// 1,000,000 as `BadLimit`, more than 256 members as `TooManyMembers`, two members of one code
-    /// as `DuplicateMember`, and a refused growth as `OutOfMemory`.
+    /// A register of these members, with no accepted command: no member sits in a chair or is
+    /// suspended, and no chair is open. `journal_limit` is the number of commands that it can
+    /// accept.
+    ///
+    /// # Errors
+    ///
+    /// The first of these that applies:
+    ///
+    /// - `Refusal::BadLimit` if `journal_limit` is 0 or above `MAX_COMMANDS`;
+    /// - `Refusal::TooManyMembers` if there are more than `MAX_MEMBERS` members;
+    /// - `Refusal::DuplicateMember` if two members have the same code;
+    /// - `Refusal::OutOfMemory` if memory could not be allocated.
+    ///
+    /// ```rust
+    /// let member = (MemberCode::new(b"AAA")?, Votes::new(10)?);
+    /// let mut register = Register::start(alloc, &[member], 1_000)?;
+    /// let chair = ChairId::new(1)?;
+    /// assert_eq!(rt; register.apply(Command::Open(chair))?, 1);
+    /// assert!(rt; register.apply(Command::Open(chair)).err() == Some(Refusal::ChairOpen));
+    /// assert_eq!(rt; register.sheet().weight(chair), Some(0));
+    /// ```
     pub fn start(
         alloc: Global,
         members: &[(MemberCode, Votes)],
@@ -102,16 +119,16 @@ impl Register {
         })
     }
 
-    /// How many commands were accepted, from 0 to the journal limit.
+    /// The number of accepted commands, from 0 to the journal limit.
     pub fn accepted(&self) -> u32
         ensures number { result ≡ length self.now.journal }
     {
         self.journal().len() as u32
     }
 
-    /// The commands accepted, in order. Each was accepted in its turn, and there are at most as many as
-    /// the limit, which is at most a million. The votes that they set, those of the members that the register
-    /// began with, and the numbers of their sheet are in range.
+    /// The accepted commands, in order. Each was accepted at its turn, and there are at most as
+    /// many as the journal limit, which is at most `MAX_COMMANDS`. The votes that the commands set,
+    /// the votes of the opening members and the numbers of the sheet are in range.
     pub fn journal(&self) -> &[Command]
         ensures commands { result.now ≡ self.now.journal }
         ensures legal { IsLegal self.now.opening self.now.journal }
@@ -124,7 +141,8 @@ impl Register {
         self.journal.as_slice()
     }
 
-    /// The member entered at a place, counted from 0 in the order of entry, where there is one.
+    /// The member at this index in the order of entry, counted from 0, or `None` if there are fewer
+    /// members.
     pub fn member_at(&self, index: usize) -> Option<MemberRow>
         ensures row { result ≡ option_map row_of (slice_get (roll_of self.now).members index) }
         ensures legal { IsLegal self.now.opening self.now.journal }
@@ -140,8 +158,8 @@ impl Register {
         }
     }
 
-    /// The sheet after the commands accepted. The journal is legal and within its limit, so the sheet's
-    /// numbers are in range.
+    /// The sheet after the accepted commands. The journal is legal and within its limit, so the
+    /// sheet's numbers are in range.
     pub fn sheet(&self) -> Sheet
         ensures same { result ≡ sheet_of self.now }
         ensures in_range { IsSheet result }
@@ -153,8 +171,9 @@ impl Register {
         Sheet::of_words(&words)
     }
 
-    /// The number at a place of the sheet after the commands accepted, from 0 to 33, without the others: a chair's
-    /// word, the total voting power in votes, or how many commands were accepted.
+    /// One number of the sheet after the accepted commands, without the others. `place` is its
+    /// index, below `SHEET_WORDS`: a chair's word, the total voting power in votes (`TOTAL`), or
+    /// the number of accepted commands (`FRONT`).
     pub fn sheet_word(&self, place: usize) -> u64
         requires within { place < SHEET_WORDS }
         ensures same { result ≡ slice_index (sheet_of self.now) place }
@@ -173,14 +192,14 @@ impl Register {
         self.totals.words[place_of(chair)] != 0
     }
 
-    // Whether members sit in a chair, suspended ones counted.
+    // Whether members sit in a chair. Suspended members count.
     fn has_members(&self, chair: ChairId) -> bool
         ensures { result ≡ has_members (roll_of self.now) chair }
     {
         self.totals.counts[place_of(chair)] != 0
     }
 
-    // Whether a member may be seated there: in no chair, or in one that is open.
+    // Whether a member may be seated here: in no chair, or in an open one.
     fn can_receive(&self, to: Option<ChairId>) -> bool
         ensures { result ≡ can_receive (roll_of self.now) to }
     {
@@ -190,7 +209,7 @@ impl Register {
         }
     }
 
-    // The place of the member of a code, and its standing.
+    // The index and the standing of the member with this code.
     fn find(&self, code: MemberCode) -> Result<(usize, Standing), Refusal>
         ensures place { IfOk result (λ m. place_among code (roll_of self.now).members ≡ Some m.0) }
         ensures found { IfOk result (λ m. standing_among code (roll_of self.now).members ≡ Some m.1) }
@@ -204,7 +223,7 @@ impl Register {
         }
     }
 
-    // What `Open` changes, or why it is refused.
+    // The change that `Open` makes, or its refusal.
     fn plan_open(&self, chair: ChairId) -> Result<Change, Refusal>
         ensures refused { IfErr result (λ e. step (roll_of self.now) (Open chair) ≡ Err e) }
         ensures planned { IfOk result (IsPlanned (roll_of self.now) (Open chair)) }
@@ -215,7 +234,7 @@ impl Register {
         Ok(Change::Open(chair))
     }
 
-    // What `Close` changes, or why it is refused.
+    // The change that `Close` makes, or its refusal.
     fn plan_close(&self, chair: ChairId) -> Result<Change, Refusal>
         ensures refused { IfErr result (λ e. step (roll_of self.now) (Close chair) ≡ Err e) }
         ensures planned { IfOk result (IsPlanned (roll_of self.now) (Close chair)) }
@@ -229,7 +248,7 @@ impl Register {
         Ok(Change::Close(chair))
     }
 
-    // What `Move` changes, or why it is refused.
+    // The change that `Move` makes, or its refusal.
     fn plan_move(&self, code: MemberCode, to: Option<ChairId>) -> Result<Change, Refusal>
         ensures refused { IfErr result (λ e. step (roll_of self.now) (Move code to) ≡ Err e) }
         ensures planned { IfOk result (IsPlanned (roll_of self.now) (Move code to)) }
@@ -248,7 +267,7 @@ impl Register {
         Ok(Change::Stand { place, old, new })
     }
 
-    // What `SetVotes` changes, or why it is refused.
+    // The change that `SetVotes` makes, or its refusal.
     fn plan_set_votes(&self, code: MemberCode, votes: Votes) -> Result<Change, Refusal>
         ensures refused { IfErr result (λ e. step (roll_of self.now) (SetVotes code votes) ≡ Err e) }
         ensures planned { IfOk result (IsPlanned (roll_of self.now) (SetVotes code votes)) }
@@ -258,7 +277,7 @@ impl Register {
         Ok(Change::Stand { place, old, new })
     }
 
-    // What `Suspend` changes, or why it is refused.
+    // The change that `Suspend` makes, or its refusal.
     fn plan_suspend(&self, code: MemberCode) -> Result<Change, Refusal>
         ensures refused { IfErr result (λ e. step (roll_of self.now) (Suspend code) ≡ Err e) }
         ensures planned { IfOk result (IsPlanned (roll_of self.now) (Suspend code)) }
@@ -274,7 +293,7 @@ impl Register {
         Ok(Change::Stand { place, old, new })
     }
 
-    // What `Restore` changes, or why it is refused.
+    // The change that `Restore` makes, or its refusal.
     fn plan_restore(&self, code: MemberCode) -> Result<Change, Refusal>
         ensures refused { IfErr result (λ e. step (roll_of self.now) (Restore code) ≡ Err e) }
         ensures planned { IfOk result (IsPlanned (roll_of self.now) (Restore code)) }
@@ -290,7 +309,7 @@ impl Register {
         Ok(Change::Stand { place, old, new })
     }
 
-    // What `Admit` changes, or why it is refused.
+    // The change that `Admit` makes, or its refusal.
     fn plan_admit(&self, code: MemberCode, votes: Votes) -> Result<Change, Refusal>
         ensures refused { IfErr result (λ e. step (roll_of self.now) (Admit code votes) ≡ Err e) }
         ensures planned { IfOk result (IsPlanned (roll_of self.now) (Admit code votes)) }
@@ -304,7 +323,7 @@ impl Register {
         Ok(Change::Enter(code, votes))
     }
 
-    // What `Withdraw` changes, or why it is refused.
+    // The change that `Withdraw` makes, or its refusal.
     fn plan_withdraw(&self, code: MemberCode) -> Result<Change, Refusal>
         ensures refused { IfErr result (λ e. step (roll_of self.now) (Withdraw code) ≡ Err e) }
         ensures planned { IfOk result (IsPlanned (roll_of self.now) (Withdraw code)) }
@@ -316,7 +335,7 @@ impl Register {
         Ok(Change::Leave { place, old })
     }
 
-    // What a command changes, or the refusal of its step.
+    // The change that a command makes, or the refusal of its step.
     fn plan(&self, command: Command) -> Result<Change, Refusal>
         ensures refused { IfErr result (λ e. step (roll_of self.now) command ≡ Err e) }
         ensures planned { IfOk result (IsPlanned (roll_of self.now) command) }
@@ -333,7 +352,7 @@ impl Register {
         }
     }
 
-    // Whether the journal limit leaves room for one more command.
+    // Refuses if the journal has reached its limit.
     fn check_room(&self) -> Result<(), Refusal>
         ensures { result ≡ room_of self.now }
     {
@@ -344,31 +363,44 @@ impl Register {
         }
     }
 
-    /// What `apply` would refuse, out of memory aside: one of the refusals numbered 1 to 9, or
-    /// `TooManyMembers`, `MemberExists`, `MemberSeated`.
+    /// Returns the refusal that `apply` would return for this command, except out of memory. The
+    /// register does not change.
+    ///
+    /// # Errors
+    ///
+    /// The errors of `apply` except `Refusal::OutOfMemory`, in the same order.
     pub fn check(&self, command: Command) -> Result<(), Refusal>
         ensures verdict { result ≡ verdict_of self.now command }
     {
-        // The prover asks for a match: `?` would drop the change unseen.
+        // The prover needs a match: `?` would drop the change implicitly.
         match self.plan(command) {
             Ok(_) => self.check_room(),
             Err(why) => Err(why),
         }
     }
 
-    /// Carries out a command, and answers how many commands were accepted, this one with them.
-    /// Otherwise the register is as before, and the answer is the first refusal of the step, of
-    /// those numbered 1 to 8 and `TooManyMembers`, `MemberExists`, `MemberSeated`; else `JournalFull`, where as many
-    /// commands as the limit were accepted; else `OutOfMemory`.
+    /// Carries out a command and returns the number of accepted commands, including this one.
+    ///
+    /// # Errors
+    ///
+    /// The first of these that applies; the register is then unchanged:
+    ///
+    /// - the refusal of the command itself: for `Open` `ChairOpen`; for `Close` `ChairNotOpen`,
+    ///   then `ChairHasMembers`; for `Move` `UnknownMember`, `MemberSuspended`, `ChairNotOpen`,
+    ///   `AlreadyThere`; for `SetVotes` `UnknownMember`; for `Suspend` `UnknownMember`,
+    ///   `AlreadySuspended`; for `Restore` `UnknownMember`, `NotSuspended`; for `Admit`
+    ///   `MemberExists`, `TooManyMembers`; for `Withdraw` `UnknownMember`, `MemberSeated`;
+    /// - `Refusal::JournalFull` if the number of accepted commands has reached the journal limit;
+    /// - `Refusal::OutOfMemory` if memory could not be allocated.
     pub fn apply(&mut self, command: Command) -> Result<u32, Refusal>
         ensures verdict { Follows (verdict_of self.old command) result OutOfMemory }
         ensures accepted { IfOk result
             (λ n. (self.new ≡ appended self.old command) × (n ≡ length self.new.journal)) }
         ensures unchanged { OnErr result (self.new ≡ self.old) }
     {
-        // The prover asks for this line: a plan has chairs.
+        // The prover needs this line, since a plan has chairs.
         let _nowhere: Option<ChairId> = None;
-        // And for this one: the votes that a command sets are in range.
+        // The prover needs this line: the votes that a command sets are in range.
         let _votes = command.votes();
         let change = self.plan(command)?;
         self.check_room()?;
@@ -377,7 +409,7 @@ impl Register {
             Change::Open(chair) => self.totals.words[place_of(chair)] = 1,
             Change::Close(chair) => self.totals.words[place_of(chair)] = 0,
             Change::Stand { place, old, new } => {
-                // The prover asks for this line: the votes are in range.
+                // The prover needs this line: the votes are in range.
                 let _votes = new.votes.number();
                 self.totals.withdraw(&old);
                 self.totals.enter(&new);

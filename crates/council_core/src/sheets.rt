@@ -1,4 +1,4 @@
-//! The 34 numbers that readers see.
+//! The sheet: the 34 numbers that readers see.
 ghost use Rattle.std.specs.Prelude.{◌≡◌, ◌≤◌, ◌<◌, ◌+◌, ◌↔◌, length, slice_index, ℕ};
 ghost use Rattle.std.specs.Prelude.{IsTrue, IsOk, IfOk, IsOkUnless};
 ghost use Rattle.council_core.specs.declared.refusals.Refusal.TheVariants.{BadSheet};
@@ -11,9 +11,9 @@ use crate::values::{ChairId, chair_at, place_of};
 use arrayvec::ArrayVec;
 use std::marker::Model;
 
-/// The 34 numbers that readers see: for each chair a word, 0 where it is closed and its weight
-/// plus 1 where it is open; then the total voting power; then the front, the number of commands
-/// accepted. Weights and the total are in votes.
+/// The 34 numbers that readers see: for each chair a word, which is 0 if the chair is closed and
+/// its weight plus 1 if it is open; then the total voting power; then the front, the number of
+/// accepted commands. Weights and the total are in votes.
 #[derive(Clone, Copy, Debug, PartialEq, Eq, Hash)]
 pub struct Sheet {
     words: [u64; SHEET_WORDS],
@@ -33,9 +33,22 @@ impl Model for Sheet {
 }
 
 impl Sheet {
-    /// The sheet of these words. They are refused as `BadSheet` unless each of the first 32 is at
-    /// most 2^48 + 1, the weights add up to at most the total, the total is at most 2^48, and the
-    /// front is at most 1,000,000.
+    /// The sheet with these words.
+    ///
+    /// # Errors
+    ///
+    /// `Refusal::BadSheet` unless each of the first `CHAIRS` words is at most `MAX_TOTAL` + 1, the
+    /// weights add up to at most the total, the total is at most `MAX_TOTAL`, and the front is at
+    /// most `MAX_COMMANDS`.
+    ///
+    /// ```rust
+    /// let mut words = [0; SHEET_WORDS];
+    /// words[0] = 11; // chair 1 is open with 10 votes
+    /// words[TOTAL] = 10;
+    /// words[FRONT] = 2;
+    /// let sheet = Sheet::from_words(&words)?;
+    /// assert_eq!(rt; sheet.weight(ChairId::new(1)?), Some(10));
+    /// ```
     pub fn from_words(words: &[u64; SHEET_WORDS]) -> Result<Sheet, Refusal>
         ensures in_range { IsOk result ↔ IsSheet words.now }
         ensures kept { IfOk result (λ s. s ≡ words.now) }
@@ -48,7 +61,7 @@ impl Sheet {
         }
     }
 
-    /// The sheet that these words are.
+    /// The sheet with these words, which the caller has shown to be in range.
     pub fn of_words(words: &[u64; SHEET_WORDS]) -> Sheet
         requires { IsSheet words.now }
         ensures { result ≡ words.now }
@@ -56,7 +69,7 @@ impl Sheet {
         Sheet { words: *words }
     }
 
-    /// The 34 words.
+    /// The words, in the order of `Sheet`.
     pub fn words(&self) -> [u64; SHEET_WORDS]
         ensures same { result ≡ self.now }
         ensures long { length result ≡ SHEET_WORDS }
@@ -66,8 +79,8 @@ impl Sheet {
         words
     }
 
-    /// The total voting power in votes, from 0 to 2^48: the votes of all members that are not
-    /// suspended, also of those in no chair (Schedule L).
+    /// The total voting power in votes, from 0 to `MAX_TOTAL`: the votes of all members that are
+    /// not suspended, including members in no chair (Schedule L).
     pub fn total(&self) -> u64
         ensures same { result ≡ total_of self.now }
         ensures high { result ≤ MAX_TOTAL }
@@ -76,7 +89,7 @@ impl Sheet {
         self.words[TOTAL]
     }
 
-    /// How many chairs are open, from 0 to 32.
+    /// The number of open chairs, from 0 to `CHAIRS`.
     pub fn chairs(&self) -> u8
         ensures same { result ≡ length (open_chairs self.now) }
         ensures high { result ≤ CHAIRS }
@@ -84,7 +97,7 @@ impl Sheet {
         self.open_chairs().len() as u8
     }
 
-    /// The open chairs, by number, each with its weight in votes.
+    /// The open chairs in ascending order of their numbers, each with its weight in votes.
     pub fn open_chairs(&self) -> ArrayVec<(ChairId, u64), CHAIRS>
         ensures same { result.items ≡ open_chairs self.now }
         ensures few { array_vec_len result ≤ CHAIRS }
@@ -99,8 +112,8 @@ impl Sheet {
         chairs
     }
 
-    /// The weight of a chair in votes, where it is open: the votes of its members that are not
-    /// suspended.
+    /// The weight of an open chair in votes: the votes of its members that are not suspended.
+    /// `None` if the chair is closed.
     pub fn weight(&self, chair: ChairId) -> Option<u64>
         ensures weight { result ≡ weight_word self.now chair }
     {
@@ -108,14 +121,14 @@ impl Sheet {
         if word == 0 { None } else { Some(word - 1) }
     }
 
-    /// The number of commands accepted, from 0 to 1,000,000.
+    /// The number of accepted commands, from 0 to `MAX_COMMANDS`.
     pub fn front(&self) -> u32
         ensures same { result ≡ front_of self.now }
     {
         self.words[FRONT] as u32
     }
 
-    /// The votes that the open chairs cast together, from 0 to the total.
+    /// The votes that all open chairs cast together, from 0 to the total.
     pub fn cast(&self) -> u64
         ensures same { result ≡ cast_of self.now }
         ensures high { result ≤ MAX_TOTAL }
@@ -124,7 +137,7 @@ impl Sheet {
     }
 }
 
-// The weights that words show, added up.
+// The sum of the weights in these words.
 #[tactic(auto, using(std::proofs::lemmas::Grind::common_steps, crate::proofs::SheetLemmas::cast_more))]
 fn cast_in(words: &[u64; SHEET_WORDS]) -> u64
     requires small { (k : ℕ) → k < CHAIRS → slice_index words.now k ≤ MAX_TOTAL + 1 }
@@ -137,7 +150,7 @@ fn cast_in(words: &[u64; SHEET_WORDS]) -> u64
     cast
 }
 
-// Whether the words of the chairs are no larger than a sheet's.
+// Whether each chair's word is at most the largest word of a sheet.
 fn are_small(words: &[u64; SHEET_WORDS]) -> bool
     ensures { IsTrue result ↔ ((k : ℕ) → k < CHAIRS → slice_index words.now k ≤ MAX_TOTAL + 1) }
 {
@@ -149,7 +162,7 @@ fn are_small(words: &[u64; SHEET_WORDS]) -> bool
     true
 }
 
-// Whether words are a sheet.
+// Whether these words are a sheet.
 fn is_in_range(words: &[u64; SHEET_WORDS]) -> bool
     ensures { IsTrue result ↔ IsSheet words.now }
 {

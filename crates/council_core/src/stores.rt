@@ -13,7 +13,7 @@ use crate::values::{ChairId, MemberCode, Votes};
 use indexmap::IndexMap;
 use std::alloc::Global;
 
-// Makes room in the journal for one more command.
+// Reserves room in the journal for one more command.
 pub(crate) fn make_room(journal: &mut Vec<Command>) -> Result<(), Refusal>
     ensures same { journal.new.items ≡ journal.old.items }
     ensures room { OnOk result (vec_len journal.new < vec_capacity journal.new) }
@@ -22,17 +22,17 @@ pub(crate) fn make_room(journal: &mut Vec<Command>) -> Result<(), Refusal>
     Ok(journal.reserve(1)?)
 }
 
-// Writes a command down, in the room made for it.
+// Appends a command to the journal, in the reserved room.
 pub(crate) fn append(journal: &mut Vec<Command>, command: &Command)
     requires { vec_len journal.old < vec_capacity journal.old }
     ensures { journal.new.items ≡ journal.old.items ++ command.now ∷ [] }
 {
-    // The prover asks for this line: a command has chairs.
+    // The prover needs this line, since a command has a chair.
     let _nowhere: Option<ChairId> = None;
     journal.push_reserved(*command);
 }
 
-// Writes the standing of the member at a place.
+// Replaces the standing of the member at this index.
 pub(crate) fn put(members: &mut IndexMap<MemberCode, Standing>, place: usize, new: Standing)
     requires { place < length members.old.entries }
     ensures { members.new.entries ≡ set_value_at members.old.entries place new }
@@ -43,14 +43,14 @@ pub(crate) fn put(members: &mut IndexMap<MemberCode, Standing>, place: usize, ne
     }
 }
 
-// Takes out the member at a place; those after it move up.
+// Removes the member at this index. The members after it move up.
 pub(crate) fn take_out(members: &mut IndexMap<MemberCode, Standing>, place: usize)
     ensures { members.new.entries ≡ remove members.old.entries place }
 {
     let _gone = members.shift_remove_index(place);
 }
 
-// The members given, in a list of their own.
+// A copy of the members.
 pub(crate) fn copied(
     alloc: Global,
     members: &[(MemberCode, Votes)],
@@ -61,7 +61,7 @@ pub(crate) fn copied(
     Ok(Vec::from_slice(alloc, members)?)
 }
 
-// The members as they begin, in the order given.
+// The members of a new register, in the given order.
 pub(crate) fn enter_all(
     alloc: Global,
     members: &[(MemberCode, Votes)],
@@ -77,7 +77,7 @@ pub(crate) fn enter_all(
     Ok(entered)
 }
 
-// Enters a member of a new code, last.
+// Adds a member with a new code, last.
 pub(crate) fn enter_new(
     members: &mut IndexMap<MemberCode, Standing>,
     code: MemberCode,
@@ -88,7 +88,7 @@ pub(crate) fn enter_new(
     ensures err { OnErr result (members.new.entries ≡ members.old.entries) }
     ensures memory { IsOkUnless result OutOfMemory }
 {
-    // The prover asks for this line: a standing has a chair.
+    // The prover needs this line, since a standing has a chair.
     let _nowhere: Option<ChairId> = None;
     members.insert(code, Standing::fresh(votes))?;
     Ok(())

@@ -1,4 +1,4 @@
-//! The numbers and codes that commands speak of.
+//! Validated values that commands carry: chairs, votes and member codes.
 ghost use Rattle.std.specs.Prelude.{◌≡◌, ◌≤◌, ◌<◌, ◌+◌, ◌↔◌, ◌^◌, ℕ, List, IsOk, IfOk};
 ghost use Rattle.std.specs.Prelude.{IsOkUnless};
 ghost use Rattle.council_core.specs.declared.refusals.Refusal.TheVariants.{BadChair, BadMember, VotesTooLarge};
@@ -37,7 +37,11 @@ impl Default for ChairId {
 }
 
 impl ChairId {
-    /// The chair of a number. A number that is 0 or above 32 is refused as `BadChair`.
+    /// The chair with this number.
+    ///
+    /// # Errors
+    ///
+    /// `Refusal::BadChair` if `number` is 0 or above `CHAIRS`.
     pub fn new(number: u8) -> Result<ChairId, Refusal>
         ensures in_range { IsOk result ↔ ((1 ≤ number) × (number ≤ CHAIRS)) }
         ensures kept { IfOk result (λ c. c ≡ number) }
@@ -50,7 +54,7 @@ impl ChairId {
         }
     }
 
-    /// Its number, from 1 to 32.
+    /// The chair's number, from 1 to `CHAIRS`.
     pub fn number(&self) -> u8
         ensures same { result ≡ self.now }
         ensures low { 1 ≤ result }
@@ -60,7 +64,7 @@ impl ChairId {
     }
 }
 
-// The place of a chair's word among those of a sheet.
+// The index of a chair's word in a sheet.
 pub(crate) fn place_of(chair: ChairId) -> usize
     ensures place { result + 1 ≡ chair }
     ensures within { result < CHAIRS }
@@ -68,7 +72,7 @@ pub(crate) fn place_of(chair: ChairId) -> usize
     chair.number() as usize - 1
 }
 
-// The chair whose word stands at a place.
+// The chair whose word is at this index of a sheet.
 pub(crate) fn chair_at(place: usize) -> ChairId
     requires within { place < CHAIRS }
     ensures number { result ≡ place + 1 }
@@ -98,7 +102,11 @@ impl Model for Votes {
 }
 
 impl Votes {
-    /// So many votes. A number above 2^40 is refused as `VotesTooLarge`.
+    /// This number of votes.
+    ///
+    /// # Errors
+    ///
+    /// `Refusal::VotesTooLarge` if `number` is above `MAX_VOTES`.
     pub fn new(number: u64) -> Result<Votes, Refusal>
         ensures in_range { IsOk result ↔ (number ≤ MAX_VOTES) }
         ensures kept { IfOk result (λ v. v ≡ number) }
@@ -111,7 +119,7 @@ impl Votes {
         }
     }
 
-    /// How many votes, from 0 to 2^40.
+    /// The number of votes, from 0 to `MAX_VOTES`.
     pub fn number(&self) -> u64
         ensures same { result ≡ self.now }
         ensures high { result ≤ MAX_VOTES }
@@ -120,7 +128,7 @@ impl Votes {
     }
 }
 
-/// A member, by a code of three ASCII capitals.
+/// The code that names a member: three ASCII capitals.
 #[derive(Clone, Copy, Debug, PartialEq, Eq, Hash)]
 pub struct MemberCode {
     letters: [u8; 3],
@@ -140,7 +148,11 @@ impl Model for MemberCode {
 }
 
 impl MemberCode {
-    /// The member of a code. A text that is not just three ASCII capitals is refused as `BadMember`.
+    /// The code with these letters.
+    ///
+    /// # Errors
+    ///
+    /// `Refusal::BadMember` unless `text` is exactly three ASCII capitals.
     pub fn new(text: &[u8]) -> Result<MemberCode, Refusal>
         ensures in_range { IsOk result ↔ IsCode text.now }
         ensures kept { IfOk result (λ m. m ≡ text.now) }
@@ -154,7 +166,7 @@ impl MemberCode {
         }
     }
 
-    /// The three letters of its code.
+    /// The three letters.
     pub fn letters(&self) -> [u8; 3]
         ensures same { result ≡ self.now }
         ensures code { IsCode result }

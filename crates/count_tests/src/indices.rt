@@ -1,4 +1,4 @@
-//! The indices of sheets.
+//! Tests of the indices of sheets.
 use crate::lent::{with_evaluator, with_register};
 use council_core::{ChairId, Command, MemberCode, Refusal, Register, Sheet, Votes};
 use majority_rule::Majority;
@@ -13,7 +13,7 @@ fn two_members() -> Result<[(MemberCode, Votes); 2], Refusal> {
     Ok([first, second])
 }
 
-/// The sheet once a chair is opened and a member sits there.
+/// The sheet after a chair is opened and a member moves to it.
 fn seated(register: &mut Register, letters: &[u8], chair: u8) -> Result<Sheet, Refusal> {
     let member = MemberCode::new(letters)?;
     let chair = ChairId::new(chair)?;
@@ -22,15 +22,16 @@ fn seated(register: &mut Register, letters: &[u8], chair: u8) -> Result<Sheet, R
     Ok(register.sheet())
 }
 
-/// The sheet once a member has other votes.
+/// The sheet after a member's votes are set.
 fn revised(register: &mut Register, letters: &[u8], votes: u64) -> Result<Sheet, Refusal> {
     let member = MemberCode::new(letters)?;
     register.apply(Command::SetVotes(member, Votes::new(votes)?))?;
     Ok(register.sheet())
 }
 
-/// In how many halves the sheet differs each time: once AAA sits in chair 16 and BBB in chair 17, once one and then the
-/// other has other votes, for the same sheet, and once BBB is given the votes that it has.
+/// The number of blocks of sixteen chairs that differ each time: after AAA sits in chair 16 and BBB
+/// in chair 17, after the votes of AAA and then of BBB change, for the same sheet, and after BBB is
+/// given the votes that it already has.
 fn halves_that_differ(
     register: &mut Register,
     evaluator: &mut Evaluator,
@@ -44,7 +45,8 @@ fn halves_that_differ(
     Ok([both, left, right, same, equal])
 }
 
-/// The quota, the winning and all coalitions at more than half of the votes, and the swings of the first two chairs.
+/// The quota, the winning and all coalitions by more than half of the votes, and the swings of the
+/// first two chairs.
 fn figures(evaluator: &Evaluator) -> ([u64; 3], [Option<u64>; 2]) {
     let indices = evaluator.evaluate(Majority::Half);
     let swings = |row: usize| indices.rows.as_slice().get(row).map(|power| power.swings);
@@ -54,7 +56,7 @@ fn figures(evaluator: &Evaluator) -> ([u64; 3], [Option<u64>; 2]) {
     )
 }
 
-/// The same, with the evaluator's figures at last.
+/// The numbers of differing blocks, and the evaluator's figures after the last sheet.
 fn rebuild_in_parts(
     register: &mut Register,
     evaluator: &mut Evaluator,
@@ -74,7 +76,7 @@ fn partial_rebuild(rt: HostRuntime) -> Result<(), Fail> {
     Ok(())
 }
 
-/// Two open chairs among chairs 1 to 16.
+/// A sheet with two open chairs, given by their words, among chairs 1 to 16.
 fn left_chairs(first: u64, second: u64) -> Result<Sheet, Refusal> {
     let mut words = [0; 34];
     words[0] = first;
@@ -83,7 +85,8 @@ fn left_chairs(first: u64, second: u64) -> Result<Sheet, Refusal> {
     Sheet::from_words(&words)
 }
 
-/// In how many halves two sheets with two weights exchanged differ from the one before, and the second's figures.
+/// For two sheets with exchanged weights: the number of blocks in which each differs from the sheet
+/// before it, and the swings on the second.
 fn exchanged(evaluator: &mut Evaluator) -> Result<([u8; 2], [Option<u64>; 2]), Refusal> {
     let first = evaluator.set(&left_chairs(61, 31)?);
     let second = evaluator.set(&left_chairs(31, 61)?);
@@ -104,7 +107,8 @@ fn with_front(front: u64) -> Result<Sheet, Refusal> {
     Sheet::from_words(&words)
 }
 
-/// The front that an evaluator begins with, in how many halves a sheet with another differs, and the fronts after it.
+/// The front of a new evaluator, the number of blocks in which a sheet with another front differs,
+/// and the fronts of the evaluator and of its indices after that.
 fn fronts(evaluator: &mut Evaluator) -> Result<[u32; 4], Refusal> {
     let before = evaluator.sheet().front();
     let halves = evaluator.set(&with_front(7)?);
@@ -131,7 +135,8 @@ fn equal_chairs() -> Result<Sheet, Refusal> {
     Sheet::from_words(&words)
 }
 
-/// The quota, the least size, the winning and all coalitions of 32 chairs, and their swings, where all have the same.
+/// The quota, the least size, the winning and all coalitions of 32 chairs, and their swings if all
+/// have the same.
 fn figures_of_equals(evaluator: &Evaluator, majority: Majority) -> ([u64; 4], Option<u64>) {
     let indices = evaluator.evaluate(majority);
     let rows = indices.rows.as_slice();

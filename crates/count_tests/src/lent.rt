@@ -1,12 +1,12 @@
-//! What the tests are lent: each kind of register, half and evaluator is made in one function here.
+//! Lends registers, halves and evaluators to tests: each type is made in only one function.
 
-// A function that owns such a value is proved slowly; one that is lent it isn't.
+// A function that owns such a value is slow to prove, and one that borrows it is not.
 use council_core::{MemberCode, Refusal, Register, Votes};
 use half_sums::{HalfSums, OrderedSums};
 use power_index::Evaluator;
 use std::alloc::Global;
 
-/// What a new evaluator is asked.
+/// Runs `ask` on a new evaluator.
 pub(crate) fn with_evaluator<T: Drop, F: FnOnce(&mut Evaluator) -> Result<T, Refusal>>(
     alloc: Global,
     ask: F,
@@ -17,7 +17,7 @@ pub(crate) fn with_evaluator<T: Drop, F: FnOnce(&mut Evaluator) -> Result<T, Ref
     ask(&mut evaluator)
 }
 
-/// What a register is asked that starts with these members and has a journal of so many commands at most.
+/// Runs `ask` on a new register with these members and this journal limit.
 pub(crate) fn with_register<T: Drop, F: FnOnce(&mut Register) -> Result<T, Refusal>>(
     alloc: Global,
     members: &[(MemberCode, Votes)],
@@ -30,7 +30,7 @@ pub(crate) fn with_register<T: Drop, F: FnOnce(&mut Register) -> Result<T, Refus
     ask(&mut register)
 }
 
-/// What a new half is asked.
+/// Runs `ask` on a new half.
 pub(crate) fn with_half<T: Drop, F: FnOnce(&mut HalfSums) -> T>(
     alloc: Global,
     ask: F,
@@ -41,7 +41,7 @@ pub(crate) fn with_half<T: Drop, F: FnOnce(&mut HalfSums) -> T>(
     Ok(ask(&mut half))
 }
 
-/// What a new half in order of sums is asked.
+/// Runs `ask` on a new half without groups by size.
 pub(crate) fn with_ordered_half<T: Drop, F: FnOnce(&mut OrderedSums) -> T>(
     alloc: Global,
     ask: F,

@@ -1,4 +1,4 @@
-//! Indices counted in room that is lent, against those of an evaluator.
+//! Indices counted in lent memory, compared with those of an evaluator.
 use crate::lent::with_evaluator;
 use council_core::{Refusal, Sheet};
 use half_sums::ROOM;
@@ -6,7 +6,7 @@ use majority_rule::Majority;
 use power_index::{Evaluator, LentEvaluator, ListRoom};
 use std::test::Fail;
 
-/// A room with other content than that of any list.
+/// A room whose contents are not those of any list.
 fn used_room() -> ListRoom {
     ListRoom {
         left_sums: [7; ROOM],
@@ -16,7 +16,8 @@ fn used_room() -> ListRoom {
     }
 }
 
-/// The sheet on which the first chairs are open, with 1, 2, 3 votes and so on, of 200 votes in all.
+/// The sheet on which the first `chairs` chairs are open, with 1, 2, 3 votes and so on, and a total
+/// of 200.
 fn first_chairs(chairs: usize) -> Result<Sheet, Refusal> {
     let mut words = [0; 34];
     words[32] = 200;
@@ -26,7 +27,7 @@ fn first_chairs(chairs: usize) -> Result<Sheet, Refusal> {
     Sheet::from_words(&words)
 }
 
-/// Whether a sheet has the same indices both ways, by each majority.
+/// Whether both evaluators return the same indices for a sheet, by each majority.
 fn is_same(evaluator: &mut Evaluator, room: &mut ListRoom, sheet: &Sheet) -> bool {
     evaluator.set(sheet);
     let lent = LentEvaluator::over(sheet, room);
@@ -42,7 +43,8 @@ fn is_same(evaluator: &mut Evaluator, room: &mut ListRoom, sheet: &Sheet) -> boo
     same
 }
 
-/// Whether sheets with more and with fewer chairs have the same indices both ways, in one room.
+/// Whether both evaluators return the same indices for sheets with more and with fewer chairs, in
+/// one room.
 fn are_same(evaluator: &mut Evaluator) -> Result<bool, Refusal> {
     let mut room = used_room();
     let mut same = true;

@@ -1,5 +1,5 @@
-//! Tests of the register, of the counts and of the indices, by their public names; and the indices against a plain
-//! recursion over all coalitions.
+//! Tests of the public items of the register, the counts and the indices, with the indices compared
+//! with a plain recursion over all coalitions.
 #![tactic(auto)]
 
 #[cfg(test)]

@@ -1,6 +1,6 @@
-//! Counting by a plain recursion over all coalitions: slow, and easy to read.
+//! Counts coalitions by a plain recursion over all of them, which is slow and easy to read.
 
-// A coalition's weight and its chairs, or what a coalition needs of them to win.
+// The weight and the number of chairs of a coalition, or those that it needs to win.
 #[derive(Clone, Copy)]
 pub(crate) struct Part {
     pub(crate) weight: u64,
@@ -8,7 +8,7 @@ pub(crate) struct Part {
 }
 
 impl Part {
-    // No chair, and no weight.
+    // The coalition of no chairs.
     pub(crate) const NONE: Part = Part { weight: 0, size: 0 };
 
     fn joined_by(self, weight: u64) -> Part {
@@ -23,8 +23,8 @@ impl Part {
     }
 }
 
-// The winning coalitions among the chairs of some words, joined by others. A word is 0 for a closed
-// chair, else the chair's weight plus 1.
+// The number of winning coalitions made of `others` and chairs of these words. A word is 0 for a
+// closed chair, else the chair's weight plus 1.
 pub(crate) fn winning(words: &[u64], others: Part, needed: Part) -> u64 {
     match words {
         [] => u64::from(others.reaches(needed)),
@@ -38,8 +38,8 @@ pub(crate) fn winning(words: &[u64], others: Part, needed: Part) -> u64 {
     }
 }
 
-// The sets of these chairs, joined by others, that lose and that win once a chair of its own weight
-// is added.
+// The number of coalitions made of `others` and chairs of these words that lose, and that win once
+// a chair of weight `own` is added.
 pub(crate) fn swings(words: &[u64], others: Part, own: u64, needed: Part) -> u64 {
     match words {
         [] => u64::from(!others.reaches(needed) && others.joined_by(own).reaches(needed)),

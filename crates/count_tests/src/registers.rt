@@ -1,4 +1,4 @@
-//! The register, its sheet and what it refuses.
+//! Tests of the register, its sheet and its refusals.
 use crate::lent::with_register;
 use council_core::{
     ChairId, Command, FRONT, MAX_COMMANDS, MemberCode, Refusal, Register, SHEET_WORDS, Sheet,
@@ -29,7 +29,7 @@ fn register_starts_refuse(rt: HostRuntime) -> Result<(), Fail> {
     Ok(())
 }
 
-// The sheet of these words: chair 1, the total and the front.
+// The sheet with this word of chair 1, this total and this front.
 fn sheet_of(first: u64, total: u64, front: u64) -> Result<Sheet, Refusal> {
     let mut words = [0; SHEET_WORDS];
     words[0] = first;
@@ -61,7 +61,8 @@ fn words_of_no_sheet_refused(rt: HostRuntime) -> Result<(), Fail> {
     Ok(())
 }
 
-// Opens chair 1, seats AAA there, and tries to close the chair: what each call answers, and the chair's weight.
+// Opens chair 1, seats AAA there, and checks whether the chair can close: the result of each call,
+// and the chair's weight.
 fn seat_first(
     register: &mut Register,
 ) -> Result<([u32; 2], Option<Refusal>, Option<u64>), Refusal> {
@@ -72,7 +73,7 @@ fn seat_first(
     Ok(([opened, seated], closes, register.sheet().weight(chair)))
 }
 
-// The first two chairs' words, the total and the front, by the register and by its sheet.
+// The first two chairs' words, the total and the front, from the register and from its sheet.
 fn words_of(register: &Register) -> ([u64; 4], [u64; 4]) {
     let words = register.sheet().words();
     let by_register = [
@@ -101,9 +102,9 @@ fn register_accepts(rt: HostRuntime) -> Result<(), Fail> {
     Ok(())
 }
 
-// The code of the member at a place.
+// The code of the member at index `place`.
 fn code_at(register: &Register, place: usize) -> Option<MemberCode> {
-    // The prover asks for this line: a row has a chair.
+    // The prover needs this line, since a row has a chair.
     let _nowhere: Option<ChairId> = None;
     Some(register.member_at(place)?.code)
 }
@@ -116,8 +117,8 @@ fn three_members() -> Result<[(MemberCode, Votes); 3], Refusal> {
     Ok([first, second, third])
 }
 
-// What the calls answer, and the codes at places 0 to 2, once the first member has withdrawn and once it is admitted
-// again with 7 votes; and the total at last.
+// The results of the calls and the codes at indices 0 to 2, after the first member withdraws and
+// after it is admitted again with 7 votes; and the total at the end.
 fn withdraw_and_admit(
     register: &mut Register,
 ) -> Result<([(u32, [Option<MemberCode>; 3]); 2], u64), Refusal> {
@@ -148,13 +149,13 @@ fn members_move_up(rt: HostRuntime) -> Result<(), Fail> {
     Ok(())
 }
 
-// The member of a number from 0 to 255: AAA, AAB and so on.
+// The member with this number, from 0 to 255: AAA, AAB and so on.
 fn numbered(number: u8) -> Result<(MemberCode, Votes), Refusal> {
     let code = MemberCode::new(&[b'A', b'A' + number / 26, b'A' + number % 26])?;
     Ok((code, Votes::new(1)?))
 }
 
-// As many members as there may be.
+// 256 members, as many as a register can have.
 fn all_members(alloc: Global) -> Result<Vec<(MemberCode, Votes)>, Refusal> {
     let mut members = Vec::new(alloc);
     for number in 0..=255 {
@@ -163,7 +164,7 @@ fn all_members(alloc: Global) -> Result<Vec<(MemberCode, Votes)>, Refusal> {
     Ok(members)
 }
 
-// Why a register of these members doesn't start.
+// The refusal to start a register of these members, or `None`.
 fn refusal_of(alloc: Global, members: &[(MemberCode, Votes)]) -> Option<Refusal> {
     match Register::start(alloc, members, 1) {
         Ok(_) => None,
@@ -171,7 +172,8 @@ fn refusal_of(alloc: Global, members: &[(MemberCode, Votes)]) -> Option<Refusal>
     }
 }
 
-// Of the first members, none at first and one more each time: with how many the register first doesn't start, and why.
+// Starts registers with the first 0, 1, 2 and so on of these members. Returns the number of members
+// of the first that does not start, with its refusal.
 fn first_refused(alloc: Global, members: &[(MemberCode, Votes)]) -> Option<(usize, Refusal)> {
     for count in 0..=members.len() {
         if let Some(why) = refusal_of(alloc, &members[..count]) {
@@ -190,7 +192,7 @@ fn starts_with_each_number_of_members(rt: HostRuntime) -> Result<(), Fail> {
     Ok(())
 }
 
-// Each of the eight kinds of command, after which the register is as it was: AAA, in no chair, with 50 votes.
+// All eight kinds of command, after which the member is as before: AAA, in no chair, with 50 votes.
 fn round() -> Result<[Command; 9], Refusal> {
     let chair = ChairId::new(1)?;
     let code = MemberCode::new(b"AAA")?;
@@ -207,10 +209,10 @@ fn round() -> Result<[Command; 9], Refusal> {
     ])
 }
 
-// How often the round is taken: 100,008 commands.
+// The number of repetitions of the round: 100,008 commands.
 const ROUNDS: u32 = 11_112;
 
-// Hands over the commands in turn, and answers how many were accepted at last.
+// Applies the commands in turn, and returns the number of accepted commands.
 fn apply_all(register: &mut Register, commands: &[Command]) -> Result<u32, Refusal> {
     for command in commands {
         register.apply(*command)?;
@@ -234,8 +236,9 @@ fn accepts_many_commands(rt: HostRuntime) -> Result<(), Fail> {
     Ok(())
 }
 
-// How commands are refused once chair 1 is opened, of a register that then has as many members and commands as there
-// may be: to admit a member that it has and another, to withdraw one, and what a check of the second says.
+// The refusals of a register with the largest number of members, after chair 1 is opened and its
+// journal is full: to admit a member with a code that it has, to admit another, to withdraw one,
+// and of `check` for the second of these.
 fn refusals_of(register: &mut Register) -> Result<[Option<Refusal>; 4], Refusal> {
     register.apply(Command::Open(ChairId::new(1)?))?;
     let (held, votes) = numbered(255)?;

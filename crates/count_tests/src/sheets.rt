@@ -1,4 +1,4 @@
-//! The evaluator's indices against a plain recursion.
+//! Compares the evaluator's indices with a plain recursion.
 use crate::lent::with_evaluator;
 use crate::plain::{self, Part};
 use council_core::{CHAIRS, Refusal, SHEET_WORDS, Sheet, TOTAL};
@@ -31,7 +31,7 @@ const SHEETS: [(&[u64], u64); 14] = [
     (&[12, 12, 12, 12, 11, 11, 10, 9, 3, 2, 1, 1], 30),
 ];
 
-// A sheet of these weights, spread over both halves.
+// A sheet of chairs with these weights, spread over both halves.
 fn sheet_of(weights: &[u64], outside: u64) -> Result<Sheet, Refusal> {
     let mut words = [0; SHEET_WORDS];
     let mut total = outside;
@@ -43,7 +43,7 @@ fn sheet_of(weights: &[u64], outside: u64) -> Result<Sheet, Refusal> {
     Sheet::from_words(&words)
 }
 
-// The words of the chairs of a sheet.
+// The words of a sheet's chairs.
 fn chair_words(sheet: &Sheet) -> [u64; CHAIRS] {
     let words = sheet.words();
     let mut chairs = [0; CHAIRS];
@@ -53,7 +53,7 @@ fn chair_words(sheet: &Sheet) -> [u64; CHAIRS] {
     chairs
 }
 
-// The swings of the chair at a place.
+// The number of swings of the chair at index `place`.
 fn swings_at(chairs: &[u64; CHAIRS], place: usize, needed: Part) -> u64 {
     let mut others = *chairs;
     let Some(word) = others.get_mut(place) else {
@@ -64,7 +64,7 @@ fn swings_at(chairs: &[u64; CHAIRS], place: usize, needed: Part) -> u64 {
     plain::swings(&others, Part::NONE, own, needed)
 }
 
-// What a coalition needs to win.
+// The weight and the number of chairs that a coalition needs to win.
 fn needed_of(indices: &Indices) -> Part {
     Part {
         weight: indices.quota,
@@ -72,7 +72,7 @@ fn needed_of(indices: &Indices) -> Part {
     }
 }
 
-// Whether each row has the chair's swings, and the fractions over them.
+// Whether each row has the chair's swings and the right fractions.
 fn rows_agree(indices: &Indices, chairs: &[u64; CHAIRS], all: u64) -> bool {
     indices.rows.as_slice().iter().all(|row| {
         let place = row.chair.number() as usize - 1;
@@ -87,7 +87,7 @@ fn rows_agree(indices: &Indices, chairs: &[u64; CHAIRS], all: u64) -> bool {
     })
 }
 
-// The swings of all open chairs.
+// The sum of the swings of all open chairs.
 fn all_swings(chairs: &[u64; CHAIRS], needed: Part) -> u64 {
     let mut all = 0u64;
     for place in 0..CHAIRS {
@@ -107,7 +107,7 @@ fn agrees<R: Abort>(rt: &R, indices: &Indices, sheet: &Sheet) {
     assert!(rt; rows_agree(indices, &chairs, all));
 }
 
-// Sets the evaluator to a sheet, and asks it by each majority.
+// Sets the evaluator to a sheet, and compares its indices by each majority.
 fn agrees_on<R: Abort>(rt: &R, evaluator: &mut Evaluator, sheet: &Sheet) {
     evaluator.set(sheet);
     for majority in [
@@ -133,7 +133,7 @@ fn evaluator_agrees_with_a_plain_recursion(rt: HostRuntime) -> Result<(), Fail> 
     Ok(())
 }
 
-// Numbers by xorshift (Marsaglia 2003).
+// Random numbers by xorshift (Marsaglia 2003).
 #[derive(Drop)]
 struct Numbers {
     seed: u64,
@@ -148,14 +148,14 @@ impl Numbers {
     }
 }
 
-// The least votes of a chair, and how many numbers from there on are drawn from: no votes, equal
-// votes, few votes, and votes of any size.
+// The least number of votes of a chair, and how many values from there on are drawn: no votes,
+// equal votes, few votes, and votes of any size.
 const VOTES: [(u64, u64); 5] = [(0, 1), (7, 1), (0, 3), (1, 1000), (0, 1 << 40)];
 
-// So many open chairs the recursion goes through in time.
+// The largest number of open chairs for which the recursion is fast enough.
 const MOST_OPEN: u8 = 12;
 
-// A sheet in which a third of the chairs are open.
+// A random sheet on which a third of the chairs are open.
 fn drawn_sheet(numbers: &mut Numbers, least: u64, span: u64) -> Result<Sheet, Refusal> {
     let mut words = [0; SHEET_WORDS];
     let mut total = numbers.below(span);

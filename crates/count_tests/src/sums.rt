@@ -1,10 +1,10 @@
-//! Subset sums of a half.
+//! Tests of the subset sums of a half.
 use crate::lent::{with_half, with_ordered_half};
 use half_sums::{Entry, HalfSums, OrderedSums};
 use std::process::Abort;
 use std::test::Fail;
 
-// The sets of three chairs of 50, 49 and 1 votes: by sum, and by size as well.
+// The sets of three chairs with 50, 49 and 1 votes, both by sum and by size.
 const OF_THREE: [Entry; 8] = [
     Entry { sum: 0, mask: 0 },
     Entry { sum: 1, mask: 4 },
@@ -51,7 +51,7 @@ fn ordered_sums_of_three(rt: HostRuntime) -> Result<(), Fail> {
     Ok(())
 }
 
-// Whether sets have these sums, one for one.
+// Whether the sets have these sums, in this order.
 fn have_sums(entries: &[Entry], sums: &[u64]) -> bool {
     for (entry, sum) in entries.iter().zip(sums) {
         if entry.sum != *sum {
@@ -61,7 +61,7 @@ fn have_sums(entries: &[Entry], sums: &[u64]) -> bool {
     entries.len() == sums.len()
 }
 
-// Whether each is a set of two chairs.
+// Whether each set has two chairs.
 fn are_pairs(entries: &[Entry]) -> bool {
     entries
         .iter()
@@ -82,7 +82,8 @@ fn three_chairs_of_one_vote(rt: HostRuntime) -> Result<(), Fail> {
     Ok(())
 }
 
-// Whether each set of sixteen chairs is there once: a place for each mask says whether it was seen.
+// Whether each set of sixteen chairs appears once. `seen` has an item for each mask, true if it
+// appeared.
 fn are_all_sets(entries: &[Entry], seen: &mut [bool]) -> bool {
     for entry in entries {
         match seen.get_mut(usize::from(entry.mask)) {
@@ -93,7 +94,7 @@ fn are_all_sets(entries: &[Entry], seen: &mut [bool]) -> bool {
     entries.len() == seen.len()
 }
 
-// The sets of sixteen chairs of no weight: whether each is there once.
+// Whether each set of sixteen chairs without weight appears once.
 fn has_all_sets(half: &mut HalfSums, seen: &mut [bool]) -> bool {
     half.rebuild(&[
         (0, 0),

@@ -1,4 +1,4 @@
-//! Winning pairs and swings of two lists.
+//! Tests of the winning pairs and swings of two lists.
 ghost use Rattle.half_sums.specs.Entries.{AreSubsets};
 ghost use Rattle.swing_walk.specs.Laws.{ones};
 
@@ -58,7 +58,7 @@ fn ordered_sums_of_three(rt: HostRuntime) -> Result<(), Fail> {
     Ok(())
 }
 
-/// Makes a half that of sixteen chairs of one vote each.
+/// Sets the half to that of sixteen chairs with one vote each.
 fn fill_with_ones(half: &mut HalfSums)
     ensures ones { AreSubsets ones half.new }
 {
@@ -95,7 +95,7 @@ fn of_ones(
     (counts, swings(&counts))
 }
 
-/// The counts and the swings of thirty-two chairs of one vote each.
+/// The counts and the swings of thirty-two chairs with one vote each.
 fn board_of_ones(
     alloc: Global,
     quota: u64,

@@ -1,4 +1,4 @@
--- A list whose sums and masks stand in two lists.
+-- A list whose sums and masks are in two lists.
 use Rattle.std.proofs.Common.{◌≡◌, ℕ, ◌*◌, ◌++◌, ◌<◌, ◌≤◌, List, [], ◌∷◌, length, take, set, get_or, arith, refl, sym, ap, ◌∙◌, zero, suc}
 use Rattle.std.proofs.lemmas.List.{length-take-le, length-append, append_assoc}
 use Rattle.std.proofs.Math.Seq.{take-append_seam}

@@ -158,7 +158,7 @@ hits-one mask (chair ∷ chairs) distinct is_over =
     of_others slot chair chairs (λ e. away (sym e)) (is_over slot (sym (without_other chair.0 mask slot away) ∙ one)) in
     hits-with mask chair chairs (first_apart chair chairs distinct) has ∙ hits-one (without chair.0 mask) chairs tail others)
 
--- a set's mask is over the slots of the chairs that it is taken from
+-- a set's mask is over the slots of the chairs whose subset it is
 over_part : (slot : ℕ) (chairs : List Chair) → All (λ s. has_chair slot s ≡ true → has_chair slot chairs ≡ true) (subsets chairs)
 over_part slot chairs =
     part (has_chair slot chairs) refl

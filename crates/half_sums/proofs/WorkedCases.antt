@@ -13,7 +13,7 @@ pub three_entries : entries_of three
     ∷ record { sum = 99; mask = 3 } ∷ record { sum = 100; mask = 7 } ∷ []
 three_entries = refl
 
--- the sets of two chairs, which stand behind those of none and of one
+-- the sets of two chairs, which come after those of none and of one
 pub pairs_of_three : group_of 2 (entries_of three)
     ≡ record { sum = 50; mask = 6 } ∷ record { sum = 51; mask = 5 } ∷ record { sum = 99; mask = 3 } ∷ []
 unfolding lib.Count.ones
@@ -27,7 +27,8 @@ three_apart : IsDistinct eqb (map (λ c. c.0) three)
 unfolding IsDistinct
 three_apart = search rules
 
--- by the law, the mask of the first and the last chair stands once in each list of the three, and no mask stands twice
+-- by the law, the mask of the first and the last chair appears once in each list of the three, and
+-- no mask appears twice
 pub mask_once : MaskLaw → (entries : List Entry) → AreSubsets three entries → IsOver three 5 → times 5 entries ≡ 1
 mask_once law entries are over = (law three entries three_apart are).once 5 over
 

@@ -1,4 +1,5 @@
--- Entries: the sets of a half's chairs by weight and slots, as lists of subset sums (Horowitz and Sahni 1974).
+-- Entries: the sets of a half's chairs by weight and slots, as lists of subset sums (Horowitz and
+-- Sahni 1974).
 use Rattle.std.specs.Prelude.{ℕ, ◌+◌, ◌^◌, ◌<◌, ◌≤◌, List, [], ◌∷◌, map}
 use Rattle.std.specs.Prelude.{length, take, bit_or}
 use Rattle.std.specs.Simd.Lanes.{zip2}
@@ -11,7 +12,7 @@ use Rattle.half_sums.specs.Masks.{mask_of}
 use Rattle.half_sums.specs.declared.groups.TheConstants.{SLOTS}
 use Rattle.half_sums.specs.declared.lists.TheConstants.{ROOM}
 
--- a set of chairs, each a slot and a weight, by its weight and its slots
+-- the entry of a set of chairs, each a slot and a weight: the set's weight and its mask of slots
 abbrev pub entry_of : List (ℕ × ℕ) → Entry
 entry_of s = record { sum = weight_of s; mask = mask_of s }
 
@@ -23,7 +24,7 @@ entries_of chairs = map entry_of (subsets chairs)
 abbrev pub joined : ℕ → ℕ → Entry → Entry
 joined weight bit e = record { sum = e.sum + weight; mask = bit_or e.mask bit }
 
--- the entries whose sums and masks stand in two lists
+-- the entries whose sums and masks are in two lists
 abbrev pub entries_from : List ℕ → List ℕ → List Entry
 entries_from sums masks = zip2 (λ sum mask. record { sum = sum; mask = mask }) sums masks
 
@@ -36,14 +37,15 @@ pub record AreSubsets (chairs : List (ℕ × ℕ)) (entries : List Entry) : Type
   pub each_once : IsPermutation (entries_of chairs) entries
   pub ascending : IsNonDecreasingBy (λ e. e.sum) entries
 
--- what every list of a half has: at most 65,536 entries, ascending, no sum above 2^48, and no slot from 16 on
+-- the invariant of every list of a half: at most 65,536 entries, ascending, no sum above 2^48, and
+-- no slot above 15
 pub record IsHalf (entries : List Entry) : Type 0 where
   pub few : length entries ≤ ROOM
   pub ascending : IsNonDecreasingBy (λ e. e.sum) entries
   pub small : All (λ e. e.sum ≤ 2 ^ 48) entries
   pub slots : All (λ e. e.mask < 2 ^ SLOTS) entries
 
--- what is read where there is no entry
+-- the default entry, for an index at which there is none
 abbrev pub zero_entry : Entry
 zero_entry = record { sum = 0; mask = 0 }
 

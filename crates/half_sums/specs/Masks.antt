@@ -9,6 +9,6 @@ abbrev pub mask_of : List Chair → ℕ
 mask_of [] = 0
 mask_of (chair ∷ s) = bit_or (mask_of s) (2 ^ chair.0)
 
--- each bit that is set in a mask is the slot of one of the chairs
+-- each bit that is set in the mask is the slot of one of the chairs
 abbrev pub IsOver : List Chair → ℕ → Type 0
 IsOver chairs mask = (slot : ℕ) → bit_at mask slot ≡ 1 → has_chair slot chairs ≡ true

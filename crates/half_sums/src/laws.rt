@@ -1,7 +1,8 @@
-//! A law of the lists that `HalfSums::rebuild` makes.
+//! A law about the lists that `HalfSums::rebuild` makes.
 ghost use Rattle.half_sums.specs.Laws.{MaskLaw};
 
-/// In the list of a half no mask stands twice, and each mask over the slots of its chairs stands exactly once.
+/// In the list of a half no mask appears twice, and each mask over the slots of its chairs appears
+/// exactly once.
 pub fn mask_law()
     ensures masks { MaskLaw }
 {}

@@ -1,4 +1,5 @@
-//! Subset sums by meeting in the middle (Horowitz and Sahni 1974): a half's, for up to sixteen chairs, ascending.
+//! Subset sums by meeting in the middle (Horowitz and Sahni 1974): the sets of a half of up to
+//! sixteen chairs, ascending by weight.
 #![tactic(auto)]
 
 mod choices;

@@ -1,4 +1,4 @@
-//! Lists of sets over slices that are lent.
+//! Lists of sets over borrowed slices.
 ghost use Rattle.std.specs.Prelude.{◌≡◌, ℕ, ◌+◌, ◌-◌, ◌<◌, ◌≤◌, List, length, set};
 ghost use Rattle.std.specs.Prelude.{slice_index_or};
 ghost use Rattle.half_sums.specs.declared.entry.Entry.{Entry};
@@ -9,11 +9,12 @@ ghost use Rattle.half_sums.specs.Merges.{complement_of};
 use crate::Entry;
 use std::marker::Model;
 
-/// The sets of a half of sixteen chairs: 2 to the power 16.
+/// The length of the slices that hold the list of a half: 2^16, the number of sets of sixteen
+/// chairs.
 pub const ROOM: usize = 65_536;
 
-/// A list of sets, to be read, over two slices that are lent: one of sums and one of masks. So a set takes ten bytes,
-/// where an `Entry` takes sixteen.
+/// A read-only list of sets over two borrowed slices, one of sums and one of masks. A set takes ten
+/// bytes in this form and sixteen as an `Entry`.
 #[derive(Debug, Drop)]
 pub struct SumList<'a> {
     sums: &'a [u64],
@@ -29,7 +30,7 @@ impl<'a> Model for SumList<'a> {
 }
 
 impl<'a> SumList<'a> {
-    /// The list that has at each place the set of the sum and the mask there.
+    /// The list whose set at each index has the sum and the mask at that index of the slices.
     pub fn over(sums: &'a [u64], masks: &'a [u16]) -> SumList<'a>
         requires same { length sums.now ≡ length masks.now }
         requires few { length sums.now ≤ ROOM }
@@ -38,8 +39,8 @@ impl<'a> SumList<'a> {
         SumList { sums, masks }
     }
 
-    /// A copy of the two references, not of the sets. A loop over a copy in its own frame doesn't load the addresses of
-    /// the slices in each step.
+    /// A copy of the two references, not of the sets. A loop over a copy in its own frame does not
+    /// load the addresses of the slices at each step.
     #[inline(always)]
     pub fn copy(&self) -> SumList<'a>
         ensures same { result ≡ self.now }
@@ -50,14 +51,14 @@ impl<'a> SumList<'a> {
         }
     }
 
-    /// How many sets there are.
+    /// The number of sets, from 0 to `ROOM`.
     pub fn len(&self) -> usize
         ensures count { result ≡ length self.now }
     {
         self.sums.len()
     }
 
-    /// The set at a place.
+    /// The set at index `place`.
     pub fn at(&self, place: usize) -> Entry
         requires within { place < length self.now }
         ensures same { result ≡ slice_index_or self.now place zero_entry }
@@ -70,7 +71,7 @@ impl<'a> SumList<'a> {
     }
 }
 
-// Writes a set at a place of a list.
+// Writes a set at index `place` of a list.
 #[inline(always)]
 pub(crate) fn put(sums: &mut [u64], masks: &mut [u16], place: usize, entry: Entry)
     requires sums { place < length sums.old }
@@ -95,7 +96,7 @@ pub(crate) fn complement(all: Entry, set: Entry) -> Entry
     }
 }
 
-// Writes the sums of the complements of some sets, that of the first set last.
+// Writes the sums of the complements of these sets in reverse order: that of the first set last.
 #[inline(never)]
 pub(crate) fn complement_sums(all: u64, sums: &[u64], complements: &mut [u64])
     requires same { length complements.old ≡ length sums.now }
@@ -109,7 +110,7 @@ pub(crate) fn complement_sums(all: u64, sums: &[u64], complements: &mut [u64])
     }
 }
 
-// Writes the masks of the complements of some sets, that of the first set last.
+// Writes the masks of the complements of these sets in reverse order: that of the first set last.
 #[inline(never)]
 pub(crate) fn complement_masks(all: u16, masks: &[u16], complements: &mut [u16])
     requires same { length complements.old ≡ length masks.now }

@@ -1,4 +1,4 @@
-//! The ascending list of a half, and its rebuild in the room that it has.
+//! The ascending list of a half, and its rebuild in the memory that it owns.
 ghost use Rattle.std.specs.Prelude.{◌≡◌, ℕ, ◌==◌, ◌+◌, ◌*◌, ◌^◌, ◌<◌, ◌≤◌};
 ghost use Rattle.std.specs.Prelude.{List, [], ◌∷◌, ◌++◌, length, map, bit_and, IfOk, IsOkUnless};
 ghost use Rattle.std.specs.Box.{boxed_slice_items};
@@ -17,11 +17,11 @@ use std::alloc::Global;
 use std::boxed::BoxedSlice;
 use std::marker::Model;
 
-/// The subset sums of a half of up to sixteen chairs, ascending (Horowitz and Sahni 1974), in room of its own. The room
-/// is taken once and can't grow, so that a rebuild takes no memory.
+/// The subset sums of a half of up to sixteen chairs, ascending (Horowitz and Sahni 1974), in its
+/// own memory. The memory is allocated once and cannot grow, so a rebuild allocates nothing.
 #[derive(Debug, Drop)]
 pub struct OrderedSums {
-    // The list is the first `count` of these. Those after them are left from earlier lists.
+    // The list is the first `count` of these. The items after them are left from earlier lists.
     sums: BoxedSlice<u64>,
     masks: BoxedSlice<u16>,
     count: usize,
@@ -37,8 +37,12 @@ impl Model for OrderedSums {
 }
 
 impl OrderedSums {
-    /// The half with no chair, whose one set is the empty one. It reserves here, once, room for 65,536 sets of ten
-    /// bytes, the memory for every half after it; `OutOfMemory` where there is less.
+    /// The half with no chair, whose only set is the empty one. This allocates, once, room for
+    /// `ROOM` sets of ten bytes each, which is enough for every half.
+    ///
+    /// # Errors
+    ///
+    /// `Refusal::OutOfMemory` if memory could not be allocated.
     pub fn new(alloc: Global) -> Result<OrderedSums, Refusal>
         ensures empty { IfOk result (λ sums. sums ≡ record { sum = 0; mask = 0 } ∷ []) }
         ensures memory { IsOkUnless result OutOfMemory }
@@ -50,7 +54,8 @@ impl OrderedSums {
         })
     }
 
-    /// The sets of the half's chairs, ascending by sum; sets of equal sums stand in any order.
+    /// The sets of the half's chairs, ascending by sum. Sets with equal sums are in no specified
+    /// order.
     pub fn ascending(&self) -> SumList<'_>
         ensures same { result ≡ self.now }
         ensures half { IsHalf result }
@@ -58,8 +63,8 @@ impl OrderedSums {
         SumList::over(&self.sums[..self.count], &self.masks[..self.count])
     }
 
-    /// Makes the list of these chairs in place of those before. A chair is its slot, 0 to 15, and its weight in votes;
-    /// 0 is a weight like any other. It takes no memory and always succeeds.
+    /// Replaces the list by the sets of these chairs. A chair is its slot, from 0 to 15, and its
+    /// weight in votes, which may be 0. This allocates nothing and always succeeds.
     pub fn rebuild(&mut self, chairs: &[(u8, u64)])
         requires slots { All (λ chair. chair.0 < SLOTS) chairs.now }
         requires distinct { IsDistinct (λ a b. a == b) (map (λ chair. chair.0) chairs.now) }
@@ -70,9 +75,16 @@ impl OrderedSums {
     }
 }
 
-/// Lists the sets of these chairs, ascending by sum, in slices that are lent, and answers how many sets there are:
-/// their sums and masks are the first of the slices. What the slices had before has no effect, and is lost. A chair is
-/// its slot, 0 to 15, and its weight in votes.
+/// Writes the sets of these chairs, ascending by sum, to the beginning of two borrowed slices, and
+/// returns their number. The previous contents of the slices have no effect and are lost. A chair
+/// is its slot, from 0 to 15, and its weight in votes.
+///
+/// ```rust
+/// let chairs = [(0, 50), (1, 49), (2, 1)];
+/// let count = list_subsets(&chairs, &mut sums, &mut masks); // two slices of ROOM items
+/// assert_eq!(rt; count, 8);
+/// assert_eq!(rt; (sums[7], masks[7]), (100, 0b111));
+/// ```
 pub fn list_subsets(chairs: &[(u8, u64)], sums: &mut [u64], masks: &mut [u16]) -> usize
     requires slots { All (λ chair. chair.0 < SLOTS) chairs.now }
     requires distinct { IsDistinct (λ a b. a == b) (map (λ chair. chair.0) chairs.now) }
@@ -80,7 +92,7 @@ pub fn list_subsets(chairs: &[(u8, u64)], sums: &mut [u64], masks: &mut [u16]) -
     requires sums_room { length sums.old ≡ ROOM }
     requires masks_room { length masks.old ≡ ROOM }
 
-    // The list made.
+    // The resulting list.
     ensures subsets { AreSubsets chairs.now (first_entries result sums.new masks.new) }
     ensures half { IsHalf (first_entries result sums.new masks.new) }
     ensures few { result ≤ ROOM }

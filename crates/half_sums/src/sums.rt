@@ -1,4 +1,4 @@
-//! The ascending list of a half, and the same by size.
+//! The ascending list of a half, and the same sets grouped by size.
 ghost use Rattle.std.specs.Prelude.{◌≡◌, ◌==◌, ◌^◌, ◌<◌, ◌≤◌};
 ghost use Rattle.std.specs.Prelude.{List, [], ◌∷◌, length, map, take, IfOk, IsOkUnless};
 ghost use Rattle.std.specs.Box.{boxed_slice_items};
@@ -20,14 +20,15 @@ use std::alloc::Global;
 use std::boxed::BoxedSlice;
 use std::marker::Model;
 
-// The set of no chair.
+// The empty set.
 const NO_CHAIR: Entry = Entry { sum: 0, mask: 0 };
 
-/// The subset sums of a half of up to sixteen chairs, ascending, and the same by size (Horowitz and Sahni 1974).
+/// The subset sums of a half of up to sixteen chairs, ascending, and the same sets grouped by size
+/// (Horowitz and Sahni 1974).
 #[derive(Debug, Drop)]
 pub struct HalfSums {
     ordered: OrderedSums,
-    // The same sets by size, and behind them those of earlier halves.
+    // The same sets grouped by size, followed by those left from earlier halves.
     groups: BoxedSlice<Entry>,
     starts: [usize; STARTS],
 }
@@ -43,9 +44,20 @@ impl Model for HalfSums {
 }
 
 impl HalfSums {
-    /// The half with no chair, whose one set is the empty one. It reserves here, once, room for two lists of 65,536
-    /// sets, one of ten bytes a set and one of sixteen, the memory for every half after it; `OutOfMemory` where there
-    /// is less.
+    /// The half with no chair, whose only set is the empty one. This allocates, once, room for two
+    /// lists of `ROOM` sets, one with ten bytes for each set and one with sixteen, which is enough
+    /// for every half.
+    ///
+    /// # Errors
+    ///
+    /// `Refusal::OutOfMemory` if memory could not be allocated.
+    ///
+    /// ```rust
+    /// let mut half = HalfSums::new(alloc)?;
+    /// half.rebuild(&[(0, 50), (1, 49), (2, 1)]);
+    /// assert_eq!(rt; half.ascending().len(), 8);
+    /// assert!(rt; half.group(3) == [Entry { sum: 100, mask: 7 }].as_slice());
+    /// ```
     pub fn new(alloc: Global) -> Result<HalfSums, Refusal>
         ensures empty { IfOk result (λ h. h ≡ record { sum = 0; mask = 0 } ∷ []) }
         ensures memory { IsOkUnless result OutOfMemory }
@@ -60,7 +72,8 @@ impl HalfSums {
         })
     }
 
-    /// The sets of the half's chairs, ascending by sum; sets of equal sums stand in any order.
+    /// The sets of the half's chairs, ascending by sum. Sets with equal sums are in no specified
+    /// order.
     pub fn ascending(&self) -> SumList<'_>
         ensures same { result ≡ self.now }
         ensures half { IsHalf result }
@@ -68,7 +81,8 @@ impl HalfSums {
         self.ordered.ascending()
     }
 
-    /// The sets of the half's chairs by size, from 0 to 16 chairs; those of one size ascend by sum.
+    /// The sets of the half's chairs grouped by size, from 0 to 16 chairs, and ascending by sum
+    /// within each size.
     pub fn entries(&self) -> &[Entry]
         ensures grouped { result.now ≡ grouped self.now }
         ensures each_once { IsPermutation self.now result.now }
@@ -76,7 +90,7 @@ impl HalfSums {
         &self.groups[..self.ordered.ascending().len()]
     }
 
-    /// The sets of just this many chairs, ascending by sum; none where the half has too few chairs.
+    /// The sets of exactly `size` chairs, ascending by sum; empty if the half has fewer chairs.
     pub fn group(&self, size: u8) -> &[Entry]
         ensures same { result.now ≡ group_of size self.now }
         ensures half { IsHalf result.now }
@@ -89,8 +103,8 @@ impl HalfSums {
         part(groups, self.starts[size], self.starts[size + 1])
     }
 
-    /// Makes the lists of these chairs in place of those before. A chair is its slot, 0 to 15, and its weight in
-    /// votes; 0 is a weight like any other. It takes no memory and always succeeds.
+    /// Replaces the lists by the sets of these chairs. A chair is its slot, from 0 to 15, and its
+    /// weight in votes, which may be 0. This allocates nothing and always succeeds.
     pub fn rebuild(&mut self, chairs: &[(u8, u64)])
         requires slots { All (λ chair. chair.0 < SLOTS) chairs.now }
         requires distinct { IsDistinct (λ a b. a == b) (map (λ chair. chair.0) chairs.now) }

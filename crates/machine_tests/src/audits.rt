@@ -1,10 +1,10 @@
-//! What an audit finds.
+//! Tests of the findings of an audit.
 use board_audits::{AuditFault, audit};
 use council_core::{ChairId, Command, MemberCode, Refusal, Sheet, Votes};
 use std::alloc::{AllocError, Global};
 use std::test::Fail;
 
-/// The sheet of one chair's word, a total and a front.
+/// The sheet with this word of chair 1, this total and this front.
 fn sheet(word: u64, total: u64, front: u64) -> Result<Sheet, Refusal> {
     let mut words = [0; 34];
     words[0] = word;
@@ -13,7 +13,7 @@ fn sheet(word: u64, total: u64, front: u64) -> Result<Sheet, Refusal> {
     Sheet::from_words(&words)
 }
 
-/// Chair 1 is opened, and AAA is seated there.
+/// Commands that open chair 1 and seat AAA there.
 fn commands() -> Result<[Command; 2], Refusal> {
     let chair = ChairId::new(1)?;
     Ok([
@@ -30,7 +30,7 @@ fn readings(alloc: Global, rows: &[&[Sheet]]) -> Result<Vec<Vec<Sheet>>, AllocEr
     Ok(all)
 }
 
-/// An audit from AAA with 10 votes on.
+/// The result of an audit whose only member is AAA with 10 votes.
 fn audited(
     alloc: Global,
     journal: &[Command],
@@ -46,7 +46,7 @@ fn mismatch(reader: usize, place: usize) -> Result<(), AuditFault> {
     Err(AuditFault::Mismatch { reader, place })
 }
 
-/// Whether an audit of the two commands finds this.
+/// Whether an audit of the two commands has this result.
 fn finds(alloc: Global, cuts: &[u32], rows: &[&[Sheet]], found: Result<(), AuditFault>) -> bool {
     let Ok(journal) = commands() else {
         return false;

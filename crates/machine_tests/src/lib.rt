@@ -1,4 +1,4 @@
-//! Tests of the two-copy machine and of audits, by their public names.
+//! Tests of the public items of the two-copy machine and of audits.
 #![tactic(auto)]
 
 #[cfg(test)]

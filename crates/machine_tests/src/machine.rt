@@ -1,10 +1,10 @@
-//! The two-copy machine on one thread.
+//! Tests of the two-copy machine on one thread.
 use council_core::{ChairId, Command, MemberCode, Refusal, Register, Votes};
 use std::alloc::{AllocError, Global};
 use std::test::Fail;
 use two_copy_steps::{Event, Machine, Note, READERS, run};
 
-/// What a note says; nothing where an actor only moved. A sheet by its front, cast and total.
+/// A `Note` for comparison, with a sheet given by its front, cast and total. `Moved` has no line.
 #[derive(Clone, Copy, Debug, PartialEq)]
 enum Line {
     Accepted(u32),
@@ -56,7 +56,8 @@ fn repeat(events: &mut Vec<Event>, more: &[Event], times: usize) -> Result<(), A
     Ok(())
 }
 
-/// A reader that has arrived holds up the second publication, and reads the sheet before the first.
+/// Events in which a reader that has arrived blocks the second publication, and reads the sheet
+/// before the first.
 fn schedule(alloc: Global) -> Result<Vec<Event>, Fail> {
     let chair = ChairId::new(1)?;
     let open = Command::Open(chair);
@@ -77,8 +78,8 @@ fn schedule(alloc: Global) -> Result<Vec<Event>, Fail> {
     Ok(events)
 }
 
-/// How many notes the events give of one member's register and one reader, the number published at last, and the lines
-/// told.
+/// Runs the events on one member's register and one reader. Returns the number of outputs, the
+/// number of published commands at the end, and the lines of the outputs.
 fn told_at_once(alloc: Global, events: &[Event]) -> Result<(usize, u32, Vec<Line>), Refusal> {
     match run(alloc, one_member(alloc)?, 1, events) {
         Ok(log) => {
@@ -133,7 +134,7 @@ const FIVE_LINES: [Option<Line>; 5] = [
     None,
 ];
 
-/// Whether the events, all at once, tell these lines.
+/// Whether the outputs of one run of the events have these lines.
 fn tell_at_once(alloc: Global, events: &[Event], lines: &[Option<Line>]) -> Result<bool, Refusal> {
     match run(alloc, one_member(alloc)?, 1, events) {
         Ok(log) => {
@@ -153,7 +154,7 @@ fn are_lines(notes: &[Note], lines: &[Option<Line>]) -> bool {
     true
 }
 
-/// Whether the events, one by one, tell these lines.
+/// Whether the outputs of the events, one step at a time, have these lines.
 fn tell_each(
     machine: &mut Machine,
     events: &[Event],
@@ -169,7 +170,7 @@ fn tell_each(
     Ok(true)
 }
 
-/// What a machine over one member's register is asked.
+/// Runs `ask` on a machine over one member's register.
 fn with_machine<T: Drop, F: FnOnce(&mut Machine) -> Result<T, Refusal>>(
     alloc: Global,
     readers: u8,
@@ -177,14 +178,15 @@ fn with_machine<T: Drop, F: FnOnce(&mut Machine) -> Result<T, Refusal>>(
 ) -> Result<T, Refusal>
     requires { F.IsAlwaysCallable ask }
 {
-    // A function that owns a machine is proved slowly; one that is lent it isn't.
+    // A function that owns a machine is slow to prove, and one that borrows it is not.
     match Machine::start(one_member(alloc)?, readers) {
         Ok(mut machine) => ask(&mut machine),
         Err((_, why)) => Err(why),
     }
 }
 
-/// Whether the events, one by one, tell these lines; how many commands are then accepted, and how many published.
+/// Whether the outputs of the events, one step at a time, have these lines, and the numbers of
+/// accepted and of published commands after them.
 fn told_each(
     machine: &mut Machine,
     events: &[Event],
@@ -210,7 +212,8 @@ fn five_events_one_by_one(rt: HostRuntime) -> Result<(), Fail> {
     Ok(())
 }
 
-/// How a machine for so many readers is refused, and what its register had accepted.
+/// The refusal of a machine with this number of readers, and the number of commands that the
+/// returned register has accepted.
 fn refusal_of(alloc: Global, readers: u8) -> Result<Option<(Refusal, u32)>, Refusal> {
     match Machine::start(one_member(alloc)?, readers) {
         Ok(_) => Ok(None),
@@ -229,7 +232,7 @@ fn constructors_refuse(rt: HostRuntime) -> Result<(), Fail> {
     Ok(())
 }
 
-/// Chair 1 opened twice: the second command is refused.
+/// Events that open chair 1 twice: the second command is refused.
 fn opened_twice() -> Result<[Event; 2], Refusal> {
     let open = Command::Open(ChairId::new(1)?);
     Ok([Event::Submit(open), Event::Submit(open)])
@@ -248,7 +251,7 @@ fn refused_commands_want_no_memory(rt: HostRuntime) -> Result<(), Fail> {
     Ok(())
 }
 
-/// What each of the first events of the schedule above tells.
+/// The outputs of the first `count` events.
 fn notes_of_first(alloc: Global, events: &[Event], count: usize) -> Result<Vec<Note>, Refusal> {
     let some = events.get(..count).unwrap_or_default();
     match run(alloc, one_member(alloc)?, 1, some) {
@@ -257,7 +260,7 @@ fn notes_of_first(alloc: Global, events: &[Event], count: usize) -> Result<Vec<N
     }
 }
 
-/// Whether the first of the events tell the first of these notes.
+/// Whether the outputs of the first `count` events are the first `count` of these outputs.
 fn first_tell(
     alloc: Global,
     events: &[Event],
@@ -268,7 +271,8 @@ fn first_tell(
     Ok(Some(first.as_slice()) == notes.get(..count))
 }
 
-/// Whether as many notes as events are told, and events cut anywhere tell the notes cut there.
+/// Whether there are as many outputs as events, and each prefix of the events has the prefix of the
+/// outputs of the same length.
 fn are_cut_anywhere(alloc: Global, events: &[Event]) -> Result<bool, Refusal> {
     let whole = notes_of_first(alloc, events, events.len())?;
     for count in 0..events.len() {
@@ -286,7 +290,7 @@ fn events_cut_anywhere(rt: HostRuntime) -> Result<(), Fail> {
     Ok(())
 }
 
-/// Takes events in turn, and answers what the last of them told.
+/// Carries out events in turn, and returns the line of the last output.
 fn take_all(machine: &mut Machine, events: &[Event]) -> Result<Option<Line>, Refusal> {
     let mut last = None;
     for event in events {
@@ -298,7 +302,7 @@ fn take_all(machine: &mut Machine, events: &[Event]) -> Result<Option<Line>, Ref
     Ok(last)
 }
 
-/// Reader 2 on its way, chair 1 opened, and a publication.
+/// Events in which reader 2 begins a reading, chair 1 is opened, and a publication begins and ends.
 fn past_a_reader(alloc: Global, chair: ChairId) -> Result<Vec<Event>, AllocError> {
     let mut events = Vec::new(alloc);
     repeat(&mut events, &[Event::Reader(2)], 5)?;
@@ -311,13 +315,13 @@ fn past_a_reader(alloc: Global, chair: ChairId) -> Result<Vec<Event>, AllocError
     Ok(events)
 }
 
-/// Which of the readers 0 to 3 a publication has seen out.
+/// Whether each of the readers 0 to 3 is quiescent.
 fn seen_out(machine: &Machine) -> [bool; 4] {
     [0, 1, 2, 3].map(|reader| machine.seen_out(reader))
 }
 
-/// Publishes past reader 2, and then has it in the way: what the last event of each tells, and who is seen out after
-/// it.
+/// Publishes while reader 2 reads, and then tries to publish again, which reader 2 blocks. Returns,
+/// for each publication, the line of the last output and the readers that are quiescent after it.
 fn see_out(
     alloc: Global,
     machine: &mut Machine,

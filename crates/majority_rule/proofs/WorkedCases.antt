@@ -1,4 +1,5 @@
--- Quotas and least sizes of worked cases, computed by their definition from the 34 words of a sheet.
+-- Quotas and least sizes of worked examples, computed by their definition from the 34 words of a
+-- sheet.
 use Rattle.std.proofs.Common.{◌≡◌, ◌≤◌, ℕ, List, [], ◌∷◌, ◌++◌, true, false, refl, replicate, arith}
 use Rattle.std.specs.Prelude.{IsTrue}
 use Rattle.majority_rule.specs.declared.majorities.Majority.TheVariants.{Half, Seventy, EightyFive, Quorum}

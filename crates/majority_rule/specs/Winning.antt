@@ -1,4 +1,4 @@
--- Which weights and sizes, and so which coalitions, win by a majority.
+-- The weights and sizes, and so the coalitions, that win by a majority.
 use Rattle.std.specs.Prelude.{ℕ, ◌+◌, ◌*◌, ◌/◌, ◌≤◌, max, Bool, true, IsTrue, ◌&&◌, ◌↔◌}
 use Rattle.std.specs.Prelude.{List, length, nat_lt, nat_le}
 use Rattle.council_core.specs.Sheets.{weight_of, cast_of, total_of, open_chairs}
@@ -6,17 +6,18 @@ use Rattle.council_core.specs.Coalitions.{Rule}
 use Rattle.majority_rule.specs.declared.majorities.Majority.{Majority}
 use Rattle.majority_rule.specs.declared.majorities.Majority.TheVariants.{Half, Seventy, EightyFive, Quorum}
 
--- whether a weight w is enough where the open chairs cast c votes of a total of t: more than half of the votes cast
--- (Articles of Agreement, Article XII, Section 5(c)); at least 70 per cent (Article XXVI, Section 2(b)) or 85 per
--- cent (Article III, Section 2(c)) of the total voting power, and never no weight at all; at least half of the total
--- (Article XII, Section 3(h))
+-- whether a weight w is enough if the open chairs cast c votes of a total of t: more than half of
+-- the votes cast (Articles of Agreement, Article XII, Section 5(c)); at least 70 per cent (Article
+-- XXVI, Section 2(b)) or 85 per cent (Article III, Section 2(c)) of the total voting power, and at
+-- least one vote; at least half of the total (Article XII, Section 3(h))
 abbrev pub is_weight_enough : Majority → ℕ → ℕ → ℕ → Bool
 is_weight_enough Half c t w = nat_lt c (2 * w)
 is_weight_enough Seventy c t w = nat_le 1 w && nat_le (7 * t) (10 * w)
 is_weight_enough EightyFive c t w = nat_le 1 w && nat_le (17 * t) (20 * w)
 is_weight_enough Quorum c t w = nat_le t (2 * w)
 
--- whether k of n open chairs are enough: a majority of the Executive Directors (Article XII, Section 3(h))
+-- whether k of n open chairs are enough: for the quorum, a majority of the Executive Directors
+-- (Article XII, Section 3(h))
 abbrev pub is_size_enough : Majority → ℕ → ℕ → Bool
 is_size_enough Half n k = true
 is_size_enough Seventy n k = true
@@ -29,7 +30,7 @@ weight_wins m sheet w = is_weight_enough m (cast_of sheet) (total_of sheet) w
 abbrev pub size_wins : Majority → List ℕ → ℕ → Bool
 size_wins m sheet k = is_size_enough m (length (open_chairs sheet)) k
 
--- whether so many chairs with a weight win on a sheet
+-- whether k chairs with weight w win on a sheet
 abbrev pub wins : Majority → List ℕ → ℕ → ℕ → Bool
 wins m sheet w k = weight_wins m sheet w && size_wins m sheet k
 
@@ -37,7 +38,8 @@ wins m sheet w k = weight_wins m sheet w && size_wins m sheet k
 abbrev pub rule_of : Majority → List ℕ → Rule
 rule_of m sheet s = wins m sheet (weight_of s) (length s)
 
--- the least weight that is enough, as a number that computes; `quota` says that it is the least
+-- the least weight that is enough, as a number that computes; the contract of `quota` says that it
+-- is the least
 abbrev pub quota_at : Majority → ℕ → ℕ → ℕ
 quota_at Half c t = c / 2 + 1
 quota_at Seventy c t = max ((7 * t + 9) / 10) 1
@@ -47,7 +49,7 @@ quota_at Quorum c t = (t + 1) / 2
 abbrev pub quota_of : Majority → List ℕ → ℕ
 quota_of m sheet = quota_at m (cast_of sheet) (total_of sheet)
 
--- the least size that is enough, likewise; 0 where none is asked
+-- the least size that is enough, as a number that computes; 0 if no size is required
 abbrev pub least_size_at : Majority → ℕ → ℕ
 least_size_at Half n = 0
 least_size_at Seventy n = 0
@@ -57,12 +59,12 @@ least_size_at Quorum n = n / 2 + 1
 abbrev pub least_size_of : Majority → List ℕ → ℕ
 least_size_of m sheet = least_size_at m (length (open_chairs sheet))
 
--- the quota and the least size together say what wins
+-- a coalition wins exactly if it reaches the quota and the least size
 abbrev pub QuotaLaw : Type 0
 QuotaLaw = (m : Majority) (sheet : List ℕ) (w k : ℕ)
     → ((quota_of m sheet ≤ w) × (least_size_of m sheet ≤ k)) ↔ IsTrue (wins m sheet w k)
 
--- more weight and more chairs than win win too
+-- with at least the weight and the size of a winner, a coalition wins
 abbrev pub MonotoneLaw : Type 0
 MonotoneLaw = (m : Majority) (sheet : List ℕ) (w more k larger : ℕ) → w ≤ more → k ≤ larger
     → IsTrue (wins m sheet w k) → IsTrue (wins m sheet more larger)

@@ -1,4 +1,4 @@
-//! The least weight and the least size that win, and whether a coalition does.
+//! The least weight and the least size that win, and the test of whether a coalition wins.
 ghost use Rattle.std.specs.Prelude.{◌≡◌, ◌≤◌, ◌^◌, ◌↔◌, ℕ, IsTrue};
 ghost use Rattle.majority_rule.specs.Winning.{MonotoneLaw, QuotaLaw, quota_of, least_size_of, weight_wins, size_wins};
 ghost use Rattle.majority_rule.specs.Winning.{wins};
@@ -6,8 +6,18 @@ ghost use Rattle.majority_rule.specs.Winning.{wins};
 use crate::majorities::Majority;
 use council_core::Sheet;
 
-/// The least weight, in votes, with which a coalition can win on a sheet. It may lie above all weights that there are:
-/// where members sit in no chair, the coalition of all open chairs can lose.
+/// The least weight, in votes, with which a coalition can win on this sheet. The coalition of all
+/// open chairs may weigh less: if members sit in no chair, even that coalition can lose.
+///
+/// ```rust
+/// // Chair 1 is open with 10 votes of a total of 10.
+/// let mut words = [0; SHEET_WORDS];
+/// words[0] = 11;
+/// words[TOTAL] = 10;
+/// let sheet = Sheet::from_words(&words)?;
+/// assert_eq!(rt; quota(Majority::Half, &sheet), 6);
+/// assert_eq!(rt; quota(Majority::EightyFive, &sheet), 9);
+/// ```
 pub fn quota(majority: Majority, sheet: &Sheet) -> u64
     ensures same { result ≡ quota_of majority sheet.now }
     ensures least { (w : ℕ) → (result ≤ w) ↔ IsTrue (weight_wins majority sheet.now w) }
@@ -20,8 +30,9 @@ pub fn quota(majority: Majority, sheet: &Sheet) -> u64
     }
 }
 
-/// The least number of chairs with which a coalition can win on a sheet, 0 where the majority asks for none. It may
-/// lie above all sizes that there are: where no chair is open, it is 1.
+/// The least number of chairs with which a coalition can win on this sheet; 0 if the majority
+/// requires no number of chairs. It may exceed the number of open chairs: it is 1 for a quorum if
+/// no chair is open.
 pub fn least_size(majority: Majority, sheet: &Sheet) -> u8
     ensures same { result ≡ least_size_of majority sheet.now }
     ensures least { (k : ℕ) → (result ≤ k) ↔ IsTrue (size_wins majority sheet.now k) }
@@ -32,7 +43,8 @@ pub fn least_size(majority: Majority, sheet: &Sheet) -> u8
     }
 }
 
-/// Whether a coalition of this weight, in votes and at most 2^48, and of so many chairs wins on a sheet.
+/// Whether a coalition of `size` chairs with this weight, in votes and at most 2^48, wins on this
+/// sheet.
 pub fn wins(majority: Majority, sheet: &Sheet, weight: u64, size: u8) -> bool
     requires weight { weight ≤ 2 ^ 48 }
     ensures known { result ≡ wins majority sheet.now weight size }
@@ -46,12 +58,12 @@ pub fn wins(majority: Majority, sheet: &Sheet, weight: u64, size: u8) -> bool
     }
 }
 
-/// The law that the quota and the least size together say what wins.
+/// A coalition wins exactly if it reaches both the quota and the least size.
 pub fn quota_law()
     ensures quota { QuotaLaw }
 {}
 
-/// The law that at least as much weight and as many chairs as win win too.
+/// A coalition with at least the weight and the size of a winning one also wins.
 pub fn monotone_law()
     ensures monotone { MonotoneLaw }
 {}

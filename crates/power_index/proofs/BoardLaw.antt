@@ -1,5 +1,5 @@
--- The chairs of the two halves have the weights of the open chairs of the sheet, in their order, so that their sets win
--- alike, and the counts at a seat are those of the chair that stands there.
+-- The chairs of the two halves have the weights of the open chairs of the sheet, in their order, so
+-- the same sets of them win, and the counts at a seat are those of the chair at that seat.
 use Rattle.std.proofs.Common.{◌≡◌, ℕ, ◌+◌, ◌-◌, ◌<◌, Bool, true, false, cond, List, [], ◌∷◌, ◌++◌, map, length, take, drop, get_or, arith, refl, sym, ap, ◌∙◌, eqb, leb, inl, inr, ◌≢◌, zero, suc}
 use Rattle.std.specs.Prelude.{◌&&◌, not}
 use Rattle.std.specs.List.{sum_by, list_any, IsDistinct}
@@ -156,7 +156,7 @@ board_distinct : (words : List ℕ) → IsDistinct eqb (map (λ c. c.0) (board w
 board_distinct words =
     sets.board_distinct (left_of words) (right_of words) (left_half words).slots (left_half words).distinct (right_half words).distinct
 
--- the open chair with so many before it stands at its seat
+-- the number of the open chair with `i` open chairs before it is its seat
 seated : (words : List ℕ) (i : ℕ) → i < length (open_chairs words) → (get_or (board words) i none).0 ≡ seat (left_count (length (open_chairs words))) i
 seated words i inside =
     let n : ℕ = length (open_chairs words) in

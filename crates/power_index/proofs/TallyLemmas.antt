@@ -46,7 +46,7 @@ are_counts quota least_size words from to winning with_chair halves w each =
       swings = λ i h. ap (λ n. swings_of n (with_chair (seat_of words i))) w ∙ ap (swings_of (large_pairs quota least_size from to)) (each (seat_of words i) (seat_below words i h)) ∙ law.swings i h;
     }
 
--- what stands at the seats of the open chairs, in their order, are their swings
+-- the items at the seats of the open chairs, in their order, are the chairs' swings
 pub swings_in_order : (quota least_size : ℕ) (majority : Majority) (words : List ℕ) (winning n : ℕ) (with_chair seated swings : List ℕ) → n ≡ length (open_chairs words) → length swings ≡ n →
     ((i : ℕ) → i < n → get_or swings i 0 ≡ get_or seated (seat (left_count n) i) 0) → AreCounts quota least_size words winning (λ seat. get_or with_chair seat 0) →
     ((seat : ℕ) → seat < CHAIRS → get_or seated seat 0 ≡ swings_of winning (get_or with_chair seat 0)) → IsQuota quota least_size majority words → swings ≡ etas (rule_of majority words) (open_chairs words)

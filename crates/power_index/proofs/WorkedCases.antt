@@ -1,4 +1,4 @@
--- Whole indices of worked cases, computed by their definition from the 34 words of a sheet.
+-- Whole indices of worked examples, computed by their definition from the 34 words of a sheet.
 use Rattle.std.proofs.Common.{◌≡◌, ℕ, List, [], ◌∷◌, ◌++◌, Some, None, refl, replicate}
 use Rattle.majority_rule.specs.declared.majorities.Majority.TheVariants.{Half, Seventy, EightyFive, Quorum}
 use Rattle.power_index.specs.declared.indices.ChairPower.{ChairPower}

@@ -1,4 +1,4 @@
--- What the counts over the two halves of a sheet come to (Horowitz and Sahni 1974).
+-- The results of the counts over the two halves of a sheet (Horowitz and Sahni 1974).
 use Rattle.std.specs.Prelude.{◌≡◌, ℕ, ◌*◌, ◌^◌, ◌<◌, ◌≤◌, List, length, map, slice_index}
 use Rattle.council_core.specs.declared.limits.TheConstants.{CHAIRS}
 use Rattle.council_core.specs.Sheets.{Chair, open_chairs}
@@ -11,8 +11,8 @@ use Rattle.power_index.specs.Halves.{AreHalves, seat_of}
 abbrev pub etas : Rule → List Chair → List ℕ
 etas wins board = map (λ c. eta_of wins c board) board
 
--- counts of a sheet by a quota and a least size: omega, and at each seat what `swings` asks for, and turns into the
--- swings of the open chair that stands there
+-- counts of a sheet by a quota and a least size: omega, and at each seat a count that meets the
+-- requirements of `swings`, from which it computes the swings of the open chair at that seat
 pub record AreCounts (quota least_size : ℕ) (words : List ℕ) (winning : ℕ) (with_chair : ℕ → ℕ)
     : Type 0 where
   pub omega : winning ≡ omega_of (reaching quota least_size) (open_chairs words)

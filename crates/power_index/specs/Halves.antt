@@ -1,5 +1,6 @@
--- The two halves of a sheet (Horowitz and Sahni 1974): the first half of its open chairs, by number, stand on the left,
--- with the odd one, and the others on the right, each at slots from 0.
+-- The two halves of a sheet (Horowitz and Sahni 1974): the first half of its open chairs, by
+-- number, is on the left, including the middle one of an odd number, and the others are on the
+-- right, each at slots from 0.
 use Rattle.std.specs.Prelude.{ℕ, ◌+◌, ◌-◌, ◌/◌, Bool, not, if◌then◌else◌, List, [], ◌∷◌, map}
 use Rattle.std.specs.Prelude.{length, take, drop, nat_eq, nat_lt}
 use Rattle.std.specs.Cmp.Lexicographic.{pointwise}
@@ -12,7 +13,7 @@ use Rattle.half_sums.specs.declared.groups.TheConstants.{SLOTS}
 abbrev pub weights : List ℕ → List ℕ
 weights words = map (λ chair. chair.1) (open_chairs words)
 
--- how many of so many open chairs stand on the left
+-- the size of the left half of this many open chairs
 abbrev pub left_count : ℕ → ℕ
 left_count chairs = (chairs + 1) / 2
 
@@ -22,7 +23,7 @@ left_weights words = take (left_count (length (open_chairs words))) (weights wor
 abbrev pub right_weights : List ℕ → List ℕ
 right_weights words = drop (left_count (length (open_chairs words))) (weights words)
 
--- chairs of these weights, at the slots from one on
+-- chairs of these weights, at consecutive slots from `slot` on
 abbrev pub slotted : ℕ → List ℕ → List Chair
 slotted slot [] = []
 slotted slot (weight ∷ rest) = (slot, weight) ∷ slotted (slot + 1) rest
@@ -32,26 +33,26 @@ pub record AreHalves (words : List ℕ) (left right : List Entry) : Type 0 where
   pub left_half : AreSubsets (slotted 0 (left_weights words)) left
   pub right_half : AreSubsets (slotted 0 (right_weights words)) right
 
--- where an open chair stands with so many open chairs before it and so many on the left: its slot on the left, or 16
--- and its slot on the right
+-- the seat of an open chair with `before` open chairs before it, if `on_left` chairs are on the
+-- left: its slot on the left, or 16 plus its slot on the right
 abbrev pub seat : ℕ → ℕ → ℕ
 seat on_left before = if nat_lt before on_left then before else SLOTS + (before - on_left)
 
--- where the open chair of a sheet with so many before it stands
+-- the seat of the open chair of a sheet with `before` open chairs before it
 abbrev pub seat_of : List ℕ → ℕ → ℕ
 seat_of words before = seat (left_count (length (open_chairs words))) before
 
--- the sixteen words of the chairs from a place on
+-- the words of the sixteen chairs from index `from` on
 abbrev pub half_words : ℕ → List ℕ → List ℕ
 half_words from words = take SLOTS (drop from words)
 
--- whether the sixteen chairs from a place on have the same words on two sheets
+-- whether the sixteen chairs from index `from` on have the same words on two sheets
 abbrev pub same_half : ℕ → List ℕ → List ℕ → Bool
 same_half from old new = pointwise nat_eq (half_words from old) (half_words from new)
 
 abbrev pub one_if : Bool → ℕ
 one_if b = if b then 1 else 0
 
--- in how many of chairs 1 to 16 and chairs 17 to 32 two sheets differ
+-- the number of blocks, of chairs 1 to 16 and of chairs 17 to 32, in which two sheets differ
 abbrev pub changed_halves : List ℕ → List ℕ → ℕ
 changed_halves old new = one_if (not (same_half 0 old new)) + one_if (not (same_half SLOTS old new))

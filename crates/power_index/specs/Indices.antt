@@ -1,6 +1,6 @@
--- The voting power indices of a sheet, counted over all coalitions of its open chairs. Swings and the Banzhaf measure:
--- Banzhaf 1965. The powers to prevent, to initiate and of the board to act: Coleman 1971. Names and fractions:
--- Felsenthal and Machover 1998.
+-- The voting power indices of a sheet, counted over all coalitions of its open chairs. Swings and
+-- the Banzhaf measure: Banzhaf 1965. The powers to prevent, to initiate and of the board to act:
+-- Coleman 1971. Names and fractions: Felsenthal and Machover 1998.
 use Rattle.std.specs.Prelude.{◌≡◌, ℕ, ◌-◌, ◌^◌, ◌≤◌, ◌==◌, ◌↔◌, IsTrue}
 use Rattle.std.specs.Prelude.{if◌then◌else◌, List, length, map, sum_by, Option, None, Some}
 use Rattle.council_core.specs.Sheets.{Chair, open_chairs, cast_of, total_of, front_of}
@@ -15,7 +15,7 @@ use Rattle.power_index.specs.declared.indices.Indices.{Indices}
 abbrev pub ratio : ℕ → ℕ → Fraction
 ratio n d = record { num = n; den = d }
 
--- a fraction, absent where its denominator is 0
+-- a fraction, or None if its denominator is 0
 abbrev pub ratio_unless_zero : ℕ → ℕ → Option Fraction
 ratio_unless_zero n d = if d == 0 then None else Some (ratio n d)
 
@@ -23,9 +23,10 @@ ratio_unless_zero n d = if d == 0 then None else Some (ratio n d)
 abbrev pub swings_among : Rule → List Chair → List Chair → ℕ
 swings_among wins board chairs = sum_by (λ c. eta_of wins c board) chairs
 
--- the row of a chair with eta swings, among n chairs with omega winning coalitions and etas swings in all: the Banzhaf
--- measure, over the sets of the other chairs; the share of all swings; the power to prevent action, over the coalitions
--- that win; the power to initiate action, over those that lose
+-- the row of a chair with eta swings, among n chairs with omega winning coalitions and etas swings
+-- in total: the Banzhaf measure, over the sets of the other chairs; the share of all swings; the
+-- power to prevent action, over the winning coalitions; the power to initiate action, over the
+-- losing ones
 abbrev pub power_of : ℕ → ℕ → ℕ → ℕ → Chair → ChairPower
 power_of n omega etas eta c =
     record {
@@ -44,8 +45,9 @@ rows_among wins board chairs =
     map (λ c. power_of (length board) (omega_of wins board) (swings_among wins board board) (eta_of wins c board) c)
     chairs
 
--- every field of the indices of a sheet by a majority: so much weight as the quota and so many chairs as the least size
--- are what wins, the power of the board to act is omega over all coalitions, and the rows are those of all open chairs
+-- every field of the indices of a sheet by a majority: the quota and the least size are reached
+-- exactly by what wins, the power of the board to act is omega over all coalitions, and the rows
+-- are those of all open chairs
 pub record AreIndices (majority : Majority) (words : List ℕ) (indices : Indices) : Type 0 where
   pub same_majority : indices.majority ≡ majority
   pub same_front : indices.front ≡ front_of words
@@ -60,7 +62,7 @@ pub record AreIndices (majority : Majority) (words : List ℕ) (indices : Indice
       ≡ ratio (omega_of (rule_of majority words) (open_chairs words)) (2 ^ length (open_chairs words))
   pub row_each : indices.rows.items ≡ rows_among (rule_of majority words) (open_chairs words) (open_chairs words)
 
--- the same as a value, which computes
+-- the indices as a value that computes
 abbrev pub indices_of : Majority → List ℕ → Indices
 indices_of m words =
     let board = open_chairs words in

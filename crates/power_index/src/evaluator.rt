@@ -1,4 +1,4 @@
-//! The sheet held, with the subset sums of its two halves.
+//! An evaluator: a sheet with the subset sums of its two halves, in its own memory.
 ghost use Rattle.std.specs.Prelude.{◌≡◌, IfOk, IsOkUnless, replicate};
 ghost use Rattle.council_core.specs.declared.refusals.Refusal.TheVariants.{OutOfMemory};
 ghost use Rattle.power_index.specs.Halves.{changed_halves};
@@ -13,10 +13,10 @@ use majority_rule::Majority;
 use std::alloc::Global;
 use std::marker::Model;
 
-/// A sheet, and what its indices are counted from.
+/// A sheet, with the lists from which its indices are counted.
 ///
-/// It takes memory once, in `new`: for each half a list of 65,536 sets of ten bytes, 1,310,720 bytes in all. No other
-/// call takes any.
+/// `new` allocates all memory: for each half a list of 65,536 sets of ten bytes, 1,310,720 bytes in
+/// total. No other call allocates.
 #[derive(Debug, Drop)]
 pub struct Evaluator {
     sheet: Sheet,
@@ -36,9 +36,12 @@ impl Model for Evaluator {
 }
 
 impl Evaluator {
-    /// Holds the sheet of zeros: no chair open, no votes, no command accepted.
+    /// An evaluator that holds the sheet of zeros: no chair is open, there are no votes, and no
+    /// command has been accepted.
     ///
-    /// `OutOfMemory`, the only refusal, comes where the room for the two halves was not granted.
+    /// # Errors
+    ///
+    /// `Refusal::OutOfMemory` if memory for the two halves could not be allocated.
     pub fn new(alloc: Global) -> Result<Evaluator, Refusal>
         ensures blank { IfOk result (λ e. e ≡ replicate SHEET_WORDS 0) }
         ensures memory { IsOkUnless result OutOfMemory }
@@ -49,11 +52,13 @@ impl Evaluator {
         Ok(Evaluator { sheet, left, right })
     }
 
-    /// Holds another sheet, and answers in how many of chairs 1 to 16 and chairs 17 to 32 it differs from the one
-    /// before. The total and the front belong to neither.
+    /// Replaces the sheet. Returns the number of blocks, of chairs 1 to 16 and of chairs 17 to 32,
+    /// whose words differ from the previous sheet: 0, 1 or 2. The total and the front belong to
+    /// neither block.
     ///
-    /// Whatever their numbers, the first half of the open chairs make the one list, with the odd chair, and the others
-    /// the other. A list is rebuilt where its weights differ from those before.
+    /// Independently of the chairs' numbers, the first half of the open chairs, including the
+    /// middle one of an odd number, make one list, and the other open chairs make the other. A list
+    /// is rebuilt if its weights differ from the previous ones.
     pub fn set(&mut self, sheet: &Sheet) -> u8
         ensures changed { result ≡ changed_halves self.old sheet.now }
         ensures held { self.new ≡ sheet.now }
@@ -69,10 +74,18 @@ impl Evaluator {
         differ(&old, &new, 0) + differ(&old, &new, SLOTS)
     }
 
-    /// The indices of the sheet held, under a majority.
+    /// The indices of the sheet under this majority.
     ///
-    /// The first clause says every field by its definition, the quota and the least size by what wins. The second
-    /// gives the same as a value that computes.
+    /// The clause `exact` gives every field by its definition, and the quota and the least size by
+    /// what wins. The clause `same` gives the result as a value that computes.
+    ///
+    /// ```rust
+    /// let mut evaluator = Evaluator::new(alloc)?;
+    /// evaluator.set(&sheet); // chairs 1, 2 and 3 are open, with 50, 49 and 1 of 100 votes
+    /// let indices = evaluator.evaluate(Majority::Half);
+    /// assert_eq!(rt; (indices.quota, indices.winning), (51, 3));
+    /// assert_eq!(rt; indices.rows[0].banzhaf, Fraction { num: 3, den: 4 });
+    /// ```
     pub fn evaluate(&self, majority: Majority) -> Indices
         ensures exact { AreIndices majority self.now result }
         ensures same { result ≡ indices_of majority self.now }
@@ -85,7 +98,7 @@ impl Evaluator {
         )
     }
 
-    /// The sheet held: the last one that was set, or the sheet of zeros.
+    /// The current sheet: the last one given to `set`, or the sheet of zeros.
     pub fn sheet(&self) -> Sheet
         ensures held { result ≡ self.now }
     {

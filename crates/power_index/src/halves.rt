@@ -1,4 +1,5 @@
-//! The halves of a sheet: of its open chairs, by number, the first half stand on the left, and the others on the right.
+//! The halves of a sheet: the first half of its open chairs, by number, is on the left, and the
+//! others are on the right.
 ghost use Rattle.std.specs.Prelude.{◌≡◌, ◌+◌, ◌<◌, ◌≤◌, ◌^◌, ℕ, not, length, sum_by, slice_index};
 ghost use Rattle.council_core.specs.Sheets.{open_chairs};
 ghost use Rattle.half_sums.specs.Entries.{AreSubsets};
@@ -8,7 +9,7 @@ use arrayvec::ArrayVec;
 use council_core::{CHAIRS, SHEET_WORDS, Sheet};
 use half_sums::{OrderedSums, SLOTS};
 
-// The weights of the open chairs, by number.
+// The weights of the open chairs, in ascending order of the chairs' numbers.
 pub(crate) fn weights_of(sheet: &Sheet) -> ArrayVec<u64, CHAIRS>
     ensures weights { result.items ≡ weights sheet.now }
     ensures count { length result.items ≡ length (open_chairs sheet.now) }
@@ -21,7 +22,7 @@ pub(crate) fn weights_of(sheet: &Sheet) -> ArrayVec<u64, CHAIRS>
     weights
 }
 
-// How many of so many open chairs stand on the left.
+// The size of the left half of `chairs` open chairs.
 pub(crate) fn on_left(chairs: usize) -> usize
     requires few { chairs ≤ CHAIRS }
     ensures half { result ≡ left_count chairs }
@@ -29,7 +30,7 @@ pub(crate) fn on_left(chairs: usize) -> usize
     chairs.div_ceil(2)
 }
 
-// The chairs of these weights, by slot.
+// The chairs with these weights, at the slots from 0 on.
 pub(crate) fn chairs_of(weights: &[u64]) -> ArrayVec<(u8, u64), SLOTS>
     requires few { length weights.now ≤ SLOTS }
     ensures chairs { result.items ≡ slotted 0 weights.now }
@@ -41,7 +42,7 @@ pub(crate) fn chairs_of(weights: &[u64]) -> ArrayVec<(u8, u64), SLOTS>
     chairs
 }
 
-// 1 where the sixteen chairs from a place on have other words, else 0.
+// 1 if the words of the sixteen chairs from index `from` on differ, otherwise 0.
 pub(crate) fn differ(old: &[u64; SHEET_WORDS], new: &[u64; SHEET_WORDS], from: usize) -> u8
     requires place { from ≤ SLOTS }
     ensures few { result ≤ 1 }
@@ -54,7 +55,7 @@ pub(crate) fn differ(old: &[u64; SHEET_WORDS], new: &[u64; SHEET_WORDS], from: u
     }
 }
 
-// Rebuilds a half where its weights differ.
+// Rebuilds a half if its weights differ.
 pub(crate) fn refresh(half: &mut OrderedSums, old: &[u64], new: &[u64])
     requires few { length new.now ≤ SLOTS }
     requires small { sum_by (λ n. n) new.now ≤ 2 ^ 48 }
@@ -67,7 +68,7 @@ pub(crate) fn refresh(half: &mut OrderedSums, old: &[u64], new: &[u64])
     half.rebuild(chairs_of(new).as_slice());
 }
 
-// What stands at the seats of so many open chairs, in their order.
+// The items of `seated` at the seats of the open chairs, in the order of the chairs.
 pub(crate) fn in_order(chairs: u8, seated: &[u64; CHAIRS]) -> ArrayVec<u64, CHAIRS>
     requires few { chairs ≤ CHAIRS }
     ensures count { length result.items ≡ chairs }
@@ -82,7 +83,7 @@ pub(crate) fn in_order(chairs: u8, seated: &[u64; CHAIRS]) -> ArrayVec<u64, CHAI
     ordered
 }
 
-// The seat of an open chair with so many before it.
+// The seat of the open chair with `before` open chairs before it.
 fn seat_at(half: usize, before: usize) -> usize
     requires half { half ≤ SLOTS }
     requires before { before < half + SLOTS }

@@ -1,9 +1,9 @@
-//! What an evaluation answers.
+//! The result of an evaluation.
 use arrayvec::ArrayVec;
 use council_core::{CHAIRS, ChairId};
 use majority_rule::Majority;
 
-/// An exact fraction of two whole numbers, not reduced.
+/// An exact fraction of two whole numbers, not reduced to lowest terms.
 #[derive(Clone, Copy, Debug, PartialEq, Eq, Hash, Default)]
 pub struct Fraction {
     /// The numerator.
@@ -14,50 +14,57 @@ pub struct Fraction {
 
 /// The power of one open chair.
 ///
-/// A swing of a chair is a set of other open chairs that loses, and that wins once the chair is added (Banzhaf 1965).
+/// A swing of a chair is a set of other open chairs that loses, and that wins once the chair is
+/// added (Banzhaf 1965).
 #[derive(Clone, Copy, Debug, PartialEq, Eq, Hash, Default)]
 pub struct ChairPower {
     /// The chair.
     pub chair: ChairId,
-    /// The votes that it casts.
+    /// The votes that the chair casts.
     pub weight: u64,
-    /// Its swings, a number of sets.
+    /// The number of swings of the chair.
     pub swings: u64,
-    /// The Banzhaf measure: the swings among the sets of the other open chairs.
+    /// The Banzhaf measure: the swings, divided by the number of sets of the other open chairs,
+    /// 2^(n - 1) for n open chairs.
     pub banzhaf: Fraction,
-    /// The normalised Banzhaf index: the swings among the swings of all chairs. `None` where no chair has a swing.
+    /// The normalised Banzhaf index: the swings, divided by the sum of the swings of all open
+    /// chairs. `None` if no chair has a swing.
     pub share: Option<Fraction>,
-    /// The power to prevent action (Coleman 1971): the swings among the coalitions that win. `None` where none wins.
+    /// The power to prevent action (Coleman 1971): the swings, divided by the number of winning
+    /// coalitions. `None` if no coalition wins.
     pub prevent: Option<Fraction>,
-    /// The power to initiate action (Coleman 1971): the swings among the coalitions that lose.
+    /// The power to initiate action (Coleman 1971): the swings, divided by the number of losing
+    /// coalitions.
     pub initiate: Fraction,
 }
 
 /// The indices of a sheet under a majority.
 ///
-/// Names and fractions are those of Felsenthal and Machover (1998). Votes are at most 2^48, counts at most 2^32.
+/// Names and fractions are those of Felsenthal and Machover (1998). Votes are at most 2^48, counts
+/// at most 2^32.
 #[derive(Debug, PartialEq, Eq, Drop)]
 pub struct Indices {
-    /// The majority by which a coalition wins.
+    /// The majority by which coalitions win.
     pub majority: Majority,
-    /// The front of the sheet: how many commands had been accepted.
+    /// The front of the sheet: the number of accepted commands.
     pub front: u32,
-    /// How many chairs are open.
+    /// The number of open chairs.
     pub chairs: u8,
-    /// The least weight with which a coalition can win, in votes.
+    /// The least weight, in votes, with which a coalition can win.
     pub quota: u64,
-    /// The least number of chairs with which a coalition can win, 0 where the majority asks for none.
+    /// The least number of chairs with which a coalition can win; 0 if the majority requires none.
     pub least_size: u8,
-    /// The votes of all open chairs.
+    /// The votes of all open chairs together.
     pub cast: u64,
     /// The total voting power, in votes.
     pub total: u64,
-    /// Omega: how many coalitions win.
+    /// Omega: the number of winning coalitions.
     pub winning: u64,
-    /// How many coalitions there are.
+    /// The number of all coalitions, 2^n for n open chairs.
     pub coalitions: u64,
-    /// The power of the board to act (Coleman 1971): the coalitions that win among all.
+    /// The power of the board to act (Coleman 1971): the winning coalitions, divided by all
+    /// coalitions.
     pub act: Fraction,
-    /// A row for each open chair, by chair number.
+    /// A row for each open chair, in ascending order of the chairs' numbers.
     pub rows: ArrayVec<ChairPower, CHAIRS>,
 }

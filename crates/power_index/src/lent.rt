@@ -1,4 +1,4 @@
-//! The indices of a sheet, counted in room that the caller lends. No call here takes memory.
+//! The indices of a sheet, counted in memory that the caller lends. No call here allocates.
 ghost use Rattle.std.specs.Prelude.{◌≡◌, ◌≤◌, ◌^◌, length, sum_by};
 ghost use Rattle.half_sums.specs.declared.lists.TheConstants.{ROOM};
 ghost use Rattle.half_sums.specs.Entries.{AreSubsets, IsHalf};
@@ -13,22 +13,22 @@ use half_sums::{ROOM, SLOTS, SumList, list_subsets};
 use majority_rule::Majority;
 use std::marker::Model;
 
-/// Room for the lists of both halves of a sheet. Its content before a `LentEvaluator` is made over it has no effect,
-/// and its content afterwards has no meaning.
+/// Memory for the lists of both halves of a sheet. Its contents before a `LentEvaluator` is made
+/// over it have no effect, and its contents afterwards have no meaning.
 #[repr(C)]
 #[derive(Drop)]
 pub struct ListRoom {
-    /// Sums of the left half's sets.
+    /// The sums of the left half's sets.
     pub left_sums: [u64; ROOM],
-    /// Sums of the right half's sets.
+    /// The sums of the right half's sets.
     pub right_sums: [u64; ROOM],
-    /// Masks of the left half's sets.
+    /// The masks of the left half's sets.
     pub left_masks: [u16; ROOM],
-    /// Masks of the right half's sets.
+    /// The masks of the right half's sets.
     pub right_masks: [u16; ROOM],
 }
 
-/// A sheet, and the lists of its halves in room that the caller lends.
+/// A sheet, with the lists of its halves in memory that the caller lends.
 #[derive(Debug, Drop)]
 pub struct LentEvaluator<'a> {
     sheet: Sheet,
@@ -49,11 +49,17 @@ impl<'a> Model for LentEvaluator<'a> {
 }
 
 impl<'a> LentEvaluator<'a> {
-    /// Holds a sheet, and lists the sets of both of its halves in the room.
+    /// Holds a sheet, and lists the sets of both of its halves in `room`.
+    ///
+    /// ```rust
+    /// // `room: &mut ListRoom`, and `sheet: Sheet` as in the example of `Evaluator::evaluate`.
+    /// let evaluator = LentEvaluator::over(&sheet, room);
+    /// assert_eq!(rt; evaluator.evaluate(Majority::Half).winning, 3);
+    /// ```
     pub fn over(sheet: &Sheet, room: &'a mut ListRoom) -> LentEvaluator<'a>
         ensures held { result ≡ sheet.now }
     {
-        // The proof takes from the words that the weights of a sheet add up to at most 2^48.
+        // The proof uses these words to show that the weights of a sheet add up to at most 2^48.
         let _words = sheet.words();
         let weights = weights_of(sheet);
         let (on_left, on_right) = weights.as_slice().split_at(on_left(weights.len()));
@@ -68,8 +74,8 @@ impl<'a> LentEvaluator<'a> {
         }
     }
 
-    /// The indices of the sheet held, under a majority: by their definition (`exact`), and as a value that computes
-    /// (`same`).
+    /// The indices of the sheet under this majority: by their definition (`exact`), and as a value
+    /// that computes (`same`).
     pub fn evaluate(&self, majority: Majority) -> Indices
         ensures exact { AreIndices majority self.now result }
         ensures same { result ≡ indices_of majority self.now }
@@ -78,7 +84,7 @@ impl<'a> LentEvaluator<'a> {
     }
 }
 
-// Lists the sets of chairs of these weights in slices that are lent.
+// Lists the sets of the chairs with these weights in borrowed slices.
 fn listed<'a>(weights: &[u64], sums: &'a mut [u64], masks: &'a mut [u16]) -> SumList<'a>
     requires few { length weights.now ≤ SLOTS }
     requires small { sum_by (λ n. n) weights.now ≤ 2 ^ 48 }

@@ -50,8 +50,8 @@ pub(crate) fn indices_from(
     }
 }
 
-// The winning coalitions of the sheet, and the swings of its open chairs, by the quota and the least size of a
-// majority.
+// The number of winning coalitions of the sheet, and the swings of its open chairs, by the quota
+// and the least size of a majority.
 fn tally(
     sheet: &Sheet,
     left: &SumList,

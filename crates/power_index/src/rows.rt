@@ -10,7 +10,8 @@ use arrayvec::ArrayVec;
 use council_core::{CHAIRS, ChairId, Sheet};
 use majority_rule::Majority;
 
-// The winning coalitions of a sheet under a majority, and the swings of its open chairs, by number.
+// The number of winning coalitions of a sheet under a majority, and the swings of its open chairs,
+// in ascending order of the chairs' numbers.
 #[derive(Drop)]
 pub(crate) struct SwingTally {
     pub(crate) majority: Majority,
@@ -18,7 +19,8 @@ pub(crate) struct SwingTally {
     pub(crate) swings: ArrayVec<u64, CHAIRS>,
 }
 
-// What the rows of a sheet share: the open chairs, the winning coalitions, and the swings of all chairs.
+// The numbers that all rows of a sheet share: open chairs, winning coalitions, and the sum of all
+// swings.
 #[derive(Clone, Copy)]
 struct Totals {
     chairs: u8,
@@ -26,7 +28,7 @@ struct Totals {
     swings: u64,
 }
 
-// The number of coalitions of so many chairs.
+// The number of coalitions of `chairs` chairs.
 pub(crate) fn coalition_count(chairs: u8) -> u64
     requires chairs { chairs ≤ CHAIRS }
     ensures same { result ≡ 2 ^ chairs }
@@ -35,7 +37,7 @@ pub(crate) fn coalition_count(chairs: u8) -> u64
     1 << chairs
 }
 
-// A fraction, absent where its denominator is 0.
+// A fraction, or `None` if its denominator is 0.
 fn unless_zero(num: u64, den: u64) -> Option<Fraction>
     ensures ratio { result ≡ ratio_unless_zero num den }
 {
@@ -46,7 +48,7 @@ fn unless_zero(num: u64, den: u64) -> Option<Fraction>
     }
 }
 
-// The row of a chair with its weight.
+// The row of a chair, given with its weight.
 fn row(totals: &Totals, chair: (ChairId, u64), swings: u64) -> ChairPower
     requires chairs { totals.now.chairs ≤ CHAIRS }
     requires winning { totals.now.winning ≤ 2 ^ totals.now.chairs }
@@ -82,7 +84,7 @@ fn swing_sum(swings: &[u64]) -> u64
     sum
 }
 
-// A row for each open chair, by number.
+// A row for each open chair, in ascending order of the chairs' numbers.
 pub(crate) fn rows(sheet: &Sheet, tally: &SwingTally) -> ArrayVec<ChairPower, CHAIRS>
     requires tally { IsSwingTally sheet.now tally.now }
     ensures rows { result.items

@@ -91,7 +91,7 @@ board_distinct (chair ∷ left) right slots distinct_left distinct_right =
     list_any-append (λ c. eqb c.0 chair.0) left (map shifted right) ∙ or_from _ _ (first_apart chair left distinct_left) (none_below chair.0 right (All-head P chair left slots)) in
     distinct_more chair (board_of left right) absent (board_distinct left right (All-tail P chair left slots) (tail_of chair left distinct_left) distinct_right)
 
--- a chair among chairs of distinct numbers stands alone with its number
+-- among chairs with distinct numbers, no other chair has the number of this one
 alone : (before after : List Chair) (chair : Chair) → IsDistinct eqb (map (λ c. c.0) (before ++ chair ∷ after)) → has_chair chair.0 (before ++ after) ≡ false
 alone [] after chair distinct = first_apart chair after distinct
 alone (x ∷ before) after chair distinct =
@@ -101,7 +101,7 @@ alone (x ∷ before) after chair distinct =
     let away : x.0 ≢ chair.0 = λ e. absurd (let bad : true ≡ false = sym (eq-eqb chair.0 x.0 (sym e)) ∙ off in cc) in
     ap (λ b. b || has_chair chair.0 (before ++ after)) (ne_eqb x.0 chair.0 away) ∙ alone before after chair (tail_of x (before ++ chair ∷ after) distinct)
 
--- where the chair of a place stands
+-- the position of the chair at a place
 record Found (place : ℕ) (chairs : List Chair) : Type 0 where
   before : List Chair
   after : List Chair

@@ -27,7 +27,7 @@ over-append {X} f (x ∷ xs) ys =
 swap_two : {X : Type 0} (x y : X) (s : List X) → IsPermutation (x ∷ y ∷ s) (y ∷ x ∷ s)
 swap_two x y s = IsPermutation-append_left s (x ∷ y ∷ []) (y ∷ x ∷ []) (IsPermutation-append_comm (x ∷ []) (y ∷ []))
 
--- a chair in the middle may stand first
+-- a chair in the middle may be first
 over_middle : {X : Type 0} (f : List X → ℕ) → ((s t : List X) → IsPermutation s t → f s ≡ f t) → (xs ys : List X) (c : X) → over f (xs ++ c ∷ ys) ≡ over f (c ∷ (xs ++ ys))
 over_middle f same [] ys c = refl
 over_middle {X} f same (x ∷ xs) ys c =

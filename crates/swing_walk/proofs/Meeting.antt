@@ -20,7 +20,7 @@ use Rattle.swing_walk.specs.declared.tally.MaskTally.{MaskTally}
 use Rattle.swing_walk.proofs.Counting.{Splits, pairs_more}
 use Rattle.swing_walk.proofs.LargePairs.{count_enough, count_slot}
 
--- where a walk stands, over two lists that ascend
+-- the position of a walk over two ascending lists
 pub record At (quota up rest : ℕ) (rising falling : List Entry) : Type 0 where
   pub rising_up : IsNonDecreasingBy (λ e. e.sum) rising
   pub falling_up : IsNonDecreasingBy (λ e. e.sum) falling
@@ -124,7 +124,8 @@ pub record Ends (quota up rest back_up back_rest : ℕ) (left right : List Entry
   pub back : IsBetween quota back_up back_rest right left
   pub all : up + back_up ≡ rest + back_rest
 
--- they meet: the back walk has left just the left entries that the front one has passed
+-- they meet: the left entries that the back walk has left are exactly those that the front one has
+-- passed
 pub meet : (quota up rest back_up back_rest : ℕ) (left right : List Entry) → Ends quota up rest back_up back_rest left right → (up ≡ back_rest) × (back_up ≡ rest)
 meet quota up rest back_up back_rest left right e =
     let up_in : up ≤ length left = e.front.up_in in

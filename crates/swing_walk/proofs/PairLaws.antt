@@ -52,7 +52,7 @@ and_turned false true c d p q = cc
 and_turned true false c d p q = cc
 and_turned true true c d p q = cc
 
--- a right chair stands at a place from 16 on
+-- a right chair is at a place from 16 on
 pub none_below : (place : ℕ) (b : List (ℕ × ℕ)) → place < SLOTS → has_chair place (map shifted b) ≡ false
 none_below place [] h = refl
 none_below place (c ∷ b) h =

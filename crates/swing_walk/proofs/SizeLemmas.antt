@@ -20,7 +20,7 @@ use Rattle.half_sums.specs.Entries.{zero_entry}
 use Rattle.half_sums.specs.declared.groups.TheConstants.{SIZES, SLOTS}
 use Rattle.half_sums.specs.declared.lists.TheConstants.{ROOM}
 
--- so many ones, and then so many noughts
+-- a number of ones, followed by a number of zeros
 abbrev pub steps : ℕ → ℕ → List ℕ
 steps zero zero = []
 steps zero (suc m) = 0 ∷ steps zero m
@@ -41,7 +41,7 @@ noughts_at zero m k h = noughts m k
 noughts_at (suc n) m zero h = absurd (omega arith)
 noughts_at (suc n) m (suc k) h = noughts_at n m k (omega arith)
 
--- the steps of a set of so many chairs
+-- the steps of a set of n chairs
 own_step : (chairs size : ℕ) → chairs ≤ SLOTS → size < LANES → get_or (take (SLOTS - chairs + LANES - (SLOTS - chairs)) (drop (SLOTS - chairs) (steps SIZES 23))) size 0 ≡ cond (nat_le size chairs) 1 0
 own_step chairs size few within =
     get_or-take (SLOTS - chairs + LANES - (SLOTS - chairs)) (drop (SLOTS - chairs) (steps SIZES 23)) size 0 (omega arith)
@@ -58,7 +58,7 @@ own_steps chairs size few = elim (cases_lt size LANES) [
       ∙ ap (λ b. cond b 1 0) (sym (lt-leb size chairs (omega arith)))
 ]
 
--- an entry more, behind the others and before them
+-- one more entry, after the others and before them
 taken_more : (size at : ℕ) (entries : List Entry) → at < length entries → at_least size (take (at + 1) entries) ≡ at_least size (take at entries) + one_at size (entry_at entries at).mask
 taken_more size at entries inside = sum_by_more (λ (e : Entry). cond (nat_le size (size_of e)) 1 0) entries at zero_entry inside
 
@@ -67,7 +67,7 @@ dropped_more size at entries some within =
     let one : at - 1 + 1 ≡ at = omega arith in
     rw one at (sum_by-drop_more (λ (e : Entry). cond (nat_le size (size_of e)) 1 0) entries (at - 1) zero_entry (omega arith))
 
--- a set has so many chairs that another one lacks
+-- two sets have enough chairs together exactly if one has as many as the other lacks
 enough_chairs : (least x y : ℕ) → nat_le least (x + y) ≡ nat_le (least - x) y
 enough_chairs least x y = elim (cases_lt (x + y) least) [
   | inl few ↦ lt-leb least (x + y) few ∙ sym (lt-leb (least - x) y (omega arith))
@@ -89,7 +89,7 @@ partners-lacking least mask lane entries slots is =
       | inr many ↦ none_larger lacks entries slots (omega arith) ∙ sym (none_larger lane entries slots (omega (arith, is)))
     ]
 
--- each set has fewer chairs or at least so many
+-- each set has fewer than `size` chairs, or at least `size`
 one_kind : (size s : ℕ) → cond (nat_lt s size) 1 0 + cond (nat_le size s) 1 0 ≡ 1
 one_kind size s =
     let v : Bool → ℕ = λ b. cond b 1 0 in

@@ -9,7 +9,8 @@ use Rattle.half_sums.specs.Entries.{AreSubsets, entries_of, three}
 use Rattle.swing_walk.specs.Pairs.{large_pairs, large_with, swings_of}
 use Rattle.half_sums.specs.declared.groups.TheConstants.{SLOTS}
 
--- the swings of a chair from the counts of winning coalitions, for any rule (Felsenthal and Machover 1998)
+-- the number of swings of a chair from the counts of winning coalitions, for any rule (Felsenthal
+-- and Machover 1998)
 abbrev pub SwingLaw : Type 0
 SwingLaw = (wins : Rule) (before after : List Chair) (chair : Chair) → IsRule wins
     → has_chair chair.0 (before ++ after) ≡ false →
@@ -35,7 +36,7 @@ pub three_pairs : (large_pairs 51 0 (entries_of three) (entries_of []) ≡ 3)
 unfolding lib.Count.ones
 three_pairs = (refl, refl, refl, refl)
 
--- the same chairs, where two of them are needed and 50 votes
+-- worked example: the same chairs, quota 50 and least size 2
 pub three_large : (omega_of (reaching 50 2) three ≡ 4) × (eta_of (reaching 50 2) (0, 50) three ≡ 2)
     × (eta_of (reaching 50 2) (2, 1) three ≡ 2) × (large_pairs 50 2 (entries_of three) (entries_of []) ≡ 4)
 unfolding lib.Count.ones
@@ -50,11 +51,11 @@ ones = (0, 1) ∷ (1, 1) ∷ (2, 1) ∷ (3, 1) ∷ (4, 1) ∷ (5, 1) ∷ (6, 1) 
 abbrev pub board_of : List Chair → List Chair → List Chair
 board_of left right = left ++ map (λ chair. (chair.0 + SLOTS, chair.1)) right
 
--- each set of the left half's chairs put together with each set of the right half's
+-- each set of the left half's chairs joined with each set of the right half's
 abbrev pub pairs_of_sets : List Chair → List Chair → List (List Chair)
 pairs_of_sets left right = flat_map (λ s. map (λ t. board_of s t) (subsets right)) (subsets left)
 
--- the coalitions of a board are the pairs of a set of the one half and a set of the other, each once
+-- the coalitions of a board are the pairs of a set of one half and a set of the other, each once
 abbrev pub CoalitionLaw : Type 0
 CoalitionLaw = (left right : List Chair) → subsets (board_of left right) ≡ pairs_of_sets left right
 
@@ -74,7 +75,7 @@ abbrev pub PairLaw : Type 0
 PairLaw = (quota least_size : ℕ) (left right : List Chair) (from to : List Entry) → AreHalf left → AreHalf right
     → AreSubsets left from → AreSubsets right to → PairsAreCoalitions quota least_size left right from to
 
--- what the counts of two halves come to, chair by chair
+-- the results of `swings` for the counts of a board are the swings of each chair
 abbrev pub CountLaw : Type 0
 CountLaw = (quota least_size : ℕ) (before after : List Chair) (chair : Chair)
     → has_chair chair.0 (before ++ after) ≡ false →
@@ -82,13 +83,13 @@ CountLaw = (quota least_size : ℕ) (before after : List Chair) (chair : Chair)
     (omega_with (reaching quota least_size) chair.0 (before ++ chair ∷ after))
     ≡ eta_of (reaching quota least_size) chair (before ++ chair ∷ after)
 
--- no more winning coalitions have a chair than there are
+-- the winning coalitions that have a chair are at most as many as all winning coalitions
 abbrev pub BoundLaw : Type 0
 BoundLaw = (quota least_size place : ℕ) (chairs : List Chair)
     → omega_with (reaching quota least_size) place chairs ≤ omega_of (reaching quota least_size) chairs
 
--- the counts of two halves are what `swings` asks for, and its answer is the swings of each chair, 0 where there is
--- none
+-- the counts of two halves meet the requirements of `swings`, and its results are the swings of
+-- each chair, 0 at a place without a chair
 pub record CountsMeet (quota least_size : ℕ) (left right : List Chair) (from to : List Entry) : Type 0 where
   pub few : large_pairs quota least_size from to ≤ 2 ^ 32
   pub within : (place : ℕ) → large_with quota least_size place from to ≤ large_pairs quota least_size from to

@@ -7,39 +7,40 @@ use Rattle.half_sums.specs.declared.entry.Entry.{Entry}
 use Rattle.half_sums.specs.Groups.{size_of}
 use Rattle.half_sums.specs.declared.groups.TheConstants.{SLOTS}
 
--- how many pairs pass a test
+-- the number of pairs that pass a test
 abbrev pub pairs_where : (Entry → Entry → Bool) → List Entry → List Entry → ℕ
 pairs_where test left right = sum_by (λ l. count_by (test l) right) left
 
--- the sums of a pair reach the quota
+-- whether the sums of a pair reach the quota
 abbrev pub reaches : ℕ → Entry → Entry → Bool
 reaches quota l r = nat_le quota (l.sum + r.sum)
 
--- an entry has the chair of a slot
+-- whether an entry has the chair at a slot
 abbrev pub has : ℕ → Entry → Bool
 has slot e = bit_at e.mask slot == 1
 
--- a pair has the chair of a place: 0 to 15 on the left, 16 to 31 on the right
+-- whether a pair has the chair at a place: 0 to 15 on the left, 16 to 31 on the right
 abbrev pub has_place : ℕ → Entry → Entry → Bool
 has_place place l r = if nat_lt place SLOTS then has place l else has (place - SLOTS) r
 
--- a pair has chairs enough
+-- whether a pair has enough chairs
 abbrev pub is_large : ℕ → Entry → Entry → Bool
 is_large least_size l r = nat_le least_size (size_of l + size_of r)
 
--- a pair has votes enough and chairs enough
+-- whether a pair has enough votes and enough chairs
 abbrev pub is_enough : ℕ → ℕ → Entry → Entry → Bool
 is_enough quota least_size l r = reaches quota l r && is_large least_size l r
 
--- how many pairs reach the quota and the least size
+-- the number of pairs that reach the quota and the least size
 abbrev pub large_pairs : ℕ → ℕ → List Entry → List Entry → ℕ
 large_pairs quota least_size left right = pairs_where (is_enough quota least_size) left right
 
--- how many pairs reach both and have the chair of a place
+-- the number of pairs that reach both and have the chair at a place
 abbrev pub large_with : ℕ → ℕ → ℕ → List Entry → List Entry → ℕ
 large_with quota least_size place left right = pairs_where
     (λ l r. is_enough quota least_size l r && has_place place l r) left right
 
--- the swings of a chair from the winning sets and those that have it: 2 * with_chair - winning (Banzhaf 1965)
+-- the swings of a chair (Banzhaf 1965): 2 * with_chair - winning, from the number of winning sets
+-- and the number of those that have the chair
 abbrev pub swings_of : ℕ → ℕ → ℕ
 swings_of winning with_chair = if with_chair == 0 then 0 else 2 * with_chair - winning

@@ -1,9 +1,9 @@
--- What is kept for the two sides of a walk, the left one first.
+-- The data of the two sides of a walk, the left one first.
 use Rattle.std.specs.Prelude.{ℕ, List, [], slice_index_or}
 use Rattle.swing_walk.specs.declared.tally.MaskTally.{MaskTally}
 use Rattle.swing_walk.specs.declared.sizes.SizeTally.{SizeTally}
 
--- what is read where there is no tally
+-- the default tally, for an index at which there is none
 abbrev pub no_tally : MaskTally
 no_tally = record { low = []; high = [] }
 

@@ -10,28 +10,28 @@ use Rattle.swing_walk.specs.declared.sizes.TheConstants.{LANES}
 use Rattle.swing_walk.specs.Sides.{size_side}
 use Rattle.swing_walk.specs.declared.partners.BySize.{BySize}
 
--- how many entries have chairs enough together with the set of a mask
+-- the number of entries that have enough chairs together with the set of this mask
 abbrev pub partners_of : ℕ → ℕ → List Entry → ℕ
 partners_of least_size mask entries = count_by (λ e. nat_le least_size (count_ones mask + size_of e)) entries
 
--- how many entries have at least so many chairs
+-- the number of entries with at least `size` chairs
 abbrev pub at_least : ℕ → List Entry → ℕ
 at_least size entries = count_by (λ e. nat_le size (size_of e)) entries
 
--- what one set comes to at a size: 1 where it has at least so many chairs
+-- what one set adds at a size: 1 if it has at least that many chairs, else 0
 abbrev pub one_at : ℕ → ℕ → ℕ
 one_at size mask = if nat_le size (count_ones mask) then 1 else 0
 
--- what a tally says of a size
+-- the count of a tally at a size
 abbrev pub counted : ℕ → SizeTally → ℕ
 counted size t = slice_index_or t.at_least size 0
 
--- a tally counts just these entries, modulo 2^16
+-- a tally counts exactly these entries, modulo 2^16
 abbrev pub IsSizeTally : List Entry → SizeTally → Type 0
 IsSizeTally entries t = (size : ℕ) → size < LANES → counted size t ≡ at_least size entries % 2 ^ 16
 
--- what counts by size has counted the first `up` rising sets, all falling ones but the first `rest`, and by their sizes
--- all rising ones
+-- a counter by size has counted the first `up` rising sets, the falling sets from `rest` on, and,
+-- by their sizes, all rising sets
 pub record CountsBySize (by : BySize) (up rest : ℕ) (rising falling : List Entry) : Type 0 where
   pub fewer : (size : ℕ) → size ≤ SIZES → slice_index_or by.fewer size 0 ≡ fewer_than size rising
   pub risen : IsSizeTally (take up rising) (size_side 0 by.passed)

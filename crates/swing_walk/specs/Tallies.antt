@@ -1,4 +1,4 @@
--- Amounts kept per byte of a mask, and what walks add to them.
+-- Amounts stored by the bytes of a mask, and the amounts that walks add.
 use Rattle.std.specs.Prelude.{ℕ, ◌≡◌, ◌+◌, ◌*◌, Bool, List, [], ◌∷◌, suc, ◌&&◌}
 use Rattle.std.specs.List.{sum_by}
 use Rattle.std.specs.Int.{bit_at}
@@ -6,38 +6,38 @@ use Rattle.half_sums.specs.declared.entry.Entry.{Entry}
 use Rattle.swing_walk.specs.Pairs.{pairs_where, has}
 use Rattle.swing_walk.specs.declared.tally.MaskTally.{MaskTally}
 
--- the sum of a table, each place taken as often as its weight says, from this place on
+-- the sum of a table, each item times the weight of its index; the first index is `place`
 abbrev pub weighted : (ℕ → ℕ) → ℕ → List ℕ → ℕ
 weighted weight place [] = 0
 weighted weight place (x ∷ xs) = weight place * x + weighted weight (suc place) xs
 
--- whether a low byte has a slot, as 0 or 1, and whether a high one has
+-- 1 if a low byte has this slot, else 0; `high_weight` says so of a high byte
 abbrev pub low_weight : ℕ → ℕ → ℕ
 low_weight slot byte = bit_at byte slot
 
 abbrev pub high_weight : ℕ → ℕ → ℕ
 high_weight slot byte = bit_at (byte * 256) slot
 
--- the amounts whose masks have this slot
+-- the sum of the amounts whose masks have this slot
 abbrev pub marked : ℕ → MaskTally → ℕ
 marked slot t = weighted (low_weight slot) 0 t.low + weighted (high_weight slot) 0 t.high
 
--- all amounts
+-- the sum of all amounts
 abbrev pub total : MaskTally → ℕ
 total t = sum_by (λ n. n) t.low
 
--- both tables have taken in the same amounts
+-- both tables have the same sum of amounts
 abbrev pub IsEven : MaskTally → Type 0
 IsEven t = sum_by (λ n. n) t.high ≡ sum_by (λ n. n) t.low
 
--- a tally has taken in 1 for each pair that passes a test, at the mask of its left entry
+-- a tally has gained 1 for each pair that passes a test, at the mask of its left entry
 pub record CreditsLefts (test : Entry → Entry → Bool) (left right : List Entry) (old new : MaskTally) : Type 0 where
   pub even : IsEven new
   pub total : total new ≡ total old + pairs_where test left right
   pub marked : (slot : ℕ)
       → marked slot new ≡ marked slot old + pairs_where (λ l r. test l r && has slot l) left right
 
--- the same, at the mask of its right entry
+-- a tally has gained 1 for each pair that passes a test, at the mask of its right entry
 pub record CreditsRights (test : Entry → Entry → Bool) (left right : List Entry) (old new : MaskTally)
     : Type 0 where
   pub even : IsEven new
@@ -45,7 +45,8 @@ pub record CreditsRights (test : Entry → Entry → Bool) (left right : List En
   pub marked : (slot : ℕ)
       → marked slot new ≡ marked slot old + pairs_where (λ l r. test l r && has slot r) left right
 
--- two tallies together have taken in 1 for each pair that passes a test, at the mask of its first entry, and no more
+-- two tallies together have exactly 1 for each pair that passes a test, at the mask of its first
+-- entry
 pub record CreditsEach (test : Entry → Entry → Bool) (entries others : List Entry) (one two : MaskTally)
     : Type 0 where
   pub one_even : IsEven one

@@ -1,4 +1,4 @@
--- Where a walk stands between a rising and a falling list, and what it has credited.
+-- The position of a walk between a rising and a falling list, and what it has credited.
 use Rattle.std.specs.Prelude.{ℕ, ◌≡◌, ◌+◌, ◌-◌, ◌<◌, ◌≤◌, List, length, take, drop, slice_index_or, ◌&&◌}
 use Rattle.std.specs.Prelude.{Bool, true, false}
 use Rattle.half_sums.specs.declared.entry.Entry.{Entry}
@@ -22,17 +22,18 @@ abbrev pub AllReach : ℕ → ℕ → ℕ → List Entry → List Entry → Type
 AllReach quota i j left right = (k m : ℕ) → i ≤ k → k < length left → j ≤ m → m < length right
     → quota ≤ (slice_index_or left k zero_entry).sum + (slice_index_or right m zero_entry).sum
 
--- a walk has passed the first `up` rising entries and all falling ones but the first `rest`: the rising ones that it
--- has passed fall short with the falling ones that are left, and the falling ones that it has passed reach with the
--- rising ones that are left
+-- a walk has passed the first `up` rising entries and the falling entries from `rest` on: the
+-- passed rising entries fall short with the falling entries that are left, and the passed falling
+-- entries reach the quota with the rising entries that are left
 pub record IsBetween (quota up rest : ℕ) (rising falling : List Entry) : Type 0 where
   pub up_in : up ≤ length rising
   pub rest_in : rest ≤ length falling
   pub apart : NoneReach quota up rest rising falling
   pub reached : AllReach quota up rest rising falling
 
--- the entry that is passed next is the falling one, which reaches the quota with the rising one, if there is one, or
--- else the rising one, which falls short with the falling one
+-- the entry that is passed next is the falling one if it reaches the quota with the rising one, or
+-- if there is no rising one; otherwise it is the rising one, which falls short with the falling
+-- one, if there is one
 abbrev pub IsPassed : Bool → ℕ → Entry → Entry → ℕ → ℕ → List Entry → List Entry → Type 0
 IsPassed true quota low high up rest rising falling = (0 < rest) × (high ≡ entry_at falling (rest - 1))
     × (up < length rising → quota ≤ (entry_at rising up).sum + high.sum)
@@ -43,8 +44,9 @@ abbrev pub IsNext : ℕ → Next → Places → List Entry → List Entry → Ty
 IsNext quota next places rising falling =
     IsPassed next.falls quota next.low next.high places.up places.rest rising falling
 
--- the first tally has what the passed rising entries come to, each as often as there are falling ones that are enough
--- with it, and the second one likewise what the passed falling entries come to
+-- the first tally has, at each passed rising entry, the number of falling entries that are enough
+-- with it, and the second tally has, at each passed falling entry, the number of such rising
+-- entries
 pub record HasCredited (quota least up rest : ℕ) (rising falling : List Entry) (tallies : List MaskTally) : Type 0 where
   pub rising_even : IsEven (side 0 tallies)
   pub rising_total : total (side 0 tallies) ≡ pairs_where (is_enough quota least) (take up rising) falling
@@ -55,17 +57,17 @@ pub record HasCredited (quota least up rest : ℕ) (rising falling : List Entry)
   pub falling_marked : (slot : ℕ) → marked slot (side 1 tallies)
       ≡ pairs_where (λ a b. is_enough quota least a b && has slot a) (drop rest falling) rising
 
--- a chain stands at these places: it has credited the entries that it passed, and has counted them
+-- a chain at these places: it has credited and counted the entries that it passed
 pub record StandsAt (counts : ℕ → ℕ → ℕ → List Entry → List Entry → Type 0) (asked : Asked) (places : Places)
     (rising falling : List Entry) (tallies : List MaskTally) : Type 0 where
   pub between : IsBetween asked.quota places.up places.rest rising falling
   pub credited : HasCredited asked.quota asked.least_size places.up places.rest rising falling tallies
   pub counted : counts asked.least_size places.up places.rest rising falling
 
--- where no entry is passed
+-- the places at which no entry is passed
 abbrev pub at_start : List Entry → Places
 at_start falling = record { up = 0; rest = length falling }
 
--- so many entries are passed at these places
+-- `passed` entries are passed at these places
 abbrev pub HasPassed : ℕ → Places → List Entry → Type 0
 HasPassed passed places falling = places.up + length falling ≡ passed + places.rest

@@ -1,5 +1,5 @@
-//! The two-pointer count of winning pairs: how many pairs of a left and a right half's sets reach a quota and a least
-//! size, and how many of these have each chair.
+//! Counts, with two pointers, the pairs of a set of the left half and one of the right that reach a
+//! quota and a least size and, for each chair, the number of these pairs that have it.
 #![tactic(auto)]
 
 mod laws;

@@ -1,4 +1,4 @@
-//! The counts of the winning pairs of two lists, and the swings that they come to.
+//! The counts of the winning pairs of two lists, and the swings that follow from them.
 ghost use Rattle.std.specs.Prelude.{◌≡◌, ℕ, ◌+◌, ◌*◌, ◌^◌, ◌<◌, ◌≤◌, slice_index};
 ghost use Rattle.half_sums.specs.Entries.{IsHalf};
 ghost use Rattle.swing_walk.specs.Pairs.{is_enough, large_pairs, large_with, swings_of};
@@ -11,21 +11,30 @@ use crate::walking::walk;
 use council_core::CHAIRS;
 use half_sums::{HalfSums, SLOTS, SumList};
 
-/// The winning pairs of the sets of a left and a right half. Where these are the halves of a board, the pairs are its
-/// coalitions.
+/// The numbers of winning pairs of a set of the left half and one of the right. For the halves of a
+/// board, these pairs are its winning coalitions.
 #[derive(Clone, Copy, Debug, PartialEq, Eq, Hash)]
 pub struct Counts {
-    /// How many pairs have weight and chairs enough together: omega (Coleman 1971).
+    /// Omega: the number of pairs with enough weight and enough chairs together (Coleman 1971).
     pub winning: u64,
-    /// At each place how many of them have its chair: place 0 to 15 is the left slot of that number, place 16 to 31
-    /// the right slot of 16 less.
+    /// At each index, the number of these pairs that have its chair. Indices 0 to 15 are the slots
+    /// of the left half, and indices 16 to 31 those of the right half plus 16.
     pub with_chair: [u64; CHAIRS],
 }
 
-/// Counts the pairs whose sums reach the quota, in votes, and which have at least so many chairs together.
+/// Counts the pairs whose sums reach `quota`, in votes, and which have at least `least_size` chairs
+/// together.
 ///
-/// It takes one walk, up the left list and down the right one (Horowitz and Sahni 1974), and as far from its other
-/// end. Where a size is asked for, the walk keeps count of the sets that it passed by size. It takes no memory.
+/// This takes one walk, up the left list and down the right one (Horowitz and Sahni 1974), and from
+/// the other end at the same time. If `least_size` is not 0, the walk also counts by size the sets
+/// that it has passed. This allocates nothing.
+///
+/// ```rust
+/// left.rebuild(&[(0, 50), (1, 49), (2, 1)]); // two halves, `right` with no chair
+/// let counts = count(&left, &right, 51, 0);
+/// assert_eq!(rt; counts.winning, 3);
+/// assert_eq!(rt; swings(&counts)[0], 3);
+/// ```
 pub fn count(left: &HalfSums, right: &HalfSums, quota: u64, least_size: u8) -> Counts
     ensures winning { result.winning ≡ large_pairs quota least_size left.now right.now }
     ensures with_chair { (place : ℕ) → place < CHAIRS
@@ -34,8 +43,8 @@ pub fn count(left: &HalfSums, right: &HalfSums, quota: u64, least_size: u8) -> C
     count_lists(&left.ascending(), &right.ascending(), quota, least_size)
 }
 
-/// As `count`, for two lists that are lent. Each has what every list of a half has: at most 65,536 sets, ascending by
-/// sum, with no sum above 2^48.
+/// Like `count`, for two borrowed lists. Each must meet the invariant of a half's list: at most
+/// 65,536 sets, ascending by sum, with no sum above 2^48.
 pub fn count_lists(left: &SumList, right: &SumList, quota: u64, least_size: u8) -> Counts
     requires left { IsHalf left.now }
     requires right { IsHalf right.now }
@@ -51,7 +60,7 @@ pub fn count_lists(left: &SumList, right: &SumList, quota: u64, least_size: u8) 
     }
 }
 
-// Adds the pairs that reach the quota and the least size to the tallies, and answers how many there are.
+// Adds the pairs that reach the quota and the least size to the tallies, and returns their number.
 fn credit_pairs(
     left: &SumList,
     right: &SumList,
@@ -63,13 +72,13 @@ fn credit_pairs(
     requires left { IsHalf left.now }
     requires right { IsHalf right.now }
 
-    // The tallies before.
+    // The tallies before the call.
     requires left_even { IsEven lefts.old }
     requires left_room { total lefts.old ≤ 2 ^ 62 }
     requires right_even { IsEven rights.old }
     requires right_room { total rights.old ≤ 2 ^ 62 }
 
-    // What is counted.
+    // The counts.
     ensures winning { result ≡ large_pairs quota least_size left.now right.now }
     ensures lefts { CreditsLefts (is_enough quota least_size) left.now right.now lefts.old lefts.new }
     ensures rights { CreditsRights (is_enough quota least_size) left.now right.now rights.old rights.new }
@@ -90,7 +99,7 @@ fn credit_pairs(
     walk(left, right, asked, front, back, lefts, rights)
 }
 
-// The left totals and then the right ones.
+// The left totals, followed by the right ones.
 fn both(left: &[u64; SLOTS], right: &[u64; SLOTS]) -> [u64; CHAIRS]
     ensures left { (slot : ℕ) → slot < SLOTS → slice_index result slot ≡ slice_index left.now slot }
     ensures right { (slot : ℕ) → slot < SLOTS → slice_index result (SLOTS + slot) ≡ slice_index right.now slot }
@@ -101,8 +110,9 @@ fn both(left: &[u64; SLOTS], right: &[u64; SLOTS]) -> [u64; CHAIRS]
     all
 }
 
-/// The swings of the chair at each place, 0 where no winning pair has it (Banzhaf 1965; Felsenthal and Machover 1998).
-/// The counts of the two halves of a board meet what is asked here, and their swings are those by the definition.
+/// The number of swings of the chair at each index, 0 if no winning pair has it (Banzhaf 1965;
+/// Felsenthal and Machover 1998). The counts of the two halves of a board meet the requirements,
+/// and the results are then the swings by the definition.
 pub fn swings(counts: &Counts) -> [u64; CHAIRS]
     requires few { counts.now.winning ≤ 2 ^ 32 }
     requires within { (place : ℕ) → place < CHAIRS

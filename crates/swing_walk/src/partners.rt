@@ -1,8 +1,10 @@
-//! What counts the partners of the sets that a chain of a walk passes.
+//! Counters of the partners of the sets that a chain of a walk passes.
 //!
-//! Those that reach the quota with a set are known by the order of the walk: where it falls, all rising ones that are
-//! left, else all falling ones that were passed. Where no size is asked for, these are its partners, by place. Else its
-//! partners are those of them with which it has chairs enough, by tables of what was passed.
+//! The order of the walk determines the sets that reach the quota together with a set: if the set
+//! is falling, all rising sets that are left, otherwise all falling sets that were passed. If no
+//! size is required, these are its partners, and their number follows from the positions. Otherwise
+//! its partners are those of them with which it has enough chairs, counted with tables of the
+//! passed sets.
 ghost use Rattle.std.specs.Prelude.{◌≡◌, ℕ, ◌+◌, ◌-◌, ◌<◌, ◌≤◌, List, length, drop, cond};
 ghost use Rattle.half_sums.specs.declared.entry.Entry.{Entry};
 ghost use Rattle.half_sums.specs.Entries.{IsHalf};
@@ -14,12 +16,13 @@ use crate::sides::{FALLING, RISING, count_on};
 use crate::sizes::{SizeTally, lacking};
 use half_sums::{ROOM, STARTS, SumList, either, starts_of};
 
-// What counts the partners of the set that is passed next.
+// Counts the partners of the set that is passed next.
 pub(crate) trait Partners: Copy {
-    // It has counted what was passed: the first so many rising sets, and the falling ones but the first so many.
+    // The state of a counter: it has counted the first `up` rising sets and all falling sets from
+    // `rest` on.
     ghost counts: { Self → ℕ → ℕ → ℕ → List Entry → List Entry → Type 0 };
 
-    // Passes the next set, and answers how many partners it has.
+    // Passes the next set, and returns the number of its partners.
     fn pass(
         &mut self,
         asked: Asked,
@@ -31,14 +34,14 @@ pub(crate) trait Partners: Copy {
         requires rising { IsHalf rising.now }
         requires falling { IsHalf falling.now }
 
-        // Where the chain stands.
+        // The position of the chain.
         requires up { places.up ≤ length rising.now }
         requires rest { places.rest ≤ length falling.now }
         requires few { places.up + length falling.now < places.rest + ROOM }
         requires next { IsNext asked.quota next places rising.now falling.now }
         requires counted { counts self.old asked.least_size places.up places.rest rising.now falling.now }
 
-        // One set further.
+        // The next position.
         ensures partners { result
             ≡ cond next.falls (partners_of asked.least_size next.high.mask (drop places.up rising.now))
             (partners_of asked.least_size next.low.mask (drop places.rest falling.now)) }
@@ -46,7 +49,7 @@ pub(crate) trait Partners: Copy {
             (places.rest - cond next.falls 1 0) rising.now falling.now };
 }
 
-// What counts partners where no size is asked for.
+// A counter for walks without a least size.
 #[derive(Clone, Copy)]
 pub(crate) struct OfAnySize {}
 
@@ -68,17 +71,17 @@ impl Partners for OfAnySize {
     }
 }
 
-// What counts partners by size.
+// A counter for walks with a least size.
 #[derive(Clone, Copy)]
 pub(crate) struct BySize {
-    // The rising sets that were passed, and the falling ones.
+    // The rising sets that were passed, and the falling sets that were passed.
     pub(crate) passed: [SizeTally; 2],
-    // At each size how many of all rising sets have fewer chairs.
+    // For each size, the number of all rising sets with fewer chairs.
     pub(crate) fewer: [usize; STARTS],
 }
 
 impl BySize {
-    // None is passed.
+    // The counter of a chain that has passed no set.
     pub(crate) fn start(rising: &SumList) -> BySize
         requires half { IsHalf rising.now }
         ensures counted { (falling : List Entry) → CountsBySize result 0 (length falling) rising.now falling }

@@ -1,17 +1,17 @@
-//! What a walk asks for, where a chain of it stands, and which entry the chain passes next.
+//! The requirement on a pair, the position of a chain, and the entry that it passes next.
 ghost use Rattle.std.specs.Prelude.{◌≡◌, ◌+◌, ◌-◌, ◌≤◌, length, cond};
 
 use half_sums::{Entry, ROOM, SumList, either};
 
-// What a pair must have: votes and chairs.
+// The votes and the chairs that a pair must have.
 #[derive(Clone, Copy)]
 pub(crate) struct Asked {
     pub(crate) quota: u64,
     pub(crate) least_size: u8,
 }
 
-// How many entries of the rising list are passed, from the least on, and how many of the falling one are left, from
-// the least to the next one that it passes.
+// The position of a chain. It has passed the first `up` entries of the rising list. The first
+// `rest` entries of the falling list are left, and the last of these is the next that it passes.
 #[derive(Clone, Copy)]
 pub(crate) struct Places {
     pub(crate) up: usize,
@@ -19,7 +19,7 @@ pub(crate) struct Places {
 }
 
 impl Places {
-    // No entry is passed.
+    // The position of a chain that has passed no entry.
     pub(crate) fn start(falling: &SumList) -> Places
         ensures none_up { result.up ≡ 0 }
         ensures all_left { result.rest ≡ length falling.now }
@@ -30,7 +30,7 @@ impl Places {
         }
     }
 
-    // Once the falling entry is passed, or else the rising one.
+    // The position after the falling entry is passed, or otherwise the rising one.
     pub(crate) fn after(self, falls: bool) -> Places
         requires some { cond falls 1 0 ≤ self.rest }
         requires few { self.up ≤ ROOM }
@@ -43,8 +43,9 @@ impl Places {
         }
     }
 
-    // How many entries of the other list reach with the one that was passed last: where that one falls, the rising
-    // ones that are left, else the falling ones that are passed.
+    // The number of entries of the other list that reach the quota with the entry that was passed
+    // last: if it is falling, the rising entries that are left, otherwise the falling entries that
+    // were passed.
     pub(crate) fn partners(self, falls: bool, rising: &SumList, falling: &SumList) -> usize
         requires up { self.up ≤ length rising.now }
         requires rest { self.rest ≤ length falling.now }
@@ -54,7 +55,8 @@ impl Places {
     }
 }
 
-// The next rising and the next falling entry of a chain, and whether the falling one is passed.
+// The next rising and the next falling entry of a chain. `falls` is true if the falling one is
+// passed.
 #[derive(Clone, Copy)]
 pub(crate) struct Next {
     pub(crate) low: Entry,

@@ -1,5 +1,5 @@
-//! What a chain keeps for its rising and for its falling list, of which each step adds to one. A place is chosen, and
-//! not a way to go on.
+//! The data of a chain for its rising list and its falling list. Each step adds to one of the two,
+//! and selects it by an index instead of a branch.
 ghost use Rattle.std.specs.Prelude.{◌≡◌, ℕ, ◌+◌, ◌*◌, ◌^◌, ◌<◌, ◌%◌, cond};
 ghost use Rattle.std.specs.Int.{bit_at};
 ghost use Rattle.swing_walk.specs.Tallies.{marked, total, IsEven};
@@ -10,12 +10,12 @@ ghost use Rattle.swing_walk.specs.declared.sizes.TheConstants.{LANES};
 use crate::sizes::SizeTally;
 use crate::tally::MaskTally;
 
-// The places of what is kept for the rising list and for the falling one.
+// The indices of the data for the rising list and for the falling one.
 pub(crate) const RISING: usize = 0;
 
 pub(crate) const FALLING: usize = 1;
 
-// Takes in an amount on the right side, or else on the left one.
+// Adds an amount to the right tally if `to_right`, otherwise to the left one.
 pub(crate) fn add_to(sides: &mut [MaskTally; 2], to_right: bool, mask: u16, amount: u64)
     requires left_even { IsEven (side 0 sides.old) }
     requires right_even { IsEven (side 1 sides.old) }
@@ -39,7 +39,8 @@ pub(crate) fn add_to(sides: &mut [MaskTally; 2], to_right: bool, mask: u16, amou
     sides[usize::from(to_right)].add(mask, amount);
 }
 
-// Counts a set by its size on the right side, or else on the left one. A call for it in each step takes longer.
+// Counts a set by its size in the right tally if `on_right`, otherwise in the left one. Inlined,
+// because a call at each step takes longer.
 #[inline(always)]
 pub(crate) fn count_on(sides: &mut [SizeTally; 2], on_right: bool, mask: u16)
     ensures left { (size : ℕ) → size < LANES

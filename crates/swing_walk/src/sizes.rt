@@ -1,28 +1,28 @@
-//! How many sets have at least so many chairs.
+//! Numbers of sets that have at least a given size.
 ghost use Rattle.std.specs.Prelude.{◌≡◌, ℕ, ◌+◌, ◌-◌, ◌<◌, ◌%◌, ◌^◌, count_ones, length, min};
 ghost use Rattle.std.specs.Prelude.{slice_index_or};
 ghost use Rattle.swing_walk.specs.Sizes.{counted, one_at};
 
 use half_sums::{SIZES, SLOTS, part, size};
 
-// More than there are sizes: eight are added at once.
+// More than the number of sizes, because eight numbers are added at once.
 pub(crate) const LANES: usize = 24;
 
-// A 1 for each of the 17 sizes, and 0 from there on: a set of so many chairs has its own 24 of these from 16 less than
-// its size on.
+// A 1 for each of the 17 sizes, followed by zeros. The `LANES` items from index `SLOTS - n` on
+// belong to a set of n chairs: a 1 at each size up to n.
 const STEPS: [u16; 40] = [
     1, 1, 1, 1, 1, 1, 1, 1, 1, 1, 1, 1, 1, 1, 1, 1, 1, 0, 0, 0, 0, 0, 0, 0, 0, 0, 0, 0, 0, 0, 0, 0,
     0, 0, 0, 0, 0, 0, 0, 0,
 ];
 
-// Sets counted by size: at each size how many have at least so many chairs, modulo 2^16.
+// Sets counted by size: for each size, the number of sets with at least that size, modulo 2^16.
 #[derive(Clone, Copy)]
 pub(crate) struct SizeTally {
     pub(crate) at_least: [u16; LANES],
 }
 
 impl SizeTally {
-    // No set.
+    // The tally of no sets.
     pub(crate) fn new() -> SizeTally
         ensures none { (size : ℕ) → counted size result ≡ 0 }
     {
@@ -31,7 +31,7 @@ impl SizeTally {
         }
     }
 
-    // Takes in the set of a mask.
+    // Adds the set with this mask.
     #[inline(always)]
     pub(crate) fn add(&mut self, mask: u16)
         ensures more { (size : ℕ) → size < LANES
@@ -44,7 +44,7 @@ impl SizeTally {
     }
 }
 
-// What the set of a mask comes to at each size.
+// The amount that the set with this mask adds at each size.
 fn steps_of(mask: u16) -> &'static [u16]
     ensures long { length result.now ≡ LANES }
     ensures each { (size : ℕ) → slice_index_or result.now size 0 ≡ one_at size mask }
@@ -53,7 +53,8 @@ fn steps_of(mask: u16) -> &'static [u16]
     part(&STEPS, first, first + LANES)
 }
 
-// How many chairs the set of a mask lacks, at most one more than any set has.
+// The number of chairs that the set with this mask lacks of `least_size`, at most `SIZES`, one more
+// than any set has.
 pub(crate) fn lacking(least_size: u8, mask: u16) -> usize
     ensures lacking { result ≡ min (least_size - count_ones mask) SIZES }
 {

@@ -1,14 +1,14 @@
-//! Amounts per chair, kept by the bytes of the masks that they come with.
+//! Amounts per chair, stored by the two bytes of the masks to which they belong.
 ghost use Rattle.std.specs.Prelude.{◌≡◌, ℕ, ◌+◌, ◌-◌, ◌*◌, ◌^◌, ◌<◌, slice_index};
 ghost use Rattle.std.specs.Int.{bit_at};
 ghost use Rattle.swing_walk.specs.Tallies.{marked, total, IsEven, low_weight, high_weight};
 
 use half_sums::SLOTS;
 
-// How many values a byte has.
+// The number of values of a byte.
 const BYTES: u16 = 256;
 
-// Amounts by mask: per value of the low byte of the masks and per value of the high one.
+// Amounts by mask: for each value of the masks' low byte, and for each value of their high byte.
 #[derive(Clone, Copy)]
 pub(crate) struct MaskTally {
     pub(crate) low: [u64; BYTES as usize],
@@ -16,7 +16,7 @@ pub(crate) struct MaskTally {
 }
 
 impl MaskTally {
-    // No amounts.
+    // The tally without amounts.
     pub(crate) fn new() -> MaskTally
         ensures none { (slot : ℕ) → marked slot result ≡ 0 }
         ensures total { total result ≡ 0 }
@@ -28,7 +28,7 @@ impl MaskTally {
         }
     }
 
-    // Takes in an amount that comes with this mask.
+    // Adds an amount that belongs to this mask.
     pub(crate) fn add(&mut self, mask: u16, amount: u64)
         requires even { IsEven self.old }
         requires room { total self.old + amount < 2 ^ 64 }
@@ -40,7 +40,7 @@ impl MaskTally {
         self.high[usize::from(mask / BYTES)] += amount;
     }
 
-    // Takes in all amounts of another tally.
+    // Adds all amounts of another tally.
     pub(crate) fn join(&mut self, other: &MaskTally)
         requires even { IsEven self.old }
         requires other_even { IsEven other.now }
@@ -55,7 +55,7 @@ impl MaskTally {
         }
     }
 
-    // All amounts.
+    // The sum of all amounts.
     pub(crate) fn total(&self) -> u64
         requires room { total self.now < 2 ^ 64 }
         ensures total { result ≡ total self.now }
@@ -67,7 +67,7 @@ impl MaskTally {
         total
     }
 
-    // Per slot the amounts whose masks have it.
+    // For each slot, the sum of the amounts whose masks have it.
     pub(crate) fn by_slot(&self) -> [u64; SLOTS]
         requires even { IsEven self.now }
         requires room { total self.now < 2 ^ 63 }
@@ -82,7 +82,8 @@ impl MaskTally {
     }
 }
 
-// Adds what a byte stands for: one amount at its slots as a low byte, and another at its slots as a high one.
+// Adds the amounts of one value of a byte: `low` at its slots as a low byte, and `high` at its
+// slots as a high byte.
 fn add_byte(totals: &mut [u64; SLOTS], byte: u16, low: u64, high: u64)
     requires byte { byte < BYTES }
     requires room { (slot : ℕ) → slot < SLOTS → slice_index totals.old slot + low + high < 2 ^ 64 }
@@ -96,7 +97,7 @@ fn add_byte(totals: &mut [u64; SLOTS], byte: u16, low: u64, high: u64)
     }
 }
 
-// The amount where the mask has the slot, else 0.
+// The amount if the mask has the slot, otherwise 0.
 fn at_bit(mask: u16, slot: usize, amount: u64) -> u64
     requires slot { slot < SLOTS }
     ensures amount { result ≡ bit_at mask slot * amount }

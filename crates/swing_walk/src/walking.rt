@@ -1,10 +1,12 @@
-//! The walk over two lists from both of its ends at once.
+//! The walk over two lists from both ends at once.
 //!
-//! All sets of a rising and a falling list have one order. The next falling set comes next where it reaches the quota
-//! with the next rising one, and so with each rising one that is left. Else the rising set comes next, which reaches
-//! with just the falling ones that were passed. From its other end the order is that of the same lists exchanged.
+//! The walk puts all sets of a rising and a falling list in one order. The next falling set comes
+//! next if it reaches the quota with the next rising one, and so with each rising set that is left.
+//! Otherwise the rising set comes next, which reaches the quota with exactly the falling sets that
+//! were passed. From the other end, the order is that of the two lists exchanged.
 //!
-//! The walk is compiled once for each `Partners`: a test in each step whether a size is asked for takes longer.
+//! The walk is compiled once for each `Partners`, because testing at each step whether a size is
+//! required takes longer.
 ghost use Rattle.std.specs.Prelude.{◌≡◌, ◌+◌, ◌-◌, ◌^◌, ◌<◌, ◌≤◌, ◌*◌, ◌&&◌, ◌||◌, length, not, nat_le};
 ghost use Rattle.std.specs.Prelude.{slice_index_or};
 ghost use Rattle.half_sums.specs.Entries.{IsHalf, zero_entry};
@@ -19,14 +21,15 @@ use crate::sides::{FALLING, RISING, add_to};
 use crate::tally::MaskTally;
 use half_sums::{Entry, ROOM, SumList};
 
-// What a chain has counted: the tallies of its rising and its falling list, and what counts partners.
+// The counts of a chain: the tallies of its rising and its falling list, and the counter of
+// partners.
 #[derive(Clone, Copy)]
 struct Chain<P: Partners> {
     tallies: [MaskTally; 2],
     partners: P,
 }
 
-// Where the two chains of a walk stand, after so many steps of each.
+// The positions of the two chains of a walk, after `walked` steps of each.
 #[derive(Clone, Copy)]
 struct Ends {
     walked: usize,
@@ -34,11 +37,11 @@ struct Ends {
     back: Places,
 }
 
-// What stands where there is no entry.
+// The entry that is read past the end of a list.
 const NO_ENTRY: Entry = Entry { sum: 0, mask: 0 };
 
-// Adds the pairs that reach the quota and the least size to the tallies, and answers how many there are. `front` and
-// `back` count the partners of the two chains.
+// Adds the pairs that reach the quota and the least size to the tallies, and returns their number.
+// `front` and `back` count the partners of the two chains.
 pub(crate) fn walk<P: Partners>(
     left: &SumList,
     right: &SumList,
@@ -55,13 +58,13 @@ pub(crate) fn walk<P: Partners>(
     requires front { P.counts front asked.least_size 0 (length right.now) left.now right.now }
     requires back { P.counts back asked.least_size 0 (length left.now) right.now left.now }
 
-    // The tallies before.
+    // The tallies before the call.
     requires left_even { IsEven lefts.old }
     requires left_room { total lefts.old ≤ 2 ^ 62 }
     requires right_even { IsEven rights.old }
     requires right_room { total rights.old ≤ 2 ^ 62 }
 
-    // What is counted.
+    // The counts.
     ensures winning { result ≡ large_pairs asked.quota asked.least_size left.now right.now }
     ensures lefts { CreditsLefts (is_enough asked.quota asked.least_size) left.now right.now lefts.old lefts.new }
     ensures rights { CreditsRights (is_enough asked.quota asked.least_size) left.now right.now rights.old rights.new }
@@ -83,9 +86,9 @@ pub(crate) fn walk<P: Partners>(
     front.tallies[RISING].total() + back.tallies[FALLING].total()
 }
 
-// Walks up the left list and down the right one, and from the other end up the right list and down the left one, until
-// all entries are passed. The two chains don't wait for one another: each has tallies of its own, and no branch on the
-// sums.
+// Walks up the left list and down the right one, and from the other end up the right list and down
+// the left one, until all entries are passed. The two chains do not depend on one another: each has
+// its own tallies, and neither branches on the sums.
 fn walk_from_both_ends<P: Partners>(
     left: &SumList,
     right: &SumList,
@@ -102,7 +105,7 @@ fn walk_from_both_ends<P: Partners>(
     requires back { StandsAt (P.counts back.old.partners) asked (at_start left.now) right.now left.now
         back.old.tallies }
 
-    // What both have credited.
+    // The pairs that both chains together have credited.
     ensures lefts { CreditsEach (is_enough asked.quota asked.least_size) left.now right.now
         (side 0 front.new.tallies) (side 1 back.new.tallies) }
     ensures rights { CreditsEach (is_enough asked.quota asked.least_size) right.now left.now
@@ -112,7 +115,7 @@ fn walk_from_both_ends<P: Partners>(
     walk_on(ends, left, right, asked, front, back);
 }
 
-// Walks as many steps as the shorter list has entries, so that neither list ends.
+// Walks as many steps as the shorter list has entries, so neither list ends.
 #[inline(never)]
 fn walk_within<P: Partners>(
     left: &SumList,
@@ -130,7 +133,7 @@ fn walk_within<P: Partners>(
     requires back { StandsAt (P.counts back.old.partners) asked (at_start left.now) right.now left.now
         back.old.tallies }
 
-    // How far the two chains are.
+    // The positions of the two chains.
     ensures within { 2 * result.walked ≤ length left.now + length right.now }
     ensures front_passed { HasPassed result.walked result.front right.now }
     ensures back_passed { HasPassed result.walked result.back left.now }
@@ -140,7 +143,7 @@ fn walk_within<P: Partners>(
     steps_within(&left.copy(), &right.copy(), asked, front, back)
 }
 
-// As `walk_within`, compiled into it, so that both lists are in its frame.
+// The body of `walk_within`, inlined into it so that both lists are in its frame.
 #[inline(always)]
 fn steps_within<P: Partners>(
     left: &SumList,
@@ -158,7 +161,7 @@ fn steps_within<P: Partners>(
     requires back { StandsAt (P.counts back.old.partners) asked (at_start left.now) right.now left.now
         back.old.tallies }
 
-    // How far the two chains are.
+    // The positions of the two chains.
     ensures within { 2 * result.walked ≤ length left.now + length right.now }
     ensures front_passed { HasPassed result.walked result.front right.now }
     ensures back_passed { HasPassed result.walked result.back left.now }
@@ -179,7 +182,7 @@ fn steps_within<P: Partners>(
     }
 }
 
-// Walks the steps that are left.
+// Walks the remaining steps.
 #[inline(never)]
 fn walk_on<P: Partners>(
     ends: Ends,
@@ -192,14 +195,14 @@ fn walk_on<P: Partners>(
     requires left { IsHalf left.now }
     requires right { IsHalf right.now }
 
-    // Where the two chains stand.
+    // The positions of the two chains.
     requires within { 2 * ends.walked ≤ length left.now + length right.now }
     requires front_passed { HasPassed ends.walked ends.front right.now }
     requires back_passed { HasPassed ends.walked ends.back left.now }
     requires front { StandsAt (P.counts front.old.partners) asked ends.front left.now right.now front.old.tallies }
     requires back { StandsAt (P.counts back.old.partners) asked ends.back right.now left.now back.old.tallies }
 
-    // What both have credited.
+    // The pairs that both chains together have credited.
     ensures lefts { CreditsEach (is_enough asked.quota asked.least_size) left.now right.now
         (side 0 front.new.tallies) (side 1 back.new.tallies) }
     ensures rights { CreditsEach (is_enough asked.quota asked.least_size) right.now left.now
@@ -229,13 +232,13 @@ fn pass_within<P: Partners>(
     requires rising { IsHalf rising.now }
     requires falling { IsHalf falling.now }
 
-    // Where the chain stands.
+    // The position of the chain.
     requires some_rising { places.up < length rising.now }
     requires some_falling { 0 < places.rest }
     requires few { places.up + length falling.now < places.rest + ROOM }
     requires stands { StandsAt (P.counts chain.old.partners) asked places rising.now falling.now chain.old.tallies }
 
-    // One entry further.
+    // The next position.
     ensures next { result.up + places.rest ≡ places.up + result.rest + 1 }
     ensures stands { StandsAt (P.counts chain.new.partners) asked result rising.now falling.now chain.new.tallies }
 {
@@ -252,7 +255,7 @@ fn pass_within<P: Partners>(
     )
 }
 
-// Passes the next entry of two lists of which one may have ended.
+// Passes the next entry of two lists of which at most one has ended.
 #[inline(always)]
 fn pass<P: Partners>(
     places: Places,
@@ -264,12 +267,12 @@ fn pass<P: Partners>(
     requires rising { IsHalf rising.now }
     requires falling { IsHalf falling.now }
 
-    // Where the chain stands.
+    // The position of the chain.
     requires some { places.up < length rising.now + places.rest }
     requires few { places.up + length falling.now < places.rest + ROOM }
     requires stands { StandsAt (P.counts chain.old.partners) asked places rising.now falling.now chain.old.tallies }
 
-    // One entry further.
+    // The next position.
     ensures next { result.up + places.rest ≡ places.up + result.rest + 1 }
     ensures stands { StandsAt (P.counts chain.new.partners) asked result rising.now falling.now chain.new.tallies }
 {
@@ -301,11 +304,11 @@ fn pass_next<P: Partners>(
     requires falling { IsHalf falling.now }
     requires next { IsNext asked.quota next places rising.now falling.now }
 
-    // Where the chain stands.
+    // The position of the chain.
     requires few { places.up + length falling.now < places.rest + ROOM }
     requires stands { StandsAt (P.counts chain.old.partners) asked places rising.now falling.now chain.old.tallies }
 
-    // One entry further.
+    // The next position.
     ensures next { result.up + places.rest ≡ places.up + result.rest + 1 }
     ensures stands { StandsAt (P.counts chain.new.partners) asked result rising.now falling.now chain.new.tallies }
 {
@@ -314,8 +317,8 @@ fn pass_next<P: Partners>(
     places.after(next.falls)
 }
 
-// Whether the falling entry comes before the rising one: there is one, and it reaches the quota with the rising one,
-// or no rising one is left.
+// Whether the falling entry comes before the rising one: it exists and reaches the quota with the
+// rising one, or no rising one is left.
 fn falls_next(low: &Entry, high: &Entry, some_rising: bool, some_falling: bool, quota: u64) -> bool
     requires small { low.now.sum + high.now.sum < 2 ^ 64 }
     ensures next { result ≡ (not some_rising || (some_falling && nat_le quota (low.now.sum + high.now.sum))) }
@@ -323,7 +326,7 @@ fn falls_next(low: &Entry, high: &Entry, some_rising: bool, some_falling: bool, 
     !some_rising || (some_falling && quota <= low.sum + high.sum)
 }
 
-// The next entry from the least on, once so many are passed; none where all are.
+// The next entry in ascending order after `passed` entries, or `NO_ENTRY` if all are passed.
 fn next_up(entries: &SumList, passed: usize) -> Entry
     requires half { IsHalf entries.now }
     ensures entry { passed < length entries.now → result ≡ slice_index_or entries.now passed zero_entry }
@@ -336,7 +339,8 @@ fn next_up(entries: &SumList, passed: usize) -> Entry
     }
 }
 
-// The next entry of those that are left, from the greatest on; none where none is left.
+// The greatest of the first `rest` entries, which is the next in descending order, or `NO_ENTRY` if
+// none is left.
 fn next_down(entries: &SumList, rest: usize) -> Entry
     requires half { IsHalf entries.now }
     requires within { rest ≤ length entries.now }

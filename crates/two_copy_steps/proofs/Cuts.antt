@@ -87,7 +87,7 @@ by_reader : (m : MachineState) (aux : Auxiliary) (r : ℕ) (o : Option Stage) �
 by_reader m aux r None h = h
 by_reader m aux r (Some stage) h = h
 
--- whatever the event
+-- for any event
 cuts_transition : (m : MachineState) (aux : Auxiliary) → HasCuts m.writer aux.cuts → (event : Event) → HasCuts (transition m event).0.writer (auxiliary_step m aux event).cuts
 cuts_transition m aux h (Submit command) =
     elim (is_idle m.writer.phase) as (λ b. HasCuts (cond b (submitted m command (verdict_of m.ledger command)) (m, Skipped)).0.writer aux.cuts)

@@ -19,7 +19,8 @@ pub always_lawful : (events : List Event) (m : MachineState) (aux : Auxiliary) â
 always_lawful [] m aux l h = l
 always_lawful (event âˆ· events) m aux l h = always_lawful events (transition m event).0 (auxiliary_step m aux event) (transition_keeps IsAccepted m aux l h event) (journal_accepted m h event)
 
--- a lawful machine whose journal is accepted, and a run of the sequential register that agrees with it
+-- a machine that meets the invariant and whose journal is accepted, and a run of the sequential
+-- register that agrees with it
 pub record Together (t : SequentialRun) (m : MachineState) (aux : Auxiliary) : Type 0 where
   pub lawful : IsLawful IsAccepted m aux
   pub accepted : IsAccepted m.ledger.opening m.ledger.journal

@@ -138,7 +138,7 @@ module _ (low r : ℕ) (t : SequentialRun) (m : MachineState) (aux : Auxiliary) 
           let is : g.0 ≡ words = same_sheet g.0 ws (sym g.1 ∙ held) ∙ read_words (suc r) (suc r) ws words e in
           subst (λ (x : List ℕ). low ≤ front_of x) is g.2
 
--- whatever follows
+-- for any later events
 fresh_read : (low r : ℕ) (more : List Event) (t : SequentialRun) (m : MachineState) (aux : Auxiliary) → Together t m aux → Fresh low r t m → (words : List ℕ) → (transition (after m more) (Reader (suc r))).1 ≡ Read (suc r) words
     → low ≤ front_of words
 fresh_read low r [] t m aux h f words told = reads_fresh low r t m aux h f words told
@@ -146,7 +146,8 @@ fresh_read low r (event ∷ more) t m aux h f words told =
     fresh_read low r more (sequential_step t m event) (transition m event).0 (auxiliary_step m aux event) (together_on t m aux h event) (stays_fresh low r t m aux h f event) words told
 
 module _ (ledger : Ledger) (readers : ℕ) (accepted : IsAccepted ledger.opening ledger.journal) where
-  -- a reader at rest after some events reads, whatever follows, nothing older than what is published by then
+  -- a reader at rest after some events reads, after any later events, nothing older than what is
+  -- published by then
   pub run_fresh : (events more : List Event) (r : ℕ) (words : List ℕ) → slice_get (after (started ledger readers) events).readers r ≡ Some AtRest
       → (transition (after (started ledger readers) (events ++ more)) (Reader (suc r))).1 ≡ Read (suc r) words → length (after (started ledger readers) events).writer.published ≤ front_of words
   run_fresh events more r words rest told =

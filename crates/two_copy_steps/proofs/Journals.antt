@@ -1,4 +1,4 @@
--- Legal journals, whatever the event.
+-- Legal journals, for any event.
 use Rattle.std.proofs.Common.{◌≡◌, ◌≢◌, ℕ, zero, suc, eqb, ◌≤◌, Bool, true, false, cond, ◌&&◌, List, [], ◌∷◌, ◌++◌, length, Option, None, Some, slice_get, Result, Ok, Err, is_ok, IsTrue, refl, sym, ap, arith, length-append, eq-eqb, true≢false}
 use Rattle.std.specs.Prelude.{⊤}
 use Rattle.std.proofs.lemmas.List.Elements.{All-push}

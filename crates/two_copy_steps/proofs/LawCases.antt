@@ -1,4 +1,5 @@
--- What the laws say of worked cases, whose premises hold there; and which causes and publications the definitions exclude.
+-- Instances of the laws at worked examples, which meet their premises; and causes and publications
+-- that the definitions exclude.
 use Rattle.std.proofs.Common.{◌≡◌, ◌≤◌, ℕ, ◌++◌, replicate, true, false, List, [], ◌∷◌, slice_get, ⊎_elim, Some, Ok, refl, sym, arith, true≢false, suc, take}
 use Rattle.council_core.specs.Ledgers.{IsLedger, verdict_of}
 use Rattle.council_core.specs.Sheets.{front_of}
@@ -51,7 +52,7 @@ no_memory_after_all h = ⊎_elim (λ t. few t.0) (λ t. ⊎_elim (λ e. omega (a
 no_readers_after_one : HasCause one_member 0 (Publish ∷ []) 1 BadLimit → ⊥
 no_readers_after_one h = ⊎_elim (λ t. omega (arith, t.2)) (λ t. omega (arith, t.0.0)) h
 
--- who was seen out stays so, and the least that isn't is the first
+-- quiescent readers stay quiescent, and the least that is not is the first
 stay_refuted : StaySeen (true ∷ []) (false ∷ []) → ⊥
 stay_refuted h = true≢false (same (h 0 refl))
   where
@@ -81,7 +82,8 @@ apart_while_held_up law = law one_member 1 ledger in_the_way
 replies_while_held_up : RepliesLaw → TellsReplies one_member 1 in_the_way
 replies_while_held_up law = law one_member 1 ledger in_the_way
 
--- a step that stores a word leaves who is seen out, and with everybody seen out a publication fills at once
+-- a step that stores a word does not change which readers are quiescent, and if all are, a
+-- publication fills at once
 stay_used : StayLaw → StaySeen (filling_under AtRest).writer.seen_out (transition (filling_under AtRest) Writer).0.writer.seen_out
 stay_used law = law (filling_under AtRest) Writer refl
 
@@ -98,7 +100,8 @@ fresh_used law = law one_member 1 ledger one_published (replicate 36 (Reader 1))
 never_older_while_held_up : NeverOlderLaw → FrontsNeverFall (notes (started one_member 1) in_the_way)
 never_older_while_held_up law = law one_member 1 ledger in_the_way
 
--- the publication that the reader holds up, at the 42nd event, names the least reader that isn't seen out
+-- the publication that the reader blocks, at the 42nd event, names the least reader that is not
+-- quiescent
 abbrev held_up : MachineState
 held_up = machine_after one_member 1 (take 41 in_the_way)
 

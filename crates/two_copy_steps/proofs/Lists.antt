@@ -3,7 +3,7 @@ use Rattle.std.proofs.Common.{◌≡◌, ◌≢◌, ◌⊎◌, ℕ, zero, suc, �
 use Rattle.std.proofs.lemmas.Option.{none-some, same_Some}
 
 module _ {A : Type 0} where
-  -- after a write at i, what stands at j was written or stood there
+  -- after a write at i, the item at j is the one written or the one before
   pub at_set : (l : List A) (i j : ℕ) (a b : A) → slice_get (set l i a) j ≡ Some b → ((j ≡ i) × (a ≡ b)) ⊎ ((j ≢ i) × (slice_get l j ≡ Some b))
   at_set [] i j a b e = absurd (none-some b e)
   at_set (x ∷ xs) zero zero a b e = inl (refl, same_Some a b e)

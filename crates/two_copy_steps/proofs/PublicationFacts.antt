@@ -1,4 +1,4 @@
--- Who is in the way of a publication, and who stays seen out.
+-- The reader that blocks a publication, and the readers that stay quiescent.
 use Rattle.std.proofs.Common.{◌≡◌, ◌≢◌, ℕ, zero, suc, eqb, ◌<◌, Bool, true, false, cond, List, [], ◌∷◌, get_or, set, Option, None, Some, slice_get, Result, Ok, Err, refl, sym, ap, ◌∙◌, subst, arith, eq-eqb}
 use Rattle.std.specs.Prelude.{⊤}
 use Rattle.std.proofs.lemmas.Option.{none-some, same_Some}
@@ -36,7 +36,7 @@ first_is_least (true ∷ out) e =
     before g zero h = refl
     before g (suc q) h = g q (omega arith)
 
--- the reader that a note says is in the way, if it does
+-- the reader that an output names as blocking, if any
 abbrev in_the_way : Note → Option ℕ
 in_the_way (Busy number) = Some number
 in_the_way (Accepted count) = None
@@ -121,7 +121,7 @@ module _ (m : MachineState) (aux : Auxiliary) (l : IsLawful IsPublishable m aux)
   busy_is (Reader zero) number e = absurd (none-some number (ap in_the_way e))
   busy_is (Reader (suc r)) number e = absurd (not_reader number r (slice_get m.readers r) (ap in_the_way e))
 
--- who is seen out stays so
+-- quiescent readers stay quiescent
 set_stays : (out : List Bool) (r q : ℕ) → slice_get out q ≡ Some true → slice_get (set out r true) q ≡ Some true
 set_stays out r q e =
     dite (ℕ_discrete q r) (λ (s : q ≡ r). ap (slice_get (set out r true)) s ∙ set_here out r true (inside out r true (ap (slice_get out) (sym s) ∙ e))) (λ ne. set_else out r q true ne ∙ e)
@@ -159,7 +159,7 @@ module _ (m : MachineState) where
   stay_is (Reader zero) h = λ q e. e
   stay_is (Reader (suc r)) h = reader_stays r (slice_get m.readers r)
 
-  -- a publication that begins with everybody seen out
+  -- a publication that begins with all readers quiescent
   abbrev is_beginning : Note → Bool
   is_beginning Began = true
   is_beginning (Accepted count) = false

@@ -1,4 +1,4 @@
--- A reader's step keeps the state lawful.
+-- A reader's step keeps the invariant of the state.
 use Rattle.std.proofs.Common.{◌≡◌, ◌≢◌, ℕ, zero, suc, eqb, ◌+◌, ◌<◌, ◌≤◌, Bool, cond, List, [], ◌∷◌, ◌++◌, length, get_or, take, set, Some, slice_get, Contains, refl, sym, ap, ◌∙◌, subst, ⊎_elim, arith, length-set, length-append, get_or-set_other, get_or-set_same, eq-eqb, ne_eqb}
 use Rattle.std.proofs.lemmas.List.{ext_get_or, get_or_append_left, set-get_or}
 use Rattle.std.proofs.lemmas.List.Elements.{Contains-push}
@@ -204,7 +204,7 @@ module _ (opening : Opening) (Legal : List Command → Type 0) where
       reader_moves m l r (set m.words (pin r) 0) (reader AtRest seen) (pin_set r 0 m.words)
       record { pinned = get_or-set_same m.words (pin r) 0 0 (omega arith); stands = tt; record_legal = k.record_legal }
 
-  -- each step of a reader keeps the state lawful
+  -- each step of a reader keeps the invariant of the state
   pub reader_keeps : (m : State) → Lawful opening Legal m → (r : ℕ) (v : ReaderView) → slice_get m.readers r ≡ Some v → Lawful opening Legal (read_by m r v)
   reader_keeps m l r v at = reads m l r v.readings v.stage (inside m.readers r v at) (l.each_reader r v at)
 

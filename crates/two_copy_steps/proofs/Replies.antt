@@ -1,4 +1,4 @@
--- What each event tells is what the sequential register replies.
+-- Each output that answers a call is the sequential register's reply.
 use Rattle.std.proofs.Common.{◌≡◌, ◌≢◌, ℕ, zero, suc, eqb, ◌+◌, ◌<◌, ◌≤◌, Bool, true, false, cond, List, [], ◌∷◌, ◌++◌, length, get_or, take, set, Option, None, Some, slice_get, Result, Ok, Err, refl, sym, ap, ◌∙◌, subst, ⊎_elim, arith, length-append, append_assoc, get_or-set_other, eq-eqb, ne_eqb, ltb-false}
 use Rattle.std.specs.Prelude.{⊤}
 use Rattle.std.proofs.lemmas.List.{ext_get_or, set-get_or}
@@ -322,7 +322,8 @@ module _ (Legal : Opening → List Command → Type 0) where
   event_goes m aux l b replied a (Reader zero) = (a, (refl, tt))
   event_goes m aux l b replied a (Reader (suc r)) = let g = reader_goes m aux l b replied a r (slice_get m.readers r) refl in (g.0, (g.1, tt))
 
-  -- an event keeps the machine in agreement with the sequential register, and tells what that register replies
+  -- an event keeps the machine in agreement with the sequential register, and an output that
+  -- answers a call is that register's reply
   pub event_agrees : (m : MachineState) (aux : Auxiliary) → IsLawful Legal m aux → (t : SequentialRun) → Agrees t m → (event : Event) → EventGoes t m event
   event_agrees m aux l t a event =
       subst (λ (s : Sequential). EventGoes (let z : SequentialRun = record { register = s; replied = t.replied; begun = t.begun } in z) m event) (sym a.register)

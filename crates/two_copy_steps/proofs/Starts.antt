@@ -1,4 +1,4 @@
--- The start is lawful.
+-- The start meets the invariant.
 use Rattle.std.proofs.Common.{◌≡◌, ℕ, zero, suc, ◌+◌, ◌<◌, true, List, [], ◌∷◌, ◌++◌, length, get_or, take, replicate, Some, slice_get, Contains, refl, sym, ap, ◌∙◌, subst, arith, length-append, append-nil, true≢false}
 use Rattle.std.proofs.lemmas.List.{get_or_append_left, get_or-append-add, get_or-replicate, length-replicate}
 use Rattle.std.proofs.lemmas.List.Sorted.{IsNonDecreasingBy-short}
@@ -96,7 +96,7 @@ module _ (Legal : Opening → List Command → Type 0) (ledger : Ledger) (reader
         record_legal = tt;
       }
 
-  -- the machine at its start is lawful
+  -- the machine at its start meets the invariant
   pub start_lawful : IsLawful Legal (started ledger readers) (auxiliary_start ledger readers)
   start_lawful =
       record {

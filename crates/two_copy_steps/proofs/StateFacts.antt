@@ -1,4 +1,4 @@
--- What holds of every lawful state.
+-- Consequences of the invariant, for every state.
 use Rattle.std.proofs.Common.{◌≡◌, ℕ, zero, suc, List, [], ◌∷◌, length, map, Some, slice_get, Contains, refl, sym, ◌∙◌, subst, arith}
 use Rattle.std.proofs.lemmas.List.Elements.{Contains-get_or, Contains-push}
 use Rattle.std.proofs.lemmas.Option.{none-some, same_Some}

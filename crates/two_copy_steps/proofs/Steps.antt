@@ -31,7 +31,7 @@ use Rattle.two_copy_steps.proofs.WriterSteps.{first_inside}
 use Rattle.two_copy_steps.proofs.TransitionSteps.{view_at, viewed_at, viewed_length, written_keeps, publish_keeps, accepted_keeps, step_keeps}
 use Rattle.two_copy_steps.proofs.Starts.{start_lawful}
 
--- what a register is asked for its sheet tells of its journal
+-- the contract of a register's `sheet`, as a fact about its journal
 pub publishable : (L : Ledger) (words : List ℕ) → IsLedger L → words ≡ sheet_of L → IsSheet words → IsPublishable L.opening L.journal
 publishable L words legal is in_range = (legal.legal, subst IsSheet is in_range)
 
@@ -85,7 +85,7 @@ module _ (L : Ledger) (W : List ℕ) (s n : ℕ) (t : List ℕ) (ph : Phase) (so
     abbrev aux : Auxiliary
     aux = k.lawful.0
 
-    -- a reader's step stands in its place
+    -- there is a word for the pin of each reader
     pub wide_enough : pin (length R) ≤ length W
     wide_enough = let wide = k.lawful.1.state.wide in omega (arith, viewed_length R aux.records)
 
@@ -134,7 +134,8 @@ module _ (L : Ledger) (W : List ℕ) (s n : ℕ) (t : List ℕ) (ph : Phase) (so
         ap (λ (commands : List Command). let m : MachineState = record old { writer = record { side = s; published = take n L.journal; taken = commands; phase = cond (all_true so) (Filling 0) Seeing; seen_out = so } } in m) (take-length L.journal)
         ∙ (ap (λ (b : Bool). (published_by old b).0) (sym is) ∙ ap (λ (b : Bool). (cond b (published_by old (is_pending old)) (old, Skipped)).0) (sym idle))
 
-    -- what is kept after an event: the machine then, lawful, with as many readers, and as taken last the sheet of some commands of the journal
+    -- the invariant after an event: of the machine then, with the same number of readers, and the
+    -- staged sheet is that of some commands of the journal
     record KeptAfter (event : Event) (words : List ℕ) (side published : ℕ) (taken : List ℕ) (phase : Phase) (seen_out : List Bool) (readers : List Stage) : Type 0 where
       pub machine : seen_as L words side published taken phase seen_out readers ≡ (transition old event).0
       pub published_within : published ≤ length L.journal
@@ -219,7 +220,7 @@ module _ (L : Ledger) (W : List ℕ) (s n : ℕ) (t : List ℕ) (ph : Phase) (so
           lawful = (aux, subst (λ (m : MachineState). IsLawful IsPublishable m aux) (sym (submitted_in (appended L command) command refl)) (accepted_keeps IsPublishable old aux k.lawful.1 command idle));
         }
 
-    -- whatever the verdict
+    -- for any verdict
     pub handed_in : (L' : Ledger) (command : Command) (v : Result ⊤ Refusal) → L' ≡ (handed L command v).0 → seen_as L' W s n t ph so R ≡ (submitted old command v).0
     handed_in L' command (Ok u) e = submitted_in L' command e
     handed_in L' command (Err refusal) e = ap (λ (l : Ledger). seen_as l W s n t ph so R) e
@@ -324,7 +325,8 @@ started_in L readers =
       readers = replicate readers AtRest;
     } in m
 
--- what the machine keeps at its start: both copies have the register's sheet, all of it is published, and all readers are seen out and at rest
+-- the machine at its start: both copies have the register's sheet, all of it is published, and all
+-- readers are quiescent and at rest
 pub record AtStart (ledger : Ledger) (readers : ℕ) (words : List ℕ) (published : ℕ) (taken : List ℕ) (seen_out : List Bool) (stages : List Stage) : Type 0 where
   pub few : readers ≤ READERS
   pub legal : IsPublishable ledger.opening ledger.journal

@@ -1,4 +1,4 @@
--- Over every list of events a record is what the notes tell of its reader.
+-- Over every list of events a record is the sheets in its reader's outputs.
 use Rattle.std.proofs.Common.{◌≡◌, ◌≢◌, ⊎_elim, ℕ, zero, suc, eqb, ◌<◌, ◌≤◌, Bool, true, false, cond, List, [], ◌∷◌, ◌++◌, length, get_or, set, replicate, Option, None, Some, slice_get, Result, Ok, Err, refl, sym, ap, ◌∙◌, subst, arith, append_assoc, append-nil, length-set, eq-eqb, ne_eqb, take, le_trans}
 use Rattle.std.specs.Prelude.{⊤}
 use Rattle.std.specs.List.Sorted.{IsNonDecreasingBy}
@@ -40,7 +40,7 @@ record_else (y ∷ records) zero (suc q) x ne = refl
 record_else (y ∷ records) (suc r) zero x ne = refl
 record_else (y ∷ records) (suc r) (suc q) x ne = record_else records r q x (λ e. ne (ap suc e))
 
--- what a reader's own step adds, to its record and to what is told of it
+-- the part that a reader's own step adds, to its record and to the sheets in its outputs
 own_loaded : (side : ℕ) (words : List ℕ) (b : Bool) (readings told : List (List ℕ)) → readings ≡ told ++ []
     → entered (cond b (Leaving side words) (Reading side words)) readings ≡ (told ++ []) ++ about_to_leave (cond b (Leaving side words) (Reading side words))
 own_loaded side words true readings told e = ap (λ (l : List (List ℕ)). l ++ words ∷ []) e
@@ -54,14 +54,14 @@ own r found (Reading side words) readings told e = own_loaded side (words ++ fou
 own r found (Leaving side words) readings told e =
     e ∙ (ap (λ (b : Bool). told ++ cond b (words ∷ []) []) (sym (eq-eqb (suc r) (suc r) refl)) ∙ sym (append-nil (told ++ told_of (suc r) (Read (suc r) words))))
 
--- another reader's step tells nothing of this one
+-- another reader's step adds no sheet to this one's outputs
 others : (r number : ℕ) (stage : Stage) → number ≢ suc r → told_of number (stage_note (suc r) stage) ≡ []
 others r number AtRest ne = refl
 others r number Arrived ne = refl
 others r number (Reading side words) ne = refl
 others r number (Leaving side words) ne = ap (λ (b : Bool). cond b (words ∷ []) []) (ne_eqb (suc r) number (λ e. ne (sym e)))
 
--- where readers and records stand as they did, and nothing is told of a reader
+-- events that change no reader and no record, and whose outputs have no sheet
 abbrev Tells : MachineState → Auxiliary → (ℕ → List (List ℕ)) → Type 0
 Tells m aux told = (r : ℕ) (stage : Stage) → slice_get m.readers r ≡ Some stage → record_at aux.records r ≡ told r ++ about_to_leave stage
 
@@ -159,7 +159,7 @@ as_many_at_start : (n : ℕ) → length {A = List (List ℕ)} (replicate n []) �
 as_many_at_start zero = refl
 as_many_at_start (suc n) = ap suc (as_many_at_start n)
 
--- a reader that isn't there tells nothing
+-- a reader that does not exist has no outputs
 absent_set : {A : Type 0} (xs : List A) (i j : ℕ) (x : A) → slice_get xs j ≡ None → slice_get (set xs i x) j ≡ None
 absent_set [] i j x e = refl
 absent_set (y ∷ xs) zero zero x e = absurd (none-some y (sym e))

@@ -1,4 +1,4 @@
--- Each event keeps the machine lawful, with its cuts and records.
+-- Each event keeps the invariant of the machine, with its cuts and records.
 use Rattle.std.proofs.Common.{◌≡◌, ◌≢◌, ℕ, zero, suc, eqb, ◌<◌, Bool, true, false, cond, List, [], ◌∷◌, ◌++◌, length, get_or, set, Option, None, Some, slice_get, Result, Ok, Err, refl, sym, ap, ◌∙◌, subst, arith, length-set, append_assoc, append-nil}
 use Rattle.std.specs.Prelude.{⊤}
 use Rattle.std.proofs.lemmas.Option.{none-some, same_Some}
@@ -49,7 +49,7 @@ viewed_set (x ∷ stages) [] r stage readings h = absurd (omega arith)
 viewed_set (x ∷ stages) (y ∷ records) zero stage readings h = refl
 viewed_set (x ∷ stages) (y ∷ records) (suc r) stage readings h = ap (λ l. view_at x y ∷ l) (viewed_set stages records r stage readings (omega arith))
 
--- a stage stands where a record does
+-- there is a stage at each index below the number of readers
 stage_there : (stages : List Stage) (r : ℕ) → r < length stages → (stage : Stage) × (slice_get stages r ≡ Some stage)
 stage_there [] r h = absurd (omega arith)
 stage_there (x ∷ stages) zero h = (x, refl)
@@ -64,7 +64,7 @@ looked_taken : (w : Writing) (r : ℕ) (b : Bool) → let y = cond b (seeing w (
 looked_taken w r true = (refl, refl)
 looked_taken w r false = (refl, refl)
 
--- a step of the writer keeps the list taken
+-- a step of the writer keeps the staged list
 pub taken_kept : (opening : Opening) (w : Writing) (p : Phase) (found : ℕ) → ((phase_action (sheet opening) w p).after found).taken ≡ w.taken
 taken_kept opening w Idle found = refl
 taken_kept opening w Seeing found = (looked_taken w (first_false w.seen_out) (eqb found 0)).1
@@ -156,14 +156,14 @@ module _ (Legal : Opening → List Command → Type 0) where
   step_keeps m aux l zero = l
   step_keeps m aux l (suc r) = read_keeps m aux l r (slice_get m.readers r) refl
 
-  -- whatever the event
+  -- for any event
   pub transition_keeps : (m : MachineState) (aux : Auxiliary) → IsLawful Legal m aux → Legal m.ledger.opening m.ledger.journal → (event : Event) → Keeps m aux event
   transition_keeps m aux l legal (Submit command) = submit_keeps m aux l command
   transition_keeps m aux l legal Publish = publish_keeps m aux l legal
   transition_keeps m aux l legal Writer = written_keeps m aux l
   transition_keeps m aux l legal (Reader number) = step_keeps m aux l number
 
-  -- the records of a lawful machine are legal
+  -- the records of a machine that meets the invariant are legal
   pub records_are : (m : MachineState) (aux : Auxiliary) → IsLawful Legal m aux → AreRecords m.ledger.opening m.writer.published aux.cuts aux.records
   records_are m aux l =
       records_from_each m.ledger.opening m.writer.published aux.cuts aux.records

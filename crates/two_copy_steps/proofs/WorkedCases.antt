@@ -43,7 +43,7 @@ way_notes : notes (started one_member 1) in_the_way
     ++ replicate 36 Moved ++ Read 1 last_sheet ∷ []
 way_notes = refl
 
--- of these 151 events six stand for a call of the sequential register, in this order
+-- six of these 151 events represent a call of the sequential register, in this order
 way_effects : effects (started one_member 1) in_the_way
     ≡ read ∷ submit (Open 1) ∷ publish ∷ submit (Move (65 ∷ 65 ∷ 65 ∷ []) (Some 1)) ∷ publish ∷ read ∷ []
 way_effects = refl
@@ -73,7 +73,7 @@ begins_nothing = (refl, refl, refl, refl, refl)
 ends_nothing : (begun_after true Moved ≡ true) × (begun_after true (Accepted 1) ≡ true) × (begun_after true (Refused ChairOpen) ≡ true) × (begun_after true (Read 1 []) ≡ true) × (begun_after true Skipped ≡ true)
 ends_nothing = (refl, refl, refl, refl, refl)
 
--- what a reader was replied is forgotten where it arrives anew
+-- the reply to a reader is forgotten when it arrives again
 forgotten : (t : SequentialRun) → replied_at t 1 AtRest 1 ≡ None
 forgotten t = refl
 
@@ -101,7 +101,7 @@ holds_its_side = (refl, refl, refl)
 holds_none : (side_held AtRest ≡ None) × (side_held Arrived ≡ None)
 holds_none = (refl, refl)
 
--- behind a reader's last stage its reading has all its steps
+-- after a reader's last stage its reading has all its steps
 all_steps : suc (steps_taken (Leaving 0 [])) ≡ reading_steps
 all_steps = refl
 
@@ -129,7 +129,7 @@ no_cut h = absurd_words h.readings.0.0.2
     absurd_words : {x : ℕ} {xs : List ℕ} → [] ≡ x ∷ xs → ⊥
     absurd_words e = cc
 
--- the votes of a register and those that an event hands over are in range, or too many
+-- the votes of a register and those that an event submits are in range, or too many
 abbrev pub code : List ℕ
 code = 65 ∷ 65 ∷ 65 ∷ []
 

@@ -1,4 +1,4 @@
--- A writer's step keeps the state lawful.
+-- A writer's step keeps the invariant of the state.
 use Rattle.std.proofs.Common.{◌≡◌, ◌≢◌, ℕ, zero, suc, eqb, ◌+◌, ◌<◌, ◌≤◌, Bool, true, false, cond, List, [], ◌∷◌, ◌++◌, length, get_or, take, set, replicate, Some, slice_get, Contains, refl, sym, ap, ◌∙◌, subst, ⊎_elim, arith, le_trans, length-set, length-append, append_assoc, append-nil, get_or-set_other, get_or-set_same, eq-eqb, ne_eqb}
 use Rattle.std.proofs.lemmas.List.{set-get_or, take-append-le, length-replicate}
 use Rattle.std.proofs.lemmas.List.Elements.{Contains-append_left, Contains-push_cases}
@@ -22,7 +22,7 @@ use Rattle.two_copy_steps.proofs.Lists.{set_else, inside}
 use Rattle.two_copy_steps.proofs.Records.{record-grows, ascends-push}
 use Rattle.two_copy_steps.proofs.ReaderSteps.{place_low}
 
--- no false stands in a list that is all true
+-- no item of a list that is all true is false
 pub all_at : (bs : List Bool) (q : ℕ) → all_true bs ≡ true → slice_get bs q ≡ Some false → ⊥
 all_at [] q a e = none-some false e
 all_at (true ∷ bs) zero a e = cc
@@ -225,7 +225,7 @@ module _ (opening : Opening) (Legal : List Command → Type 0) where
             (λ ne. absurd (all_at w.seen_out q h.0 (late ne)));
       })
 
-  -- a cut of the published list is one of the longer list taken
+  -- a cut of the published list is one of the longer staged list
   cut_stays : (w : Writing) (rest : List Command) → w.published ++ rest ≡ w.taken → (f : ℕ) → f ≤ length w.published → take f w.taken ≡ take f w.published
   cut_stays w rest begins f le = ap (take f) (sym begins) ∙ take-append-le f w.published rest le
 
@@ -279,7 +279,7 @@ module _ (opening : Opening) (Legal : List Command → Type 0) where
   writes m (Filling k) l h = fills m k l h.0 h.1
   writes m Swapping l h = swaps m l h
 
-  -- each step of the writer keeps the state lawful
+  -- each step of the writer keeps the invariant of the state
   pub writer_keeps : (m : State) → Lawful opening Legal m → Lawful opening Legal (written_by opening m)
   writer_keeps m l = writes m m.writer.state.phase l l.writer.fills
 

@@ -1,5 +1,5 @@
--- One atomic step of an actor: one load or one store of one word, and what the actor knows after. This project's own
--- two-copy machine, with one pin word for each reader.
+-- One atomic step of an actor: one load or one store of one word, and the actor's view after it.
+-- This is this project's own two-copy machine, with one pin word for each reader.
 use Rattle.std.specs.Prelude.{ℕ, zero, suc, ◌+◌, ◌-◌, Bool, true, false, List, [], ◌∷◌, ◌++◌}
 use Rattle.std.specs.Prelude.{length, slice_index, slice_set, replicate, if◌then◌else◌, ◌&&◌, ◌==◌}
 use Rattle.council_core.specs.declared.commands.Command.{Command}
@@ -12,7 +12,8 @@ use Rattle.two_copy_steps.specs.declared.views.Phase.{Phase}
 use Rattle.two_copy_steps.specs.declared.views.Phase.TheVariants.{Idle, Seeing, Filling, Swapping}
 use Rattle.two_copy_steps.specs.declared.table.TheConstants.{COPY_WORDS}
 
--- which word is touched, what it becomes, and what the actor knows after, the last two by the number found there
+-- the word that is accessed, its number after the step, and the actor's view after the step; the
+-- last two depend on the number found in the word
 pub record Action (V : Type 0) : Type 0 where
   pub word : ℕ
   pub becomes : ℕ → ℕ
@@ -22,49 +23,51 @@ abbrev pub all_true : List Bool → Bool
 all_true [] = true
 all_true (b ∷ bs) = b && all_true bs
 
--- the place of the first false
+-- the index of the first false
 abbrev pub first_false : List Bool → ℕ
 first_false [] = 0
 first_false (b ∷ bs) = if b then suc (first_false bs) else 0
 
--- the side that is not this one
+-- the other side
 abbrev pub other : ℕ → ℕ
 other side = 1 - side
 
--- where all words are loaded, the words enter the record
+-- once all words are loaded, they are added to the record
 abbrev pub entered : Stage → List (List ℕ) → List (List ℕ)
 entered (Leaving side words) readings = readings ++ words ∷ []
 entered AtRest readings = readings
 entered Arrived readings = readings
 entered (Reading side words) readings = readings
 
--- the record after a step from one stage to another: a reading enters it at the load of its last word
+-- the record after a step from one stage to another: a reading is added at the load of its last
+-- word
 abbrev pub recorded : Stage → Stage → List (List ℕ) → List (List ℕ)
 recorded (Reading side words) after readings = entered after readings
 recorded AtRest after readings = readings
 recorded Arrived after readings = readings
 recorded (Leaving side words) after readings = readings
 
--- the cuts after a step from a phase: a cut comes where side is stored
+-- the cuts after a step from a phase: a cut is added when side is stored
 abbrev pub cuts_past : Phase → List Command → List ℕ → List ℕ
 cuts_past Swapping taken cuts = cuts ++ length taken ∷ []
 cuts_past Idle taken cuts = cuts
 cuts_past Seeing taken cuts = cuts
 cuts_past (Filling k) taken cuts = cuts
 
--- word 0 is side, the two copies follow, and then a pin for each reader; word i of the copy that a side names:
+-- the index of word i of the copy that a side names: word 0 is side, the two copies follow, and
+-- then a pin for each reader
 abbrev pub place : ℕ → ℕ → ℕ
 place zero i = 1 + i
 place (suc _) i = 1 + COPY_WORDS + i
 
--- the pin of the reader at r, counted from 0
+-- the index of the pin of the reader at r, counted from 0
 abbrev pub pin : ℕ → ℕ
 pin r = 1 + COPY_WORDS + COPY_WORDS + r
 
 abbrev pub loaded : ℕ → List ℕ → Stage
 loaded side words = if length words == COPY_WORDS then Leaving side words else Reading side words
 
--- arrive, load side, load a word, leave
+-- the step at each stage: arrive, load side, load a word, leave
 abbrev pub stage_action : ℕ → Stage → Action Stage
 stage_action r AtRest = record { word = pin r; becomes = λ _. 1; after = λ _. Arrived }
 stage_action r Arrived = record { word = 0; becomes = λ found. found; after = λ found. Reading found [] }
@@ -75,7 +78,7 @@ stage_action r (Reading side words) = record {
 }
 stage_action r (Leaving side words) = record { word = pin r; becomes = λ _. 0; after = λ _. AtRest }
 
--- the step of the reader at r, its record with it
+-- the step of the reader at r, with its record
 abbrev pub reader_action : ℕ → ReaderView → Action ReaderView
 reader_action r v =
     let d = stage_action r v.stage in
@@ -85,18 +88,19 @@ reader_action r v =
       after = λ found. record { stage = d.after found; readings = recorded v.stage (d.after found) v.readings };
     }
 
--- these readers are seen out; after the last one filling begins
+-- the writer's state once these readers are quiescent; after the last one, filling begins
 abbrev pub seeing : Writing → List Bool → Writing
 seeing w out = record w { phase = if all_true out then Filling 0 else Seeing; seen_out = out }
 
--- a publication of these commands begins
+-- the writer's state when a publication of these commands begins
 abbrev pub begun : List Command → Writing → Writing
 begun commands w = seeing (record w { taken = commands }) w.seen_out
 
 abbrev pub filled : Writing → ℕ → Writing
 filled w k = record w { phase = if k + 1 == COPY_WORDS then Swapping else Filling (k + 1) }
 
--- side was stored: the commands taken are published, and nobody is seen out
+-- the writer's state after side is stored: the staged commands are published, and no reader is
+-- quiescent
 abbrev pub swapped : Writing → Writing
 swapped w = record {
   side = other w.side;
@@ -107,7 +111,7 @@ swapped w = record {
 }
 
 module _ (sheet : List Command → List ℕ) where
-  -- load a pin, store a word, store side
+  -- the step at each phase: load a pin, store a word, store side
   abbrev pub phase_action : Writing → Phase → Action Writing
   phase_action w Idle = record { word = 0; becomes = λ found. found; after = λ _. w }
   phase_action w Seeing =
@@ -128,7 +132,7 @@ module _ (sheet : List Command → List ℕ) where
   abbrev pub writing_action : Writing → Action Writing
   writing_action w = phase_action w w.phase
 
-  -- the step of the writer, its cuts with it
+  -- the step of the writer, with its cuts
   abbrev pub writer_action : WriterView → Action WriterView
   writer_action v =
       let d = writing_action v.state in

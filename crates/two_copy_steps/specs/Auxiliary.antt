@@ -1,5 +1,5 @@
--- Auxiliary variables of the machine: the cuts of the writer and the records of the readers. The machine doesn't store
--- them and no step reads them.
+-- Auxiliary variables of the machine: the cuts of the writer and the records of the readers. The
+-- machine does not store them, and no step reads them.
 use Rattle.std.specs.Prelude.{◌≡◌, ℕ, zero, suc, false, List, [], ◌∷◌, ◌++◌, length, replicate}
 use Rattle.std.specs.Prelude.{slice_index, slice_index_or, slice_get, slice_set, Option, None, Some}
 use Rattle.council_core.specs.declared.commands.Command.{Command}
@@ -21,7 +21,7 @@ pub record Auxiliary : Type 0 where
   pub cuts : List ℕ
   pub records : List (List (List ℕ))
 
--- the one cut is the length of the journal, and nobody has read
+-- the only cut is the length of the journal, and no reader has read
 abbrev pub auxiliary_start : Ledger → ℕ → Auxiliary
 auxiliary_start ledger readers = record { cuts = length ledger.journal ∷ []; records = replicate readers [] }
 
@@ -38,7 +38,7 @@ auxiliary_reader_step m a r (Some stage) =
           (recorded stage (d.after (slice_index m.words d.word)) (record_at a.records r));
     }
 
--- the cuts and the records after an event, the machine being that before it
+-- the cuts and the records after an event; `m` is the machine before the event
 abbrev pub auxiliary_step : MachineState → Auxiliary → Event → Auxiliary
 auxiliary_step m a (Submit command) = a
 auxiliary_step m a Publish = a
@@ -63,31 +63,32 @@ abbrev pub state_of : MachineState → Auxiliary → State
 state_of m a = record
     { words = m.words; writer = record { state = m.writer; cuts = a.cuts }; readers = viewed m.readers a.records }
 
--- the words and views are lawful, and the journal extends the list last taken, which is all of it while a publication
--- is under way
+-- the invariant of the machine: words and views meet their invariant, and the journal extends the
+-- list last staged, and equals it while a publication is in progress
 pub record IsLawful (Legal : Opening → List Command → Type 0) (m : MachineState) (a : Auxiliary) : Type 0 where
   pub state : Lawful m.ledger.opening (Legal m.ledger.opening) (state_of m a)
   pub extends : (rest : List Command) × (m.writer.taken ++ rest ≡ m.ledger.journal)
   pub whole : is_idle m.writer.phase ≡ false → m.writer.taken ≡ m.ledger.journal
   pub each_record : length a.records ≡ length m.readers
 
--- the published list is legal, the cuts are in order, and the records hold sheets of cuts whose fronts never fall
+-- the published list is legal, the cuts are in order, and the records hold sheets of cuts whose
+-- fronts never fall
 abbrev pub HasLegalRecords : MachineState → Auxiliary → Type 0
 HasLegalRecords m a = AreLegalRecords m.ledger.opening m.writer.published a.cuts a.records
 
--- the side that a reader has loaded, if it has and has not left
+-- the side that a reader has loaded and not yet left, or None
 abbrev pub side_held : Stage → Option ℕ
 side_held AtRest = None
 side_held Arrived = None
 side_held (Reading side words) = Some side
 side_held (Leaving side words) = Some side
 
--- the side of the copy of which the writer's next step stores a word, if it does
+-- the side of the copy into which the writer's next step stores a word, or None
 abbrev pub side_filled : ℕ → Phase → Option ℕ
 side_filled side (Filling k) = Some (other side)
 side_filled side phase = None
 
--- no reader holds the copy of which the writer's next step stores a word
+-- no reader holds the copy into which the writer's next step stores a word
 abbrev pub NoneUnder : MachineState → Type 0
 NoneUnder m =
     (side r : ℕ) (stage : Stage) → side_filled m.writer.side m.writer.phase ≡ Some side

@@ -1,4 +1,4 @@
--- The sequential register beside the machine: its calls, and what it replies to them.
+-- The sequential register alongside the machine: the calls that events represent, and its replies.
 use Rattle.std.specs.Prelude.{◌≡◌, ℕ, zero, suc, Bool, true, false, List, [], ◌∷◌, ◌++◌, length}
 use Rattle.std.specs.Prelude.{slice_get, if◌then◌else◌, ◌==◌, Option, None, Some}
 use Rattle.council_core.specs.Ledgers.{Ledger}
@@ -16,14 +16,14 @@ use Rattle.two_copy_steps.specs.declared.views.Phase.{Phase}
 use Rattle.two_copy_steps.specs.declared.views.Phase.TheVariants.{Idle, Seeing, Filling, Swapping}
 use Rattle.two_copy_steps.specs.Transitions.{MachineState, is_idle, is_pending, transition}
 
--- a reading has its effect at its load of side
+-- the linearization point of a reading is its load of side
 abbrev pub stage_effect : Stage → List Call
 stage_effect AtRest = []
 stage_effect Arrived = sequential.read ∷ []
 stage_effect (Reading side words) = []
 stage_effect (Leaving side words) = []
 
--- a publication has its effect at its store of side
+-- the linearization point of a publication is its store of side
 abbrev pub phase_effect : Phase → List Call
 phase_effect Idle = []
 phase_effect Seeing = []
@@ -34,7 +34,7 @@ abbrev pub reader_effect : Option Stage → List Call
 reader_effect None = []
 reader_effect (Some stage) = stage_effect stage
 
--- the call of the sequential register that an event stands for, if it does for one, the machine being that before
+-- the call of the sequential register that an event represents, or none; `m` is the machine before
 -- the event
 abbrev pub effect : MachineState → Event → List Call
 effect m (Submit command) = if is_idle m.writer.phase then submit command ∷ [] else []
@@ -43,19 +43,20 @@ effect m Writer = phase_effect m.writer.phase
 effect m (Reader zero) = []
 effect m (Reader (suc r)) = reader_effect (slice_get m.readers r)
 
--- the calls that a list of events stands for, in order
+-- the calls that a list of events represents, in order
 abbrev pub effects : MachineState → List Event → List Call
 effects m [] = []
 effects m (event ∷ events) = effect m event ++ effects (transition m event).0 events
 
--- a run of the sequential register: its state, what it replied to each reader's last load of side since that reader
--- arrived, and whether a publication has begun and has neither stored side nor been given up
+-- a run of the sequential register: its state, its reply to each reader's last load of side since
+-- that reader arrived, and whether a publication has begun and has neither stored side nor been
+-- abandoned
 pub record SequentialRun : Type 0 where
   pub register : Sequential
   pub replied : ℕ → Option Reply
   pub begun : Bool
 
--- it starts with the register given, all of it published
+-- the run starts with this register, all of it published
 abbrev pub sequential_start : Ledger → SequentialRun
 sequential_start ledger = record {
   register = record { ledger = ledger; published = length ledger.journal };
@@ -63,8 +64,8 @@ sequential_start ledger = record {
   begun = false;
 }
 
--- what the reader of that number has been replied after its step at a stage: nothing at its arrival, and at its load
--- of side the reply to a read
+-- the reply to each reader after the reader with this number takes its step at a stage: none at its
+-- arrival, and the reply to a read at its load of side
 abbrev pub replied_at : SequentialRun → ℕ → Stage → ℕ → Option Reply
 replied_at t number AtRest k = if k == number then None else t.replied k
 replied_at t number Arrived k =
@@ -83,7 +84,7 @@ replied_after t m Writer k = t.replied k
 replied_after t m (Reader zero) k = t.replied k
 replied_after t m (Reader (suc r)) k = replied_to t (suc r) (slice_get m.readers r) k
 
--- by the note: a publication begins, is given up, or has stored side
+-- the flag after an output: a publication begins, is abandoned, or has stored side
 abbrev pub begun_after : Bool → Note → Bool
 begun_after begun Began = true
 begun_after begun (Busy number) = false
@@ -94,7 +95,7 @@ begun_after begun Moved = begun
 begun_after begun (Read number words) = begun
 begun_after begun Skipped = begun
 
--- after an event, the machine being that before it
+-- the run after an event; `m` is the machine before the event
 abbrev pub sequential_step : SequentialRun → MachineState → Event → SequentialRun
 sequential_step t m event =
     record {
@@ -103,8 +104,8 @@ sequential_step t m event =
       begun = begun_after t.begun (transition m event).1;
     }
 
--- what an event tells is what the sequential register replies: to the call that the event stands for, or, of a
--- reading, at that reader's last load of side since it arrived
+-- an output that answers a call is the sequential register's reply: to the call that the event
+-- represents, or, for a reading, at that reader's last load of side since it arrived
 abbrev pub Tells : List Reply → (ℕ → Option Reply) → Note → Type 0
 Tells replies replied (Accepted count) = replies ≡ accepted count ∷ []
 Tells replies replied (Refused refusal) = replies ≡ refused refusal ∷ []
@@ -115,7 +116,7 @@ Tells replies replied Moved = Unit {0}
 Tells replies replied (Busy number) = replies ≡ []
 Tells replies replied Skipped = replies ≡ []
 
--- a store of side comes after a beginning
+-- side is stored only after a publication has begun
 abbrev pub SwapsOnce : Bool → Event → Phase → Type 0
 SwapsOnce begun Writer Swapping = begun ≡ true
 SwapsOnce begun event phase = Unit {0}
@@ -124,18 +125,18 @@ abbrev pub Answers : SequentialRun → MachineState → Event → Type 0
 Answers t m event = Tells (replies_of t.register (effect m event)) t.replied (transition m event).1
     × SwapsOnce t.begun event m.writer.phase
 
--- so it is at each event of a list
+-- each event of a list meets this
 abbrev pub AllAnswer : SequentialRun → MachineState → List Event → Type 0
 AllAnswer t m [] = Unit {0}
 AllAnswer t m (event ∷ events) =
     Answers t m event × AllAnswer (sequential_step t m event) (transition m event).0 events
 
--- the run beside a machine after a list of events
+-- the run alongside the machine after a list of events
 abbrev pub sequential_steps : SequentialRun → MachineState → List Event → SequentialRun
 sequential_steps t m [] = t
 sequential_steps t m (event ∷ events) = sequential_steps (sequential_step t m event) (transition m event).0 events
 
--- what it replies to the calls that each event stands for, event by event
+-- its replies to the calls that each event represents, event by event
 abbrev pub sequential_replies : SequentialRun → MachineState → List Event → List Reply
 sequential_replies t m [] = []
 sequential_replies t m (event ∷ events) = replies_of t.register (effect m event)

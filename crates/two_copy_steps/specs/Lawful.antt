@@ -1,4 +1,4 @@
--- The state of words and views, and which states are lawful.
+-- The state of words and views, and its invariant.
 use Rattle.std.specs.Prelude.{◌≡◌, ◌≢◌, ℕ, ◌<◌, ◌≤◌, true, false, List, [], ◌∷◌}
 use Rattle.std.specs.Prelude.{◌++◌, length, take, slice_index, slice_get, slice_set, Some, Contains}
 use Rattle.std.specs.List.Sorted.{IsNonDecreasing}
@@ -21,7 +21,7 @@ pub record State : Type 0 where
   pub writer : WriterView
   pub readers : List ReaderView
 
--- the reader at r, whose view is given, takes its step
+-- the state after the reader at r, whose view is given, takes its step
 abbrev pub read_by : State → ℕ → ReaderView → State
 read_by s r v =
     let d = reader_action r v in
@@ -32,50 +32,52 @@ read_by s r v =
       readers = slice_set s.readers r (d.after found);
     }
 
--- the writer takes its step; an opening's sheets are stored
+-- the state after the writer takes its step; the words that it stores are of sheets over this
+-- opening
 abbrev pub written_by : Opening → State → State
 written_by opening s =
     let d = writer_action (sheet opening) s.writer in
     let found = slice_index s.words d.word in
     record { words = slice_set s.words d.word (d.becomes found); writer = d.after found; readers = s.readers }
 
--- the writer begins to publish these commands; no word is touched
+-- the state after the writer begins to publish these commands; no word changes
 abbrev pub begun_by : State → List Command → State
 begun_by s commands = record s { writer = record s.writer { state = begun commands s.writer.state } }
 
--- 1 where the reader isn't at rest
+-- the pin at each stage: 0 for a reader at rest, otherwise 1
 abbrev pub pin_of : Stage → ℕ
 pin_of AtRest = 0
 pin_of Arrived = 1
 pin_of (Reading side words) = 1
 pin_of (Leaving side words) = 1
 
--- the last front of a record, or the number given where it is empty
+-- the last front of a record, or the given number if the record is empty
 abbrev pub last_front : ℕ → List (List ℕ) → ℕ
 last_front low [] = low
 last_front low (words ∷ rest) = last_front (front_of words) rest
 
--- the copy that a side names has so many of these numbers
+-- the first k words of the copy that a side names are those of `numbers`
 abbrev pub ShowsFirst : ℕ → List ℕ → ℕ → List ℕ → Type 0
 ShowsFirst k words side numbers = (i : ℕ) → i < k → slice_index words (place side i) ≡ slice_index numbers i
 
--- it has all of them
+-- all words of that copy are those of `numbers`
 abbrev pub Shows : List ℕ → ℕ → List ℕ → Type 0
 Shows words side numbers = ShowsFirst COPY_WORDS words side numbers
 
--- the words read are the first ones of the copy that a side names
+-- the loaded words are the first words of the copy that a side names
 abbrev pub IsReadFrom : List ℕ → ℕ → List ℕ → Type 0
 IsReadFrom words side loaded =
     (i : ℕ) → i < length loaded → slice_index loaded i ≡ slice_index words (place side i)
 
--- a legal list whose sheet has the numbers of a sheet
+-- a legal list whose sheet is in range
 abbrev pub IsPublishable : Opening → List Command → Type 0
 IsPublishable opening commands = IsLegal opening commands × IsSheet (sheet opening commands)
 
--- an opening, and what is asked of each list of commands that is published
+-- an opening, and the requirement on each published list of commands
 module _ (opening : Opening) (Legal : List Command → Type 0) where
-  -- the reader at r has loaded this side and not left: that copy has the sheet of one cut, not below any front of its
-  -- record, and where that side isn't the writer's, the reader isn't seen out
+  -- the reader at r has loaded this side and not left: that copy has the sheet of one cut, not
+  -- below any front of its record, and if that side is not the writer's, the reader is not
+  -- quiescent
   pub record HoldsCopy (words : List ℕ) (v : WriterView) (readings : List (List ℕ)) (r side : ℕ) : Type 0 where
     pub two : side < 2
     pub cut : ℕ
@@ -98,8 +100,8 @@ module _ (opening : Opening) (Legal : List Command → Type 0) where
     pub stands : Stands words v reader.readings r reader.stage
     pub record_legal : IsRecordFrom opening v.state.published v.cuts 0 reader.readings
 
-  -- all readers are seen out, and the first k words of the copy not published are those of the sheet of the commands
-  -- taken
+  -- all readers are quiescent, and the first k words of the copy that is not published are those of
+  -- the sheet of the staged commands
   abbrev pub Stored : List ℕ → Writing → ℕ → Type 0
   Stored words w k =
       (all_true w.seen_out ≡ true) × ShowsFirst k words (other w.side) (sheet opening w.taken)

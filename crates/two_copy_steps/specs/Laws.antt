@@ -1,4 +1,4 @@
--- Laws of the machine, for whoever builds on it.
+-- Laws of the machine, for proofs that build on it.
 use Rattle.std.specs.Prelude.{◌≡◌, ◌≢◌, ℕ, suc, ◌+◌, ◌≤◌, ◌==◌, true, false, List, []}
 use Rattle.std.specs.Prelude.{◌∷◌, ◌++◌, length, slice_get, slice_index, Some, if◌then◌else◌, All}
 use Rattle.council_core.specs.declared.commands.Command.{Command}
@@ -27,46 +27,46 @@ use Rattle.council_core.specs.Sequential.{replies_of, state_after}
 use Rattle.two_copy_steps.specs.Effects.{SequentialRun, effects, sequential_steps, sequential_replies}
 use Rattle.two_copy_steps.specs.Runs.{machine_after, auxiliary_after, TellsReplies}
 
--- the start over a legal journal, whose sheet is in range, is lawful
+-- the start over a legal journal whose sheet is in range meets the invariant
 abbrev pub StartLaw : Type 0
 StartLaw = (ledger : Ledger) (readers : ℕ) → IsPublishable ledger.opening ledger.journal
     → IsLawful IsPublishable (started ledger readers) (auxiliary_start ledger readers)
 
--- a reader's step keeps words and views lawful
+-- a reader's step keeps the invariant of words and views
 abbrev pub ReaderLaw : Type 0
 ReaderLaw = (opening : Opening) (s : State) → LawfulFor opening s → (r : ℕ) (v : ReaderView)
     → slice_get s.readers r ≡ Some v → LawfulFor opening (read_by s r v)
 
--- so does the writer's
+-- the writer's step keeps the invariant of words and views
 abbrev pub WriterLaw : Type 0
 WriterLaw = (opening : Opening) (s : State) → LawfulFor opening s → LawfulFor opening (written_by opening s)
 
--- and so does the beginning of a publication of any legal list, whose sheet is in range, that extends the one last
--- taken
+-- the beginning of a publication keeps the invariant of words and views, for any legal list that
+-- extends the one last staged and whose sheet is in range
 abbrev pub BeginLaw : Type 0
 BeginLaw = (opening : Opening) (s : State) → LawfulFor opening s → (commands rest : List Command)
     → IsPublishable opening commands → s.writer.state.taken ++ rest ≡ commands
     → LawfulFor opening (begun_by s commands)
 
--- of every lawful state the records are legal
+-- in every state that meets the invariant the records are legal
 abbrev pub StateRecordsLaw : Type 0
 StateRecordsLaw = (opening : Opening) (s : State) → LawfulFor opening s → HasRecords opening s
 
--- and no word is stored under a reader
+-- in every such state no reader holds the copy into which the writer's next step stores a word
 abbrev pub StateUnderLaw : Type 0
 StateUnderLaw = (opening : Opening) (s : State) → LawfulFor opening s → IsApart s
 
--- and what each reader knows is a legal record and words of a sheet
+-- in every such state each reader has a legal record and words of a sheet
 abbrev pub StateKnownLaw : Type 0
 StateKnownLaw = (opening : Opening) (s : State) → LawfulFor opening s → (r : ℕ) (v : ReaderView)
     → slice_get s.readers r ≡ Some v → IsKnown opening v
 
--- the transition at a step of the writer's is its step of words and views
+-- the transition at a step of the writer is the writer's step of words and views
 abbrev pub WriterTransitionLaw : Type 0
 WriterTransitionLaw = (m : MachineState) (a : Auxiliary)
     → state_of (transition m Writer).0 (auxiliary_step m a Writer) ≡ written_by m.ledger.opening (state_of m a)
 
--- so is a reader's
+-- the transition at a step of a reader is that reader's step of words and views
 abbrev pub ReaderTransitionLaw : Type 0
 ReaderTransitionLaw =
     (m : MachineState) (a : Auxiliary) → length a.records ≡ length m.readers → (r : ℕ) (stage : Stage)
@@ -74,12 +74,12 @@ ReaderTransitionLaw =
     → state_of (transition m (Reader (suc r))).0 (auxiliary_step m a (Reader (suc r)))
     ≡ read_by (state_of m a) r (record { stage = stage; readings = record_at a.records r })
 
--- a publication that begins takes the whole journal, and touches no word
+-- a publication that begins stages the whole journal, and changes no word
 abbrev pub BeginTransitionLaw : Type 0
 BeginTransitionLaw = (m : MachineState) (a : Auxiliary) → (transition m Publish).1 ≡ Began
     → state_of (transition m Publish).0 (auxiliary_step m a Publish) ≡ begun_by (state_of m a) m.ledger.journal
 
--- one that doesn't begin leaves words and views as they were, and so does a command
+-- a publication that does not begin leaves words and views unchanged, and so does a command
 abbrev pub IdleTransitionLaw : Type 0
 IdleTransitionLaw = (m : MachineState) (a : Auxiliary) → (transition m Publish).1 ≢ Began
     → state_of (transition m Publish).0 (auxiliary_step m a Publish) ≡ state_of m a
@@ -88,8 +88,8 @@ abbrev pub SubmitTransitionLaw : Type 0
 SubmitTransitionLaw = (m : MachineState) (a : Auxiliary) (command : Command)
     → state_of (transition m (Submit command)).0 (auxiliary_step m a (Submit command)) ≡ state_of m a
 
--- a reader that is in the way is the least that isn't seen out, and its pin is 1; the publication that is given up
--- changes nobody
+-- a blocking reader is the first that is not quiescent, and its pin is 1; the abandoned publication
+-- does not change which readers are quiescent
 abbrev pub BusyLaw : Type 0
 BusyLaw =
     (m : MachineState) (a : Auxiliary) → IsLawful IsPublishable m a → (event : Event) (number : ℕ)
@@ -97,17 +97,17 @@ BusyLaw =
     → (r : ℕ) × (number ≡ suc r) × IsLeastUnseen m.writer.seen_out r × (slice_index m.words (pin r) ≡ 1)
     × ((transition m event).0.writer.seen_out ≡ m.writer.seen_out)
 
--- who is seen out stays so until side is stored
+-- quiescent readers stay quiescent until side is stored
 abbrev pub StayLaw : Type 0
 StayLaw = (m : MachineState) (event : Event) → stores_side event m.writer.phase ≡ false
     → StaySeen m.writer.seen_out (transition m event).0.writer.seen_out
 
--- with everybody seen out a publication that begins fills at once
+-- if all readers are quiescent, a publication that begins fills at once
 abbrev pub AtOnceLaw : Type 0
 AtOnceLaw = (m : MachineState) → all_true m.writer.seen_out ≡ true → (transition m Publish).1 ≡ Began
     → (transition m Publish).0.writer.phase ≡ Filling 0
 
--- a step moves a reader on by one of the steps of a reading
+-- each step advances a reader by one of the steps of a reading
 abbrev pub CountLaw : Type 0
 CountLaw =
     (r found : ℕ) (stage : Stage) → IsReadable stage
@@ -115,7 +115,8 @@ CountLaw =
     × (steps_taken ((stage_action r stage).after found)
     ≡ (if steps_taken stage == last_step then 0 else steps_taken stage + 1))
 
--- the load of the last word is the one step that adds to a reader's record, and it adds the words loaded
+-- the load of the last word is the only step that adds to a reader's record, and it adds the loaded
+-- words
 abbrev pub GrowthLaw : Type 0
 GrowthLaw =
     (r found : ℕ) (v : ReaderView) → IsReadable v.stage → let w = (reader_action r v).after found in
@@ -123,7 +124,7 @@ GrowthLaw =
     × (steps_taken v.stage ≡ last_load
     → (words : List ℕ) × (sheet_read w.stage ≡ Some words) × (w.readings ≡ v.readings ++ words ∷ []))
 
--- each event keeps the machine lawful, with its cuts and records
+-- each event keeps the machine's invariant, with its cuts and records
 abbrev pub EventLaw : Type 0
 EventLaw = (m : MachineState) (a : Auxiliary) → IsLawful IsPublishable m a
     → IsPublishable m.ledger.opening m.ledger.journal
@@ -137,7 +138,7 @@ LedgerLaw = (m : MachineState) → IsLedger m.ledger → (event : Event) → IsL
 abbrev pub HasVotesInRange : Ledger → Type 0
 HasVotesInRange ledger = IsOpening ledger.opening × All SetsInRange ledger.journal
 
--- an event that hands over a command hands over one whose votes are in range
+-- an event that submits a command submits one whose votes are in range
 abbrev pub HandsInRange : Event → Type 0
 HandsInRange (Submit command) = SetsInRange command
 HandsInRange Publish = Unit {0}
@@ -155,29 +156,33 @@ abbrev pub RecordsLaw : Type 0
 RecordsLaw = (ledger : Ledger) (readers : ℕ) → IsLedger ledger → (events : List Event)
     → HasLegalRecords (machine_after ledger readers events) (auxiliary_after ledger readers events)
 
--- over every list of events no word is stored under a reader
+-- over every list of events no reader holds the copy into which the writer's next step stores a
+-- word
 abbrev pub UnderLaw : Type 0
 UnderLaw = (ledger : Ledger) (readers : ℕ) → IsLedger ledger → (events : List Event)
     → NoneUnder (machine_after ledger readers events)
 
--- over every list of events what is told is what the sequential register replies
+-- over every list of events every output that answers a call equals the sequential register's reply
+-- at the call's linearization point
 abbrev pub RepliesLaw : Type 0
 RepliesLaw = (ledger : Ledger) (readers : ℕ) → IsLedger ledger → (events : List Event)
     → TellsReplies ledger readers events
 
--- over every list of events each reader's record is what its notes tell, and the words that it is about to leave
+-- over every list of events each reader's record is the sheets in its outputs, followed by the
+-- words of the reading that it is about to leave
 abbrev pub ToldLaw : Type 0
 ToldLaw =
     (ledger : Ledger) (readers : ℕ) → (events : List Event)
     → RecordsAreTold (machine_after ledger readers events) (auxiliary_after ledger readers events)
     (notes (started ledger readers) events)
 
--- over every list of events no note of a reader tells an older sheet than one before
+-- over every list of events no output of a reader has an older sheet than one before it
 abbrev pub NeverOlderLaw : Type 0
 NeverOlderLaw = (ledger : Ledger) (readers : ℕ) → IsLedger ledger → (events : List Event)
     → FrontsNeverFall (notes (started ledger readers) events)
 
--- a reader that is at rest after some events reads, whatever follows, nothing older than what is published by then
+-- a reader that is at rest after some events later reads nothing older than what was published by
+-- then
 abbrev pub FreshLaw : Type 0
 FreshLaw =
     (ledger : Ledger) (readers : ℕ) → IsLedger ledger → (events more : List Event) (r : ℕ) (words : List ℕ)
@@ -185,20 +190,21 @@ FreshLaw =
     → (transition (machine_after ledger readers (events ++ more)) (Reader (suc r))).1 ≡ Read (suc r) words
     → length (machine_after ledger readers events).writer.published ≤ front_of words
 
--- the replies that events are compared with, one by one, are those of one run of the sequential register over the
--- list of their effects, which ends where that run ends
+-- the replies with which events are compared, one by one, are those of one run of the sequential
+-- register over the list of their calls, and both runs end in the same state
 abbrev pub EffectsLaw : Type 0
 EffectsLaw =
     (t : SequentialRun) (m : MachineState) (events : List Event)
     → (replies_of t.register (effects m events) ≡ sequential_replies t m events)
     × (state_after t.register (effects m events) ≡ (sequential_steps t m events).register)
 
--- the notes of one list followed by another are those of the first, and then those of the second from where the first
--- ended
+-- the outputs of one list followed by another are those of the first, followed by those of the
+-- second from the machine with which the first ended
 abbrev pub NotesLaw : Type 0
 NotesLaw = (m : MachineState) (events more : List Event)
     → notes m (events ++ more) ≡ notes m events ++ notes (after m events) more
 
--- and the machine ends where the second list ends from there
+-- the machine after both lists is the machine after the second, from the machine with which the
+-- first ended
 abbrev pub AfterLaw : Type 0
 AfterLaw = (m : MachineState) (events more : List Event) → after m (events ++ more) ≡ after (after m events) more

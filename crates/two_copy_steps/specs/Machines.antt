@@ -1,4 +1,4 @@
--- What the machine keeps, and what contracts see of it.
+-- The fields of a machine, and the machine as contracts see it.
 use Rattle.std.specs.Prelude.{◌≡◌, ℕ, ◌≤◌, Bool, true, List, length, take, Ok}
 use Rattle.council_core.specs.Rolls.{sheet}
 use Rattle.council_core.specs.Ledgers.{Ledger, verdict_of}
@@ -12,7 +12,8 @@ use Rattle.two_copy_steps.specs.Lawful.{IsPublishable}
 use Rattle.two_copy_steps.specs.Transitions.{MachineState, is_idle}
 use Rattle.two_copy_steps.specs.Auxiliary.{Auxiliary, IsLawful}
 
--- the machine by what it keeps: how many commands are published, and the sheet of those last taken
+-- the machine by its fields, which have the number of published commands and the sheet of the
+-- staged ones
 abbrev pub seen_as : Ledger → List ℕ → ℕ → ℕ → List ℕ → Phase → List Bool → List Stage
     → MachineState
 seen_as ledger words side published taken phase seen_out readers =
@@ -29,7 +30,7 @@ seen_as ledger words side published taken phase seen_out readers =
       readers = readers;
     }
 
--- what it keeps is lawful, for some cuts and records
+-- the fields meet the invariant, for some cuts and records
 pub record IsMachine (ledger : Ledger) (words : List ℕ) (side published : ℕ) (taken : List ℕ) (phase : Phase)
     (seen_out : List Bool) (readers : List Stage) : Type 0 where
   pub published_within : published ≤ length ledger.journal
@@ -39,11 +40,12 @@ pub record IsMachine (ledger : Ledger) (words : List ℕ) (side published : ℕ)
   pub lawful : (a : Auxiliary)
       × IsLawful IsPublishable (seen_as ledger words side published taken phase seen_out readers) a
 
--- one, and no more than there may be
+-- from one to READERS readers
 abbrev pub IsFew : ℕ → Type 0
 IsFew readers = (1 ≤ readers) × (readers ≤ READERS)
 
--- an event that can want memory: a command that the register accepts, while no publication is under way
+-- an event that can need memory: a command that the register accepts, while no publication is in
+-- progress
 abbrev pub WantsMemory : MachineState → Event → Type 0
 WantsMemory m (Submit command) = (is_idle m.writer.phase ≡ true) × (verdict_of m.ledger command ≡ Ok tt)
 WantsMemory m Publish = ⊥

@@ -1,4 +1,4 @@
--- What the notes of a list of events tell of each reader's record.
+-- The sheets in the outputs of a list of events, compared with each reader's record.
 use Rattle.std.specs.Prelude.{◌≡◌, ℕ, suc, ◌==◌, List, [], ◌∷◌, ◌++◌, slice_get}
 use Rattle.std.specs.Prelude.{if◌then◌else◌, Some}
 use Rattle.std.specs.List.Sorted.{IsNonDecreasingBy}
@@ -11,7 +11,7 @@ use Rattle.two_copy_steps.specs.Transitions.{MachineState}
 use Rattle.two_copy_steps.specs.Auxiliary.{Auxiliary, record_at}
 use Rattle.two_copy_steps.specs.Stages.{about_to_leave}
 
--- the sheet that a note tells of the reader of a number, if it does
+-- the sheet in this output if it is of the reader with this number, or none
 abbrev pub told_of : ℕ → Note → List (List ℕ)
 told_of number (Read reader words) = if reader == number then words ∷ [] else []
 told_of number (Accepted count) = []
@@ -22,17 +22,18 @@ told_of number (Published front) = []
 told_of number (Busy reader) = []
 told_of number Skipped = []
 
--- the sheets that notes tell of the reader of a number, in order
+-- the sheets in these outputs of the reader with this number, in order
 abbrev pub sheets_told : ℕ → List Note → List (List ℕ)
 sheets_told number [] = []
 sheets_told number (note ∷ rest) = told_of number note ++ sheets_told number rest
 
--- each reader's record is the sheets told of it, in order, and the words of the reading that it is about to leave
+-- each reader's record is the sheets in its outputs, in order, followed by the words of the reading
+-- that it is about to leave
 abbrev pub RecordsAreTold : MachineState → Auxiliary → List Note → Type 0
 RecordsAreTold m a told =
     (r : ℕ) (stage : Stage) → slice_get m.readers r ≡ Some stage
     → record_at a.records r ≡ sheets_told (suc r) told ++ about_to_leave stage
 
--- among the notes of one reader the fronts never fall
+-- in the outputs of one reader the fronts never fall
 abbrev pub FrontsNeverFall : List Note → Type 0
 FrontsNeverFall told = (number : ℕ) → IsNonDecreasingBy front_of (sheets_told number told)

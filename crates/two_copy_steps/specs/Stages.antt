@@ -1,4 +1,4 @@
--- How far a reader is: by number, by what it keeps, and what its next step does.
+-- The stage of a reader: its number of steps, its representation, and its next step.
 use Rattle.std.specs.Prelude.{◌≡◌, ℕ, ◌+◌, ◌<◌, List, [], ◌∷◌, length, take, Option, None, Some}
 use Rattle.council_core.specs.Sheets.{IsSheet}
 use Rattle.two_copy_steps.specs.declared.views.Stage.{Stage}
@@ -10,47 +10,49 @@ use Rattle.two_copy_steps.specs.declared.stages.ReaderPc.TheVariants as pc
 use Rattle.two_copy_steps.specs.declared.table.TheConstants.{COPY_WORDS}
 use Rattle.two_copy_steps.specs.Actions.{loaded}
 
--- how many steps of a reading come before the load of its copy's last word: its pin, side, and the words but one
+-- the number of steps of a reading before the load of its copy's last word: its pin, side, and all
+-- words except one
 abbrev pub last_load : ℕ
 last_load = COPY_WORDS + 1
 
--- and before its last one
+-- the number of steps before the last one
 abbrev pub last_step : ℕ
 last_step = last_load + 1
 
--- the steps of a reading: its pin, side, the words of a copy, its pin
+-- the number of steps of a reading: its pin, side, the words of a copy, its pin
 abbrev pub reading_steps : ℕ
 reading_steps = last_step + 1
 
--- of the steps of a reading, how many are taken
+-- the number of steps of a reading that are done at a stage
 abbrev pub steps_taken : Stage → ℕ
 steps_taken AtRest = 0
 steps_taken Arrived = 1
 steps_taken (Reading side words) = 2 + length words
 steps_taken (Leaving side words) = last_step
 
--- a reader that is loading words has some left, and one that has all of them has a sheet
+-- a reader that is loading words has words left to load, and one that has loaded all has a sheet
 abbrev pub IsReadable : Stage → Type 0
 IsReadable AtRest = Unit {0}
 IsReadable Arrived = Unit {0}
 IsReadable (Reading side words) = length words < COPY_WORDS
 IsReadable (Leaving side words) = (length words ≡ COPY_WORDS) × IsSheet words
 
--- the sheet that the step from a stage answers, if it is the last of a reading
+-- the sheet that the step from a stage returns: only the last step of a reading returns one
 abbrev pub sheet_read : Stage → Option (List ℕ)
 sheet_read AtRest = None
 sheet_read Arrived = None
 sheet_read (Reading side words) = None
 sheet_read (Leaving side words) = Some words
 
--- the words of the reading that a reader is about to leave, if it is
+-- the words of the reading that a reader is about to leave, or none
 abbrev pub about_to_leave : Stage → List (List ℕ)
 about_to_leave AtRest = []
 about_to_leave Arrived = []
 about_to_leave (Reading side words) = []
 about_to_leave (Leaving side words) = words ∷ []
 
--- the stage of a reader by what it keeps: the side counts once it is loaded, and of the words those that are loaded
+-- the stage of a reader by its representation: the side is used once it is loaded, and of the words
+-- only those that are loaded
 abbrev pub stage_of : ReaderPc → ℕ → List ℕ → Stage
 stage_of pc.AtRest side words = AtRest
 stage_of pc.Arrived side words = Arrived
@@ -62,12 +64,12 @@ abbrev pub IsPcPast : ℕ → ReaderPc → Type 0
 IsPcPast k pc = (side : ℕ) (words : List ℕ) → length words ≡ COPY_WORDS
     → stage_of pc side words ≡ loaded side (take (k + 1) words)
 
--- the place of the word that is touched
+-- the index of the word that is accessed
 abbrev pub accessed : Access → ℕ
 accessed (Load place) = place
 accessed (Store place word) = place
 
--- what is left in the word where this number was found
+-- the number that is left in the word, if `found` was in it
 abbrev pub left_by : Access → ℕ → ℕ
 left_by (Load place) found = found
 left_by (Store place word) found = word

@@ -1,4 +1,4 @@
--- What holds of every lawful state of words and views.
+-- Consequences of the invariant, for every state of words and views.
 use Rattle.std.specs.Prelude.{◌≡◌, ℕ, List, [], ◌∷◌, ◌++◌, map, slice_get, Some}
 use Rattle.council_core.specs.declared.commands.Command.{Command}
 use Rattle.council_core.specs.Rolls.{Opening}
@@ -16,25 +16,26 @@ LawfulFor opening s = Lawful opening (IsPublishable opening) s
 abbrev pub readings_of : ReaderView → List (List ℕ)
 readings_of v = v.readings
 
--- the published list is legal, the cuts are in order, and the records hold sheets of cuts whose fronts never fall
+-- the published list is legal, the cuts are in order, and the records hold sheets of cuts whose
+-- fronts never fall
 abbrev pub HasRecords : Opening → State → Type 0
 HasRecords opening s = AreLegalRecords opening s.writer.state.published s.writer.cuts (map readings_of s.readers)
 
--- no reader holds the copy of which the writer's next step stores a word
+-- no reader holds the copy into which the writer's next step stores a word
 abbrev pub IsApart : State → Type 0
 IsApart s =
     (side r : ℕ) (v : ReaderView) → side_filled s.writer.state.side s.writer.state.phase ≡ Some side
     → slice_get s.readers r ≡ Some v → side_held v.stage ≡ Some side → ⊥
 
--- a reader that has loaded all words has them as the last sheet of its record
+-- the last sheet in the record of a reader that has loaded all words has these words
 abbrev pub EndsWith : List (List ℕ) → Stage → Type 0
 EndsWith readings AtRest = Unit {0}
 EndsWith readings Arrived = Unit {0}
 EndsWith readings (Reading side words) = Unit {0}
 EndsWith readings (Leaving side words) = (earlier : List (List ℕ)) × (readings ≡ earlier ++ words ∷ [])
 
--- what each reader knows: its record is legal for some list and cuts, and the words that it has loaded are those of a
--- sheet
+-- a reader's view: its record is legal for some list and cuts, and the words that it has loaded are
+-- those of a sheet
 pub record IsKnown (opening : Opening) (v : ReaderView) : Type 0 where
   pub list : List Command
   pub cuts : List ℕ

@@ -1,4 +1,5 @@
--- The machine as contracts see it, and its transition at each event: what that does to it and tells.
+-- The machine as contracts see it, and its transition at each event: the machine after it, and the
+-- output.
 use Rattle.std.specs.Prelude.{ℕ, zero, suc, ◌+◌, Bool, true, false, List, [], ◌∷◌, ◌++◌, length}
 use Rattle.std.specs.Prelude.{replicate, slice_index, slice_get, slice_set, if◌then◌else◌, ◌==◌, nat_lt}
 use Rattle.std.specs.Prelude.{Option, None, Some, Result, Ok, Err, ⊤}
@@ -18,8 +19,8 @@ use Rattle.two_copy_steps.specs.declared.views.Phase.{Phase}
 use Rattle.two_copy_steps.specs.declared.views.Phase.TheVariants.{Idle, Seeing, Filling, Swapping}
 use Rattle.two_copy_steps.specs.Actions.{first_false, pin, stage_action, writing_action, begun}
 
--- the register, the words (word 0 is side, then copy 0, copy 1 and a pin for each reader), how far the writer is, and
--- each reader's stage
+-- the register, the words (word 0 is side, then copy 0, copy 1 and a pin for each reader), the
+-- writer's state, and each reader's stage
 pub record MachineState : Type 0 where
   pub ledger : Ledger
   pub words : List ℕ
@@ -32,7 +33,7 @@ is_idle Seeing = false
 is_idle (Filling k) = false
 is_idle Swapping = false
 
--- both copies have the register's sheet, everybody is seen out, and nobody is on the way
+-- both copies have the register's sheet, and all readers are quiescent and at rest
 abbrev pub started : Ledger → ℕ → MachineState
 started ledger readers =
     record {
@@ -48,7 +49,7 @@ started ledger readers =
       readers = replicate readers AtRest;
     }
 
--- a command is handed to the register: the register after its verdict, and the note
+-- a command is submitted to the register: the register after its verdict, and the output
 abbrev pub handed : Ledger → Command → Result ⊤ Refusal → Ledger × Note
 handed ledger command (Ok u) = (appended ledger command, Accepted (length ledger.journal + 1))
 handed ledger command (Err refusal) = (ledger, Refused refusal)
@@ -56,16 +57,16 @@ handed ledger command (Err refusal) = (ledger, Refused refusal)
 abbrev pub submitted : MachineState → Command → Result ⊤ Refusal → MachineState × Note
 submitted m command v = let after = handed m.ledger command v in (record m { ledger = after.0 }, after.1)
 
--- a publication of the whole journal begins, if there is something pending
+-- a publication of the whole journal begins, if commands are pending
 abbrev pub published_by : MachineState → Bool → MachineState × Note
 published_by m true = (record m { writer = begun m.ledger.journal m.writer }, Began)
 published_by m false = (m, Published (length m.writer.published))
 
--- the register has accepted more commands than are published
+-- whether the register has accepted more commands than are published
 abbrev pub is_pending : MachineState → Bool
 is_pending m = nat_lt (length m.writer.published) (length m.ledger.journal)
 
--- what the writer's step tells, by its phase
+-- the output of the writer's step, by its phase
 abbrev pub phase_note : MachineState → Phase → Note
 phase_note m Idle = Skipped
 phase_note m Seeing = let r = first_false m.writer.seen_out
@@ -73,33 +74,33 @@ phase_note m Seeing = let r = first_false m.writer.seen_out
 phase_note m (Filling k) = Moved
 phase_note m Swapping = Published (length m.writer.taken)
 
--- the writer takes its step
+-- the machine after the writer takes its step
 abbrev pub written : MachineState → MachineState
 written m =
     let d = writing_action (sheet m.ledger.opening) m.writer in
     let found = slice_index m.words d.word in
     record m { words = slice_set m.words d.word (d.becomes found); writer = d.after found }
 
--- what the step of the reader of that number tells, by its stage
+-- the output of the step of the reader with this number, by its stage
 abbrev pub stage_note : ℕ → Stage → Note
 stage_note number AtRest = Moved
 stage_note number Arrived = Moved
 stage_note number (Reading side words) = Moved
 stage_note number (Leaving side words) = Read number words
 
--- the reader at r takes its step
+-- the machine after the reader at r takes its step
 abbrev pub read : MachineState → ℕ → Stage → MachineState
 read m r stage =
     let d = stage_action r stage in
     let found = slice_index m.words d.word in
     record m { words = slice_set m.words d.word (d.becomes found); readers = slice_set m.readers r (d.after found) }
 
--- the reader at r, if there is one
+-- the transition of the reader at r, if there is one
 abbrev pub reader_transition : MachineState → ℕ → Option Stage → MachineState × Note
 reader_transition m r None = (m, Skipped)
 reader_transition m r (Some stage) = (read m r stage, stage_note (suc r) stage)
 
--- the transition at an event: the machine after it, and the note
+-- the transition at an event: the machine after it, and the output
 abbrev pub transition : MachineState → Event → MachineState × Note
 transition m (Submit command) =
     if is_idle m.writer.phase then submitted m command (verdict_of m.ledger command) else (m, Skipped)
@@ -113,7 +114,7 @@ abbrev pub after : MachineState → List Event → MachineState
 after m [] = m
 after m (event ∷ events) = after (transition m event).0 events
 
--- the notes of the events, in order
+-- the outputs of the events, in order
 abbrev pub notes : MachineState → List Event → List Note
 notes m [] = []
 notes m (event ∷ events) = (transition m event).1 ∷ notes (transition m event).0 events

@@ -1,4 +1,4 @@
-//! Who of the readers is seen out.
+//! The set of quiescent readers.
 ghost use Rattle.std.specs.Prelude.{◌≡◌, List, Bool, ◌<◌, ◌≤◌, true, false, Some, length, take, replicate};
 ghost use Rattle.std.specs.Prelude.{slice_get, slice_set};
 ghost use Rattle.two_copy_steps.specs.declared.table.TheConstants.{READERS};
@@ -8,7 +8,7 @@ ghost use Rattle.two_copy_steps.specs.Publications.{seen_out_at};
 use crate::table::READERS;
 use std::marker::Model;
 
-/// Whether each reader is seen out, of at most `READERS`.
+/// For each reader, of at most `READERS`, whether it is quiescent.
 #[derive(Debug, Drop)]
 pub struct Flags {
     flags: [bool; READERS],
@@ -24,7 +24,7 @@ impl Model for Flags {
 }
 
 impl Flags {
-    // Of each reader, whether it is seen out.
+    // For each reader, whether it is quiescent.
     fn as_slice(&self) -> &[bool]
         ensures same { result.now ≡ self.now }
         ensures few { length result.now ≤ READERS }
@@ -32,7 +32,7 @@ impl Flags {
         &self.flags[..self.len]
     }
 
-    /// How many readers there are, at most `READERS`.
+    /// The number of readers, at most `READERS`.
     pub fn len(&self) -> usize
         ensures number { result ≡ length self.now }
         ensures few { result ≤ READERS }
@@ -40,7 +40,7 @@ impl Flags {
         self.as_slice().len()
     }
 
-    /// Whether the reader at r, counted from 0, is seen out.
+    /// Whether reader `r`, counted from 0, is quiescent.
     pub fn get(&self, r: usize) -> bool
         requires within { r < length self.now }
         ensures same { slice_get self.now r ≡ Some result }
@@ -48,8 +48,8 @@ impl Flags {
         self.as_slice()[r]
     }
 
-    /// Whether the reader of this number, counted from 1, is seen out. False where there is no such
-    /// reader.
+    /// Whether the reader with this number, counted from 1, is quiescent. False if no reader has
+    /// this number.
     pub fn has(&self, number: u8) -> bool
         ensures same { result ≡ seen_out_at self.now number }
     {
@@ -59,7 +59,7 @@ impl Flags {
         self.flags[number as usize - 1]
     }
 
-    /// Everybody is seen out.
+    /// All readers are quiescent.
     pub fn start(readers: u8) -> Flags
         requires { readers ≤ READERS }
         ensures { result ≡ replicate readers true }
@@ -70,7 +70,7 @@ impl Flags {
         }
     }
 
-    /// The least reader that isn't seen out, counted from 0, or else how many readers there are.
+    /// The first reader that is not quiescent, counted from 0, or the number of readers if all are.
     pub fn first_false(&self) -> usize
         ensures { result ≡ first_false self.now }
     {
@@ -82,7 +82,7 @@ impl Flags {
         self.len
     }
 
-    /// Whether everybody is seen out.
+    /// Whether all readers are quiescent.
     pub fn all_true(&self) -> bool
         ensures { result ≡ all_true self.now }
     {
@@ -94,7 +94,7 @@ impl Flags {
         true
     }
 
-    /// This reader is seen out.
+    /// Marks reader `r`, counted from 0, as quiescent.
     pub fn set(&mut self, r: usize)
         requires within { r < length self.old }
         requires few { r < READERS }
@@ -103,7 +103,7 @@ impl Flags {
         self.flags[r] = true;
     }
 
-    /// Nobody is seen out.
+    /// Marks all readers as not quiescent.
     pub fn clear(&mut self)
         ensures { self.new ≡ replicate (length self.old) false }
     {

@@ -1,5 +1,5 @@
-//! Left-right publication as a state machine: one writer publishes sheets to readers through two copies of a sheet, one
-//! load or store of one word at a step.
+//! Left-right publication as a state machine: one writer publishes sheets to readers through two
+//! copies of a sheet, with one load or store of one word at each step.
 #![tactic(auto)]
 
 mod events;

@@ -1,4 +1,4 @@
-//! The machine.
+//! The machine and its transitions.
 ghost use Rattle.std.specs.Prelude.{◌≡◌, ◌+◌, ◌<◌, ◌==◌, ◌↔◌, if◌then◌else◌, length};
 ghost use Rattle.std.specs.Prelude.{IsOk, IfOk, IfErr, OnErr, IsOkUnless, Ok, Err};
 ghost use Rattle.council_core.specs.Ledgers.{IsLedger, verdict_of};
@@ -42,7 +42,7 @@ impl Model for Machine {
     ghost invariant = { λ m. IsMachine m.register m.table m.side m.published m.taken m.phase m.seen_out m.stages };
 }
 
-// Hands a command to the register, and tells whether it was accepted.
+// Submits a command to the register. The output says whether it was accepted.
 fn hand_over(register: &mut Register, command: Command) -> Result<Note, Refusal>
     ensures handed { IfOk result
         (λ note. (register.new, note) ≡ handed register.old command (verdict_of register.old command)) }
@@ -58,9 +58,13 @@ fn hand_over(register: &mut Register, command: Command) -> Result<Note, Refusal>
 }
 
 impl Machine {
-    /// A machine over this register, with readers numbered from 1. Both copies have the register's
-    /// sheet, and everybody is at rest. It is refused with `BadLimit`, and the register is handed
-    /// back, unless there are one to `READERS` readers.
+    /// A machine over this register, with `readers` readers, numbered from 1. Both copies have the
+    /// register's sheet, and the writer and all readers are at rest.
+    ///
+    /// # Errors
+    ///
+    /// `Refusal::BadLimit` unless `readers` is from 1 to `READERS`. The error also returns the
+    /// register, unchanged.
     pub fn start(register: Register, readers: u8) -> Result<Machine, (Register, Refusal)>
         ensures in_range { IsOk result ↔ IsFew readers }
         ensures started { IfOk result (λ m. m ≡ started register readers) }
@@ -83,31 +87,45 @@ impl Machine {
         })
     }
 
-    /// The register, as the events so far have left it.
+    /// The register after the events so far.
     pub fn register(&self) -> &Register
         ensures same { result.now ≡ self.now.ledger }
     {
         &self.register
     }
 
-    /// How many commands are published.
+    /// The number of published commands.
     pub fn published(&self) -> u32
         ensures number { result ≡ length self.now.writer.published }
     {
         self.published
     }
 
-    /// Whether the reader of this number, counted from 1, is seen out: its pin was at 0 when the writer
-    /// looked since side was last stored, or nothing was published yet. False where there is no such
-    /// reader.
+    /// Whether the reader with this number, counted from 1, is quiescent: the writer found its pin
+    /// at 0 since side was last stored, or nothing has been published yet. False if no reader has
+    /// this number.
     pub fn seen_out(&self, reader: u8) -> bool
         ensures same { result ≡ seen_out_at self.now.writer.seen_out reader }
     {
         self.seen_out.has(reader)
     }
 
-    /// One event, and what it tells. Only the handing over of a command that the register accepts can
-    /// be answered `OutOfMemory`, while no publication is under way; the machine is then unchanged.
+    /// Carries out one event and returns its output.
+    ///
+    /// # Errors
+    ///
+    /// `Refusal::OutOfMemory` if memory could not be allocated for a submitted command that the
+    /// register accepts, while no publication is in progress. The machine is then unchanged. No
+    /// other event fails.
+    ///
+    /// ```rust
+    /// // A machine with one reader, over a new register.
+    /// let open = Command::Open(ChairId::new(1)?);
+    /// assert_eq!(rt; machine.step(Event::Submit(open))?, Note::Accepted(1));
+    /// assert_eq!(rt; machine.step(Event::Reader(2))?, Note::Skipped);
+    /// assert_eq!(rt; machine.step(Event::Publish)?, Note::Began);
+    /// assert_eq!(rt; machine.step(Event::Writer)?, Note::Moved);
+    /// ```
     pub fn step(&mut self, event: Event) -> Result<Note, Refusal>
         ensures machine { IfOk result (λ note. self.new ≡ (transition self.old event).0) }
         ensures note { IfOk result (λ note. note ≡ (transition self.old event).1) }
@@ -123,7 +141,7 @@ impl Machine {
         }
     }
 
-    // Hands a command to the register, unless a publication is under way.
+    // Submits a command to the register, unless a publication is in progress.
     fn submit(&mut self, command: Command) -> Result<Note, Refusal>
         ensures machine { IfOk result (λ note. self.new ≡ (transition self.old (Submit command)).0) }
         ensures note { IfOk result (λ note. note ≡ (transition self.old (Submit command)).1) }
@@ -137,14 +155,14 @@ impl Machine {
         hand_over(&mut self.register, command)
     }
 
-    // Whether no publication is under way.
+    // Whether no publication is in progress.
     fn is_idle(&self) -> bool
         ensures { result ≡ is_idle self.now.writer.phase }
     {
         matches!(self.phase, Phase::Idle)
     }
 
-    // Begins a publication, unless one is under way or nothing is pending.
+    // Begins a publication, unless one is in progress or no command is pending.
     fn begin(&mut self) -> Note
         ensures machine { self.new ≡ (transition self.old Publish).0 }
         ensures note { result ≡ (transition self.old Publish).1 }
@@ -160,7 +178,7 @@ impl Machine {
         Note::Began
     }
 
-    // The writer's next step.
+    // Takes the writer's next step.
     fn write(&mut self) -> Note
         ensures machine { self.new ≡ (transition self.old Writer).0 }
         ensures note { result ≡ (transition self.old Writer).1 }
@@ -173,7 +191,7 @@ impl Machine {
         }
     }
 
-    // Loads the pin of the least reader that isn't seen out.
+    // Loads the pin of the first reader that is not quiescent.
     fn see(&mut self) -> Note
         requires { self.old.writer.phase ≡ Seeing }
         ensures machine { self.new ≡ (transition self.old Writer).0 }
@@ -189,7 +207,7 @@ impl Machine {
         Note::Moved
     }
 
-    // Stores a word of the copy that isn't published.
+    // Stores a word of the copy that is not published.
     fn fill(&mut self, k: u64) -> Note
         requires { self.old.writer.phase ≡ Filling k }
         ensures machine { self.new ≡ (transition self.old Writer).0 }
@@ -201,7 +219,7 @@ impl Machine {
         Note::Moved
     }
 
-    // Stores side: the sheet taken is published.
+    // Stores side, which publishes the staged sheet.
     fn swap(&mut self) -> Note
         requires { self.old.writer.phase ≡ Swapping }
         ensures machine { self.new ≡ (transition self.old Writer).0 }
@@ -215,7 +233,7 @@ impl Machine {
         Note::Published(self.published)
     }
 
-    // The next step of the reader of a number, if there is one.
+    // Takes the next step of the reader with this number, if there is one.
     fn read(&mut self, number: u8) -> Note
         ensures machine { self.new ≡ (transition self.old (Reader number)).0 }
         ensures note { result ≡ (transition self.old (Reader number)).1 }
@@ -226,7 +244,7 @@ impl Machine {
         self.stages.advance(&mut self.table, number as usize - 1)
     }
 
-    // The register alone.
+    // The machine's register.
     pub(crate) fn into_register(self) -> Register
         ensures { result ≡ self.ledger }
     {
@@ -234,7 +252,7 @@ impl Machine {
     }
 }
 
-// Filling begins once all readers are seen out.
+// Filling begins once all readers are quiescent.
 fn phase_after(seen_out: &Flags) -> Phase
     ensures { result ≡ (if all_true seen_out.now then Filling 0 else Seeing) }
 {
@@ -245,7 +263,7 @@ fn phase_after(seen_out: &Flags) -> Phase
     }
 }
 
-// After the last word side is next.
+// After the last word, side is stored next.
 fn phase_past(k: u64) -> Phase
     requires { k < COPY_WORDS }
     ensures { result ≡ (if k + 1 == COPY_WORDS then Swapping else Filling (k + 1)) }

@@ -14,7 +14,7 @@ use crate::table::{COPY_WORDS, READERS, Table};
 use std::array;
 use std::marker::Model;
 
-// The stage of each reader, of at most `READERS`.
+// The stages of the readers, at most `READERS`.
 #[derive(Debug, Drop)]
 pub(crate) struct ReaderStages {
     stages: [ReaderStage; READERS],
@@ -30,7 +30,7 @@ impl Model for ReaderStages {
 }
 
 impl ReaderStages {
-    // All at rest.
+    // All readers are at rest.
     pub(crate) fn start(readers: u8) -> ReaderStages
         requires { readers ≤ READERS }
         ensures { result ≡ replicate readers AtRest }
@@ -45,14 +45,14 @@ impl ReaderStages {
         }
     }
 
-    // How many readers there are.
+    // The number of readers.
     pub(crate) fn len(&self) -> usize
         ensures { result ≡ length self.now }
     {
         self.len
     }
 
-    // One step of the reader at a place, and what it tells.
+    // Takes one step of the reader at index `r`, and returns its output.
     pub(crate) fn advance(&mut self, table: &mut Table, r: usize) -> Note
         requires here { r < length self.old }
         requires few { r < READERS }
@@ -68,7 +68,7 @@ impl ReaderStages {
     }
 }
 
-// One step of the reader at a place, and what it tells.
+// Takes one step of the reader at index `r`, which is at this stage, and returns its output.
 fn advance(table: &mut Table, r: usize, stage: &mut ReaderStage) -> Note
     requires within { pin r < length table.old }
     requires few { r < READERS }

@@ -1,4 +1,4 @@
-//! Whole lists of events.
+//! Runs of a machine through a list of events.
 ghost use Rattle.std.specs.Prelude.{◌≡◌, ◌≤◌, [], length, take, vec_capacity, IfOk, IfErr, OnOk};
 ghost use Rattle.council_core.specs.declared.refusals.Refusal.TheVariants.{OutOfMemory};
 ghost use Rattle.two_copy_steps.specs.Transitions.{started, after, notes};
@@ -15,7 +15,7 @@ use std::alloc::Global;
 use std::marker::Model;
 use thiserror::Error;
 
-/// What a list of events told, one note for each event.
+/// The outputs of a list of events, one for each event.
 #[derive(Debug, Drop)]
 pub struct Notes {
     list: Vec<Note>,
@@ -31,14 +31,14 @@ impl Model for Notes {
 }
 
 impl Notes {
-    /// The notes, in order.
+    /// The outputs, in order.
     pub fn as_slice(&self) -> &[Note]
         ensures { result.now ≡ self.now }
     {
         self.list.as_slice()
     }
 
-    /// The notes, given back without memory.
+    /// The outputs as a vector. This allocates nothing.
     pub fn into_vec(self) -> Vec<Note>
         ensures { result.items ≡ self }
     {
@@ -46,31 +46,48 @@ impl Notes {
     }
 }
 
-/// What a list of events told, and the machine after the last of them.
+/// The outputs of a list of events, and the machine after the last event.
 #[derive(Debug, Drop)]
 pub struct RunLog {
-    /// One note for each event.
+    /// One output for each event.
     pub notes: Notes,
     /// The machine after the last event.
     pub machine: Machine,
 }
 
-/// Why a list of events was not taken to its end.
+/// The reason why a run ended before its last event, and the register at that point.
 #[derive(Debug, Drop, Error)]
 #[error("after {done} events: {why}")]
 pub struct RunFault {
-    /// The register, as the events done left it.
+    /// The register after the completed events.
     pub register: Register,
-    /// How many events were done.
+    /// The number of completed events.
     pub done: usize,
-    /// `BadLimit`, unless there were to be one to `READERS` readers, and else `OutOfMemory`: for the notes,
-    /// before any event, or for the command that was next.
+    /// `BadLimit` if the number of readers is not from 1 to `READERS`, otherwise `OutOfMemory`: for
+    /// the outputs, before any event, or for the command that was next.
     pub why: Refusal,
 }
 
-/// A machine over this register, taken through the events. Room for the notes is reserved before
-/// the first event. Where it answers the notes, they are those of the sequential register: each
-/// command, each publication and each reading acts as one of its calls.
+/// Runs a new machine over `register`, with `readers` readers, through `events`. Memory for the
+/// outputs is reserved before the first event. The outputs of a successful run are those of the
+/// sequential register: each command, each publication and each reading acts as one of its calls.
+///
+/// # Errors
+///
+/// A `RunFault` with the register after the completed events, the number of these events, and the
+/// reason:
+///
+/// - `Refusal::BadLimit` if `readers` is not from 1 to `READERS`; no event was completed;
+/// - `Refusal::OutOfMemory` if memory could not be allocated for the outputs, before any event, or
+///   for the next event, a command that the register accepts while no publication is in progress.
+///
+/// ```rust
+/// let open = Command::Open(ChairId::new(1)?);
+/// match run(alloc, register, 1, &[Event::Submit(open), Event::Publish]) {
+///     Ok(log) => assert_eq!(rt; (log.notes.as_slice().len(), log.machine.published()), (2, 0)),
+///     Err(fault) => return Err(fault.why),
+/// }
+/// ```
 pub fn run(
     alloc: Global,
     register: Register,
@@ -80,14 +97,14 @@ pub fn run(
     ensures notes { IfOk result (λ log. log.notes ≡ notes (started register readers) events.now) }
     ensures machine { IfOk result (λ log. log.machine ≡ machine_after register readers events.now) }
 
-    // What it promises of every list of events.
+    // The guarantees for every list of events.
     ensures replies { IfOk result (λ log. TellsReplies register readers events.now) }
     ensures records { IfOk result (λ log. KeepsRecordsLegal register readers events.now) }
     ensures apart { IfOk result (λ log. StoresUnderNobody register readers events.now) }
     ensures told { IfOk result (λ log. KeepsRecordsTold register readers events.now log.notes) }
     ensures never_older { IfOk result (λ log. FrontsNeverFall log.notes) }
 
-    // Whether it is taken to its end.
+    // The cases in which the run reaches its end.
     ensures in_range { IfOk result (λ log. IsFew readers) }
     ensures fault { IfErr result (λ fault. IsFault register readers events.now fault.register fault.done fault.why) }
 {
@@ -116,7 +133,7 @@ pub fn run(
     }
 }
 
-// Memory ran out after so many events.
+// The fault of a run whose memory ran out after `done` events.
 fn fault(machine: Machine, done: usize) -> RunFault
     ensures register { result.register ≡ machine.ledger }
     ensures done { result.done ≡ done }
@@ -129,7 +146,8 @@ fn fault(machine: Machine, done: usize) -> RunFault
     }
 }
 
-// Takes each event in turn, or answers how many were done where one wanted memory.
+// Carries out the events in turn. If one runs out of memory, returns the number of completed events
+// as the error.
 fn take_all(machine: &mut Machine, told: &mut Vec<Note>, events: &[Event]) -> Result<(), usize>
     requires empty { told.old.items ≡ [] }
     requires room { length events.now ≤ vec_capacity told.old }

@@ -1,4 +1,4 @@
-//! A reader's steps as code: which word the next step touches and how, and how far the reader is after it.
+//! A reader's steps as code: the word that the next step accesses, and the reader's stage after it.
 ghost use Rattle.std.specs.Prelude.{◌≡◌, ◌↔◌, ℕ, ◌<◌, ◌≤◌, IsTrue};
 ghost use Rattle.two_copy_steps.specs.declared.views.Stage.TheVariants.{AtRest};
 ghost use Rattle.two_copy_steps.specs.Actions.{pin, stage_action};
@@ -8,27 +8,27 @@ use crate::table::{COPY_WORDS, READERS, SIDE, pin, place};
 use council_core::Sheet;
 use std::marker::Model;
 
-/// What a step does to its word.
+/// A step's access to its word.
 #[derive(Clone, Copy, Debug, PartialEq, Eq, Hash)]
 pub enum Access {
-    /// Loads the word at this place.
+    /// Loads the word at this index.
     Load(usize),
-    /// Stores this number in the word at this place.
+    /// Stores this number in the word at this index.
     Store(usize, u64),
 }
 
-// The program counter of a reader: how far it is, its side and its words aside.
+// The program counter of a reader, without its side and its words.
 #[derive(Clone, Copy, Debug)]
 pub(crate) enum ReaderPc {
     AtRest,
     Arrived,
-    // How many words it has loaded.
+    // The number of words that it has loaded.
     Reading(usize),
     Leaving,
 }
 
-/// How far a reader is in its reading. It is changed in place, so that no step moves the words that
-/// were loaded before it.
+/// How far a reader is in its reading. It is changed in place, so no step moves the words that were
+/// loaded before it.
 #[derive(Debug, Drop)]
 pub struct ReaderStage {
     pc: ReaderPc,
@@ -64,14 +64,14 @@ impl ReaderStage {
         matches!(self.pc, ReaderPc::AtRest)
     }
 
-    /// Gives up the reading that is in progress, if one is.
+    /// Abandons the reading that is in progress, if there is one.
     pub fn give_up(&mut self)
         ensures rest { self.new ≡ AtRest }
     {
         self.pc = ReaderPc::AtRest;
     }
 
-    /// What the next step of the reader at r, counted from 0, does to its word.
+    /// The access of the next step of reader `r`, counted from 0, to its word.
     pub fn access(&self, r: usize) -> Access
         requires few { r < READERS }
         requires readable { IsReadable self.now }
@@ -90,8 +90,8 @@ impl ReaderStage {
         }
     }
 
-    /// Moves on past a step that left this number in its word. The last step of a reading answers the
-    /// sheet that was read.
+    /// Advances the stage past a step that left `found` in its word. After the last step of a
+    /// reading it returns the sheet that was read, otherwise `None`.
     pub fn advance(&mut self, found: u64) -> Option<Sheet>
         requires readable { IsReadable self.old }
         ensures stage { (r : ℕ) → self.new ≡ (stage_action r self.old).after found }
@@ -120,7 +120,7 @@ impl ReaderStage {
     }
 }
 
-// After the last word its pin is next.
+// After the last word, the pin is next.
 fn pc_past(k: usize) -> ReaderPc
     requires { k < COPY_WORDS }
     ensures { IsPcPast k result }

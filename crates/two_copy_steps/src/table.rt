@@ -1,4 +1,4 @@
-//! The shared words, and where each of them lies:
+//! The shared words and their layout:
 //!
 //!     word  0          side: the copy that is published, 0 or 1
 //!     words 1 to 34    copy 0, the words of a sheet
@@ -14,28 +14,28 @@ use crate::stages::Access;
 use council_core::SHEET_WORDS;
 use std::marker::Model;
 
-/// The place of the word that names the copy published.
+/// The index of the word that names the published copy.
 pub const SIDE: usize = 0;
 
-/// How many words a copy has: those of a sheet.
+/// The number of words in a copy, which are those of a sheet.
 pub const COPY_WORDS: usize = SHEET_WORDS;
 
-/// How many readers there are at most.
+/// The largest number of readers.
 pub const READERS: usize = 4;
 
-// Where copy 0 begins.
+// The index of the first word of copy 0.
 const COPY_0: usize = SIDE + 1;
 
-// Where copy 1 begins.
+// The index of the first word of copy 1.
 const COPY_1: usize = COPY_0 + COPY_WORDS;
 
-// Where the pins begin.
+// The index of the first pin.
 const PINS: usize = COPY_1 + COPY_WORDS;
 
-// How many words there are at most.
+// The largest number of words.
 const WORDS: usize = PINS + READERS;
 
-/// Side, then copy 0, copy 1, and a pin for each reader.
+/// The shared words: side, copy 0, copy 1, and a pin for each reader.
 #[derive(Debug, Drop)]
 pub struct Table {
     all: [u64; WORDS],
@@ -51,7 +51,8 @@ impl Model for Table {
 }
 
 impl Table {
-    /// Side 0, a sheet in both copies, and all pins at 0, for at most `READERS` readers.
+    /// The table with side 0, this sheet in both copies, and all pins at 0, for at most `READERS`
+    /// readers.
     pub fn start(sheet: &[u64; COPY_WORDS], readers: u8) -> Table
         requires few { readers ≤ READERS }
         ensures words { result ≡ 0 ∷ sheet.now ++ sheet.now ++ replicate readers 0 }
@@ -74,7 +75,7 @@ impl Table {
         &self.all[..self.len]
     }
 
-    // Does what a step does to its word, and answers the number that is left there.
+    // Carries out a step's access to its word, and returns the number that is then in it.
     pub(crate) fn touch(&mut self, access: Access) -> u64
         requires within { accessed access < length self.old }
         requires low { accessed access < WORDS }
@@ -91,7 +92,7 @@ impl Table {
         }
     }
 
-    // The word at a place.
+    // The word at this index.
     pub(crate) fn load(&self, place: usize) -> u64
         requires within { place < length self.now }
         requires low { place < WORDS }
@@ -100,7 +101,7 @@ impl Table {
         self.all[place]
     }
 
-    // Stores a word at a place.
+    // Stores a word at this index.
     pub(crate) fn store(&mut self, place: usize, word: u64)
         requires within { place < length self.old }
         requires low { place < WORDS }
@@ -110,7 +111,7 @@ impl Table {
     }
 }
 
-/// Where word k of the copy that a side names stands.
+/// The index of word `k`, below `COPY_WORDS`, of the copy that `side` names.
 pub fn place(side: u64, k: usize) -> usize
     requires within { k < COPY_WORDS }
     ensures same { result ≡ place side k }
@@ -119,7 +120,7 @@ pub fn place(side: u64, k: usize) -> usize
     if side == 0 { COPY_0 + k } else { COPY_1 + k }
 }
 
-/// Where the pin of the reader at r, counted from 0, stands.
+/// The index of the pin of reader `r`, counted from 0 and below `READERS`.
 pub fn pin(r: usize) -> usize
     requires few { r < READERS }
     ensures same { result ≡ pin r }

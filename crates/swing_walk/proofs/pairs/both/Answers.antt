@@ -5,7 +5,7 @@ use Rattle.swing_walk.proofs.pairs.both.Goals as goal
 use borrow.Rule.Slice.PartMut.{put_mid}
 use Rattle.half_sums.specs.declared.groups.TheConstants.{SLOTS}
 
--- sixteen numbers written behind sixteen others
+-- sixteen numbers written after sixteen others
 behind : (first second rest : List ℕ) → length first ≡ SLOTS → put_mid SLOTS SLOTS (first ++ rest) second ≡ first ++ (second ++ drop SLOTS (drop SLOTS (first ++ rest)))
 behind first second rest long = ap (λ xs. xs ++ (second ++ drop SLOTS (drop SLOTS (first ++ rest)))) (take_at first rest SLOTS long)
 
