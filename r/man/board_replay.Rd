@@ -9,7 +9,7 @@ board_replay(text, readers = 1, journal = 1e6)
 }
 \arguments{
   \item{text}{The input: lines of text, one text with line ends in it, or raw bytes.}
-  \item{readers}{How many readers there are, from 1 to 4.}
+  \item{readers}{The number of readers, from 1 to 4.}
   \item{journal}{The most commands that are accepted, from 1 to 1,000,000.}
 }
 \value{

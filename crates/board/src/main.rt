@@ -1,7 +1,9 @@
 //! The program `board`: wraps the standard streams and runs `program` of `board_report` on them.
 #![tactic(auto)]
 
-use board_report::{Given, Streams, Told, program, words_out_of_memory, words_refused};
+use board_report::{
+    RecordingReader, RecordingWriter, Streams, program, words_out_of_memory, words_refused,
+};
 use std::env;
 use std::io::ErrorKind;
 use std::process::ExitCode;
@@ -9,9 +11,9 @@ use std::process::ExitCode;
 fn main(rt: HostRuntime) -> ExitCode {
     let (mut stdout, mut stderr) = (rt.stdout(), rt.stderr());
     let mut streams = Streams {
-        input: Given::new(rt.stdin()),
-        out: Told::new(&mut stdout),
-        err: Told::new(&mut stderr),
+        input: RecordingReader::new(rt.stdin()),
+        out: RecordingWriter::new(&mut stdout),
+        err: RecordingWriter::new(&mut stderr),
     };
     let status = match words(&rt) {
         Ok(words) => program(&rt, rt.alloc(), words.as_slice(), &mut streams),

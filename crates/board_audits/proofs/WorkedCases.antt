@@ -3,7 +3,7 @@ use Rattle.std.proofs.Common.{◌≡◌, ℕ, List, [], ◌∷◌, ◌++◌, rep
 use Rattle.council_core.specs.Rolls.{Opening}
 use Rattle.council_core.specs.declared.commands.Command.{Command}
 use Rattle.council_core.specs.declared.commands.Command.TheVariants.{Open, Move}
-use Rattle.board_audits.specs.Audits.{Answers, Finding, audit_of}
+use Rattle.board_audits.specs.Audits.{AnswersFinding, Finding, audit_of}
 use Rattle.board_audits.specs.AuditLaws.{AuditLaw, CutsFaultLaw, IsFirstMismatch, IsFirstRefused, IsFirstStray, JournalFaultLaw, ReadingsFaultLaw}
 use Rattle.council_core.specs.Sequential.{AreLegalRecords}
 use Rattle.council_core.specs.declared.refusals.Refusal.TheVariants.{DuplicateMember}
@@ -61,7 +61,7 @@ cuts_before_readings = refl
 
 -- if nothing is found, no fault is returned except out of memory, and no fault at another place
 -- than the one found
-no_fault_made_up : Answers (Ok tt) (Err (Mismatch 1 1)) → ⊥
+no_fault_made_up : AnswersFinding (Ok tt) (Err (Mismatch 1 1)) → ⊥
 no_fault_made_up h = ⊎_elim is_fault is_memory h
   where
     is_fault : ◌≡◌ {A = Finding} (Err (Mismatch 1 1)) (Ok tt) → ⊥
@@ -70,7 +70,7 @@ no_fault_made_up h = ⊎_elim is_fault is_memory h
     is_memory : ◌≡◌ {A = Finding} (Err (Mismatch 1 1)) (Err OutOfMemory) → ⊥
     is_memory e = absurd (cc)
 
-no_other_place : Answers (Err (Mismatch 1 2)) (Err (Mismatch 2 1)) → ⊥
+no_other_place : AnswersFinding (Err (Mismatch 1 2)) (Err (Mismatch 2 1)) → ⊥
 no_other_place h = ⊎_elim is_fault is_memory h
   where
     is_fault : ◌≡◌ {A = Finding} (Err (Mismatch 2 1)) (Err (Mismatch 1 2)) → ⊥
@@ -80,7 +80,7 @@ no_other_place h = ⊎_elim is_fault is_memory h
     is_memory e = absurd (cc)
 
 -- a fault is not passed over, and members with which no register starts want no memory
-not_passed_over : Answers (Err (BadCuts 2)) (Ok tt) → ⊥
+not_passed_over : AnswersFinding (Err (BadCuts 2)) (Ok tt) → ⊥
 not_passed_over h = ⊎_elim is_fault is_memory h
   where
     is_fault : ◌≡◌ {A = Finding} (Ok tt) (Err (BadCuts 2)) → ⊥
@@ -89,7 +89,7 @@ not_passed_over h = ⊎_elim is_fault is_memory h
     is_memory : ◌≡◌ {A = Finding} (Ok tt) (Err OutOfMemory) → ⊥
     is_memory e = absurd (cc)
 
-start_wants_no_memory : Answers (Err (Start DuplicateMember)) (Err OutOfMemory) → ⊥
+start_wants_no_memory : AnswersFinding (Err (Start DuplicateMember)) (Err OutOfMemory) → ⊥
 start_wants_no_memory h = absurd (cc)
 
 -- by the law, the readings in which nothing was found are legal records

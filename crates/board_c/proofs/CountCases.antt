@@ -5,25 +5,25 @@ use Rattle.majority_rule.specs.declared.majorities.Majority.{Majority}
 use Rattle.majority_rule.specs.declared.majorities.Majority.TheVariants.{Half, Seventy, EightyFive, Quorum}
 use Rattle.majority_rule.specs.Winning.{rule_of}
 use Rattle.council_core.specs.Coalitions.{omega_of}
-use Rattle.council_core.specs.Rolls.{Roll, words_of as roll_words}
+use Rattle.council_core.specs.Rolls.{Roll, sheet_words as roll_words}
 use Rattle.council_core.specs.Sheets.{open_chairs}
 use Rattle.council_core.specs.declared.refusals.Refusal.TheVariants.{BadRecord, BadSheet, OutOfMemory, JournalFull}
 use Rattle.board_c.specs.declared.counts.BoardAllCounts.{BoardAllCounts}
 use Rattle.board_c.specs.declared.counts.BoardCounts.{BoardCounts}
 use Rattle.board_c.specs.declared.members.BoardMember.{BoardMember}
-use Rattle.board_c.specs.Counts.{ShowsCounts, ShowsAllCounts, IsRefusedAs, IsRefusalOfWords, words_of, majority_of}
+use Rattle.board_c.specs.Counts.{ShowsCounts, ShowsAllCounts, IsRefusedAs, IsRefusalOfWords, words_of_weights, majority_numbered}
 use Rattle.board_c.specs.Laws.{MembersLaw, RollLaw}
 use Rattle.board_c.specs.Members.{AreRefusedAs, IsBoard, member_words}
 use Rattle.board_c.proofs.WorkedCases.{member}
 
 -- chairs 1, 2 and 3 with 50, 49 and 1 votes
 abbrev three : List ℕ
-three = words_of (50 ∷ 49 ∷ 1 ∷ []) 100
+three = words_of_weights (50 ∷ 49 ∷ 1 ∷ []) 100
 
 three_words : three ≡ 51 ∷ 50 ∷ 2 ∷ replicate 29 0 ++ 100 ∷ 0 ∷ []
 three_words = refl
 
-numbers : (majority_of 0 ≡ Some Half) × (majority_of 1 ≡ Some Seventy) × (majority_of 2 ≡ Some EightyFive) × (majority_of 3 ≡ Some Quorum) × (majority_of 4 ≡ None)
+numbers : (majority_numbered 0 ≡ Some Half) × (majority_numbered 1 ≡ Some Seventy) × (majority_numbered 2 ≡ Some EightyFive) × (majority_numbered 3 ≡ Some Quorum) × (majority_numbered 4 ≡ None)
 numbers = (refl, refl, refl, refl, refl)
 
 -- what is shown at number 0 is by more than half of the votes cast: 3 coalitions win

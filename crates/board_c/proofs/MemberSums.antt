@@ -6,7 +6,7 @@ use Rattle.std.proofs.lemmas.List.{take_more}
 use Rattle.std.proofs.lemmas.List.Sums.{sum_by-cons, sum_by-take-le}
 use Rattle.council_core.specs.declared.commands.Standing.{Standing}
 use Rattle.council_core.specs.declared.refusals.Refusal.{Refusal}
-use Rattle.council_core.specs.Rolls.{sits_in, counted, votes_in}
+use Rattle.council_core.specs.Rolls.{sits_in, effective_votes, votes_in}
 use Rattle.board_c.specs.declared.members.BoardMember.{BoardMember}
 use Rattle.board_c.specs.declared.counts.BoardCounts.{BoardCounts}
 use Rattle.board_c.specs.Members.{standing_of, member_total}
@@ -14,8 +14,8 @@ use Rattle.council_core.specs.declared.limits.TheConstants.{CHAIRS}
 use Rattle.std.proofs.lemmas.List.Elements.{All-append, All-cons, All-nil}
 
 -- a member adds at most its counted votes to a chair's weight
-pub votes_within : (c : ℕ) (s : Standing) → votes_in c s ≤ counted s
-votes_within c s = at_most (sits_in c s) (counted s)
+pub votes_within : (c : ℕ) (s : Standing) → votes_in c s ≤ effective_votes s
+votes_within c s = at_most (sits_in c s) (effective_votes s)
   where
     at_most : (b : Bool) (n : ℕ) → cond b n 0 ≤ n
     at_most true n = omega arith
@@ -25,7 +25,7 @@ votes_within c s = at_most (sits_in c s) (counted s)
 pub sum_within : (c : ℕ) (ms : List BoardMember) → sum_by (λ m. votes_in c (standing_of m)) ms ≤ member_total ms
 sum_within c [] = omega arith
 sum_within c (m ∷ ms) =
-    omega (arith, sum_by-cons (λ (x : BoardMember). votes_in c (standing_of x)) m ms, sum_by-cons (λ (x : BoardMember). counted (standing_of x)) m ms, votes_within c (standing_of m), sum_within c ms)
+    omega (arith, sum_by-cons (λ (x : BoardMember). votes_in c (standing_of x)) m ms, sum_by-cons (λ (x : BoardMember). effective_votes (standing_of x)) m ms, votes_within c (standing_of m), sum_within c ms)
 
 -- and so are those of its members up to a place
 pub front_within : (c at : ℕ) (ms : List BoardMember) → sum_by (λ m. votes_in c (standing_of m)) (take at ms) ≤ member_total ms

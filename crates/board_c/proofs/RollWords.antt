@@ -12,10 +12,10 @@ use Rattle.council_core.proofs.AssembleLemmas.{IsSheet-made}
 use Rattle.council_core.proofs.RegisterLemmas.{weight_within}
 use Rattle.council_core.proofs.SheetOfLemmas.{cast_within}
 use Rattle.council_core.specs.declared.commands.Standing.{Standing}
-use Rattle.council_core.specs.Rolls.{Entry, Roll, chair_numbers, chair_word, counted, is_open, total, votes_in, weight, words_of}
+use Rattle.council_core.specs.Rolls.{Entry, Roll, chair_numbers, chair_word, effective_votes, is_open, total, votes_in, weight, sheet_words}
 use Rattle.board_c.specs.declared.members.BoardMember.{BoardMember}
 use Rattle.board_c.specs.Members.{IsBoard, is_open_by, member_total, member_word, member_words, standing_of}
-use Rattle.board_c.specs.Counts.{IsWhole}
+use Rattle.board_c.specs.Counts.{IsSheetInRange}
 use Rattle.board_c.specs.Laws.{IsRollOf, MembersLaw, RollLaw}
 
 -- a sum over what has a standing is the sum over the standings
@@ -39,7 +39,7 @@ module _ (members : List BoardMember) (mask : ℕ) (roll : Roll) (same : IsRollO
   words_same : map (chair_word roll) chair_numbers ++ total roll ∷ 0 ∷ [] ≡ map (member_word members mask) chair_numbers ++ member_total members ∷ 0 ∷ []
   words_same =
       ap (λ ws. ws ++ total roll ∷ 0 ∷ []) (words_of_chairs chair_numbers (recursion_from_All (λ c. is_open roll c ≡ is_open_by members mask c) chair_numbers same.chairs))
-      ∙ ap (λ n. map (member_word members mask) chair_numbers ++ n ∷ 0 ∷ []) (sum_same counted)
+      ∙ ap (λ n. map (member_word members mask) chair_numbers ++ n ∷ 0 ∷ []) (sum_same effective_votes)
 
 pub words_of_members : MembersLaw
 words_of_members members mask roll same = words_same members mask roll same
@@ -52,7 +52,7 @@ roll_of members mask = record { members = map (λ m. ([], standing_of m)) member
 word_within : (roll : Roll) (c : ℕ) → total roll ≤ MAX_TOTAL → chair_word roll c ≤ MAX_TOTAL + 1
 word_within roll c small = elim (is_open roll c) as (λ b. cond b (weight roll c + 1) 0 ≤ MAX_TOTAL + 1) [ true ↦ omega (arith, small, weight_within roll c) | false ↦ omega arith ]
 
-sheet_of_roll : (roll : Roll) → total roll ≤ MAX_TOTAL → IsSheet (words_of roll 0)
+sheet_of_roll : (roll : Roll) → total roll ≤ MAX_TOTAL → IsSheet (sheet_words roll 0)
 sheet_of_roll roll small =
     IsSheet-made (map (chair_word roll) chair_numbers) (total roll) 0 refl
     (λ k inside. subst (λ (w : ℕ). w ≤ MAX_TOTAL + 1) (sym (get_or-map-range_with_len (chair_word roll) 1 32 k (k + 1) 0 inside (omega arith))) (word_within roll (k + 1) small))
@@ -81,11 +81,11 @@ module _ (members : List BoardMember) (mask : ℕ) where
   }
 
   -- members of a board have a sheet's words
-  pub whole : IsBoard members → IsWhole (member_words members mask)
+  pub whole : IsBoard members → IsSheetInRange (member_words members mask)
   whole board =
       let roll = roll_of members mask in
-      let words : words_of roll 0 ≡ member_words members mask = words_of_members members mask roll is_roll_of in
-      let sum : total roll ≡ member_total members = sum_same members mask roll is_roll_of counted in
+      let words : sheet_words roll 0 ≡ member_words members mask = words_of_members members mask roll is_roll_of in
+      let sum : total roll ≡ member_total members = sum_same members mask roll is_roll_of effective_votes in
       record { long = refl; sheet = subst IsSheet words (sheet_of_roll roll (omega (arith, sum, board.small))) }
 
 pub members_on_roll : RollLaw

@@ -6,7 +6,7 @@ use Rattle.council_core.specs.Sheets.{Chair}
 use Rattle.council_core.specs.Coalitions.{Rule}
 use Rattle.power_index.specs.declared.indices.ChairPower.{ChairPower}
 use Rattle.power_index.specs.Indices.{rows_among}
-use Rattle.board_c.specs.Counts.{counted, no_chair}
+use Rattle.board_c.specs.Counts.{chair_row, no_chair}
 use Rattle.board_c.specs.Rows.{without_indices}
 
 -- of the same values in the room that is left, the first
@@ -27,14 +27,14 @@ next_image f xs at x z rest inside is =
     ∙ ap (λ front. front ++ rest) (sym more)
 
 -- the rows without their indices are the counts of the chairs
-map_rows : (rule : Rule) (board chairs : List Chair) → map without_indices (rows_among rule board chairs) ≡ map (counted rule board) chairs
+map_rows : (rule : Rule) (board chairs : List Chair) → map without_indices (rows_among rule board chairs) ≡ map (chair_row rule board) chairs
 map_rows rule board [] = refl
-map_rows rule board (c ∷ rest) = ap (λ rows. counted rule board c ∷ rows) (map_rows rule board rest)
+map_rows rule board (c ∷ rest) = ap (λ rows. chair_row rule board c ∷ rows) (map_rows rule board rest)
 
 -- the same with the zeros that follow
 pub shown_rows : (rule : Rule) (board : List Chair) (rows : List ChairPower) → rows ≡ rows_among rule board board
-    → map without_indices rows ++ replicate (32 - length rows) no_chair ≡ map (counted rule board) board ++ replicate (32 - length board) no_chair
+    → map without_indices rows ++ replicate (32 - length rows) no_chair ≡ map (chair_row rule board) board ++ replicate (32 - length board) no_chair
 shown_rows rule board rows is =
-    let shown : map without_indices rows ≡ map (counted rule board) board = ap (map without_indices) is ∙ map_rows rule board board in
-    let long : length rows ≡ length board = sym (length-map rows without_indices) ∙ ap length shown ∙ length-map board (counted rule board) in
+    let shown : map without_indices rows ≡ map (chair_row rule board) board = ap (map without_indices) is ∙ map_rows rule board board in
+    let long : length rows ≡ length board = sym (length-map rows without_indices) ∙ ap length shown ∙ length-map board (chair_row rule board) in
     rw (shown, long)

@@ -17,23 +17,23 @@ use Rattle.board_c.specs.declared.counts.BoardCounts.{BoardCounts}
 use Rattle.board_c.specs.declared.counts.BoardAllCounts.{BoardAllCounts}
 
 -- the majority with this number, or None
-abbrev pub majority_of : ℕ → Option Majority
-majority_of n =
+abbrev pub majority_numbered : ℕ → Option Majority
+majority_numbered n =
     if n == 0 then Some Half else if n == 1 then Some Seventy else if n == 2 then Some EightyFive
     else if n == 3 then Some Quorum else None
 
 -- words are a complete sheet, each in its range
-pub record IsWhole (words : List ℕ) : Type 0 where
+pub record IsSheetInRange (words : List ℕ) : Type 0 where
   pub long : length words ≡ SHEET_WORDS
   pub sheet : IsSheet words
 
 -- the words of a sheet whose first chairs are open with these weights, before any command
-abbrev pub words_of : List ℕ → ℕ → List ℕ
-words_of weights total = map (λ w. w + 1) weights ++ (replicate (CHAIRS - length weights) 0 ++ total ∷ 0 ∷ [])
+abbrev pub words_of_weights : List ℕ → ℕ → List ℕ
+words_of_weights weights total = map (λ w. w + 1) weights ++ (replicate (CHAIRS - length weights) 0 ++ total ∷ 0 ∷ [])
 
 -- a chair among those of a board: its number, its weight, its swings
-abbrev pub counted : Rule → List Chair → Chair → BoardChair
-counted rule board c = record { chair = c.0; weight = c.1; swings = eta_of rule c board }
+abbrev pub chair_row : Rule → List Chair → Chair → BoardChair
+chair_row rule board c = record { chair = c.0; weight = c.1; swings = eta_of rule c board }
 
 -- a row without a chair
 abbrev pub no_chair : BoardChair
@@ -50,19 +50,19 @@ pub record AreCountsOf (majority : Majority) (words : List ℕ) (counts : BoardC
   pub omega : counts.omega ≡ omega_of (rule_of majority words) (open_chairs words)
   pub all : counts.coalitions ≡ 2 ^ length (open_chairs words)
   pub row_each : counts.rows
-      ≡ map (counted (rule_of majority words) (open_chairs words)) (open_chairs words)
+      ≡ map (chair_row (rule_of majority words) (open_chairs words)) (open_chairs words)
       ++ replicate (CHAIRS - length (open_chairs words)) no_chair
 
 -- the counts of a sheet by the majority with this number
 pub record ShowsCounts (number : ℕ) (words : List ℕ) (counts : BoardCounts) : Type 0 where
   pub majority : Majority
-  pub known : majority_of number ≡ Some majority
-  pub whole : IsWhole words
+  pub known : majority_numbered number ≡ Some majority
+  pub whole : IsSheetInRange words
   pub counts_of : AreCountsOf majority words counts
 
 -- the counts of a sheet by each majority
 pub record ShowsAllCounts (words : List ℕ) (counts : BoardAllCounts) : Type 0 where
-  pub whole : IsWhole words
+  pub whole : IsSheetInRange words
   pub half : AreCountsOf Half words counts.half
   pub seventy : AreCountsOf Seventy words counts.seventy
   pub eighty_five : AreCountsOf EightyFive words counts.eighty_five
@@ -71,8 +71,8 @@ pub record ShowsAllCounts (words : List ℕ) (counts : BoardAllCounts) : Type 0 
 -- the reason for which a call by the majority with this number is refused: the words are not a
 -- sheet's; or they are, and no majority has this number
 abbrev pub IsRefusedAs : ℕ → List ℕ → Refusal → Type 0
-IsRefusedAs number words BadSheet = IsWhole words → ⊥
-IsRefusedAs number words BadRecord = IsWhole words × (majority_of number ≡ None)
+IsRefusedAs number words BadSheet = IsSheetInRange words → ⊥
+IsRefusedAs number words BadRecord = IsSheetInRange words × (majority_numbered number ≡ None)
 IsRefusedAs number words _ = ⊥
 
 -- the number of such a refusal
@@ -81,4 +81,4 @@ IsRefusal number words answer = (why : Refusal) × (answer ≡ code_of why) × I
 
 -- the number of the refusal of a call by all majorities: the words are not a sheet's
 abbrev pub IsRefusalOfWords : List ℕ → ℕ → Type 0
-IsRefusalOfWords words answer = (answer ≡ code_of BadSheet) × (IsWhole words → ⊥)
+IsRefusalOfWords words answer = (answer ≡ code_of BadSheet) × (IsSheetInRange words → ⊥)

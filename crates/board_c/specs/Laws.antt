@@ -1,7 +1,7 @@
 -- Laws that tie the words of members to the register's own definitions.
 use Rattle.std.specs.Prelude.{◌≡◌, ℕ, List, map}
 use Rattle.std.specs.List.{All}
-use Rattle.council_core.specs.Rolls.{Roll, chair_numbers, is_open, words_of}
+use Rattle.council_core.specs.Rolls.{Roll, chair_numbers, is_open, sheet_words}
 use Rattle.board_c.specs.Members.{is_open_by, member_words, standing_of}
 use Rattle.board_c.specs.declared.members.BoardMember.{BoardMember}
 
@@ -14,7 +14,7 @@ pub record IsRollOf (members : List BoardMember) (mask : ℕ) (roll : Roll) : Ty
 -- the sheet of such a roll, before any command, has the words of these members
 abbrev pub MembersLaw : Type 0
 MembersLaw = (members : List BoardMember) (mask : ℕ) (roll : Roll) → IsRollOf members mask roll
-    → words_of roll 0 ≡ member_words members mask
+    → sheet_words roll 0 ≡ member_words members mask
 
 -- such a roll exists
 abbrev pub RollLaw : Type 0

@@ -5,11 +5,11 @@ use Rattle.std.specs.Int.{bit_at}
 use Rattle.std.specs.List.{All, list_any}
 use Rattle.council_core.specs.declared.limits.TheConstants.{CHAIRS, MAX_TOTAL}
 use Rattle.council_core.specs.declared.commands.Standing.{Standing}
-use Rattle.council_core.specs.Rolls.{sits_in, counted, votes_in, chair_numbers}
+use Rattle.council_core.specs.Rolls.{sits_in, effective_votes, votes_in, chair_numbers}
 use Rattle.council_core.specs.declared.refusals.Refusal.{Refusal}
 use Rattle.council_core.specs.declared.refusals.Refusal.TheVariants.{BadRecord, BadSheet}
 use Rattle.council_core.specs.Refusals.{code_of}
-use Rattle.board_c.specs.Counts.{majority_of}
+use Rattle.board_c.specs.Counts.{majority_numbered}
 use Rattle.board_c.specs.declared.members.BoardMember.{BoardMember}
 
 -- the standing of a member: chair 0 means no chair, and any number except 0 means suspended
@@ -36,7 +36,7 @@ member_word members mask c =
 
 -- the votes of all members that are not suspended, in a chair or in none
 abbrev pub member_total : List BoardMember → ℕ
-member_total members = sum_by (λ m. counted (standing_of m)) members
+member_total members = sum_by (λ m. effective_votes (standing_of m)) members
 
 -- the words of the board's sheet, before any command
 abbrev pub member_words : List BoardMember → ℕ → List ℕ
@@ -52,7 +52,7 @@ pub record IsBoard (members : List BoardMember) : Type 0 where
 -- majority has this number
 abbrev pub AreRefusedAs : ℕ → List BoardMember → Refusal → Type 0
 AreRefusedAs number members BadSheet = IsBoard members → ⊥
-AreRefusedAs number members BadRecord = IsBoard members × (majority_of number ≡ None)
+AreRefusedAs number members BadRecord = IsBoard members × (majority_numbered number ≡ None)
 AreRefusedAs number members _ = ⊥
 
 -- the number of such a refusal

@@ -2,14 +2,14 @@
 //! board.
 ghost use Rattle.std.specs.Prelude.{◌≡◌, ◌↔◌, IfOk, IfErr, IsOk, IsOkUnless};
 ghost use Rattle.council_core.specs.declared.refusals.Refusal.TheVariants.{BadSheet};
-ghost use Rattle.board_c.specs.Counts.{IsWhole, majority_of, words_of};
+ghost use Rattle.board_c.specs.Counts.{IsSheetInRange, majority_numbered, words_of_weights};
 
 use council_core::{CHAIRS, Refusal, SHEET_WORDS, Sheet, TOTAL};
 use majority_rule::Majority;
 
 // The majority with this number, or `None`.
 pub(crate) fn majority_at(number: u32) -> Option<Majority>
-    ensures { result ≡ majority_of number }
+    ensures { result ≡ majority_numbered number }
 {
     match number {
         0 => Some(Majority::Half),
@@ -22,7 +22,7 @@ pub(crate) fn majority_at(number: u32) -> Option<Majority>
 
 // The sheet with these words, which must be 34.
 pub(crate) fn sheet_of(words: &[u64]) -> Result<Sheet, Refusal>
-    ensures in_range { IsOk result ↔ IsWhole words.now }
+    ensures in_range { IsOk result ↔ IsSheetInRange words.now }
     ensures kept { IfOk result (λ sheet. sheet ≡ words.now) }
     ensures refused { IsOkUnless result BadSheet }
 {
@@ -37,8 +37,8 @@ pub(crate) fn sheet_of(words: &[u64]) -> Result<Sheet, Refusal>
 // The words of a sheet whose first chairs are open with these weights. Too many weights, and a
 // weight that does not fit in a word, are refused.
 pub(crate) fn words_at(weights: &[u64], total: u64) -> Result<[u64; SHEET_WORDS], Refusal>
-    ensures same { IfOk result (λ words. words ≡ words_of weights.now total) }
-    ensures refused { IfErr result (λ why. (why ≡ BadSheet) × (IsWhole (words_of weights.now total) → ⊥)) }
+    ensures same { IfOk result (λ words. words ≡ words_of_weights weights.now total) }
+    ensures refused { IfErr result (λ why. (why ≡ BadSheet) × (IsSheetInRange (words_of_weights weights.now total) → ⊥)) }
 {
     if weights.len() > CHAIRS {
         return Err(Refusal::BadSheet);

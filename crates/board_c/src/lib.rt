@@ -8,8 +8,8 @@
 ghost use Rattle.std.specs.Prelude.{◌≡◌, ◌↔◌, ◌⊎◌, None, IfOk, IfErr, IsOk};
 ghost use Rattle.council_core.specs.Refusals.{code_of};
 ghost use Rattle.council_core.specs.declared.refusals.Refusal.TheVariants.{BadRecord};
-ghost use Rattle.board_c.specs.Counts.{IsRefusedAs, IsRefusal, IsRefusalOfWords, IsWhole, ShowsCounts, ShowsAllCounts};
-ghost use Rattle.board_c.specs.Counts.{majority_of, words_of};
+ghost use Rattle.board_c.specs.Counts.{IsRefusedAs, IsRefusal, IsRefusalOfWords, IsSheetInRange, ShowsCounts, ShowsAllCounts};
+ghost use Rattle.board_c.specs.Counts.{majority_numbered, words_of_weights};
 ghost use Rattle.board_c.specs.Members.{member_words, IsBoard, AreRefusedAs, IsRefusalOfMembers};
 
 mod counts;
@@ -31,9 +31,9 @@ pub const DONE: u8 = 0;
 
 // The counts of a sheet by the majority with this number.
 fn counts_by_number(sheet: &Sheet, number: u32, room: &mut ListRoom) -> Result<BoardCounts, Refusal>
-    requires whole { IsWhole sheet.now }
+    requires whole { IsSheetInRange sheet.now }
     ensures counts { IfOk result (λ c. ShowsCounts number sheet.now c) }
-    ensures refused { IfErr result (λ why. (why ≡ BadRecord) × (majority_of number ≡ None)) }
+    ensures refused { IfErr result (λ why. (why ≡ BadRecord) × (majority_numbered number ≡ None)) }
 {
     let Some(majority) = majority_at(number) else {
         return Err(Refusal::BadRecord);
@@ -58,8 +58,8 @@ fn counts_of_weights(
     number: u32,
     room: &mut ListRoom,
 ) -> Result<BoardCounts, Refusal>
-    ensures counts { IfOk result (λ c. ShowsCounts number (words_of weights.now total) c) }
-    ensures refused { IfErr result (λ why. IsRefusedAs number (words_of weights.now total) why) }
+    ensures counts { IfOk result (λ c. ShowsCounts number (words_of_weights weights.now total) c) }
+    ensures refused { IfErr result (λ why. IsRefusedAs number (words_of_weights weights.now total) why) }
 {
     let words = words_at(weights, total)?;
     counts_of_words(&words, number, room)
@@ -172,8 +172,8 @@ pub extern "C" fn board_counts_of_weights(
     room: &mut ListRoom,
     counts: &mut BoardCounts,
 ) -> u8
-    ensures counted { (result ≡ DONE) → ShowsCounts majority (words_of weights.now total) counts.new }
-    ensures refused { (result ≡ DONE) ⊎ IsRefusal majority (words_of weights.now total) result }
+    ensures counted { (result ≡ DONE) → ShowsCounts majority (words_of_weights weights.now total) counts.new }
+    ensures refused { (result ≡ DONE) ⊎ IsRefusal majority (words_of_weights weights.now total) result }
     ensures untouched { (result ≡ DONE) ⊎ (counts.new ≡ counts.old) }
 {
     answer(counts_of_weights(weights, total, majority, room), counts)

@@ -2,8 +2,8 @@
 ghost use Rattle.std.specs.Prelude.{◌≡◌, ℕ, ◌≤◌, ◌<◌, IfOk, IfErr};
 ghost use Rattle.council_core.specs.declared.refusals.Refusal.TheVariants.{BadSheet};
 ghost use Rattle.council_core.specs.declared.limits.TheConstants.{CHAIRS, MAX_TOTAL};
-ghost use Rattle.council_core.specs.Rolls.{sits_in, counted, votes_in};
-ghost use Rattle.board_c.specs.Counts.{IsWhole};
+ghost use Rattle.council_core.specs.Rolls.{sits_in, effective_votes, votes_in};
+ghost use Rattle.board_c.specs.Counts.{IsSheetInRange};
 ghost use Rattle.board_c.specs.Members.{standing_of, is_named, member_word, member_total, member_words, IsBoard};
 
 use crate::inputs::sheet_of;
@@ -23,7 +23,7 @@ pub struct BoardMember {
 
 // The votes of a member that count: 0 if it is suspended.
 fn counted_votes(member: &BoardMember) -> u64
-    ensures { result ≡ counted (standing_of member.now) }
+    ensures { result ≡ effective_votes (standing_of member.now) }
 {
     if member.suspended != 0 {
         0
@@ -55,7 +55,7 @@ fn votes_for(member: &BoardMember, chair: u64) -> u64
 // Whether a mask names this chair.
 fn names(mask: u32, chair: u64) -> bool
     requires some { 0 < chair }
-    requires few { chair ≤ CHAIRS }
+    requires bound { chair ≤ CHAIRS }
     ensures named { result ≡ is_named mask chair }
 {
     (mask >> (chair - 1)) & 1 == 1
@@ -81,7 +81,7 @@ fn total_of(members: &[BoardMember]) -> Result<u64, Refusal>
 // The word of a chair.
 fn word_of(members: &[BoardMember], mask: u32, chair: u64) -> u64
     requires some { 0 < chair }
-    requires few { chair ≤ CHAIRS }
+    requires bound { chair ≤ CHAIRS }
     requires small { member_total members.now ≤ MAX_TOTAL }
     ensures word { result ≡ member_word members.now mask chair }
 {
@@ -116,7 +116,7 @@ fn words_of_members(members: &[BoardMember], mask: u32) -> Result<[u64; SHEET_WO
 // The board's sheet.
 pub(crate) fn sheet_of_members(members: &[BoardMember], mask: u32) -> Result<Sheet, Refusal>
     ensures same { IfOk result (λ sheet. sheet ≡ member_words members.now mask) }
-    ensures whole { IfOk result (λ sheet. IsWhole sheet) }
+    ensures whole { IfOk result (λ sheet. IsSheetInRange sheet) }
     ensures board { IfOk result (λ _. IsBoard members.now) }
     ensures refused { IfErr result (λ why. (why ≡ BadSheet) × (IsBoard members.now → ⊥)) }
 {

@@ -7,7 +7,7 @@ use Rattle.council_core.specs.declared.refusals.Refusal.TheVariants.{OutOfMemory
 use Rattle.board_text.specs.Text.{Run, fault_at}
 use Rattle.board_text.specs.declared.faults.Fault.{Fault}
 use Rattle.board_runs.proofs.EndFacts.{is_of_input}
-use Rattle.board_replay.specs.Shown.{IsLonger, IsTextOf, IsWhole, Shows, end_in, number_of, record_of}
+use Rattle.board_replay.specs.Shown.{IsLonger, IsTextOf, IsWhole, Shows, end_in, answered_number, record_of}
 use Rattle.board_replay.specs.declared.TheConstants.{DONE}
 
 -- the end that is answered is that of a text that fits, or else the writer's fault
@@ -23,27 +23,27 @@ fitting n text end = by_test (leb_tells (length text) n)
 
 module _ (run : Run) (ends : (f : Fault) → run.end ≡ Some f → IsTrue (is_of_input f.code)) where
   -- a text that ends in no fault is all that the run writes
-  ended-well : (text : List ℕ) (end : Option Fault) → IsTextOf run text end → number_of end ≡ DONE → IsWhole run text
+  ended-well : (text : List ℕ) (end : Option Fault) → IsTextOf run text end → answered_number end ≡ DONE → IsWhole run text
   ended-well text None (inl own) is = (sym own.1, own.0)
   ended-well text (Some f) (inl own) is = let h = ends f (sym own.1) in let at : IsTrue (is_of_input DONE) = rw is at h in absurd (cc at)
-  ended-well text end (inr (same, broken)) is = let h : number_of end ≡ 10 = ap number_of same in absurd (cc)
+  ended-well text end (inr (same, broken)) is = let h : answered_number end ≡ 10 = ap answered_number same in absurd (cc)
 
   -- a text's own end is no fault of a device
-  ended-by_itself : (why : ℕ) (text : List ℕ) (end : Option Fault) → IsTextOf run text end → is_of_input why ≡ false → DONE < why → why ≢ code_of OutOfMemory → number_of end ≢ why
+  ended-by_itself : (why : ℕ) (text : List ℕ) (end : Option Fault) → IsTextOf run text end → is_of_input why ≡ false → DONE < why → why ≢ code_of OutOfMemory → answered_number end ≢ why
   ended-by_itself why text None (inl own) other some memory is = let at : DONE < DONE = rw is some in omega (arith, at)
   ended-by_itself why text (Some f) (inl own) other some memory is =
       let h = ends f (sym own.1) in
       let at : is_of_input f.code ≡ false = ap is_of_input is ∙ other in
       absurd (cc (h, at))
-  ended-by_itself why text end (inr (same, broken)) other some memory is = memory (sym is ∙ ap number_of same)
+  ended-by_itself why text end (inr (same, broken)) other some memory is = memory (sym is ∙ ap answered_number same)
 
   module _ (n : ℕ) (shown : List ℕ) (answer place : ℕ) (shows : Shows run n shown answer place) where
     -- where the text fits, its end is answered
-    fits-answer : end_in n shows.text shows.end ≡ shows.end → answer ≡ number_of shows.end
-    fits-answer is = shows.number ∙ ap number_of is
+    fits-answer : end_in n shows.text shows.end ≡ shows.end → answer ≡ answered_number shows.end
+    fits-answer is = shows.number ∙ ap answered_number is
 
     long-answer : end_in n shows.text shows.end ≡ Some (fault_at WriteFault 0) → answer ≡ code_of WriteFault
-    long-answer is = shows.number ∙ ap number_of is
+    long-answer is = shows.number ∙ ap answered_number is
 
     pub shows-done : answer ≡ DONE → IsWhole run shown
     shows-done done = by_room (fitting n shows.text shows.end)
@@ -74,5 +74,5 @@ shows-place run f n shown place shows ended memory write = by_room (fitting n sh
   where
     by_room : Fitting n shows.text shows.end → IsTextOf run shows.text shows.end → place ≡ f.place
     by_room (inl (fits, same)) (inl own) = shows.at ∙ ap record_of (same ∙ own.1 ∙ ended)
-    by_room (inl (fits, same)) (inr (lacks, broken)) = absurd (memory (shows.number ∙ ap number_of (same ∙ lacks)))
-    by_room (inr (long, same)) text = absurd (write (shows.number ∙ ap number_of same))
+    by_room (inl (fits, same)) (inr (lacks, broken)) = absurd (memory (shows.number ∙ ap answered_number (same ∙ lacks)))
+    by_room (inr (long, same)) text = absurd (write (shows.number ∙ ap answered_number same))

@@ -7,26 +7,26 @@ use Rattle.board_text.specs.declared.faults.Fault.{Fault}
 use Rattle.board_runs.specs.Ended.{IsBrokenOff}
 use Rattle.board_replay.specs.declared.TheConstants.{DONE}
 
-abbrev pub limits : ℕ → ℕ → Limits
-limits readers journal = record { readers = readers; journal = journal }
+abbrev pub replay_limits : ℕ → ℕ → Limits
+replay_limits readers journal = record { readers = readers; journal = journal }
 
 -- out of memory: a prefix of the run's lines, each whole, followed by the line of that fault
-abbrev pub LacksMemory : Run → List ℕ → Option Fault → Type 0
-LacksMemory run text end = (end ≡ Some (fault_at OutOfMemory 0)) × IsBrokenOff run (fault_at OutOfMemory 0) text
+abbrev pub ShowsOutOfMemory : Run → List ℕ → Option Fault → Type 0
+ShowsOutOfMemory run text end = (end ≡ Some (fault_at OutOfMemory 0)) × IsBrokenOff run (fault_at OutOfMemory 0) text
 
 -- a text of the run and its end: all that the run writes, with the run's own end; or the text left
 -- after out of memory
 abbrev pub IsTextOf : Run → List ℕ → Option Fault → Type 0
-IsTextOf run text end = ((text ≡ output run) × (end ≡ run.end)) ⊎ LacksMemory run text end
+IsTextOf run text end = ((text ≡ output run) × (end ≡ run.end)) ⊎ ShowsOutOfMemory run text end
 
 -- the end for a buffer of n bytes: that of the text if it fits, or else WriteFault
 abbrev pub end_in : ℕ → List ℕ → Option Fault → Option Fault
 end_in n text end = if nat_le (length text) n then end else Some (fault_at WriteFault 0)
 
 -- the number returned
-abbrev pub number_of : Option Fault → ℕ
-number_of None = DONE
-number_of (Some f) = f.code
+abbrev pub answered_number : Option Fault → ℕ
+answered_number None = DONE
+answered_number (Some f) = f.code
 
 -- the number of the fault's record, or 0 if there is none
 abbrev pub record_of : Option Fault → ℕ
@@ -40,7 +40,7 @@ pub record Shows (run : Run) (n : ℕ) (shown : List ℕ) (answer place : ℕ) :
   pub end : Option Fault
   pub of_the_run : IsTextOf run text end
   pub front : shown ≡ take n text
-  pub number : answer ≡ number_of (end_in n text end)
+  pub number : answer ≡ answered_number (end_in n text end)
   pub at : place ≡ record_of (end_in n text end)
 
 -- no fault ended the run, and all of its text is in the buffer

@@ -5,7 +5,7 @@
 #![tactic(auto)]
 
 ghost use Rattle.std.specs.Prelude.{◌≡◌, ◌≢◌, ◌≤◌, ℕ, List, true, length, take, drop, min};
-ghost use Rattle.board_replay.specs.Shown.{IsLonger, IsWhole, Shows, end_in, limits, number_of, record_of};
+ghost use Rattle.board_replay.specs.Shown.{IsLonger, IsWhole, Shows, end_in, replay_limits, answered_number, record_of};
 ghost use Rattle.board_runs.specs.Replays.{run_of};
 ghost use Rattle.board_text.specs.Text.{Run};
 ghost use Rattle.council_core.specs.Refusals.{code_of};
@@ -14,8 +14,8 @@ ghost use Rattle.council_core.specs.declared.refusals.Refusal.TheVariants.{ReadF
 use board_runs::replay;
 use board_text::{Fault, Limits, line_of_fault};
 use council_core::Refusal;
+use recording_io::RecordingReader;
 use std::alloc::Global;
-use told_streams::Given;
 
 /// The number returned if no fault ended the run and its text is whole.
 pub const DONE: u8 = 0;
@@ -30,7 +30,7 @@ struct Shown {
 impl Shown {
     // The number to return.
     fn answer(&self) -> u8
-        ensures { result ≡ number_of self.now.end }
+        ensures { result ≡ answered_number self.now.end }
     {
         match self.end {
             Some(fault) => fault.code,
@@ -89,7 +89,7 @@ fn is_of_device(fault: Fault) -> bool
 // Copies the line of the fault OutOfMemory to `out`.
 fn show_lack_of_memory(out: &mut [u8]) -> Shown
     ensures shows { (run : Run) → Shows run (length out.old) (take result.count out.new)
-        (number_of result.end) (record_of result.end) }
+        (answered_number result.end) (record_of result.end) }
     ensures within { result.count ≤ length out.old }
     ensures rest { drop result.count out.new ≡ drop result.count out.old }
 {
@@ -101,13 +101,13 @@ fn show_lack_of_memory(out: &mut [u8]) -> Shown
 
 // Replays an input into memory, and copies its text to `out`.
 fn replay_into(alloc: Global, input: &[u8], limits: Limits, out: &mut [u8]) -> Shown
-    ensures shows { Shows (run_of limits input.now) (length out.old) (take result.count out.new)
-        (number_of result.end) (record_of result.end) }
+    ensures shows { Shows (run_of replay_limits input.now) (length out.old) (take result.count out.new)
+        (answered_number result.end) (record_of result.end) }
     ensures within { result.count ≤ length out.old }
     ensures rest { drop result.count out.new ≡ drop result.count out.old }
 {
     let mut text = Vec::new(alloc);
-    let mut from = Given::new(input);
+    let mut from = RecordingReader::new(input);
     match replay(alloc, &mut from, &mut text, limits) {
         Ok(()) => show(text.as_slice(), None, out),
         Err(fault) if is_of_device(fault) => show_lack_of_memory(out),
@@ -118,7 +118,7 @@ fn replay_into(alloc: Global, input: &[u8], limits: Limits, out: &mut [u8]) -> S
 // The limits with these numbers. A number of readers above 255 becomes 0, which is out of range
 // too.
 fn limits_of(readers: u32, journal: u32) -> Limits
-    ensures same { (bytes : List ℕ) → run_of result bytes ≡ run_of (limits readers journal) bytes }
+    ensures same { (bytes : List ℕ) → run_of result bytes ≡ run_of (replay_limits readers journal) bytes }
 {
     let readers = if readers <= u32::from(u8::MAX) {
         readers as u8
@@ -168,13 +168,13 @@ pub extern "C" fn board_replay(
     written: &mut u64,
     place: &mut u32,
 ) -> u8
-    ensures shows { Shows (run_of (limits readers journal) input.now) (length out.old) (take written.new out.new)
+    ensures shows { Shows (run_of (replay_limits readers journal) input.now) (length out.old) (take written.new out.new)
         result place.new }
     ensures within { written.new ≤ length out.old }
     ensures rest { drop written.new out.new ≡ drop written.new out.old }
-    ensures done { result ≡ DONE → IsWhole (run_of (limits readers journal) input.now) (take written.new out.new) }
+    ensures done { result ≡ DONE → IsWhole (run_of (replay_limits readers journal) input.now) (take written.new out.new) }
     ensures reads { result ≢ code_of ReadFault }
-    ensures writes { result ≡ code_of WriteFault → IsLonger (run_of (limits readers journal) input.now) (length out.old) }
+    ensures writes { result ≡ code_of WriteFault → IsLonger (run_of (replay_limits readers journal) input.now) (length out.old) }
 {
     let shown = replay_into(alloc, input, limits_of(readers, journal), out);
     *written = shown.count as u64;

@@ -3,23 +3,23 @@ use Rattle.std.proofs.Common.{◌≡◌, ℕ, List, [], ◌∷◌, ◌++◌, get
 use Rattle.council_core.specs.Refusals.{code_of}
 use Rattle.council_core.specs.declared.refusals.Refusal.TheVariants.{BadHeader, BadLimit, BadRecord, OutOfMemory, ReadFault, WriteFault}
 use Rattle.board_text.specs.Output.{AppendsFront}
-use Rattle.board_text.specs.Text.{begun_of, fault_at, stops}
+use Rattle.board_text.specs.Text.{begun_of, fault_at, stopped_run}
 use Rattle.board_text.specs.declared.faults.Fault.{Fault}
 use Rattle.board_runs.specs.Replays.{run_of}
 use Rattle.board_words.proofs.WorkedCases.{plain, replay_asks_no_text, replay_has_no_fault}
 use Rattle.board_words.specs.declared.calls.Call.{Call}
 use Rattle.board_words.specs.declared.calls.Call.TheVariants.{Replay}
-use Rattle.board_report.specs.Programs.{AnswersWords, CallExits, LacksMemory, Written, failure_text, limits, written}
+use Rattle.board_report.specs.Programs.{AnswersWords, CallExits, LacksMemory, Written, failure_text, program_limits, written_streams}
 
 abbrev one : List ℕ
 one = 7 ∷ []
 
 -- a byte came to standard output, or to standard error
 abbrev to_output : Written
-to_output = written (Some []) (Some one) (Some []) (Some [])
+to_output = written_streams (Some []) (Some one) (Some []) (Some [])
 
 abbrev to_error : Written
-to_error = written (Some []) (Some []) (Some []) (Some one)
+to_error = written_streams (Some []) (Some []) (Some []) (Some one)
 
 -- where memory was refused, standard output stays, and the status is 1
 output_without_memory : LacksMemory 1 to_output → ⊥
@@ -61,13 +61,13 @@ name_of_a_fault : failure_text (code_of BadRecord) ≡ codes "board: BadRecord" 
 name_of_a_fault = refl
 
 -- with no reader a run stops before it reads
-no_reader : (bytes : List ℕ) → run_of (limits 0 1) bytes ≡ stops (fault_at BadLimit 0)
+no_reader : (bytes : List ℕ) → run_of (program_limits 0 1) bytes ≡ stopped_run (fault_at BadLimit 0)
 unfolding begun_of
 no_reader bytes = refl
 
 -- then the status is not 0
 abbrev told_well : Written
-told_well = written (Some []) (Some (codes "fault,0,BadLimit" ++ 10 ∷ [])) (Some []) (Some [])
+told_well = written_streams (Some []) (Some (codes "fault,0,BadLimit" ++ 10 ∷ [])) (Some []) (Some [])
 
 stopped_run_exits_well : (bytes : List ℕ) → CallExits (Replay 0 1) bytes 0 told_well → ⊥
 unfolding begun_of
@@ -80,7 +80,7 @@ abbrev another_name : List ℕ
 another_name = codes "board: BadHeader" ++ 10 ∷ []
 
 abbrev told_another : Written
-told_another = written (Some []) (Some (codes "fault,0,BadLimit" ++ 10 ∷ [])) (Some []) (Some another_name)
+told_another = written_streams (Some []) (Some (codes "fault,0,BadLimit" ++ 10 ∷ [])) (Some []) (Some another_name)
 
 begins : (x text : List ℕ) → AppendsFront (Some []) (Some x) text → (rest : List ℕ) × (text ≡ x ++ rest)
 begins x text (front, whole, new) = (whole.0, whole.1 ∙ ap (λ l. l ++ whole.0) (sym new))

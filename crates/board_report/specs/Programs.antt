@@ -17,13 +17,13 @@ use Rattle.board_serve.specs.Plans.{plan_of}
 use Rattle.board_serve.specs.Serving.{Serves}
 use Rattle.board_serve.specs.declared.served.Served.{Served}
 
-abbrev pub limits : ℕ → ℕ → Limits
-limits readers journal = record { readers = readers; journal = journal }
+abbrev pub program_limits : ℕ → ℕ → Limits
+program_limits readers journal = record { readers = readers; journal = journal }
 
 -- the call over these bytes ended in this result, and its lines were written
 abbrev pub CallEnds : Call → List ℕ → Option (List ℕ) → Option (List ℕ) → Result ⊤ Fault → Type 0
-CallEnds (Replay readers journal) bytes old new ended = Replays old new ended (run_of (limits readers journal) bytes)
-CallEnds (Trace readers journal) bytes old new ended = Replays old new ended (trace_of (limits readers journal) bytes)
+CallEnds (Replay readers journal) bytes old new ended = Replays old new ended (run_of (program_limits readers journal) bytes)
+CallEnds (Trace readers journal) bytes old new ended = Replays old new ended (trace_of (program_limits readers journal) bytes)
 CallEnds (Serve journal) bytes old new (Ok done) =
     (served : Served) × Serves old new (Ok served) (plan_of journal bytes)
 CallEnds (Serve journal) bytes old new (Err f) = Serves old new (Err f) (plan_of journal bytes)
@@ -39,8 +39,8 @@ pub record Written : Type 0 where
   pub err_old : Option (List ℕ)
   pub err_new : Option (List ℕ)
 
-abbrev pub written : Option (List ℕ) → Option (List ℕ) → Option (List ℕ) → Option (List ℕ) → Written
-written out_old out_new err_old err_new =
+abbrev pub written_streams : Option (List ℕ) → Option (List ℕ) → Option (List ℕ) → Option (List ℕ) → Written
+written_streams out_old out_new err_old err_new =
     record { out_old = out_old; out_new = out_new; err_old = err_old; err_new = err_new }
 
 -- out of memory before any call ran: status 1 and a prefix of that fault's text on standard error

@@ -9,5 +9,5 @@ pub use board_runs::{replay, trace};
 pub use board_serve::{FreeGate, Gate, GateClosed, Place, Served, serve};
 pub use board_text::{Fault, Limits};
 pub use programs::{program, words_out_of_memory, words_refused};
+pub use recording_io::{RecordingReader, RecordingWriter};
 pub use streams::Streams;
-pub use told_streams::{Given, Told};

@@ -1,6 +1,6 @@
 //! Runs the program and returns its exit status.
 ghost use Rattle.std.specs.Prelude.{◌≡◌, ◌≤◌, ◌+◌, ℕ, List, map};
-ghost use Rattle.told_streams.specs.Tapes.{OfInput};
+ghost use Rattle.recording_io.specs.Tapes.{OfInput};
 ghost use Rattle.std.specs.String.{string_bytes};
 ghost use Rattle.council_core.specs.Refusals.{code_of};
 ghost use Rattle.council_core.specs.declared.refusals.Refusal.TheVariants.{OutOfMemory};
@@ -9,7 +9,7 @@ ghost use Rattle.board_words.specs.declared.calls.Call.{Call};
 ghost use Rattle.board_words.specs.declared.calls.Call.TheVariants.{Serve};
 ghost use Rattle.board_words.specs.declared.calls.NoCall.TheVariants as none;
 ghost use Rattle.board_report.specs.Programs.{AnswersWords, CallEnds, CallExits, LacksMemory, failure_text};
-ghost use Rattle.board_report.specs.Programs.{no_text, written};
+ghost use Rattle.board_report.specs.Programs.{no_text, written_streams};
 ghost use Rattle.board_text.specs.Inputs.{InterruptedAtMost, RunRetriesAtMost, WastesAtMost};
 ghost use Rattle.board_text.specs.Output.{AppendsFront};
 
@@ -19,11 +19,11 @@ use board_serve::{FreeGate, serve};
 use board_text::{Fault, INTERRUPTIONS, Limits, Line, READS, say};
 use board_words::{Call, NoCall};
 use council_core::Refusal;
+use recording_io::RecordingReader;
 use std::alloc::Global;
 use std::io::{Read, Write};
 use std::sync::Wait;
 use std::thread::Threads;
-use told_streams::Given;
 
 // Writes the name of a fault and returns the status.
 fn fail<E: Write>(err: &mut E, fault: Fault) -> u8
@@ -49,11 +49,11 @@ fn fail_for_memory<E: Write>(err: &mut E) -> u8
 fn explain<W: Write, E: Write>(why: &NoCall, out: &mut W, err: &mut E) -> u8
     ensures status { result ≤ 2 }
     ensures memory { why.now ≡ none.OutOfMemory
-        → LacksMemory result (written (W.contents out.old) (W.contents out.new) (E.contents err.old)
+        → LacksMemory result (written_streams (W.contents out.old) (W.contents out.new) (E.contents err.old)
         (E.contents err.new)) }
     ensures answered { (words : List (List ℕ)) → Explains words why.now
         → AnswersWords words result
-        (written (W.contents out.old) (W.contents out.new) (E.contents err.old) (E.contents err.new)) }
+        (written_streams (W.contents out.old) (W.contents out.new) (E.contents err.old) (E.contents err.new)) }
 {
     match why {
         NoCall::Shown(text) => {
@@ -73,7 +73,7 @@ fn run_serve<T: Threads + Wait + Sync, R: Read + Drop, W: Write>(
     rt: &T,
     alloc: Global,
     journal: u32,
-    input: &mut Given<R>,
+    input: &mut RecordingReader<R>,
     out: &mut W,
 ) -> Result<(), Fault>
     ensures ends { OfInput input.old input.new
@@ -93,7 +93,7 @@ fn run<T: Threads + Wait + Sync, R: Read + Drop, W: Write>(
     rt: &T,
     alloc: Global,
     call: Call,
-    input: &mut Given<R>,
+    input: &mut RecordingReader<R>,
     out: &mut W,
 ) -> Result<(), Fault>
     ensures ends { OfInput input.old input.new
@@ -143,11 +143,11 @@ pub fn program<T: Threads + Wait + Sync, R: Read + Drop, W: Write + Drop, E: Wri
     ensures status { result ≤ 2 }
     ensures calls { (call : Call) → Asks (map string_bytes words.now) call
         → OfInput streams.old.input streams.new.input (λ bytes. CallExits call bytes result
-        (written (W.contents streams.old.out) (W.contents streams.new.out) (E.contents streams.old.err)
+        (written_streams (W.contents streams.old.out) (W.contents streams.new.out) (E.contents streams.old.err)
         (E.contents streams.new.err))) }
     ensures refuses { AreNotTaken (map string_bytes words.now)
         → AnswersWords (map string_bytes words.now) result
-        (written (W.contents streams.old.out) (W.contents streams.new.out) (E.contents streams.old.err)
+        (written_streams (W.contents streams.old.out) (W.contents streams.new.out) (E.contents streams.old.err)
         (E.contents streams.new.err)) }
     ensures unread { AreNotTaken (map string_bytes words.now) → streams.new.input ≡ streams.old.input }
     ensures asks { streams.new.input.asks ≤ streams.old.input.asks + READS }

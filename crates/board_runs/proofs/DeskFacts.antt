@@ -1,6 +1,6 @@
 -- Indices that were kept.
 use Rattle.std.proofs.Common.{◌≡◌, List, ℕ, Option, Some, sym, ap, ◌∙◌}
-use Rattle.council_core.specs.Sequential.{Sequential, shown}
+use Rattle.council_core.specs.Sequential.{Sequential, published_sheet}
 use Rattle.majority_rule.specs.declared.majorities.Majority.{Majority}
 use Rattle.power_index.specs.Indices.{indices_of}
 use Rattle.power_index.specs.declared.indices.Indices.{Indices}
@@ -15,6 +15,6 @@ pub keeps-counted : (words sheet : List ℕ) (i : Indices) → i ≡ indices_of 
 keeps-counted words sheet i counted same j is = let e : i ≡ j = cc in rw (← e) (counted ∙ ap (indices_of i.majority) (sym same))
 
 -- indices of a sheet are those at their own majority
-pub at-their-own : (before after : Sequential) (i : Indices) (m : Majority) → i ≡ indices_of m (shown before) → after ≡ before → i ≡ indices_of i.majority (shown after)
+pub at-their-own : (before after : Sequential) (i : Indices) (m : Majority) → i ≡ indices_of m (published_sheet before) → after ≡ before → i ≡ indices_of i.majority (published_sheet after)
 at-their-own before after i m counted same =
-    counted ∙ ap (λ n. indices_of n (shown before)) (sym (ap (λ (j : Indices). j.majority) counted)) ∙ ap (λ s. indices_of i.majority (shown s)) (sym same)
+    counted ∙ ap (λ n. indices_of n (published_sheet before)) (sym (ap (λ (j : Indices). j.majority) counted)) ∙ ap (λ s. indices_of i.majority (published_sheet s)) (sym same)

@@ -12,12 +12,12 @@ use Rattle.council_core.specs.declared.refusals.Refusal.{Refusal}
 use Rattle.council_core.specs.declared.refusals.Refusal.TheVariants.{BadHeader, BadLimit, BadReader, BadRecord, DuplicateMember, NoScript, TooLong, TooManyMembers}
 use Rattle.board_text.specs.Lines.{Line}
 use Rattle.board_text.specs.Requests.{Row, request_of, is_mark, is_header, member_of}
-use Rattle.board_text.specs.Text.{Begun, Opened, Run, begun_of, begun_with, in_range, is_served, member_then, opened_of, opening_of, started_with}
+use Rattle.board_text.specs.Text.{Begun, Opened, Run, begun_of, run_begun_with, in_range, is_served, member_then, opened_of, opening_of, started_with}
 use Rattle.board_text.specs.declared.bounds.Limits.{Limits}
 use Rattle.board_text.specs.declared.faults.Fault.{Fault}
 use Rattle.board_text.specs.declared.requests.Request.{Request}
 use Rattle.board_runs.specs.Replays.{replay_start, replay_step, reply_to, run_of}
-use Rattle.board_runs.specs.Scripts.{Turn, begun_run, interpreted, run_step, script_run}
+use Rattle.board_runs.specs.Scripts.{Turn, begun_run, run_of_script, run_step, script_run}
 
 -- the numbers of the faults that an input may have
 abbrev pub is_of_input : ℕ → Bool
@@ -71,7 +71,7 @@ started-errs : (lim : Limits) (verdict : Result ⊤ Refusal) (p : Opened) → If
 started-errs lim (Err why) p is = is
 started-errs lim (Ok u) p is = tt
 
-begun_with-errs : (lim : Limits) (opened : Result Opened Fault) → ErrsByInput opened → ErrsByInput (begun_with lim opened)
+begun_with-errs : (lim : Limits) (opened : Result Opened Fault) → ErrsByInput opened → ErrsByInput (run_begun_with lim opened)
 begun_with-errs lim (Err f) p = p
 begun_with-errs lim (Ok o) p = started-errs lim _ o (verdict-errs o.0 lim.journal)
 
@@ -99,7 +99,7 @@ unfolding script_run
 script_run-ends lim s k [] = tt
 script_run-ends lim s k (r ∷ rs) = step-ends k (replay_step lim s r) _ (reply-errs lim s (request_of r)) (λ t. script_run-ends lim t (k + 1) rs)
 
-begun_run-ends : (lim : Limits) (begun : Result Begun Fault) → ErrsByInput begun → EndsByInput (begun_run (interpreted replay_start replay_step lim) begun).end
+begun_run-ends : (lim : Limits) (begun : Result Begun Fault) → ErrsByInput begun → EndsByInput (begun_run (run_of_script replay_start replay_step lim) begun).end
 begun_run-ends lim (Err f) p = p
 begun_run-ends lim (Ok b) p = script_run-ends lim _ b.1 b.2
 

@@ -1,7 +1,7 @@
 -- The run of a script, one record at a time.
 use Rattle.std.proofs.Common.{◌≡◌, ◌+◌, IfOk, ℕ, List, [], ◌∷◌, Option, Ok, Err, refl, sym, ap}
 use Rattle.board_text.specs.Requests.{Row}
-use Rattle.board_text.specs.Text.{Run, after, prints}
+use Rattle.board_text.specs.Text.{Run, with_lines, printed_run}
 use Rattle.board_runs.specs.Scripts.{Turn, run_step, script_run, step_run}
 use Rattle.board_text.specs.Output.{Plays}
 use Rattle.board_text.specs.declared.stops.Stop.{Stop}
@@ -16,9 +16,9 @@ step-stops a b e k (Ok q) more p = plays-more a b e q.0 (more q.1) p
 pub step-goes : {S : Type 0} (a b : Option (List ℕ)) (u : Unit {0}) (k : ℕ) (st : Turn S) (more : S → Run) (t : S)
     → Plays a b (Ok u) (step_run k st) → IfOk st (λ p. t ≡ p.1) → PlayedTo a b (run_step k st more) (more t)
 step-goes a b u k (Err code) more t p s = cc p.0
-step-goes a b u k (Ok q) more t p s = record { lines = q.0; written = p.1; goes_on = ap (λ x. after q.0 (more x)) (sym s) }
+step-goes a b u k (Ok q) more t p s = record { lines = q.0; written = p.1; goes_on = ap (λ x. with_lines q.0 (more x)) (sym s) }
 
-pub script-ends : {S : Type 0} (step : S → Row → Turn S) (s : S) (k : ℕ) (rs : List Row) → rs ≡ [] → script_run step s k rs ≡ prints []
+pub script-ends : {S : Type 0} (step : S → Row → Turn S) (s : S) (k : ℕ) (rs : List Row) → rs ≡ [] → script_run step s k rs ≡ printed_run []
 unfolding script_run
 script-ends step s k rs e = rw e refl
 

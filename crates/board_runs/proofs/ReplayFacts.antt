@@ -3,10 +3,10 @@ use Rattle.std.proofs.Common.{◌≡◌, ◌≤◌, inl, inr, ℕ, true, List, [
 use Rattle.std.proofs.KnownBytes.{Appends-nil}
 use Rattle.std.specs.Io.KnownBytes.{Appends}
 use Rattle.csv.specs.Reading.{default_config, records, strip_bom}
-use Rattle.told_streams.specs.Tapes.{Giving, OfInput}
+use Rattle.recording_io.specs.Tapes.{Giving, OfInput}
 use Rattle.council_core.specs.declared.refusals.Refusal.TheVariants as why
 use Rattle.board_text.specs.Lines.{Line, fault_line}
-use Rattle.board_text.specs.Text.{Begun, Run, begun_of, begun_with, end_lines, fault_at, in_range, opened_of, output, text_of}
+use Rattle.board_text.specs.Text.{Begun, Run, begun_of, run_begun_with, end_lines, fault_at, in_range, opened_of, output, text_of}
 use Rattle.board_runs.specs.Scripts.{begun_run}
 use Rattle.board_text.specs.Output.{AppendsFront, AppendsLines, Ends, Fails, IsBroken, IsFrontOf, Plays, StopsIn, fault_of}
 use Rattle.board_runs.specs.Ended.{Replays}
@@ -25,7 +25,7 @@ fails-stop : (a : Option (List ℕ)) (e : Stop) (interpret : Begun → Run) (spe
 fails-stop a stop.OutOfMemory interpret spec p = nothing-written a _
 fails-stop a stop.ReadFault interpret spec p = nothing-written a _
 fails-stop a stop.WriteFault interpret spec p = absurd p
-fails-stop a (stop.Told f) interpret spec p = rw p (refl, Appends-nil a)
+fails-stop a (stop.Input f) interpret spec p = rw p (refl, Appends-nil a)
 
 -- where nothing came of the input, nothing was written
 pub plays-failed : (a : Option (List ℕ)) (e d : Stop) (interpret : Begun → Run) (spec : Result Begun Fault) → d ≡ e → Fails e spec → Plays a a (Err d) (begun_run interpret spec)
@@ -45,7 +45,7 @@ pub record TextRead (lim : Limits) (text : List ℕ) : Type 0 where
 
 -- the text that was read is the input
 pub interpreted-input : (from to : Giving) (a b : Option (List ℕ)) (r : Result (Unit {0}) Stop) (lim : Limits) (interpret : Begun → Run) (text : List ℕ) (read : TextRead lim text)
-    → OfInput from to (λ bytes. read.input ≡ bytes) → Plays a b r (begun_run interpret (begun_with lim (opened_of (records default_config (strip_bom text)))))
+    → OfInput from to (λ bytes. read.input ≡ bytes) → Plays a b r (begun_run interpret (run_begun_with lim (opened_of (records default_config (strip_bom text)))))
     → OfInput from to (λ bytes. Plays a b r (begun_run interpret (begun_of lim bytes)))
 interpreted-input from to a b r lim interpret text read whole p = λ bytes is.
     rw (← whole bytes is, begun-records lim read.input read.fits read.short, ← read.same) p
@@ -77,7 +77,7 @@ ended-run : (a b c : Option (List ℕ)) (s : Stop) (f g : Fault) (run : Run) →
 ended-run a b c stop.OutOfMemory f g run p e q = let same : f ≡ fault_at why.OutOfMemory 0 = cc in broken-ends a b c f g run (inl same) p q
 ended-run a b c stop.ReadFault f g run p e q = let same : f ≡ fault_at why.ReadFault 0 = cc in broken-ends a b c f g run (inr same) p q
 ended-run a b c stop.WriteFault f g run p e q = cc e
-ended-run a b c (stop.Told h) f g run p e q = told-ends a b c f g run (p.0 ∙ e) p.1 q
+ended-run a b c (stop.Input h) f g run p e q = told-ends a b c f g run (p.0 ∙ e) p.1 q
 
 -- the same of an input
 pub replayed : (from to : Giving) (a b c : Option (List ℕ)) (s : Stop) (g : Fault) (run : List ℕ → Run) → OfInput from to (λ bytes. Plays a b (Err s) (run bytes)) → FaultTold b c s g
@@ -88,7 +88,7 @@ cut-by : (a b : Option (List ℕ)) (s : Stop) (run : Run) → fault_of s ≡ Non
 cut-by a b stop.OutOfMemory run e p = cc e
 cut-by a b stop.ReadFault run e p = cc e
 cut-by a b stop.WriteFault run e p = cut-run a b run p
-cut-by a b (stop.Told f) run e p = cc e
+cut-by a b (stop.Input f) run e p = cc e
 
 pub replay-cut : (from to : Giving) (a b : Option (List ℕ)) (s : Stop) (g : Fault) (run : List ℕ → Run) → OfInput from to (λ bytes. Plays a b (Err s) (run bytes)) → fault_of s ≡ None
     → g ≡ fault_at why.WriteFault 0 → OfInput from to (λ bytes. Replays a b (Err g) (run bytes))

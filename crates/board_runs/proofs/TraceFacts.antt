@@ -1,12 +1,12 @@
 -- The lines of events, one event at a time.
 use Rattle.std.proofs.Common.{◌≡◌, ℕ, suc, ◌+◌, ◌-◌, ◌<◌, List, ◌∷◌, ◌++◌, Option, Ok, Err, replicate, refl, sym, ap, ◌∙◌, arith, append_assoc}
 use Rattle.std.specs.Io.KnownBytes.{Appends}
-use Rattle.two_copy_steps.specs.Transitions.{MachineState, after, transition}
+use Rattle.two_copy_steps.specs.Transitions.{MachineState, state_after_events, transition}
 use Rattle.two_copy_steps.specs.declared.events.Event.{Event}
 use Rattle.board_text.specs.Lines.{Line, note_lines}
 use Rattle.board_text.specs.Output.{Plays}
-use Rattle.board_text.specs.Text.{prints, text_of}
-use Rattle.board_runs.specs.Traces.{told}
+use Rattle.board_text.specs.Text.{printed_run, text_of}
+use Rattle.board_runs.specs.Traces.{output_lines}
 use Rattle.board_text.specs.declared.stops.Stop.{Stop}
 use Rattle.board_text.proofs.PlayFacts.{PlayedTo, lines-then, plays-more, plays-passed, plays-whole}
 
@@ -16,25 +16,25 @@ events-left n i e within = let same : n - i ≡ suc (n - (i + 1)) = omega (arith
 
 module _ (m : MachineState) (e : Event) (n i : ℕ) (within : i < n) where
   -- the lines of an event, and then those of the events after it
-  told-left : told m (replicate (n - i) e) ≡ note_lines (transition m e).1 ++ told (transition m e).0 (replicate (n - (i + 1)) e)
-  told-left = ap (λ es. told m es) (events-left n i e within)
+  told-left : output_lines m (replicate (n - i) e) ≡ note_lines (transition m e).1 ++ output_lines (transition m e).0 (replicate (n - (i + 1)) e)
+  told-left = ap (λ es. output_lines m es) (events-left n i e within)
 
-  pub after-left : (x : MachineState) → x ≡ (transition m e).0 → after m (replicate (n - i) e) ≡ after x (replicate (n - (i + 1)) e)
-  after-left x same = ap (λ es. after m es) (events-left n i e within) ∙ ap (λ y. after y (replicate (n - (i + 1)) e)) (sym same)
+  pub after-left : (x : MachineState) → x ≡ (transition m e).0 → state_after_events m (replicate (n - i) e) ≡ state_after_events x (replicate (n - (i + 1)) e)
+  after-left x same = ap (λ es. state_after_events m es) (events-left n i e within) ∙ ap (λ y. state_after_events y (replicate (n - (i + 1)) e)) (sym same)
 
-  module _ (a b c : Option (List ℕ)) (done whole : List Line) (so_far : Appends a b (text_of done)) (parts : whole ≡ done ++ told m (replicate (n - i) e)) where
-    pub told-goes : (u : Unit {0}) (x : MachineState) → Plays b c (Ok u) (prints (note_lines (transition m e).1)) → x ≡ (transition m e).0
-        → (more : List Line) × Appends a c (text_of more) × (whole ≡ more ++ told x (replicate (n - (i + 1)) e))
+  module _ (a b c : Option (List ℕ)) (done whole : List Line) (so_far : Appends a b (text_of done)) (parts : whole ≡ done ++ output_lines m (replicate (n - i) e)) where
+    pub told-goes : (u : Unit {0}) (x : MachineState) → Plays b c (Ok u) (printed_run (note_lines (transition m e).1)) → x ≡ (transition m e).0
+        → (more : List Line) × Appends a c (text_of more) × (whole ≡ more ++ output_lines x (replicate (n - (i + 1)) e))
     told-goes u x p same = (
       done ++ note_lines (transition m e).1,
       lines-then a b c done (note_lines (transition m e).1) so_far p.1,
       parts ∙ ap (λ ls. done ++ ls) told-left ∙ sym (append_assoc done (note_lines (transition m e).1) _)
-          ∙ ap (λ y. (done ++ note_lines (transition m e).1) ++ told y (replicate (n - (i + 1)) e)) (sym same),
+          ∙ ap (λ y. (done ++ note_lines (transition m e).1) ++ output_lines y (replicate (n - (i + 1)) e)) (sym same),
     )
 
-    pub told-stops : (s d : Stop) → d ≡ s → Plays b c (Err s) (prints (note_lines (transition m e).1)) → Plays a c (Err d) (prints whole)
+    pub told-stops : (s d : Stop) → d ≡ s → Plays b c (Err s) (printed_run (note_lines (transition m e).1)) → Plays a c (Err d) (printed_run whole)
     told-stops s d same p =
-        let rest = told (transition m e).0 (replicate (n - (i + 1)) e) in
-        let interpreted : PlayedTo a b (prints whole) (prints (note_lines (transition m e).1 ++ rest)) =
-        record { lines = done; written = so_far; goes_on = ap prints (parts ∙ ap (λ ls. done ++ ls) told-left) } in
-        plays-passed a c s d (prints whole) same (plays-whole a b c (Err s) _ _ interpreted (plays-more b c s (note_lines (transition m e).1) (prints rest) p))
+        let rest = output_lines (transition m e).0 (replicate (n - (i + 1)) e) in
+        let interpreted : PlayedTo a b (printed_run whole) (printed_run (note_lines (transition m e).1 ++ rest)) =
+        record { lines = done; written = so_far; goes_on = ap printed_run (parts ∙ ap (λ ls. done ++ ls) told-left) } in
+        plays-passed a c s d (printed_run whole) same (plays-whole a b c (Err s) _ _ interpreted (plays-more b c s (note_lines (transition m e).1) (printed_run rest) p))

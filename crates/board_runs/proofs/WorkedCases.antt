@@ -5,13 +5,13 @@ use Rattle.std.specs.Fmt.{digits}
 use Rattle.council_core.specs.declared.refusals.Refusal.TheVariants.{BadRecord, OutOfMemory, ReadFault, WriteFault}
 use Rattle.board_text.specs.Lines.{Line, fault_line}
 use Rattle.board_text.specs.Output.{IsBroken, IsFrontOf}
-use Rattle.board_text.specs.Text.{Run, fault_at, prints, stops, text_of}
+use Rattle.board_text.specs.Text.{Run, fault_at, printed_run, stopped_run, text_of}
 use Rattle.board_text.specs.declared.faults.Fault.{Fault}
 use Rattle.board_runs.specs.Ended.{BreaksOff, CutsOff, EndsAsTold, IsBrokenOff, IsOutputOf, Replays}
 
 -- a run of one line
 abbrev one_line : Run
-one_line = prints (codes "began" ∷ [])
+one_line = printed_run (codes "began" ∷ [])
 
 abbrev its_text : List ℕ
 its_text = codes "began" ++ 10 ∷ []
@@ -37,7 +37,7 @@ at n e = ap (λ (bytes : List ℕ). get_or bytes n 0) e
 one_line_replayed : Replays (Some []) (Some its_text) (Ok tt) one_line
 one_line_replayed = (refl, refl)
 
-faulty_run_ends_well : (text : List ℕ) → Replays (Some []) (Some text) (Ok tt) (stops bad_record) → ⊥
+faulty_run_ends_well : (text : List ℕ) → Replays (Some []) (Some text) (Ok tt) (stopped_run bad_record) → ⊥
 faulty_run_ends_well text h = let e = h.0 in cc e
 
 line_left_out : Replays (Some []) (Some []) (Ok tt) one_line → ⊥
@@ -47,12 +47,12 @@ line_left_out h = let e = h.1 in cc e
 fault_of_a_good_run : (old new : Option (List ℕ)) → EndsAsTold old new bad_record one_line → ⊥
 fault_of_a_good_run old new h = let e = h.0 in cc e
 
-fault_of_another_record : (old new : Option (List ℕ)) → EndsAsTold old new (fault_at BadRecord 6) (stops bad_record) → ⊥
+fault_of_another_record : (old new : Option (List ℕ)) → EndsAsTold old new (fault_at BadRecord 6) (stopped_run bad_record) → ⊥
 fault_of_another_record old new h =
     let same : bad_record ≡ fault_at BadRecord 6 = let e = h.0 in cc e in
     absurd (omega (arith, place same))
 
-fault_without_its_line : EndsAsTold (Some []) (Some []) bad_record (stops bad_record) → ⊥
+fault_without_its_line : EndsAsTold (Some []) (Some []) bad_record (stopped_run bad_record) → ⊥
 unfolding digits
 fault_without_its_line h = let e = h.1 in cc e
 
@@ -86,11 +86,11 @@ cut_line_before_a_fault (l ∷ ls, front, same) =
     absurd (omega (arith, at 3 (subst P (sym first) same)))
 
 -- what a run of no lines writes, with the fault's line that breaks it off
-broken_off_as : (f : Fault) (text : List ℕ) → IsBrokenOff (prints []) f text → text ≡ text_of (fault_line f ∷ [])
+broken_off_as : (f : Fault) (text : List ℕ) → IsBrokenOff (printed_run []) f text → text ≡ text_of (fault_line f ∷ [])
 broken_off_as f text ([], front, same) = same
 broken_off_as f text (l ∷ ls, front, same) = let e = front.1 in cc e
 
-broken_off_by_a_record : IsOutputOf (prints []) (line_of_no_record (codes "BadRecord")) → ⊥
+broken_off_by_a_record : IsOutputOf (printed_run []) (line_of_no_record (codes "BadRecord")) → ⊥
 unfolding digits
 broken_off_by_a_record (inl e) = absurd (omega (arith, at 0 e))
 broken_off_by_a_record (inr (f, inl same, off)) =
@@ -111,15 +111,15 @@ cuts_off_for_a_record old new run h = absurd (omega (arith, code h.0))
 begins_with_seven : (text front rest : List ℕ) → text ≡ front ++ rest → seven ≡ front → text ≡ 7 ∷ rest
 begins_with_seven text front rest e same = e ∙ ap (λ l. l ++ rest) (sym same)
 
-no_text_with_seven : (text rest : List ℕ) → IsOutputOf (prints []) text → text ≡ 7 ∷ rest → ⊥
+no_text_with_seven : (text rest : List ℕ) → IsOutputOf (printed_run []) text → text ≡ 7 ∷ rest → ⊥
 no_text_with_seven text rest (inl e) s = cc (e, s)
 no_text_with_seven text rest (inr (f, broken, off)) s = let e = sym (broken_off_as f text off) ∙ s in cc e
 
-cuts_off_to_seven : CutsOff (Some []) (Some seven) (fault_at WriteFault 0) (prints []) → ⊥
+cuts_off_to_seven : CutsOff (Some []) (Some seven) (fault_at WriteFault 0) (printed_run []) → ⊥
 cuts_off_to_seven (told, (text, written, (front, whole, new))) =
     no_text_with_seven text whole.0 written (begins_with_seven text front whole.0 whole.1 new)
 
-replays_to_seven : Replays (Some []) (Some seven) (Err (fault_at WriteFault 0)) (prints []) → ⊥
+replays_to_seven : Replays (Some []) (Some seven) (Err (fault_at WriteFault 0)) (printed_run []) → ⊥
 replays_to_seven (inl told) = let e = told.0 in cc e
 replays_to_seven (inr (inl broken)) = broken_by_a_write broken.0
 replays_to_seven (inr (inr cut)) = cuts_off_to_seven cut

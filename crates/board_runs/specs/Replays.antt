@@ -2,18 +2,18 @@
 use Rattle.std.specs.Prelude.{ℕ, List, Option, Some}
 use Rattle.std.specs.Prelude.{None, Ok, Err, if◌then◌else◌}
 use Rattle.council_core.specs.Ledgers.{Ledger}
-use Rattle.council_core.specs.Sequential.{Sequential, respond}
+use Rattle.council_core.specs.Sequential.{Sequential, response_to}
 use Rattle.council_core.specs.declared.refusals.Refusal.TheVariants.{BadReader, BadRecord}
 use Rattle.board_text.specs.Lines.{reply_lines}
 use Rattle.board_text.specs.Requests.{Row, call_of, request_of}
 use Rattle.board_text.specs.declared.bounds.Limits.{Limits}
 use Rattle.board_text.specs.declared.requests.Request.{Request}
 use Rattle.board_runs.specs.Scripts.{Turn, interpreted_run}
-use Rattle.board_text.specs.Text.{Run, fresh, is_served}
+use Rattle.board_text.specs.Text.{Run, unpublished, is_served}
 
 -- a request is a call of the sequential register, and its lines print the reply
 abbrev pub reply : Limits → Sequential → Request → Turn Sequential
-reply lim s q = if is_served lim q then Ok (reply_lines q (respond s (call_of q)).1, (respond s (call_of q)).0)
+reply lim s q = if is_served lim q then Ok (reply_lines q (response_to s (call_of q)).1, (response_to s (call_of q)).0)
     else Err BadReader
 
 abbrev pub reply_to : Limits → Sequential → Option Request → Turn Sequential
@@ -26,7 +26,7 @@ replay_step lim s row = reply_to lim s (request_of row)
 
 -- a replay's start, which doesn't depend on the limits: nothing is published
 abbrev pub replay_start : Limits → Ledger → Sequential
-replay_start lim ledger = fresh ledger
+replay_start lim ledger = unpublished ledger
 
 -- the text that `replay` writes for these bytes and how it ends, if memory is available and the
 -- devices work

@@ -7,7 +7,7 @@ use Rattle.board_text.specs.Lines.{Line}
 use Rattle.board_text.specs.Requests.{Row}
 use Rattle.board_text.specs.declared.bounds.Limits.{Limits}
 use Rattle.board_text.specs.declared.faults.Fault.{Fault}
-use Rattle.board_text.specs.Text.{Begun, Run, after, begun_of, fault_at, prints, stops}
+use Rattle.board_text.specs.Text.{Begun, Run, with_lines, begun_of, fault_at, printed_run, stopped_run}
 
 -- the effect of a record on a state: the lines that it prints and the state after it, or the
 -- refusal
@@ -16,31 +16,31 @@ Turn S = Result (List Line × S) Refusal
 
 -- the run of record number k, followed by the rest of the run
 abbrev pub run_step : {S : Type 0} → ℕ → Turn S → (S → Run) → Run
-run_step k (Err why) more = stops (fault_at why k)
-run_step k (Ok p) more = after p.0 (more p.1)
+run_step k (Err why) more = stopped_run (fault_at why k)
+run_step k (Ok p) more = with_lines p.0 (more p.1)
 
 -- the run of one record alone
 abbrev pub step_run : {S : Type 0} → ℕ → Turn S → Run
-step_run k (Err why) = stops (fault_at why k)
-step_run k (Ok p) = prints p.0
+step_run k (Err why) = stopped_run (fault_at why k)
+step_run k (Ok p) = printed_run p.0
 
 -- the script's records in order, each carried out before the next is looked at; k is the number of
 -- the first
 unfoldable pub script_run : {S : Type 0} → (S → Row → Turn S) → S → ℕ → List Row → Run
-script_run step s k [] = prints []
+script_run step s k [] = printed_run []
 script_run step s k (r ∷ rs) = run_step k (step s r) (λ t. script_run step t (k + 1) rs)
 
 -- the run of a script from its start, or of the fault before it
 abbrev pub begun_run : (Begun → Run) → Result Begun Fault → Run
-begun_run interpret (Err f) = stops f
+begun_run interpret (Err f) = stopped_run f
 begun_run interpret (Ok b) = interpret b
 
 -- the run of a script on the state opened over the register at its start
-abbrev pub interpreted : {S : Type 0} → (Limits → Ledger → S) → (Limits → S → Row → Turn S)
+abbrev pub run_of_script : {S : Type 0} → (Limits → Ledger → S) → (Limits → S → Row → Turn S)
     → Limits → Begun → Run
-interpreted opened step lim b = script_run (step lim) (opened lim b.0) b.1 b.2
+run_of_script opened step lim b = script_run (step lim) (opened lim b.0) b.1 b.2
 
 -- the run of these bytes, for an interpreter with this start and this step
 abbrev pub interpreted_run : {S : Type 0} → (Limits → Ledger → S) → (Limits → S → Row → Turn S)
     → Limits → List ℕ → Run
-interpreted_run opened step lim bytes = begun_run (interpreted opened step lim) (begun_of lim bytes)
+interpreted_run opened step lim bytes = begun_run (run_of_script opened step lim) (begun_of lim bytes)

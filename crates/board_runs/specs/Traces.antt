@@ -4,7 +4,7 @@ use Rattle.std.specs.Prelude.{if◌then◌else◌}
 use Rattle.std.specs.List.{flat_map}
 use Rattle.council_core.specs.Ledgers.{Ledger}
 use Rattle.council_core.specs.declared.refusals.Refusal.TheVariants.{BadReader, BadRecord}
-use Rattle.two_copy_steps.specs.Transitions.{MachineState, after, notes}
+use Rattle.two_copy_steps.specs.Transitions.{MachineState, state_after_events, notes}
 use Rattle.two_copy_steps.specs.Transitions as machine
 use Rattle.two_copy_steps.specs.declared.events.Event.{Event}
 use Rattle.two_copy_steps.specs.declared.events.Event.TheVariants as event
@@ -25,16 +25,16 @@ events_of (act.Writer count) = replicate count event.Writer
 events_of (act.Reader number count) = replicate count (event.Reader number)
 
 -- the lines of the outputs of these events
-abbrev pub told : MachineState → List Event → List Line
-told m events = flat_map note_lines (notes m events)
+abbrev pub output_lines : MachineState → List Event → List Line
+output_lines m events = flat_map note_lines (notes m events)
 
 -- the machine takes the events of an act, and its outputs are printed
-abbrev pub acted : Limits → MachineState → Act → Turn MachineState
-acted lim m a = if is_scheduled lim a then Ok (told m (events_of a), after m (events_of a)) else Err BadReader
+abbrev pub act_turn : Limits → MachineState → Act → Turn MachineState
+act_turn lim m a = if is_scheduled lim a then Ok (output_lines m (events_of a), state_after_events m (events_of a)) else Err BadReader
 
 abbrev pub acted_on : Limits → MachineState → Option Act → Turn MachineState
 acted_on lim m None = Err BadRecord
-acted_on lim m (Some a) = acted lim m a
+acted_on lim m (Some a) = act_turn lim m a
 
 -- the effect of one record of a schedule
 abbrev pub trace_step : Limits → MachineState → Row → Turn MachineState
@@ -42,7 +42,7 @@ trace_step lim m row = acted_on lim m (act_of row)
 
 -- the machine over a register at its start
 abbrev pub trace_start : Limits → Ledger → MachineState
-trace_start lim ledger = machine.started ledger lim.readers
+trace_start lim ledger = machine.machine_at_start ledger lim.readers
 
 -- the text that `trace` writes for these bytes and how it ends, if memory is available and the
 -- devices work

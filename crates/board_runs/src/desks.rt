@@ -1,7 +1,7 @@
 //! The desk: the register together with the sheet published last, which readers see.
 ghost use Rattle.std.specs.Prelude.{◌≡◌, IfOk, IsOkUnless};
 ghost use Rattle.council_core.specs.Ledgers.{sheet_of};
-ghost use Rattle.council_core.specs.Sequential.{respond, shown, submit, publish};
+ghost use Rattle.council_core.specs.Sequential.{response_to, published_sheet, submit, publish};
 ghost use Rattle.power_index.specs.Indices.{indices_of};
 ghost use Rattle.board_runs.specs.Desks.{desk_of};
 ghost use Rattle.board_text.specs.Replies.{reply_of};
@@ -55,8 +55,8 @@ impl Desk {
 
     // Submits a command, and publishes nothing.
     pub(crate) fn submit(&mut self, command: Command) -> Result<Answer, Stop>
-        ensures replied { IfOk result (λ a. reply_of a ≡ (respond self.old (submit command)).1) }
-        ensures after { IfOk result (λ a. self.new ≡ (respond self.old (submit command)).0) }
+        ensures replied { IfOk result (λ a. reply_of a ≡ (response_to self.old (submit command)).1) }
+        ensures after { IfOk result (λ a. self.new ≡ (response_to self.old (submit command)).0) }
         ensures memory { IsOkUnless result stop.OutOfMemory }
     {
         match self.register.apply(command) {
@@ -68,8 +68,8 @@ impl Desk {
 
     // Publishes all accepted commands.
     pub(crate) fn publish(&mut self) -> Answer
-        ensures replied { reply_of result ≡ (respond self.old publish).1 }
-        ensures after { self.new ≡ (respond self.old publish).0 }
+        ensures replied { reply_of result ≡ (response_to self.old publish).1 }
+        ensures after { self.new ≡ (response_to self.old publish).0 }
     {
         self.shown = self.register.sheet();
         self.counted = None;
@@ -79,7 +79,7 @@ impl Desk {
     // The indices of the sheet published last. They are counted only if the indices kept are not
     // those.
     pub(crate) fn indices(&mut self, majority: Majority) -> Indices
-        ensures counted { result ≡ indices_of majority (shown self.old) }
+        ensures counted { result ≡ indices_of majority (published_sheet self.old) }
         ensures unchanged { self.new ≡ self.old }
     {
         match self.counted.take() {
@@ -93,7 +93,7 @@ impl Desk {
 
     // Keeps indices of the sheet published last for the next reading.
     pub(crate) fn keep(&mut self, indices: Indices)
-        requires counted { indices ≡ indices_of indices.majority (shown self.old) }
+        requires counted { indices ≡ indices_of indices.majority (published_sheet self.old) }
         ensures unchanged { self.new ≡ self.old }
     {
         self.counted = Some(indices);

@@ -1,7 +1,7 @@
 //! Interprets an input: the part of a run that `replay` and `trace` share.
 ghost use Rattle.std.specs.Prelude.{◌≡◌, ◌≤◌, ◌<◌, ◌+◌, ◌^◌, [], true, false, length, IfOk};
 ghost use Rattle.std.specs.Prelude.{IsErrOf, OnOk, IsOkUnless};
-ghost use Rattle.told_streams.specs.Tapes.{OfInput};
+ghost use Rattle.recording_io.specs.Tapes.{OfInput};
 ghost use Rattle.council_core.specs.declared.refusals.Refusal.TheVariants as why;
 ghost use Rattle.csv.specs.Reading.{default_config, records, strip_bom};
 ghost use Rattle.csv.specs.Records.{fields_of};
@@ -11,8 +11,8 @@ ghost use Rattle.board_text.specs.Output.{IsBadLimit, Plays};
 ghost use Rattle.board_runs.specs.Ended.{Replays};
 ghost use Rattle.board_text.specs.Sinks.{GoesOn};
 ghost use Rattle.board_text.specs.Requests.{Row};
-ghost use Rattle.board_runs.specs.Scripts.{Turn, begun_run, interpreted, interpreted_run};
-ghost use Rattle.board_text.specs.Text.{begun_with, fault_at, in_range, opened_of};
+ghost use Rattle.board_runs.specs.Scripts.{Turn, begun_run, run_of_script, interpreted_run};
+ghost use Rattle.board_text.specs.Text.{run_begun_with, fault_at, in_range, opened_of};
 ghost use Rattle.board_runs.specs.Scripts.{script_run, step_run};
 ghost use Rattle.board_text.specs.declared.bounds.Limits.{Limits};
 ghost use Rattle.board_text.specs.declared.stops.Stop.TheVariants as stop;
@@ -23,9 +23,9 @@ use board_text::{
 };
 use council_core::{Refusal, Register};
 use csv::ByteRecord;
+use recording_io::RecordingReader;
 use std::alloc::Global;
 use std::io::{Read, Write};
-use told_streams::Given;
 
 // The state that the records of a script are carried out on.
 pub(crate) trait Interpreter: Sized + Drop {
@@ -53,7 +53,7 @@ pub(crate) trait Interpreter: Sized + Drop {
         ensures wrote { Plays out.old.held out.new.held result
             (step_run number (step limits self.old (fields_of row.now))) }
         ensures state { OnOk result (IfOk (step limits self.old (fields_of row.now)) (λ p. self.new ≡ p.1)) }
-        ensures on { GoesOn out.old out.new };
+        ensures continues { GoesOn out.old out.new };
 }
 
 // Carries out the script's records in order. `first` is the number of the first.
@@ -67,7 +67,7 @@ fn interpret_script<I: Interpreter, W: Write>(
 ) -> Result<(), Stop>
     requires numbers { first + length script.old < 2 ^ 32 }
     ensures wrote { Plays out.old.held out.new.held result (script_run (I.step limits) interpreter first script.old) }
-    ensures on { GoesOn out.old out.new }
+    ensures continues { GoesOn out.old out.new }
 {
     let mut number = first;
     'records: loop {
@@ -89,9 +89,9 @@ fn interpret_text<I: Interpreter, W: Write>(
     requires short { length text.now ≤ INPUT_LIMIT }
     requires in_range { in_range limits ≡ true }
     ensures wrote { Plays out.old.held out.new.held result
-        (begun_run (interpreted I.opened I.step limits)
-        (begun_with limits (opened_of (records default_config (strip_bom text.now))))) }
-    ensures on { GoesOn out.old out.new }
+        (begun_run (run_of_script I.opened I.step limits)
+        (run_begun_with limits (opened_of (records default_config (strip_bom text.now))))) }
+    ensures continues { GoesOn out.old out.new }
 {
     let mut script = Script::new(alloc, text);
     let mut row = ByteRecord::new(alloc);
@@ -103,18 +103,18 @@ fn interpret_text<I: Interpreter, W: Write>(
 // Interprets the input, without the line of a fault.
 fn interpret_input<I: Interpreter, R: Read + Drop, W: Write>(
     alloc: Global,
-    input: &mut Given<R>,
+    input: &mut RecordingReader<R>,
     out: &mut Output<'_, W>,
     limits: Limits,
 ) -> Result<(), Stop>
     ensures wrote { OfInput input.old input.new
         (λ bytes. Plays out.old.held out.new.held result (interpreted_run I.opened I.step limits bytes)) }
     ensures limits_first { in_range limits ≡ false
-        → IsErrOf result (stop.Told (fault_at why.BadLimit 0)) × (input.new ≡ input.old) }
+        → IsErrOf result (stop.Input (fault_at why.BadLimit 0)) × (input.new ≡ input.old) }
     ensures asks { input.new.asks ≤ input.old.asks + READS }
     ensures vain { WastesAtMost 1 input.old input.new }
     ensures retried { RetriesAtMost INTERRUPTIONS input.old input.new result }
-    ensures on { GoesOn out.old out.new }
+    ensures continues { GoesOn out.old out.new }
 {
     let text = read_within(alloc, input, limits)?;
     interpret_text::<I, W>(alloc, text.as_slice(), limits, out)
@@ -123,7 +123,7 @@ fn interpret_input<I: Interpreter, R: Read + Drop, W: Write>(
 // Interprets the input and writes the line of a fault.
 fn interpret_all<I: Interpreter, R: Read + Drop, W: Write>(
     alloc: Global,
-    input: &mut Given<R>,
+    input: &mut RecordingReader<R>,
     out: &mut Output<'_, W>,
     limits: Limits,
 ) -> Result<(), Fault>
@@ -133,7 +133,7 @@ fn interpret_all<I: Interpreter, R: Read + Drop, W: Write>(
     ensures asks { input.new.asks ≤ input.old.asks + READS }
     ensures vain { WastesAtMost 1 input.old input.new }
     ensures retried { RunRetriesAtMost INTERRUPTIONS input.old input.new result }
-    ensures on { GoesOn out.old out.new }
+    ensures continues { GoesOn out.old out.new }
 {
     let Err(stop) = interpret_input::<I, R, W>(alloc, input, out, limits) else {
         return Ok(());
@@ -147,7 +147,7 @@ fn interpret_all<I: Interpreter, R: Read + Drop, W: Write>(
 // Interprets the input and writes all lines to a writer.
 pub(crate) fn interpret<I: Interpreter, R: Read + Drop, W: Write>(
     alloc: Global,
-    input: &mut Given<R>,
+    input: &mut RecordingReader<R>,
     out: &mut W,
     limits: Limits,
 ) -> Result<(), Fault>

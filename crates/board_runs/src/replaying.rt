@@ -1,14 +1,14 @@
 //! Replays an input on the register.
 ghost use Rattle.std.specs.Prelude.{◌≡◌, ◌≤◌, ◌+◌, map, false, OnOk};
-ghost use Rattle.council_core.specs.Sequential.{respond, shown};
+ghost use Rattle.council_core.specs.Sequential.{response_to, published_sheet};
 ghost use Rattle.board_text.specs.Lines.{chair_line, reading_lines, reply_lines};
 ghost use Rattle.board_text.specs.Inputs.{RunRetriesAtMost, WastesAtMost};
 ghost use Rattle.board_text.specs.Output.{IsBadLimit, Plays};
 ghost use Rattle.board_runs.specs.Ended.{Replays};
 ghost use Rattle.board_text.specs.Sinks.{GoesOn};
 ghost use Rattle.board_text.specs.Requests.{call_of};
-ghost use Rattle.board_text.specs.Text.{in_range, prints};
-ghost use Rattle.told_streams.specs.Tapes.{OfInput};
+ghost use Rattle.board_text.specs.Text.{in_range, printed_run};
+ghost use Rattle.recording_io.specs.Tapes.{OfInput};
 ghost use Rattle.board_runs.specs.Replays.{replay_start, replay_step, run_of};
 
 use crate::desks::Desk;
@@ -21,14 +21,14 @@ use council_core::{Refusal, Register};
 use csv::ByteRecord;
 use majority_rule::Majority;
 use power_index::ChairPower;
+use recording_io::RecordingReader;
 use std::alloc::Global;
 use std::io::{Read, Write};
-use told_streams::Given;
 
 // Writes the lines of these chairs.
 fn write_chairs<W: Write>(rows: &[ChairPower], out: &mut Output<'_, W>) -> Result<(), Stop>
-    ensures wrote { Plays out.old.held out.new.held result (prints (map chair_line rows.now)) }
-    ensures on { GoesOn out.old out.new }
+    ensures wrote { Plays out.old.held out.new.held result (printed_run (map chair_line rows.now)) }
+    ensures continues { GoesOn out.old out.new }
 {
     for row in rows {
         out.write_line(line_of_chair(row))?;
@@ -43,9 +43,9 @@ fn write_reading<W: Write>(
     majority: Majority,
     out: &mut Output<'_, W>,
 ) -> Result<(), Stop>
-    ensures wrote { Plays out.old.held out.new.held result (prints (reading_lines reader majority (shown desk.old))) }
+    ensures wrote { Plays out.old.held out.new.held result (printed_run (reading_lines reader majority (published_sheet desk.old))) }
     ensures state { desk.new ≡ desk.old }
-    ensures on { GoesOn out.old out.new }
+    ensures continues { GoesOn out.old out.new }
 {
     let indices = desk.indices(majority);
     out.write_line(line_of_reading(reader, &indices))?;
@@ -61,9 +61,9 @@ fn replay_request<W: Write>(
     out: &mut Output<'_, W>,
 ) -> Result<(), Stop>
     ensures wrote { Plays out.old.held out.new.held result
-        (prints (reply_lines request (respond desk.old (call_of request)).1)) }
-    ensures state { OnOk result (desk.new ≡ (respond desk.old (call_of request)).0) }
-    ensures on { GoesOn out.old out.new }
+        (printed_run (reply_lines request (response_to desk.old (call_of request)).1)) }
+    ensures state { OnOk result (desk.new ≡ (response_to desk.old (call_of request)).0) }
+    ensures continues { GoesOn out.old out.new }
 {
     match request {
         Request::Submit(command) => {
@@ -97,10 +97,10 @@ impl Interpreter for Desk {
         out: &mut Output<'_, W>,
     ) -> Result<(), Stop> {
         let Some(request) = request_in(row) else {
-            return Err(Stop::told(Refusal::BadRecord, number));
+            return Err(Stop::of_fault(Refusal::BadRecord, number));
         };
         if !is_served(limits, &request) {
-            return Err(Stop::told(Refusal::BadReader, number));
+            return Err(Stop::of_fault(Refusal::BadReader, number));
         }
         replay_request(self, request, out)
     }
@@ -140,7 +140,7 @@ impl Interpreter for Desk {
 /// `OutOfMemory` is possible at any time, and `WriteFault` at any write.
 pub fn replay<R: Read + Drop, W: Write>(
     alloc: Global,
-    input: &mut Given<R>,
+    input: &mut RecordingReader<R>,
     out: &mut W,
     limits: Limits,
 ) -> Result<(), Fault>

@@ -1,14 +1,14 @@
 //! Runs the two-copy machine on a schedule.
 ghost use Rattle.std.specs.Prelude.{◌≡◌, ◌≤◌, ◌+◌, true, false, replicate, OnOk};
-ghost use Rattle.two_copy_steps.specs.Transitions.{after, transition};
+ghost use Rattle.two_copy_steps.specs.Transitions.{state_after_events, transition};
 ghost use Rattle.board_text.specs.Lines.{note_lines};
 ghost use Rattle.board_text.specs.Inputs.{RunRetriesAtMost, WastesAtMost};
 ghost use Rattle.board_text.specs.Output.{IsBadLimit, Plays};
 ghost use Rattle.board_runs.specs.Ended.{Replays};
 ghost use Rattle.board_text.specs.Sinks.{GoesOn};
-ghost use Rattle.board_text.specs.Text.{in_range, prints};
-ghost use Rattle.told_streams.specs.Tapes.{OfInput};
-ghost use Rattle.board_runs.specs.Traces.{events_of, told, trace_of, trace_start, trace_step};
+ghost use Rattle.board_text.specs.Text.{in_range, printed_run};
+ghost use Rattle.recording_io.specs.Tapes.{OfInput};
+ghost use Rattle.board_runs.specs.Traces.{events_of, output_lines, trace_of, trace_start, trace_step};
 ghost use Rattle.board_text.specs.Schedules.{is_scheduled};
 
 use crate::interpreters::{Interpreter, interpret};
@@ -17,15 +17,15 @@ use board_text::{
 };
 use council_core::{Refusal, Register};
 use csv::ByteRecord;
+use recording_io::RecordingReader;
 use std::alloc::Global;
 use std::io::{Read, Write};
-use told_streams::Given;
 use two_copy_steps::{Event, Machine, Note};
 
 // Writes the line of an output of the machine, if it has one.
 fn write_note<W: Write>(note: Note, out: &mut Output<'_, W>) -> Result<(), Stop>
-    ensures wrote { Plays out.old.held out.new.held result (prints (note_lines note)) }
-    ensures on { GoesOn out.old out.new }
+    ensures wrote { Plays out.old.held out.new.held result (printed_run (note_lines note)) }
+    ensures continues { GoesOn out.old out.new }
 {
     match line_of_note(note) {
         Some(line) => out.write_line(line),
@@ -35,9 +35,9 @@ fn write_note<W: Write>(note: Note, out: &mut Output<'_, W>) -> Result<(), Stop>
 
 // Takes the machine through one event.
 fn take<W: Write>(machine: &mut Machine, event: Event, out: &mut Output<'_, W>) -> Result<(), Stop>
-    ensures wrote { Plays out.old.held out.new.held result (prints (note_lines (transition machine.old event).1)) }
+    ensures wrote { Plays out.old.held out.new.held result (printed_run (note_lines (transition machine.old event).1)) }
     ensures state { OnOk result (machine.new ≡ (transition machine.old event).0) }
-    ensures on { GoesOn out.old out.new }
+    ensures continues { GoesOn out.old out.new }
 {
     let Ok(note) = machine.step(event) else {
         return Err(Stop::OutOfMemory);
@@ -52,9 +52,9 @@ fn take_all<W: Write>(
     count: u32,
     out: &mut Output<'_, W>,
 ) -> Result<(), Stop>
-    ensures wrote { Plays out.old.held out.new.held result (prints (told machine.old (replicate count event.now))) }
-    ensures state { OnOk result (machine.new ≡ after machine.old (replicate count event.now)) }
-    ensures on { GoesOn out.old out.new }
+    ensures wrote { Plays out.old.held out.new.held result (printed_run (output_lines machine.old (replicate count event.now))) }
+    ensures state { OnOk result (machine.new ≡ state_after_events machine.old (replicate count event.now)) }
+    ensures continues { GoesOn out.old out.new }
 {
     for _turn in 0..count {
         take(machine, *event, out)?;
@@ -70,9 +70,9 @@ fn act_on<W: Write>(
     out: &mut Output<'_, W>,
 ) -> Result<(), Stop>
     requires known { is_scheduled limits act ≡ true }
-    ensures wrote { Plays out.old.held out.new.held result (prints (told machine.old (events_of act))) }
-    ensures state { OnOk result (machine.new ≡ after machine.old (events_of act)) }
-    ensures on { GoesOn out.old out.new }
+    ensures wrote { Plays out.old.held out.new.held result (printed_run (output_lines machine.old (events_of act))) }
+    ensures state { OnOk result (machine.new ≡ state_after_events machine.old (events_of act)) }
+    ensures continues { GoesOn out.old out.new }
 {
     match act {
         Act::Submit(command) => take_all(machine, &Event::Submit(command), 1, out),
@@ -102,10 +102,10 @@ impl Interpreter for Machine {
         out: &mut Output<'_, W>,
     ) -> Result<(), Stop> {
         let Some(act) = act_in(row) else {
-            return Err(Stop::told(Refusal::BadRecord, number));
+            return Err(Stop::of_fault(Refusal::BadRecord, number));
         };
         if !is_scheduled(limits, &act) {
-            return Err(Stop::told(Refusal::BadReader, number));
+            return Err(Stop::of_fault(Refusal::BadReader, number));
         }
         act_on(self, limits, act, out)
     }
@@ -131,7 +131,7 @@ impl Interpreter for Machine {
 /// command is submitted ends the run with `OutOfMemory`; the machine prints no line for it.
 pub fn trace<R: Read + Drop, W: Write>(
     alloc: Global,
-    input: &mut Given<R>,
+    input: &mut RecordingReader<R>,
     out: &mut W,
     limits: Limits,
 ) -> Result<(), Fault>

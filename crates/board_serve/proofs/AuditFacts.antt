@@ -5,7 +5,7 @@ use Rattle.council_core.specs.Rolls.{Opening, IsLegal}
 use Rattle.council_core.specs.Sequential.{AreCuts}
 use Rattle.council_core.specs.declared.commands.Command.{Command}
 use Rattle.board_audits.specs.AuditLaws.{AuditLaw}
-use Rattle.board_audits.specs.Audits.{Answers, Finding, audit_of, cut_sheet, cuts_finding, fault_at, first_of, journal_finding, readings_finding, start_finding, unread_place}
+use Rattle.board_audits.specs.Audits.{AnswersFinding, Finding, audit_of, cut_sheet, cuts_finding, fault_at_place, first_fault, journal_finding, readings_finding, start_finding, unread_place}
 use Rattle.board_audits.specs.declared.audits.AuditFault.{AuditFault}
 use Rattle.board_audits.specs.declared.audits.AuditFault.TheVariants as found
 use Rattle.board_serve.specs.Findings.{CanBeFound}
@@ -15,7 +15,7 @@ abbrev pub IsOfReadings : Finding → Type 0
 IsOfReadings (Ok u) = Unit {0}
 IsOfReadings (Err fault) = CanBeFound fault
 
-of-reader : (reader : ℕ) (o : Option ℕ) (rest : Finding) → IsOfReadings rest → IsOfReadings (first_of (fault_at (found.Mismatch reader) o) rest)
+of-reader : (reader : ℕ) (o : Option ℕ) (rest : Finding) → IsOfReadings rest → IsOfReadings (first_fault (fault_at_place (found.Mismatch reader) o) rest)
 of-reader reader None rest h = h
 of-reader reader (Some place) rest h = tt
 
@@ -24,13 +24,13 @@ of-readings shown reader [] = tt
 of-readings shown reader (sheets ∷ rest) = of-reader reader (unread_place shown 0 1 sheets) (readings_finding shown (reader + 1) rest) (of-readings shown (reader + 1) rest)
 
 -- what three looks that find nothing leave is the fourth's finding
-fourth : (s j c r : Finding) → first_of s (first_of j (first_of c (Ok tt))) ≡ Ok tt → first_of s (first_of j (first_of c r)) ≡ r
+fourth : (s j c r : Finding) → first_fault s (first_fault j (first_fault c (Ok tt))) ≡ Ok tt → first_fault s (first_fault j (first_fault c r)) ≡ r
 fourth (Ok u) (Ok v) (Ok w) r e = refl
 fourth (Err f) j c r e = cc e
 fourth (Ok u) (Err f) c r e = cc e
 fourth (Ok u) (Ok v) (Err f) r e = cc e
 
-answered : (finding : Finding) (fault : AuditFault) → IsOfReadings finding → Answers finding (Err fault) → CanBeFound fault
+answered : (finding : Finding) (fault : AuditFault) → IsOfReadings finding → AnswersFinding finding (Err fault) → CanBeFound fault
 answered (Ok u) fault h (inl e) = cc e
 answered (Ok u) fault h (inr e) = let P : Finding → Type 0 = IsOfReadings in subst P (sym e) tt
 answered (Err (found.Start why)) fault h a = absurd h
@@ -50,7 +50,7 @@ module _ (law : AuditLaw) (opening : Opening) (journal : List Command) (cuts : L
     last = fourth (start_finding opening) (journal_finding opening journal) (cuts_finding journal cuts) _ quiet
 
     -- only a reading can be found at fault
-    pub found-reading : (fault : AuditFault) → Answers (audit_of opening journal cuts readings) (Err fault) → CanBeFound fault
+    pub found-reading : (fault : AuditFault) → AnswersFinding (audit_of opening journal cuts readings) (Err fault) → CanBeFound fault
     found-reading fault a =
         let P : Finding → Type 0 = IsOfReadings in
         answered (audit_of opening journal cuts readings) fault (subst P (sym last) (of-readings (cut_sheet opening journal (0 ∷ cuts)) 1 readings)) a

@@ -5,7 +5,7 @@ use Rattle.std.proofs.lemmas.List.Elements.{All-cons, All-nil}
 use Rattle.std.specs.List.Sorted.{IsNonDecreasing}
 use Rattle.std.specs.Prelude.{⊤}
 use Rattle.council_core.specs.Ledgers.{verdict_of}
-use Rattle.council_core.specs.Sequential.{AreCuts, Call, Sequential, publish, read, replies_of, respond, state_after, submit, submitted}
+use Rattle.council_core.specs.Sequential.{AreCuts, Call, Sequential, publish, read, replies_of, response_to, state_after, submit, submit_response}
 use Rattle.council_core.specs.declared.commands.Command.{Command}
 use Rattle.council_core.specs.declared.refusals.Refusal.{Refusal}
 use Rattle.board_serve.specs.Work.{cuts_of, cuts_of_reply}
@@ -19,12 +19,12 @@ Rises low high [] = low ≤ high
 Rises low high (c ∷ cs) = (low ≤ c) × Rises c high cs
 
 one-submit : (s : Sequential) (command : Command) (v : Result ⊤ Refusal) (low high : ℕ) (rest : List ℕ) → low ≤ commands_in s
-    → ((l : ℕ) → l ≤ commands_in (submitted s command v).0 → Rises l high rest) → Rises low high (cuts_of_reply (submitted s command v).1 ++ rest)
+    → ((l : ℕ) → l ≤ commands_in (submit_response s command v).0 → Rises l high rest) → Rises low high (cuts_of_reply (submit_response s command v).1 ++ rest)
 one-submit s command (Ok u) low high rest h more = more low (omega (arith, h, length-append s.ledger.journal (command ∷ [])))
 one-submit s command (Err e) low high rest h more = more low h
 
 one-call : (s : Sequential) (call : Call) (low high : ℕ) (rest : List ℕ) → low ≤ commands_in s
-    → ((l : ℕ) → l ≤ commands_in (respond s call).0 → Rises l high rest) → Rises low high (cuts_of_reply (respond s call).1 ++ rest)
+    → ((l : ℕ) → l ≤ commands_in (response_to s call).0 → Rises l high rest) → Rises low high (cuts_of_reply (response_to s call).1 ++ rest)
 one-call s (submit command) low high rest h more = one-submit s command (verdict_of s.ledger command) low high rest h more
 one-call s publish low high rest h more = (h, more (commands_in s) (omega arith))
 one-call s read low high rest h more = more low h
@@ -32,7 +32,7 @@ one-call s read low high rest h more = more low h
 rises : (s : Sequential) (calls : List Call) (low : ℕ) → low ≤ commands_in s → Rises low (commands_in (state_after s calls)) (cuts_of (replies_of s calls))
 rises s [] low h = h
 rises s (call ∷ calls) low h =
-    one-call s call low (commands_in (state_after (respond s call).0 calls)) (cuts_of (replies_of (respond s call).0 calls)) h (λ l k. rises (respond s call).0 calls l k)
+    one-call s call low (commands_in (state_after (response_to s call).0 calls)) (cuts_of (replies_of (response_to s call).0 calls)) h (λ l k. rises (response_to s call).0 calls l k)
 
 top : (low high : ℕ) (cs : List ℕ) → Rises low high cs → low ≤ high
 top low high [] h = h

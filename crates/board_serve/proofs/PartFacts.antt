@@ -4,7 +4,7 @@ use Rattle.std.proofs.lemmas.List.{length-append}
 use Rattle.std.proofs.lemmas.List.Sums.{sum_by-cons}
 use Rattle.majority_rule.specs.declared.majorities.Majority.{Majority}
 use Rattle.council_core.specs.declared.refusals.Refusal.{Refusal}
-use Rattle.board_serve.specs.Parts.{Shares, add_at, asked, parts_of, size_of, with_request}
+use Rattle.board_serve.specs.Parts.{Shares, add_at, request_in_range, parts_of, record_count, with_request}
 use Rattle.board_serve.specs.Plans.{two_readers}
 use Rattle.board_text.specs.Requests.{Row}
 use Rattle.board_text.specs.Text.{fault_at, is_served}
@@ -19,11 +19,11 @@ module _ (lim : Limits) (s : Shares) (k : ℕ) (rs : List Row) where
   parts-end e = rw e refl
 
   module _ (r : Row) (ss : List Row) (next : rs ≡ r ∷ ss) where
-    pub parts-refused : (why : Refusal) → asked lim r ≡ Err why → parts_of lim s k rs ≡ Err (fault_at why k)
+    pub parts-refused : (why : Refusal) → request_in_range lim r ≡ Err why → parts_of lim s k rs ≡ Err (fault_at why k)
     unfolding parts_of
     parts-refused why e = rw (next, e) refl
 
-    pub parts-more : (q : Request) → asked lim r ≡ Ok q → parts_of lim s k rs ≡ parts_of lim (with_request s q) (k + 1) ss
+    pub parts-more : (q : Request) → request_in_range lim r ≡ Ok q → parts_of lim s k rs ≡ parts_of lim (with_request s q) (k + 1) ss
     unfolding parts_of
     parts-more q e = rw (next, e) refl
 
@@ -35,7 +35,7 @@ size-at (suc index) m (list ∷ lists) =
     omega (arith, more, sum_by-cons length list (add_at index m lists), sum_by-cons length list lists)
 
 -- one request more is at most one more
-pub size-request : (s : Shares) (q : Request) → size_of (with_request s q) ≤ size_of s + 1
+pub size-request : (s : Shares) (q : Request) → record_count (with_request s q) ≤ record_count s + 1
 size-request s (ask.Submit c) = omega (arith, length-append s.writer (order.Submit c ∷ []))
 size-request s ask.Publish = omega (arith, length-append s.writer (order.Publish ∷ []))
 size-request s (ask.Read reader m) = let more = size-at (reader - 1) m s.asked in omega (arith, more)

@@ -1,10 +1,10 @@
 -- What a run of the threads is asked, from its input.
 use Rattle.std.proofs.Common.{◌≡◌, ◌≤◌, ℕ, List, length, true, IfOk, IfErr, Result, Ok, Err, ap, ◌∙◌, refl, sym, subst}
 use Rattle.csv.specs.Reading.{default_config, records, strip_bom}
-use Rattle.told_streams.specs.Tapes.{Giving, OfInput}
+use Rattle.recording_io.specs.Tapes.{Giving, OfInput}
 use Rattle.board_text.specs.Output.{Fails}
 use Rattle.board_serve.specs.Plans.{Finds, Planned, plan_from, plan_of, plan_shown, two_readers}
-use Rattle.board_text.specs.Text.{Begun, begun_of, begun_with, in_range, opened_of}
+use Rattle.board_text.specs.Text.{Begun, begun_of, run_begun_with, in_range, opened_of}
 use Rattle.board_text.specs.declared.bounds.Limits.{Limits}
 use Rattle.board_text.specs.declared.faults.Fault.{Fault}
 use Rattle.board_serve.specs.declared.plans.Plan.{Plan}
@@ -17,7 +17,7 @@ pub fails-planning : (e : Stop) (lim : Limits) (spec : Result Begun Fault) → F
 fails-planning stop.OutOfMemory lim spec p = tt
 fails-planning stop.ReadFault lim spec p = tt
 fails-planning stop.WriteFault lim spec p = absurd p
-fails-planning (stop.Told f) lim spec p = rw p refl
+fails-planning (stop.Input f) lim spec p = rw p refl
 
 -- an input that was not read, or whose limits are out of range, gives no plan
 pub unread-input : (from to : Giving) (e d : Stop) (journal : ℕ) → d ≡ e → OfInput from to (λ bytes. Fails e (begun_of (two_readers journal) bytes))
@@ -33,12 +33,12 @@ both-ends (Err e) spec ok fault = fault
 -- the text that was read is the input
 module _ (journal : ℕ) (text read : List ℕ) (fits : in_range (two_readers journal) ≡ true) (same : text ≡ read) (short : length read ≤ 4194304) where
   abbrev pub of_text : Result Planned Fault
-  of_text = plan_from (two_readers journal) (begun_with (two_readers journal) (opened_of (records default_config (strip_bom text))))
+  of_text = plan_from (two_readers journal) (run_begun_with (two_readers journal) (opened_of (records default_config (strip_bom text))))
 
   plan-text : of_text ≡ plan_of journal read
   plan-text =
       let lim = two_readers journal in
-      ap (plan_from lim) (ap (λ (t : List ℕ). begun_with lim (opened_of (records default_config (strip_bom t)))) same ∙ sym (begun-records lim read fits short))
+      ap (plan_from lim) (ap (λ (t : List ℕ). run_begun_with lim (opened_of (records default_config (strip_bom t)))) same ∙ sym (begun-records lim read fits short))
 
   pub found-input : (from to : Giving) (r : Result Plan Stop) → OfInput from to (λ bytes. read ≡ bytes) → IfOk r (λ p. of_text ≡ Ok (plan_shown p)) → IfErr r (λ e. Fails e of_text)
       → OfInput from to (λ bytes. Finds r (plan_of journal bytes))

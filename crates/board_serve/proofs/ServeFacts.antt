@@ -5,12 +5,12 @@ use Rattle.std.specs.Io.KnownBytes.{Appends}
 use Rattle.council_core.specs.declared.refusals.Refusal.TheVariants as why
 use Rattle.board_text.specs.Replies.{reply_of}
 use Rattle.board_text.specs.Lines.{Line, fault_line, reply_line}
-use Rattle.board_serve.specs.Outcomes.{HasRecords, IsServed}
+use Rattle.board_serve.specs.Outcomes.{ServedLegalRecords, IsServed}
 use Rattle.board_text.specs.Output.{AppendsFront, Ends, Fails, IsBroken, IsFrontOf, Plays, Writes, fault_of}
 use Rattle.board_serve.specs.Plans.{Planned, lines_of_work, work_lines}
 use Rattle.board_text.specs.Lines.{audit_line, reader_line}
-use Rattle.board_serve.specs.Serving.{Differs, EndsAfter, Serves, ServesTo, StopsServe, Tells}
-use Rattle.board_text.specs.Text.{fault_at, line_text, prints, text_of}
+use Rattle.board_serve.specs.Serving.{Differs, EndsAfter, Serves, ServesTo, StopsServe, WritesOutcome}
+use Rattle.board_text.specs.Text.{fault_at, line_text, printed_run, text_of}
 use Rattle.board_serve.specs.Work.{IsHeldUp}
 use Rattle.board_text.specs.declared.faults.Fault.{Fault}
 use Rattle.board_text.specs.declared.replies.Answer.{Answer}
@@ -26,39 +26,39 @@ mapped [] = refl
 mapped (a ∷ more) = ap (λ (ls : List Line). reply_line (reply_of a) ∷ ls) (mapped more)
 
 module _ (a b : Option (List ℕ)) (answers : List Answer) (n m : ℕ) where
-  spelled : (z : Option (List ℕ)) (r : Result (Unit {0}) Stop) → Plays a z r (prints (map (λ x. reply_line (reply_of x)) answers ++ reader_line 1 n ∷ reader_line 2 m ∷ [])) → Plays a z r (prints (lines_of_work (map reply_of answers) (n ∷ m ∷ [])))
-  spelled z r p = subst (λ (ls : List Line). Plays a z r (prints (ls ++ reader_line 1 n ∷ reader_line 2 m ∷ []))) (mapped answers) p
+  spelled : (z : Option (List ℕ)) (r : Result (Unit {0}) Stop) → Plays a z r (printed_run (map (λ x. reply_line (reply_of x)) answers ++ reader_line 1 n ∷ reader_line 2 m ∷ [])) → Plays a z r (printed_run (lines_of_work (map reply_of answers) (n ∷ m ∷ [])))
+  spelled z r p = subst (λ (ls : List Line). Plays a z r (printed_run (ls ++ reader_line 1 n ∷ reader_line 2 m ∷ []))) (mapped answers) p
 
   -- the answers' lines were stopped
-  pub work-answers : (e d : Stop) → d ≡ e → Plays a b (Err e) (prints (map (λ x. reply_line (reply_of x)) answers)) → Plays a b (Err d) (prints (lines_of_work (map reply_of answers) (n ∷ m ∷ [])))
+  pub work-answers : (e d : Stop) → d ≡ e → Plays a b (Err e) (printed_run (map (λ x. reply_line (reply_of x)) answers)) → Plays a b (Err d) (printed_run (lines_of_work (map reply_of answers) (n ∷ m ∷ [])))
   work-answers e d same p =
-      let P : Stop → Type 0 = λ s. Plays a b (Err s) (prints (lines_of_work (map reply_of answers) (n ∷ m ∷ []))) in
-      subst P (sym same) (spelled b (Err e) (plays-more a b e (map (λ x. reply_line (reply_of x)) answers) (prints (reader_line 1 n ∷ reader_line 2 m ∷ [])) p))
+      let P : Stop → Type 0 = λ s. Plays a b (Err s) (printed_run (lines_of_work (map reply_of answers) (n ∷ m ∷ []))) in
+      subst P (sym same) (spelled b (Err e) (plays-more a b e (map (λ x. reply_line (reply_of x)) answers) (printed_run (reader_line 1 n ∷ reader_line 2 m ∷ [])) p))
 
   -- the line of the first reader was stopped
-  pub work-count : (c : Option (List ℕ)) (u : Unit {0}) (e d : Stop) → d ≡ e → Plays a b (Ok u) (prints (map (λ x. reply_line (reply_of x)) answers)) → Plays b c (Err e) (prints (reader_line 1 n ∷ []))
-      → Plays a c (Err d) (prints (lines_of_work (map reply_of answers) (n ∷ m ∷ [])))
+  pub work-count : (c : Option (List ℕ)) (u : Unit {0}) (e d : Stop) → d ≡ e → Plays a b (Ok u) (printed_run (map (λ x. reply_line (reply_of x)) answers)) → Plays b c (Err e) (printed_run (reader_line 1 n ∷ []))
+      → Plays a c (Err d) (printed_run (lines_of_work (map reply_of answers) (n ∷ m ∷ [])))
   work-count c u e d same p q =
-      let P : Stop → Type 0 = λ s. Plays a c (Err s) (prints (lines_of_work (map reply_of answers) (n ∷ m ∷ []))) in
-      subst P (sym same) (spelled c (Err e) (plays-after a b c (map (λ x. reply_line (reply_of x)) answers) (Err e) (prints (reader_line 1 n ∷ reader_line 2 m ∷ [])) p.1
-      (plays-more b c e (reader_line 1 n ∷ []) (prints (reader_line 2 m ∷ [])) q)))
+      let P : Stop → Type 0 = λ s. Plays a c (Err s) (printed_run (lines_of_work (map reply_of answers) (n ∷ m ∷ []))) in
+      subst P (sym same) (spelled c (Err e) (plays-after a b c (map (λ x. reply_line (reply_of x)) answers) (Err e) (printed_run (reader_line 1 n ∷ reader_line 2 m ∷ [])) p.1
+      (plays-more b c e (reader_line 1 n ∷ []) (printed_run (reader_line 2 m ∷ [])) q)))
 
   -- the line of the second reader was written, or stopped
-  pub work-counts : (c z : Option (List ℕ)) (u v : Unit {0}) (r : Result (Unit {0}) Stop) → Plays a b (Ok u) (prints (map (λ x. reply_line (reply_of x)) answers)) → Plays b c (Ok v) (prints (reader_line 1 n ∷ []))
-      → Plays c z r (prints (reader_line 2 m ∷ [])) → Plays a z r (prints (lines_of_work (map reply_of answers) (n ∷ m ∷ [])))
+  pub work-counts : (c z : Option (List ℕ)) (u v : Unit {0}) (r : Result (Unit {0}) Stop) → Plays a b (Ok u) (printed_run (map (λ x. reply_line (reply_of x)) answers)) → Plays b c (Ok v) (printed_run (reader_line 1 n ∷ []))
+      → Plays c z r (printed_run (reader_line 2 m ∷ [])) → Plays a z r (printed_run (lines_of_work (map reply_of answers) (n ∷ m ∷ [])))
   work-counts c z u v r p q s =
-      spelled z r (plays-after a b z (map (λ x. reply_line (reply_of x)) answers) r (prints (reader_line 1 n ∷ reader_line 2 m ∷ [])) p.1
-      (plays-after b c z (reader_line 1 n ∷ []) r (prints (reader_line 2 m ∷ [])) q.1 s))
+      spelled z r (plays-after a b z (map (λ x. reply_line (reply_of x)) answers) r (printed_run (reader_line 1 n ∷ reader_line 2 m ∷ [])) p.1
+      (plays-after b c z (reader_line 1 n ∷ []) r (printed_run (reader_line 2 m ∷ [])) q.1 s))
 
 -- the lines of the work were cut
-pub tells-cut : (a b : Option (List ℕ)) (legal : Bool) (e d : Stop) (ls : List Line) → d ≡ e → e ≡ stop.WriteFault → Plays a b (Err e) (prints ls) → Tells a b legal (Err d) ls
+pub tells-cut : (a b : Option (List ℕ)) (legal : Bool) (e d : Stop) (ls : List Line) → d ≡ e → e ≡ stop.WriteFault → Plays a b (Err e) (printed_run ls) → WritesOutcome a b legal (Err d) ls
 tells-cut a b legal stop.WriteFault d ls same only p =
-    let P : Stop → Type 0 = λ s. Tells a b legal (Err s) ls in
+    let P : Stop → Type 0 = λ s. WritesOutcome a b legal (Err s) ls in
     let Q : List ℕ → Type 0 = λ t. IsFrontOf p.0 t in
     subst P (sym same) (p.0, subst Q (sym (text-after ls (audit_line ∷ []))) (front-before p.0 (text_of ls) (text_of (audit_line ∷ [])) p.1), p.2)
 tells-cut a b legal stop.OutOfMemory d ls same only p = cc only
 tells-cut a b legal stop.ReadFault d ls same only p = cc only
-tells-cut a b legal (stop.Told f) d ls same only p = cc only
+tells-cut a b legal (stop.Input f) d ls same only p = cc only
 
 -- the line of an audit that found the records legal
 pub record AuditLine (legal : Bool) : Type 0 where
@@ -67,13 +67,13 @@ pub record AuditLine (legal : Bool) : Type 0 where
   pub spelled : line ≡ audit_line
 
 -- the audit's line was written, or cut
-pub tells-audit : (a b c : Option (List ℕ)) (legal : Bool) (u : Unit {0}) (r : Result (Unit {0}) Stop) (ls : List Line) (audit : AuditLine legal) → Plays a b (Ok u) (prints ls) → Writes b c r (line_text audit.line)
-    → Tells a c legal r ls
+pub tells-audit : (a b c : Option (List ℕ)) (legal : Bool) (u : Unit {0}) (r : Result (Unit {0}) Stop) (ls : List Line) (audit : AuditLine legal) → Plays a b (Ok u) (printed_run ls) → Writes b c r (line_text audit.line)
+    → WritesOutcome a c legal r ls
 tells-audit a b c legal u (Ok v) ls audit p w = (audit.found_legal, line-then a b c ls audit_line p.1 (subst (λ (x : Line). Appends b c (line_text x)) audit.spelled w))
 tells-audit a b c legal u (Err stop.WriteFault) ls audit p w = front-then a b c ls audit_line p.1 (subst (λ (x : Line). AppendsFront b c (line_text x)) audit.spelled w.1)
 tells-audit a b c legal u (Err stop.OutOfMemory) ls audit p w = cc w.0
 tells-audit a b c legal u (Err stop.ReadFault) ls audit p w = cc w.0
-tells-audit a b c legal u (Err (stop.Told f)) ls audit p w = cc w.0
+tells-audit a b c legal u (Err (stop.Input f)) ls audit p w = cc w.0
 
 -- out of memory, or a failed read, before anything is written
 broken-after : (spec : Result Planned Fault) (f : Fault) → IsBroken f → EndsAfter spec [] f
@@ -85,7 +85,7 @@ pub fails-serve : (a : Option (List ℕ)) (e : Stop) (spec : Result Planned Faul
 fails-serve a stop.OutOfMemory spec p = ([], broken-after spec _ (inl refl), Appends-nil a)
 fails-serve a stop.ReadFault spec p = ([], broken-after spec _ (inr refl), Appends-nil a)
 fails-serve a stop.WriteFault spec p = absurd p
-fails-serve a (stop.Told f) spec p = rw p ([], (refl, inl refl), Appends-nil a)
+fails-serve a (stop.Input f) spec p = rw p ([], (refl, inl refl), Appends-nil a)
 
 -- some work was held up
 held-serve : (a : Option (List ℕ)) (e : Stop) (p : Planned) → IsHeldUp e → ServesTo a a (Err e) (Ok p)
@@ -93,11 +93,11 @@ held-serve a e p (inl memory) = rw memory ([], inl (refl, inl (inl refl)), Appen
 held-serve a e p (inr closed) = rw closed ([], inl (refl, inr refl), Appends-nil a)
 
 -- the lines of the work, and what the audit found, were written, or stopped
-told-serve : (a b : Option (List ℕ)) (legal : Bool) (e : Stop) (p : Planned) → (legal ≡ false → Differs p) → Tells a b legal (Err e) (work_lines p) → ServesTo a b (Err e) (Ok p)
+told-serve : (a b : Option (List ℕ)) (legal : Bool) (e : Stop) (p : Planned) → (legal ≡ false → Differs p) → WritesOutcome a b legal (Err e) (work_lines p) → ServesTo a b (Err e) (Ok p)
 told-serve a b legal stop.OutOfMemory p differs t = absurd t
 told-serve a b legal stop.ReadFault p differs t = absurd t
 told-serve a b legal stop.WriteFault p differs t = (text_of (work_lines p ++ audit_line ∷ []), inl (p, refl, refl), t)
-told-serve a b legal (stop.Told f) p differs t = (work_lines p, inr (refl, t.1, differs t.0), t.2)
+told-serve a b legal (stop.Input f) p differs t = (work_lines p, inr (refl, t.1, differs t.0), t.2)
 
 ended : (a b c : Option (List ℕ)) (f g : Fault) (spec : Result Planned Fault) → StopsServe a b (Some f) spec → Ends b c f g → Serves a c (Err g) spec
 ended a b c f g spec p (inl h) = rw h.0 (inl (p.0, p.1, line-then a b c p.0 (fault_line f) p.2 h.1))
@@ -129,20 +129,20 @@ pub record WorkAsked (spec : Result Planned Fault) (ls : List Line) : Type 0 whe
 -- what the threads did of a plan, and what the audit found of it
 pub record WorkAudited (p : Planned) (s : Served) (legal : Bool) : Type 0 where
   pub served : IsServed p s
-  pub records : legal ≡ true → HasRecords p s
-  pub differs : legal ≡ false → HasRecords p s → ⊥
+  pub records : legal ≡ true → ServedLegalRecords p s
+  pub differs : legal ≡ false → ServedLegalRecords p s → ⊥
 
 -- the lines of the work were stopped, and so was the text of the run
 pub told-input : (a b : Option (List ℕ)) (legal : Bool) (e : Stop) (s : Served) (spec : Result Planned Fault) (ls : List Line) (asked : WorkAsked spec ls)
-    → WorkAudited asked.plan s legal → Tells a b legal (Err e) ls → ServesTo a b (Err e) spec
+    → WorkAudited asked.plan s legal → WritesOutcome a b legal (Err e) ls → ServesTo a b (Err e) spec
 told-input a b legal e s spec ls asked done t =
-    let P : List Line → Type 0 = λ l. Tells a b legal (Err e) l in
+    let P : List Line → Type 0 = λ l. WritesOutcome a b legal (Err e) l in
     let Q : Result Planned Fault → Type 0 = λ r. ServesTo a b (Err e) r in
     subst Q (sym asked.found) (told-serve a b legal e asked.plan (λ no. (s, done.served, done.differs no)) (subst P asked.spelled t))
 
 -- all was written
 pub whole-input : (a b : Option (List ℕ)) (legal : Bool) (u : Unit {0}) (s : Served) (spec : Result Planned Fault) (ls : List Line) (asked : WorkAsked spec ls)
-    → WorkAudited asked.plan s legal → Tells a b legal (Ok u) ls → ServesTo a b (Ok s) spec
+    → WorkAudited asked.plan s legal → WritesOutcome a b legal (Ok u) ls → ServesTo a b (Ok s) spec
 whole-input a b legal u s spec ls asked done t =
     let P : List Line → Type 0 = λ l. Appends a b (text_of (l ++ audit_line ∷ [])) in
     (asked.plan, asked.found, done.served, done.records t.0, subst P asked.spelled t.1)

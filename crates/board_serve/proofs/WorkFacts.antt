@@ -6,7 +6,7 @@ use Rattle.std.proofs.lemmas.Grind.{flat_map-append}
 use Rattle.std.specs.Prelude.{⊤}
 use Rattle.council_core.specs.Ledgers.{verdict_of}
 use Rattle.council_core.specs.Rolls.{IsLegal, Opening}
-use Rattle.council_core.specs.Sequential.{Sequential, Call, Reply, publish, read, respond, replies_of, state_after, submit, submitted}
+use Rattle.council_core.specs.Sequential.{Sequential, Call, Reply, publish, read, response_to, replies_of, state_after, submit, submit_response}
 use Rattle.council_core.specs.declared.commands.Command.{Command}
 use Rattle.council_core.specs.declared.refusals.Refusal.{Refusal}
 use Rattle.council_core.specs.Sheets.{front_of}
@@ -32,20 +32,20 @@ use Rattle.board_serve.specs.declared.written.Written.{Written}
 use Rattle.board_text.proofs.IndexFacts.{StandsAt, first-more}
 
 -- the replies to one call more
-replies-more : (s : Sequential) (calls : List Call) (call : Call) → replies_of s (calls ++ call ∷ []) ≡ replies_of s calls ++ (respond (state_after s calls) call).1 ∷ []
+replies-more : (s : Sequential) (calls : List Call) (call : Call) → replies_of s (calls ++ call ∷ []) ≡ replies_of s calls ++ (response_to (state_after s calls) call).1 ∷ []
 replies-more s [] call = refl
-replies-more s (c ∷ cs) call = ap (λ (rs : List Reply). (respond s c).1 ∷ rs) (replies-more (respond s c).0 cs call)
+replies-more s (c ∷ cs) call = ap (λ (rs : List Reply). (response_to s c).1 ∷ rs) (replies-more (response_to s c).0 cs call)
 
-state-more : (s : Sequential) (calls : List Call) (call : Call) → state_after s (calls ++ call ∷ []) ≡ (respond (state_after s calls) call).0
+state-more : (s : Sequential) (calls : List Call) (call : Call) → state_after s (calls ++ call ∷ []) ≡ (response_to (state_after s calls) call).0
 state-more s [] call = refl
-state-more s (c ∷ cs) call = state-more (respond s c).0 cs call
+state-more s (c ∷ cs) call = state-more (response_to s c).0 cs call
 
 -- the order at this index was carried out, and its answer kept
 pub record CarriedOut (orders : List Order) (i : ℕ) (order : Order) (after next : Publisher) (w v : Written) : Type 0 where
   pub answer : Answer
   pub stands : StandsAt orders i order
-  pub replied : reply_of answer ≡ (respond (register_of after) (call_of_order order)).1
-  pub register : register_of next ≡ (respond (register_of after) (call_of_order order)).0
+  pub replied : reply_of answer ≡ (response_to (register_of after) (call_of_order order)).1
+  pub register : register_of next ≡ (response_to (register_of after) (call_of_order order)).0
   pub table : next.table ≡ after.table
   pub answers : v.answers.items ≡ w.answers.items ++ answer ∷ []
   pub cuts : v.cuts.items ≡ w.cuts.items ++ cuts_of_reply (reply_of answer)
@@ -59,22 +59,22 @@ written-more before after next orders i o w v done one =
     let calls = map call_of_order (take i orders) in
     let call = call_of_order o in
     let more = first-more call_of_order orders i o one.stands in
-    let now : reply_of a ≡ (respond (state_after s calls) call).1 = one.replied ∙ ap (λ (t : Sequential). (respond t call).1) done.register in
+    let now : reply_of a ≡ (response_to (state_after s calls) call).1 = one.replied ∙ ap (λ (t : Sequential). (response_to t call).1) done.register in
     let all : replies_of s (map call_of_order (take (i + 1) orders)) ≡ replies_of s calls ++ reply_of a ∷ [] =
     ap (replies_of s) more ∙ replies-more s calls call ∙ ap (λ (r : Reply). replies_of s calls ++ r ∷ []) (sym now) in
     let kept : map reply_of v.answers.items ≡ map reply_of w.answers.items ++ reply_of a ∷ [] = ap (map reply_of) one.answers ∙ map-append reply_of w.answers.items (a ∷ []) in
     record {
       answers = kept ∙ ap (λ (rs : List Reply). rs ++ reply_of a ∷ []) done.answers ∙ sym all;
-      register = one.register ∙ ap (λ (t : Sequential). (respond t call).0) done.register ∙ sym (state-more s calls call) ∙ ap (state_after s) (sym more);
+      register = one.register ∙ ap (λ (t : Sequential). (response_to t call).0) done.register ∙ sym (state-more s calls call) ∙ ap (state_after s) (sym more);
       table = one.table ∙ done.table;
       cuts = one.cuts ∙ ap (λ (ns : List ℕ). ns ++ cuts_of_reply (reply_of a)) done.cuts ∙ sym (ap cuts_of all ∙ flat_map-append cuts_of_reply (replies_of s calls) (reply_of a ∷ []) ∙ ap (λ (ns : List ℕ). cuts_of (replies_of s calls) ++ ns) (append-nil (cuts_of_reply (reply_of a))));
     }
 
-kept-by : (s : Sequential) (command : Command) (v : Result ⊤ Refusal) → (submitted s command v).0.ledger.opening ≡ s.ledger.opening
+kept-by : (s : Sequential) (command : Command) (v : Result ⊤ Refusal) → (submit_response s command v).0.ledger.opening ≡ s.ledger.opening
 kept-by s command (Ok u) = refl
 kept-by s command (Err e) = refl
 
-kept-one : (s : Sequential) (call : Call) → (respond s call).0.ledger.opening ≡ s.ledger.opening
+kept-one : (s : Sequential) (call : Call) → (response_to s call).0.ledger.opening ≡ s.ledger.opening
 kept-one s (submit command) = kept-by s command (verdict_of s.ledger command)
 kept-one s publish = refl
 kept-one s read = refl
@@ -82,7 +82,7 @@ kept-one s read = refl
 -- no call changes the opening
 pub opening-kept : (s : Sequential) (calls : List Call) → (state_after s calls).ledger.opening ≡ s.ledger.opening
 opening-kept s [] = refl
-opening-kept s (call ∷ calls) = opening-kept (respond s call).0 calls ∙ kept-one s call
+opening-kept s (call ∷ calls) = opening-kept (response_to s call).0 calls ∙ kept-one s call
 
 pub last-more : (low : ℕ) (xs ys : List (List ℕ)) → last_front low (xs ++ ys) ≡ last_front (last_front low xs) ys
 last-more low [] ys = refl

@@ -11,7 +11,7 @@ use Rattle.board_text.specs.declared.stops.Stop.TheVariants as stop
 use Rattle.board_serve.specs.Findings.{CanBeFound}
 use Rattle.board_serve.specs.Outcomes.{omegas_by}
 use Rattle.board_serve.specs.Plans.{Planned, work_lines}
-use Rattle.board_serve.specs.Serving.{Differs, EndsAfter, Tells}
+use Rattle.board_serve.specs.Serving.{Differs, EndsAfter, WritesOutcome}
 use Rattle.board_serve.specs.Work.{IsHeldUp, IsRising, cuts_of}
 
 -- one reading is asked of the first of two readers, over a register of one member
@@ -54,10 +54,10 @@ no_lines_before : EndsAfter (Err (fault_at why.BadRecord 2)) (work_lines one_rea
 no_lines_before h = has_lines h.0
 
 -- readings that differ do not pass as legal, nor legal ones as a mismatch
-differing_not_passed : (old new : Option (List ℕ)) (ls : List Line) → Tells old new false (Ok tt) ls → ⊥
+differing_not_passed : (old new : Option (List ℕ)) (ls : List Line) → WritesOutcome old new false (Ok tt) ls → ⊥
 differing_not_passed old new ls h = true≢false (sym h.0)
 
-legal_not_refused : (old new : Option (List ℕ)) (ls : List Line) → Tells old new true (Err (stop.Told (fault_at why.Mismatch 0))) ls → ⊥
+legal_not_refused : (old new : Option (List ℕ)) (ls : List Line) → WritesOutcome old new true (Err (stop.Input (fault_at why.Mismatch 0))) ls → ⊥
 legal_not_refused old new ls h = true≢false h.0
 
 -- the audit of a legal journal finds no fault of members, journal or cuts

@@ -10,7 +10,7 @@ use Rattle.board_text.specs.declared.stops.Stop.{Stop}
 
 -- the room is empty and large enough for all answers and cuts
 pub record CanWrite (job : WriterJob) : Type 0 where
-  pub few : vec_len job.orders < 2 ^ 32
+  pub bound : vec_len job.orders < 2 ^ 32
   pub empty : HasNoneWritten job.room
   pub room : HasRoomToWrite job.room (vec_len job.orders)
 
@@ -25,7 +25,7 @@ HasWritten job (Err e) = IsHeldUp e
 
 -- the room is empty and large enough for all sheets and numbers
 pub record CanAsk (job : ReaderJob) : Type 0 where
-  pub few : vec_len job.asked < 2 ^ 32
+  pub bound : vec_len job.asked < 2 ^ 32
   pub empty : HasNoneRead job.room
   pub room : HasRoomToRead job.room (vec_len job.asked)
 

@@ -52,5 +52,5 @@ pub record IsOutcome (p : Planned) (o : Outcome) : Type 0 where
   pub served : IsServed p o.served
 
 -- the journal, the cuts, with the start's cut 0 before them, and the readings are legal records
-abbrev pub HasRecords : Planned → Served → Type 0
-HasRecords p s = AreLegalRecords p.0.ledger.opening s.journal.items (0 ∷ s.cuts.items) (sheets_of s)
+abbrev pub ServedLegalRecords : Planned → Served → Type 0
+ServedLegalRecords p s = AreLegalRecords p.0.ledger.opening s.journal.items (0 ∷ s.cuts.items) (sheets_of s)

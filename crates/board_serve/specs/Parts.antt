@@ -18,7 +18,7 @@ use Rattle.board_text.specs.declared.requests.Request.TheVariants as ask
 -- the writer's orders, and by reader the majorities of its readings
 pub record Shares : Type 0 where
   pub writer : List Order
-  pub asked : List (List Majority)
+  pub request_in_range : List (List Majority)
 
 -- no records yet, for a writer and two readers
 abbrev pub no_parts : Shares
@@ -28,8 +28,8 @@ abbrev pub shares_of : Parts → Shares
 shares_of p = record { writer = p.writer.items; asked = map (λ v. v.items) p.asked }
 
 -- the number of records
-abbrev pub size_of : Shares → ℕ
-size_of s = length s.writer + sum_by length s.asked
+abbrev pub record_count : Shares → ℕ
+record_count s = length s.writer + sum_by length s.asked
 
 -- appends an item to the list at this index appends one order
 abbrev pub add_at : {A : Type 0} → ℕ → A → List (List A) → List (List A)
@@ -57,8 +57,8 @@ served_or_refused lim None = Err BadRecord
 served_or_refused lim (Some q) = if is_served lim q then Ok q else Err BadReader
 
 -- the request of a record, if it is well formed and its reader number is in range
-abbrev pub asked : Limits → Row → Result Request Refusal
-asked lim row = served_or_refused lim (request_of row)
+abbrev pub request_in_range : Limits → Row → Result Request Refusal
+request_in_range lim row = served_or_refused lim (request_of row)
 
 -- a refused record ends the division with a fault at the record's number
 abbrev pub asked_then : ℕ → Result Request Refusal → (Request → Result Shares Fault) → Result Shares Fault
@@ -68,4 +68,4 @@ asked_then k (Ok q) more = more q
 -- divides the script's records in order and appends them to `s`; k is the number of the first
 unfoldable pub parts_of : Limits → Shares → ℕ → List Row → Result Shares Fault
 parts_of lim s k [] = Ok s
-parts_of lim s k (r ∷ rs) = asked_then k (asked lim r) (λ q. parts_of lim (with_request s q) (k + 1) rs)
+parts_of lim s k (r ∷ rs) = asked_then k (request_in_range lim r) (λ q. parts_of lim (with_request s q) (k + 1) rs)

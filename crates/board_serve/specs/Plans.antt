@@ -6,8 +6,8 @@ use Rattle.council_core.specs.Ledgers.{start_verdict}
 use Rattle.council_core.specs.Sequential.{Call, Reply, Sequential, replies_of}
 use Rattle.board_text.specs.Lines.{Line, reply_line}
 use Rattle.board_text.specs.Output.{Fails}
-use Rattle.board_serve.specs.Parts.{Shares, call_of_order, no_parts, parts_of, shares_of, size_of}
-use Rattle.board_text.specs.Text.{Begun, begun_of, fresh}
+use Rattle.board_serve.specs.Parts.{Shares, call_of_order, no_parts, parts_of, shares_of, record_count}
+use Rattle.board_text.specs.Text.{Begun, begun_of, unpublished}
 use Rattle.board_text.specs.declared.bounds.Limits.{Limits}
 use Rattle.board_text.specs.declared.faults.Fault.{Fault}
 use Rattle.board_serve.specs.declared.plans.Plan.{Plan}
@@ -19,7 +19,7 @@ abbrev pub Planned : Type 0
 Planned = Sequential × Shares
 
 abbrev pub plan_shown : Plan → Planned
-plan_shown p = (fresh p.begun.register, shares_of p.parts)
+plan_shown p = (unpublished p.begun.register, shares_of p.parts)
 
 -- a register with these members can start with the largest journal limit; they are the members of
 -- the plan's register, whose journal is empty; and the records can be counted in 32 bits
@@ -27,7 +27,7 @@ pub record IsSound (p : Plan) : Type 0 where
   pub starts : start_verdict p.begun.members.items 1000000 ≡ Ok tt
   pub members : p.begun.register.opening ≡ p.begun.members.items
   pub none : p.begun.register.journal ≡ []
-  pub few : size_of (shares_of p.parts) < 2 ^ 32
+  pub bound : record_count (shares_of p.parts) < 2 ^ 32
 
 -- limits of two readers and a journal of at most `journal` commands
 abbrev pub two_readers : ℕ → Limits
@@ -40,7 +40,7 @@ planned_with s (Ok p) = Ok (s, p)
 -- all records of the script are looked at before any is carried out
 abbrev pub plan_from : Limits → Result Begun Fault → Result Planned Fault
 plan_from lim (Err f) = Err f
-plan_from lim (Ok b) = planned_with (fresh b.0) (parts_of lim no_parts b.1 b.2)
+plan_from lim (Ok b) = planned_with (unpublished b.0) (parts_of lim no_parts b.1 b.2)
 
 -- the plan of these bytes, or their fault
 abbrev pub plan_of : ℕ → List ℕ → Result Planned Fault

@@ -4,7 +4,7 @@ use Rattle.std.specs.Prelude.{None, Result, Ok, Err}
 use Rattle.std.specs.Io.KnownBytes.{Appends}
 use Rattle.council_core.specs.declared.refusals.Refusal.TheVariants as why
 use Rattle.board_text.specs.Lines.{Line, fault_line}
-use Rattle.board_serve.specs.Outcomes.{HasRecords, IsServed}
+use Rattle.board_serve.specs.Outcomes.{ServedLegalRecords, IsServed}
 use Rattle.board_text.specs.Output.{AppendsFront, IsBroken, fault_of}
 use Rattle.board_serve.specs.Plans.{Planned, work_lines}
 use Rattle.board_text.specs.Lines.{audit_line}
@@ -16,17 +16,17 @@ use Rattle.board_text.specs.declared.stops.Stop.TheVariants as stop
 
 -- the lines and the line of the audit were written; or the lines alone, if the records are not
 -- legal; or a prefix of all, if a write failed
-abbrev pub Tells : Option (List ℕ) → Option (List ℕ) → Bool → Result (Unit {0}) Stop → List Line → Type 0
-Tells old new legal (Ok _) ls = (legal ≡ true) × Appends old new (text_of (ls ++ audit_line ∷ []))
-Tells old new legal (Err stop.OutOfMemory) ls = ⊥
-Tells old new legal (Err stop.ReadFault) ls = ⊥
-Tells old new legal (Err stop.WriteFault) ls = AppendsFront old new (text_of (ls ++ audit_line ∷ []))
-Tells old new legal (Err (stop.Told f)) ls =
+abbrev pub WritesOutcome : Option (List ℕ) → Option (List ℕ) → Bool → Result (Unit {0}) Stop → List Line → Type 0
+WritesOutcome old new legal (Ok _) ls = (legal ≡ true) × Appends old new (text_of (ls ++ audit_line ∷ []))
+WritesOutcome old new legal (Err stop.OutOfMemory) ls = ⊥
+WritesOutcome old new legal (Err stop.ReadFault) ls = ⊥
+WritesOutcome old new legal (Err stop.WriteFault) ls = AppendsFront old new (text_of (ls ++ audit_line ∷ []))
+WritesOutcome old new legal (Err (stop.Input f)) ls =
     (legal ≡ false) × (f ≡ fault_at why.Mismatch 0) × Appends old new (text_of ls)
 
 -- the threads carried out the plan, and yet some reading is none that the register gives
 abbrev pub Differs : Planned → Type 0
-Differs p = (s : Served) × IsServed p s × (HasRecords p s → ⊥)
+Differs p = (s : Served) × IsServed p s × (ServedLegalRecords p s → ⊥)
 
 -- the faults that can end a run, and the lines before each: the input's faults, out of memory, a
 -- failed read and a closed gate come after no line, and a mismatch of readings that differ comes
@@ -60,7 +60,7 @@ StopsServe old new (Some f) spec = (front : List Line) × EndsAfter spec front f
 -- the whole text was written, and the result is that of the plan
 abbrev pub ServesWhole : Option (List ℕ) → Option (List ℕ) → Served → Result Planned Fault → Type 0
 ServesWhole old new s spec =
-    (p : Planned) × (spec ≡ Ok p) × IsServed p s × HasRecords p s
+    (p : Planned) × (spec ≡ Ok p) × IsServed p s × ServedLegalRecords p s
     × Appends old new (text_of (work_lines p ++ audit_line ∷ []))
 
 -- the text written before the line of a fault

@@ -42,7 +42,7 @@ cuts_of replies = flat_map cuts_of_reply replies
 
 -- a gate was closed
 abbrev pub IsClosed : Stop → Type 0
-IsClosed e = e ≡ stop.Told (fault_at why.GateClosed 0)
+IsClosed e = e ≡ stop.Input (fault_at why.GateClosed 0)
 
 -- the errors that end the writer's work early: out of memory, or a closed gate
 abbrev pub IsHeldUp : Stop → Type 0

@@ -41,7 +41,7 @@ pub(crate) struct Jobs {
 impl WriterJob {
     // The job of a writer, with room for its answers.
     pub(crate) fn new(alloc: Global, writer: Writer, orders: Vec<Order>) -> Result<WriterJob, Stop>
-        requires few { vec_len orders < 2 ^ 32 }
+        requires bound { vec_len orders < 2 ^ 32 }
         ensures ready { IfOk result CanWrite }
         ensures writer { IfOk result (λ j. j.writer ≡ writer) }
         ensures orders { IfOk result (λ j. j.orders ≡ orders) }
@@ -66,7 +66,7 @@ impl ReaderJob {
         asked: Vec<Majority>,
     ) -> Result<ReaderJob, Stop>
         requires rest { reader.stage ≡ AtRest }
-        requires few { vec_len asked < 2 ^ 32 }
+        requires bound { vec_len asked < 2 ^ 32 }
         ensures ready { IfOk result CanAsk }
         ensures reader { IfOk result (λ j. j.analyst.reader ≡ reader) }
         ensures asked { IfOk result (λ j. j.asked ≡ asked) }

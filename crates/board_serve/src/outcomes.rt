@@ -1,8 +1,8 @@
 //! Runs all threads and combines their results.
 ghost use Rattle.std.specs.Prelude.{◌≡◌, ◌<◌, ◌^◌, [], IfOk, IfErr};
 ghost use Rattle.board_serve.specs.Outcomes.{IsBrought, IsOutcome};
-ghost use Rattle.board_text.specs.Text.{fresh};
-ghost use Rattle.board_serve.specs.Parts.{shares_of, size_of};
+ghost use Rattle.board_text.specs.Text.{unpublished};
+ghost use Rattle.board_serve.specs.Parts.{shares_of, record_count};
 ghost use Rattle.board_serve.specs.Work.{IsHeldUp};
 
 use crate::gates::Gate;
@@ -63,8 +63,8 @@ pub(crate) fn carry_out<G: Gate, R: Threads + Wait + Sync>(
     parts: Parts,
 ) -> Result<Outcome, Stop>
     requires none { register.journal ≡ [] }
-    requires few { size_of (shares_of parts) < 2 ^ 32 }
-    ensures done { IfOk result (IsOutcome (fresh register, shares_of parts)) }
+    requires bound { record_count (shares_of parts) < 2 ^ 32 }
+    ensures done { IfOk result (IsOutcome (unpublished register, shares_of parts)) }
     ensures causes { IfErr result IsHeldUp }
 {
     let jobs = seat_all(alloc, register, parts)?;

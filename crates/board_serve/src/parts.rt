@@ -4,7 +4,7 @@ ghost use Rattle.csv.specs.Records.{fields_of};
 ghost use Rattle.board_text.specs.Output.{Fails};
 ghost use Rattle.board_text.specs.Text.{is_served};
 ghost use Rattle.board_serve.specs.Plans.{two_readers};
-ghost use Rattle.board_serve.specs.Parts.{asked, no_parts, parts_of, shares_of, size_of, with_request};
+ghost use Rattle.board_serve.specs.Parts.{request_in_range, no_parts, parts_of, shares_of, record_count, with_request};
 
 use crate::orders::Order;
 use board_text::{Limits, Request, Script, Stop, is_served, request_in};
@@ -70,7 +70,7 @@ impl Parts {
 
 // The request of a record, if it is well formed and its reader number is in range.
 pub(crate) fn asked_in(limits: Limits, row: &ByteRecord) -> Result<Request, Refusal>
-    ensures same { result ≡ asked limits (fields_of row.now) }
+    ensures same { result ≡ request_in_range limits (fields_of row.now) }
     ensures served { IfOk result (λ q. is_served limits q ≡ true) }
 {
     let Some(request) = request_in(row) else {
@@ -94,7 +94,7 @@ pub(crate) fn read_parts(
     requires numbers { first + length script.old < 2 ^ 32 }
     ensures split { IfOk result (λ p. parts_of limits no_parts first script.old ≡ Ok (shares_of p)) }
     ensures fault { IfErr result (λ e. Fails e (parts_of limits no_parts first script.old)) }
-    ensures few { IfOk result (λ p. size_of (shares_of p) < 2 ^ 32) }
+    ensures bound { IfOk result (λ p. record_count (shares_of p) < 2 ^ 32) }
 {
     let mut parts = Parts::new(alloc);
     let mut number = first;
@@ -104,7 +104,7 @@ pub(crate) fn read_parts(
         }
         let request = match asked_in(limits, row) {
             Ok(request) => request,
-            Err(why) => return Err(Stop::told(why, number)),
+            Err(why) => return Err(Stop::of_fault(why, number)),
         };
         let Ok(()) = parts.add(request) else {
             return Err(Stop::OutOfMemory);

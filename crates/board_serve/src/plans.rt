@@ -1,26 +1,26 @@
 //! Reads the plan of a run with threads.
 ghost use Rattle.std.specs.Prelude.{◌≡◌, ◌≤◌, ◌+◌, Ok, false, length, IfOk, IfErr, IsErrOf};
 ghost use Rattle.council_core.specs.declared.refusals.Refusal.TheVariants as why;
-ghost use Rattle.told_streams.specs.Tapes.{OfInput};
+ghost use Rattle.recording_io.specs.Tapes.{OfInput};
 ghost use Rattle.csv.specs.Reading.{default_config, records, strip_bom};
 ghost use Rattle.board_text.specs.Inputs.{RetriesAtMost, WastesAtMost};
 ghost use Rattle.board_text.specs.Output.{Fails};
 ghost use Rattle.board_serve.specs.Plans.{Finds, IsSound, plan_from, plan_of, plan_shown, two_readers};
-ghost use Rattle.board_text.specs.Text.{begun_with, fault_at, in_range, opened_of};
+ghost use Rattle.board_text.specs.Text.{run_begun_with, fault_at, in_range, opened_of};
 
 use crate::parts::{Parts, READERS, read_parts};
 use board_text::{
-    Beginning, INPUT_LIMIT, INTERRUPTIONS, Limits, READS, Script, Stop, begin, read_within,
+    INPUT_LIMIT, INTERRUPTIONS, Limits, READS, RunStart, Script, Stop, begin, read_within,
 };
 use csv::ByteRecord;
+use recording_io::RecordingReader;
 use std::alloc::Global;
 use std::io::Read;
-use told_streams::Given;
 
 // A register at its start, and the script's records divided among the writer and the readers.
 #[derive(Drop)]
 pub(crate) struct Plan {
-    pub(crate) begun: Beginning,
+    pub(crate) begun: RunStart,
     pub(crate) parts: Parts,
 }
 
@@ -29,11 +29,11 @@ fn plan_text(alloc: Global, text: &[u8], limits: Limits) -> Result<Plan, Stop>
     requires two { limits.readers ≡ READERS }
     requires short { length text.now ≤ INPUT_LIMIT }
     ensures planned { IfOk result
-        (λ p. plan_from limits (begun_with limits (opened_of (records default_config (strip_bom text.now))))
+        (λ p. plan_from limits (run_begun_with limits (opened_of (records default_config (strip_bom text.now))))
         ≡ Ok (plan_shown p)) }
     ensures fault { IfErr result
         (λ e. Fails e (plan_from limits
-        (begun_with limits (opened_of (records default_config (strip_bom text.now)))))) }
+        (run_begun_with limits (opened_of (records default_config (strip_bom text.now)))))) }
     ensures sound { IfOk result IsSound }
 {
     let mut script = Script::new(alloc, text);
@@ -46,12 +46,12 @@ fn plan_text(alloc: Global, text: &[u8], limits: Limits) -> Result<Plan, Stop>
 // Reads the whole input and all of its records.
 pub(crate) fn read_plan<R: Read + Drop>(
     alloc: Global,
-    input: &mut Given<R>,
+    input: &mut RecordingReader<R>,
     journal_limit: u32,
 ) -> Result<Plan, Stop>
     ensures found { OfInput input.old input.new (λ bytes. Finds result (plan_of journal_limit bytes)) }
     ensures limits_first { in_range (two_readers journal_limit) ≡ false
-        → IsErrOf result (Stop.Told (fault_at why.BadLimit 0)) × (input.new ≡ input.old) }
+        → IsErrOf result (Stop.Input (fault_at why.BadLimit 0)) × (input.new ≡ input.old) }
     ensures asks { input.new.asks ≤ input.old.asks + READS }
     ensures vain { WastesAtMost 1 input.old input.new }
     ensures retried { RetriesAtMost INTERRUPTIONS input.old input.new result }

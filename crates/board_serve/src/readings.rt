@@ -41,7 +41,7 @@ fn ask_in_order<G: Gate>(
     analyst: &mut Analyst,
     readings: &mut Readings,
 ) -> Result<(), Stop>
-    requires few { length asked.now < 2 ^ 32 }
+    requires bound { length asked.now < 2 ^ 32 }
     requires empty { HasNoneRead readings.old }
     requires room { HasRoomToRead readings.old (length asked.now) }
     ensures grown { OnOk result (IsReadFrom analyst.old analyst.new readings.new) }

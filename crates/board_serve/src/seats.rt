@@ -2,7 +2,7 @@
 ghost use Rattle.std.specs.Prelude.{◌≡◌, ◌<◌, ◌^◌, ◌∷◌, [], length, map, IfOk, IsOkUnless};
 ghost use Rattle.board_share.specs.Openings.{beginning_of, new_readers, new_publisher};
 ghost use Rattle.board_serve.specs.Jobs.{AreReady};
-ghost use Rattle.board_serve.specs.Parts.{shares_of, size_of};
+ghost use Rattle.board_serve.specs.Parts.{shares_of, record_count};
 ghost use Rattle.board_text.specs.declared.stops.Stop.TheVariants as stop;
 
 use crate::jobs::{Jobs, ReaderJob, WriterJob};
@@ -28,7 +28,7 @@ fn pair(mut readers: Vec<Reader>) -> (Reader, Reader)
 
 // A board over a register, with the jobs of its threads.
 pub(crate) fn seat_all(alloc: Global, register: Register, parts: Parts) -> Result<Jobs, Stop>
-    requires few { size_of (shares_of parts) < 2 ^ 32 }
+    requires bound { record_count (shares_of parts) < 2 ^ 32 }
     ensures ready { IfOk result AreReady }
     ensures memory { IsOkUnless result stop.OutOfMemory }
 

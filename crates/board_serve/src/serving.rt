@@ -4,8 +4,8 @@ ghost use Rattle.council_core.specs.declared.refusals.Refusal.TheVariants as why
 ghost use Rattle.board_text.specs.Inputs.{RetriesAtMost, RunRetriesAtMost, WastesAtMost};
 ghost use Rattle.board_text.specs.Output.{IsBadLimit};
 ghost use Rattle.board_text.specs.Text.{fault_at, in_range};
-ghost use Rattle.told_streams.specs.Tapes.{OfInput};
-ghost use Rattle.board_serve.specs.Outcomes.{HasRecords, IsOutcome, IsServed};
+ghost use Rattle.recording_io.specs.Tapes.{OfInput};
+ghost use Rattle.board_serve.specs.Outcomes.{ServedLegalRecords, IsOutcome, IsServed};
 ghost use Rattle.board_text.specs.Sinks.{GoesOn};
 ghost use Rattle.board_serve.specs.Plans.{IsSound, plan_of, plan_shown, two_readers};
 ghost use Rattle.board_serve.specs.Serving.{Serves, ServesTo};
@@ -17,13 +17,13 @@ use crate::outcomes::{Outcome, carry_out};
 use crate::plans::{Plan, read_plan};
 use crate::served::Served;
 use crate::telling::tell;
-use board_text::{Beginning, Fault, INTERRUPTIONS, Output, READS, Stop, end_with};
+use board_text::{Fault, INTERRUPTIONS, Output, READS, RunStart, Stop, end_with};
 use council_core::Refusal;
+use recording_io::RecordingReader;
 use std::alloc::Global;
 use std::io::{Read, Write};
 use std::sync::Wait;
 use std::thread::Threads;
-use told_streams::Given;
 
 // Carries out a plan, and checks whether the results are legal records.
 fn perform<G: Gate, R: Threads + Wait + Sync>(
@@ -34,12 +34,12 @@ fn perform<G: Gate, R: Threads + Wait + Sync>(
 ) -> Result<(Outcome, bool), Stop>
     requires sound { IsSound plan }
     ensures done { IfOk result (λ r. IsOutcome (plan_shown plan) r.0) }
-    ensures records { IfOk result (λ r. r.1 ≡ true → HasRecords (plan_shown plan) r.0.served) }
-    ensures differs { IfOk result (λ r. r.1 ≡ false → HasRecords (plan_shown plan) r.0.served → ⊥) }
+    ensures records { IfOk result (λ r. r.1 ≡ true → ServedLegalRecords (plan_shown plan) r.0.served) }
+    ensures differs { IfOk result (λ r. r.1 ≡ false → ServedLegalRecords (plan_shown plan) r.0.served → ⊥) }
     ensures causes { IfErr result IsHeldUp }
 {
     let Plan { begun, parts } = plan;
-    let Beginning {
+    let RunStart {
         register,
         members,
         ..
@@ -54,18 +54,18 @@ fn serve_to<G: Gate, T: Threads + Wait + Sync, R: Read + Drop, W: Write>(
     rt: &T,
     alloc: Global,
     gate: &G,
-    input: &mut Given<R>,
+    input: &mut RecordingReader<R>,
     out: &mut Output<'_, W>,
     journal_limit: u32,
 ) -> Result<Served, Stop>
     ensures wrote { OfInput input.old input.new
         (λ bytes. ServesTo out.old.held out.new.held result (plan_of journal_limit bytes)) }
     ensures limits_first { in_range (two_readers journal_limit) ≡ false
-        → IsErrOf result (Stop.Told (fault_at why.BadLimit 0)) × (input.new ≡ input.old) }
+        → IsErrOf result (Stop.Input (fault_at why.BadLimit 0)) × (input.new ≡ input.old) }
     ensures asks { input.new.asks ≤ input.old.asks + READS }
     ensures vain { WastesAtMost 1 input.old input.new }
     ensures retried { RetriesAtMost INTERRUPTIONS input.old input.new result }
-    ensures on { GoesOn out.old out.new }
+    ensures continues { GoesOn out.old out.new }
 {
     let plan = read_plan(alloc, input, journal_limit)?;
     let counts = plan.parts.counts();
@@ -79,7 +79,7 @@ fn serve_all<G: Gate, T: Threads + Wait + Sync, R: Read + Drop, W: Write>(
     rt: &T,
     alloc: Global,
     gate: &G,
-    input: &mut Given<R>,
+    input: &mut RecordingReader<R>,
     out: &mut Output<'_, W>,
     journal_limit: u32,
 ) -> Result<Served, Fault>
@@ -90,7 +90,7 @@ fn serve_all<G: Gate, T: Threads + Wait + Sync, R: Read + Drop, W: Write>(
     ensures asks { input.new.asks ≤ input.old.asks + READS }
     ensures vain { WastesAtMost 1 input.old input.new }
     ensures retried { RunRetriesAtMost INTERRUPTIONS input.old input.new result }
-    ensures on { GoesOn out.old out.new }
+    ensures continues { GoesOn out.old out.new }
 {
     let stop = match serve_to(rt, alloc, gate, input, out, journal_limit) {
         Ok(served) => return Ok(served),
@@ -136,7 +136,7 @@ pub fn serve<G: Gate, T: Threads + Wait + Sync, R: Read + Drop, W: Write>(
     rt: &T,
     alloc: Global,
     gate: &G,
-    input: &mut Given<R>,
+    input: &mut RecordingReader<R>,
     out: &mut W,
     journal_limit: u32,
 ) -> Result<Served, Fault>
@@ -150,7 +150,7 @@ pub fn serve<G: Gate, T: Threads + Wait + Sync, R: Read + Drop, W: Write>(
     ensures served { IfOk result
         (λ s. OfInput input.old input.new (λ bytes. IfOk (plan_of journal_limit bytes) (λ p. IsServed p s))) }
     ensures records { IfOk result
-        (λ s. OfInput input.old input.new (λ bytes. IfOk (plan_of journal_limit bytes) (λ p. HasRecords p s))) }
+        (λ s. OfInput input.old input.new (λ bytes. IfOk (plan_of journal_limit bytes) (λ p. ServedLegalRecords p s))) }
 {
     let mut output = Output::new(out);
     let result = serve_all(rt, alloc, gate, input, &mut output, journal_limit);

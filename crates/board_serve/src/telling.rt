@@ -6,8 +6,8 @@ ghost use Rattle.board_text.specs.Output.{Plays};
 ghost use Rattle.board_text.specs.Sinks.{GoesOn};
 ghost use Rattle.board_serve.specs.Plans.{lines_of_work};
 ghost use Rattle.board_text.specs.Lines.{reader_line};
-ghost use Rattle.board_serve.specs.Serving.{Tells};
-ghost use Rattle.board_text.specs.Text.{prints};
+ghost use Rattle.board_serve.specs.Serving.{WritesOutcome};
+ghost use Rattle.board_text.specs.Text.{printed_run};
 ghost use Rattle.board_text.specs.declared.stops.Stop.TheVariants as stop;
 
 use crate::parts::READERS;
@@ -17,8 +17,8 @@ use std::io::Write;
 
 // Writes the lines of these answers.
 fn write_answers<W: Write>(out: &mut Output<'_, W>, answers: &[Answer]) -> Result<(), Stop>
-    ensures wrote { Plays out.old.held out.new.held result (prints (map (λ a. reply_line (reply_of a)) answers.now)) }
-    ensures on { GoesOn out.old out.new }
+    ensures wrote { Plays out.old.held out.new.held result (printed_run (map (λ a. reply_line (reply_of a)) answers.now)) }
+    ensures continues { GoesOn out.old out.new }
     ensures only { IsOkUnless result stop.WriteFault }
 {
     for answer in answers {
@@ -29,8 +29,8 @@ fn write_answers<W: Write>(out: &mut Output<'_, W>, answers: &[Answer]) -> Resul
 
 // Writes the number of readings of a reader.
 fn write_count<W: Write>(out: &mut Output<'_, W>, reader: u64, count: u64) -> Result<(), Stop>
-    ensures wrote { Plays out.old.held out.new.held result (prints (reader_line reader count ∷ [])) }
-    ensures on { GoesOn out.old out.new }
+    ensures wrote { Plays out.old.held out.new.held result (printed_run (reader_line reader count ∷ [])) }
+    ensures continues { GoesOn out.old out.new }
     ensures only { IsOkUnless result stop.WriteFault }
 {
     out.write_line(line_of_count(reader, count))
@@ -43,8 +43,8 @@ fn write_work<W: Write>(
     counts: [u64; READERS],
 ) -> Result<(), Stop>
     ensures wrote { Plays out.old.held out.new.held result
-        (prints (lines_of_work (map reply_of answers.now) counts)) }
-    ensures on { GoesOn out.old out.new }
+        (printed_run (lines_of_work (map reply_of answers.now) counts)) }
+    ensures continues { GoesOn out.old out.new }
     ensures only { IsOkUnless result stop.WriteFault }
 {
     let [first, second] = counts;
@@ -60,13 +60,13 @@ pub(crate) fn tell<W: Write>(
     counts: [u64; READERS],
     legal: bool,
 ) -> Result<(), Stop>
-    ensures wrote { Tells out.old.held out.new.held legal result
+    ensures wrote { WritesOutcome out.old.held out.new.held legal result
         (lines_of_work (map reply_of answers.now) counts) }
-    ensures on { GoesOn out.old out.new }
+    ensures continues { GoesOn out.old out.new }
 {
     write_work(out, answers, counts)?;
     if !legal {
-        return Err(Stop::told(Refusal::Mismatch, 0));
+        return Err(Stop::of_fault(Refusal::Mismatch, 0));
     }
     out.write_line(line_of_audit())
 }

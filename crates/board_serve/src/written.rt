@@ -2,7 +2,7 @@
 ghost use Rattle.std.specs.Prelude.{◌≡◌, ◌≤◌, ◌<◌, ◌+◌, ◌^◌, ◌++◌, ◌∷◌, [], length};
 ghost use Rattle.std.specs.Prelude.{vec_len, IfOk, IfErr, OnOk, IsOkUnless};
 ghost use Rattle.std.specs.Vec.{vec_capacity};
-ghost use Rattle.council_core.specs.Sequential.{respond, submit};
+ghost use Rattle.council_core.specs.Sequential.{response_to, submit};
 ghost use Rattle.board_text.specs.Replies.{reply_of};
 ghost use Rattle.board_serve.specs.Jobs.{CanWrite, HasWritten};
 ghost use Rattle.board_serve.specs.Parts.{call_of_order};
@@ -63,8 +63,8 @@ impl Written {
 
 // Submits a command to the writer.
 fn submit(writer: &mut Writer, command: Command) -> Result<Answer, Stop>
-    ensures replied { IfOk result (λ a. reply_of a ≡ (respond (register_of writer.old) (submit command)).1) }
-    ensures after { OnOk result (register_of writer.new ≡ (respond (register_of writer.old) (submit command)).0) }
+    ensures replied { IfOk result (λ a. reply_of a ≡ (response_to (register_of writer.old) (submit command)).1) }
+    ensures after { OnOk result (register_of writer.new ≡ (response_to (register_of writer.old) (submit command)).0) }
     ensures table { writer.new.table ≡ writer.old.table }
     ensures memory { IsOkUnless result stop.OutOfMemory }
 {
@@ -77,9 +77,9 @@ fn submit(writer: &mut Writer, command: Command) -> Result<Answer, Stop>
 
 // Submits a command to the writer, or publishes.
 fn obey<R: Wait>(rt: &R, writer: &mut Writer, order: Order) -> Result<Answer, Stop>
-    ensures replied { IfOk result (λ a. reply_of a ≡ (respond (register_of writer.old) (call_of_order order)).1) }
+    ensures replied { IfOk result (λ a. reply_of a ≡ (response_to (register_of writer.old) (call_of_order order)).1) }
     ensures after { OnOk result
-        (register_of writer.new ≡ (respond (register_of writer.old) (call_of_order order)).0) }
+        (register_of writer.new ≡ (response_to (register_of writer.old) (call_of_order order)).0) }
     ensures table { writer.new.table ≡ writer.old.table }
     ensures memory { IsOkUnless result stop.OutOfMemory }
 {
@@ -98,10 +98,10 @@ fn obey_past<G: Gate, R: Wait>(
     order: Order,
     publications: &mut u32,
 ) -> Result<Answer, Stop>
-    requires few { publications.old + 1 < 2 ^ 32 }
-    ensures replied { IfOk result (λ a. reply_of a ≡ (respond (register_of writer.old) (call_of_order order)).1) }
+    requires bound { publications.old + 1 < 2 ^ 32 }
+    ensures replied { IfOk result (λ a. reply_of a ≡ (response_to (register_of writer.old) (call_of_order order)).1) }
     ensures after { OnOk result
-        (register_of writer.new ≡ (respond (register_of writer.old) (call_of_order order)).0) }
+        (register_of writer.new ≡ (response_to (register_of writer.old) (call_of_order order)).0) }
     ensures table { writer.new.table ≡ writer.old.table }
     ensures causes { IfErr result IsHeldUp }
     ensures counted { publications.new ≤ publications.old + 1 }
@@ -124,7 +124,7 @@ pub(crate) fn pass<G: Gate>(gate: &G, at: Place) -> Result<(), Stop>
 {
     match gate.pass(at) {
         Ok(()) => return Ok(()),
-        Err(_) => return Err(Stop::told(Refusal::GateClosed, 0)),
+        Err(_) => return Err(Stop::of_fault(Refusal::GateClosed, 0)),
     }
 }
 
@@ -136,7 +136,7 @@ fn write_orders<G: Gate, R: Wait>(
     writer: &mut Writer,
     written: &mut Written,
 ) -> Result<(), Stop>
-    requires few { length orders.now < 2 ^ 32 }
+    requires bound { length orders.now < 2 ^ 32 }
     requires empty { HasNoneWritten written.old }
     requires room { HasRoomToWrite written.old (length orders.now) }
     ensures written { OnOk result (IsWritten writer.old orders.now writer.new written.new) }

@@ -9,7 +9,7 @@ use Rattle.council_core.specs.declared.refusals.Refusal.{Refusal}
 use Rattle.council_core.specs.declared.refusals.Refusal.TheVariants.{JournalFull}
 use Rattle.council_core.specs.Rolls.{Roll, opening_roll, fold_from, step, all_accepted}
 use Rattle.council_core.specs.Rolls as rolls
-use Rattle.council_core.specs.Ledgers.{Ledger, roll_of, room_of, verdict, verdict_of, appended}
+use Rattle.council_core.specs.Ledgers.{Ledger, roll_of, room_of, verdict, verdict_of, ledger_with}
 use Rattle.two_copy_steps.specs.declared.events.Event.{Event}
 use Rattle.two_copy_steps.specs.declared.events.Event.TheVariants.{Submit, Publish, Writer, Reader}
 use Rattle.two_copy_steps.specs.declared.events.Note.{Note}
@@ -17,30 +17,30 @@ use Rattle.two_copy_steps.specs.declared.events.Note.TheVariants.{Skipped}
 use Rattle.two_copy_steps.specs.declared.views.ReaderView.{ReaderView}
 use Rattle.two_copy_steps.specs.declared.views.Stage.{Stage}
 use Rattle.two_copy_steps.specs.declared.views.Stage.TheVariants.{AtRest}
-use Rattle.two_copy_steps.specs.Actions.{begun}
+use Rattle.two_copy_steps.specs.Actions.{writing_of_staged}
 use Rattle.two_copy_steps.specs.Lawful.{read_by, written_by, begun_by}
-use Rattle.two_copy_steps.specs.Transitions.{MachineState, transition, after, notes, started, submitted, published_by, is_pending, is_idle, reader_transition, stage_note}
-use Rattle.two_copy_steps.specs.Auxiliary.{Auxiliary, auxiliary_step, auxiliary_steps, auxiliary_start, record_at, viewed, auxiliary_reader_step, state_of}
+use Rattle.two_copy_steps.specs.Transitions.{MachineState, transition, state_after_events, notes, machine_at_start, machine_and_note, published_by, is_pending, is_idle, reader_transition, stage_note}
+use Rattle.two_copy_steps.specs.Auxiliary.{Auxiliary, auxiliary_step, auxiliary_steps, auxiliary_start, record_at, reader_views, auxiliary_reader_step, state_of}
 use Rattle.two_copy_steps.proofs.EventLists.{after_append, notes_append}
 use Rattle.two_copy_steps.proofs.Journals.{IsAccepted}
 use Rattle.two_copy_steps.proofs.TransitionFacts.{reader_is}
 use Rattle.two_copy_steps.proofs.TransitionSteps.{view_at}
 use Rattle.board_share.specs.declared.views.History.{History}
-use Rattle.board_share.specs.Histories.{machine_of, known_after, last_note, last_told, longer}
+use Rattle.board_share.specs.Histories.{machine_of, known_after, last_note, last_told, history_with}
 
 -- the cuts and records after one list of events and then another
-pub auxiliary_append : (events more : List Event) (m : MachineState) (p : Auxiliary) → auxiliary_steps m p (events ++ more) ≡ auxiliary_steps (after m events) (auxiliary_steps m p events) more
+pub auxiliary_append : (events more : List Event) (m : MachineState) (p : Auxiliary) → auxiliary_steps m p (events ++ more) ≡ auxiliary_steps (state_after_events m events) (auxiliary_steps m p events) more
 auxiliary_append [] more m p = refl
 auxiliary_append (event ∷ events) more m p = auxiliary_append events more (transition m event).0 (auxiliary_step m p event)
 
 -- there is a record for each reader
-by_submit : (m : MachineState) (command : Command) (v : Result ⊤ Refusal) → (submitted m command v).0.readers ≡ m.readers
+by_submit : (m : MachineState) (command : Command) (v : Result ⊤ Refusal) → (machine_and_note m command v).0.readers ≡ m.readers
 by_submit m command (Ok u) = refl
 by_submit m command (Err refusal) = refl
 
 even_transition : (m : MachineState) (p : Auxiliary) → length p.records ≡ length m.readers → (event : Event) → length (auxiliary_step m p event).records ≡ length (transition m event).0.readers
 even_transition m p e (Submit command) =
-    elim (is_idle m.writer.phase) as (λ b. length p.records ≡ length (cond b (submitted m command (verdict_of m.ledger command)) (m, Skipped)).0.readers)
+    elim (is_idle m.writer.phase) as (λ b. length p.records ≡ length (cond b (machine_and_note m command (verdict_of m.ledger command)) (m, Skipped)).0.readers)
     [ true ↦ e ∙ ap (length {A = Stage}) (sym (by_submit m command (verdict_of m.ledger command))) | false ↦ e ]
 even_transition m p e Publish =
     elim (is_idle m.writer.phase) as (λ b. length p.records ≡ length (cond b (published_by m (is_pending m)) (m, Skipped)).0.readers) [
@@ -55,25 +55,25 @@ even_transition m p e (Reader (suc r)) = even_reader (slice_get m.readers r)
     even_reader None = e
     even_reader (Some stage) = length-set p.records r _ ∙ (e ∙ sym (length-set m.readers r _))
 
-even_after : (events : List Event) (m : MachineState) (p : Auxiliary) → length p.records ≡ length m.readers → length (auxiliary_steps m p events).records ≡ length (after m events).readers
+even_after : (events : List Event) (m : MachineState) (p : Auxiliary) → length p.records ≡ length m.readers → length (auxiliary_steps m p events).records ≡ length (state_after_events m events).readers
 even_after [] m p e = e
 even_after (event ∷ events) m p e = even_after events (transition m event).0 (auxiliary_step m p event) (even_transition m p e event)
 
-pub even_of : (h : History) → length (auxiliary_steps (started h.begun.register h.begun.readers) (auxiliary_start h.begun.register h.begun.readers) h.events).records ≡ length (machine_of h).readers
+pub even_of : (h : History) → length (auxiliary_steps (machine_at_start h.begun.register h.begun.readers) (auxiliary_start h.begun.register h.begun.readers) h.events).records ≡ length (machine_of h).readers
 even_of h =
-    even_after h.events (started h.begun.register h.begun.readers) (auxiliary_start h.begun.register h.begun.readers)
+    even_after h.events (machine_at_start h.begun.register h.begun.readers) (auxiliary_start h.begun.register h.begun.readers)
     (length-replicate h.begun.readers [] ∙ sym (length-replicate h.begun.readers AtRest))
 
 abbrev pub auxiliary_of : History → Auxiliary
-auxiliary_of h = auxiliary_steps (started h.begun.register h.begun.readers) (auxiliary_start h.begun.register h.begun.readers) h.events
+auxiliary_of h = auxiliary_steps (machine_at_start h.begun.register h.begun.readers) (auxiliary_start h.begun.register h.begun.readers) h.events
 
 -- what is known after a longer history
-pub machine_longer : (h : History) (events : List Event) → machine_of (longer h events) ≡ after (machine_of h) events
-machine_longer h events = after_append h.events events (started h.begun.register h.begun.readers)
+pub machine_longer : (h : History) (events : List Event) → machine_of (history_with h events) ≡ state_after_events (machine_of h) events
+machine_longer h events = after_append h.events events (machine_at_start h.begun.register h.begun.readers)
 
-pub known_longer : (h : History) (events : List Event) → known_after (longer h events) ≡ state_of (after (machine_of h) events) (auxiliary_steps (machine_of h) (auxiliary_of h) events)
+pub known_longer : (h : History) (events : List Event) → known_after (history_with h events) ≡ state_of (state_after_events (machine_of h) events) (auxiliary_steps (machine_of h) (auxiliary_of h) events)
 known_longer h events =
-    (λ i. state_of (machine_longer h events i) (auxiliary_append h.events events (started h.begun.register h.begun.readers) (auxiliary_start h.begun.register h.begun.readers) i))
+    (λ i. state_of (machine_longer h events i) (auxiliary_append h.events events (machine_at_start h.begun.register h.begun.readers) (auxiliary_start h.begun.register h.begun.readers) i))
 
 -- the last of some notes
 last_pushed : (told : List Note) (note : Note) → last_note (told ++ note ∷ []) ≡ Some note
@@ -81,22 +81,22 @@ last_pushed [] note = refl
 last_pushed (x ∷ []) note = refl
 last_pushed (x ∷ y ∷ told) note = last_pushed (y ∷ told) note
 
-pub told_last : (h : History) (events : List Event) (event : Event) → last_told (longer h (events ++ event ∷ [])) ≡ Some (transition (after (machine_of h) events) event).1
+pub told_last : (h : History) (events : List Event) (event : Event) → last_told (history_with h (events ++ event ∷ [])) ≡ Some (transition (state_after_events (machine_of h) events) event).1
 told_last h events event =
-    let m = started h.begun.register h.begun.readers in
+    let m = machine_at_start h.begun.register h.begun.readers in
     ap (λ (l : List Event). last_note (notes m l)) (sym (append_assoc h.events events (event ∷ [])))
     ∙ (ap last_note (notes_append (h.events ++ events) (event ∷ []) m)
-    ∙ (last_pushed (notes m (h.events ++ events)) (transition (after m (h.events ++ events)) event).1
+    ∙ (last_pushed (notes m (h.events ++ events)) (transition (state_after_events m (h.events ++ events)) event).1
     ∙ ap (λ (n : MachineState). Some (transition n event).1) (machine_longer h events)))
 
-pub longer_none : (h : History) → longer h [] ≡ h
+pub longer_none : (h : History) → history_with h [] ≡ h
 longer_none h = ap (λ (l : List Event). let x : History = record h { events = l } in x) (append-nil h.events)
 
-pub longer_twice : (h : History) (events more : List Event) → longer (longer h events) more ≡ longer h (events ++ more)
+pub longer_twice : (h : History) (events more : List Event) → history_with (history_with h events) more ≡ history_with h (events ++ more)
 longer_twice h events more = ap (λ (l : List Event). let x : History = record h { events = l } in x) (append_assoc h.events events more)
 
 -- a reader in the state is one of the machine
-viewed_back : (stages : List Stage) (records : List (List (List ℕ))) (r : ℕ) (v : ReaderView) → slice_get (viewed stages records) r ≡ Some v
+viewed_back : (stages : List Stage) (records : List (List (List ℕ))) (r : ℕ) (v : ReaderView) → slice_get (reader_views stages records) r ≡ Some v
     → (slice_get stages r ≡ Some v.stage) × (record_at records r ≡ v.readings)
 viewed_back [] records r v e = absurd (none-some v e)
 viewed_back (x ∷ stages) [] zero v e = let s = same_Some _ v e in (ap (λ (w : ReaderView). Some w.stage) s, ap (λ (w : ReaderView). w.readings) s)
@@ -109,16 +109,16 @@ module _ (h : History) (r : ℕ) (v : ReaderView) (there : slice_get (known_afte
   abbrev found_there : (slice_get (machine_of h).readers r ≡ Some v.stage) × (record_at (auxiliary_of h).records r ≡ v.readings)
   found_there = viewed_back (machine_of h).readers (auxiliary_of h).records r v there
 
-  pub reader_known : known_after (longer h (Reader (suc r) ∷ [])) ≡ read_by (known_after h) r v
+  pub reader_known : known_after (history_with h (Reader (suc r) ∷ [])) ≡ read_by (known_after h) r v
   reader_known =
       known_longer h (Reader (suc r) ∷ [])
       ∙ (reader_is (machine_of h) (auxiliary_of h) (even_of h) r v.stage found_there.0
       ∙ ap (λ (readings : List (List ℕ)). read_by (known_after h) r (view_at v.stage readings)) found_there.1)
 
-  pub reader_told : last_told (longer h (Reader (suc r) ∷ [])) ≡ Some (stage_note (suc r) v.stage)
+  pub reader_told : last_told (history_with h (Reader (suc r) ∷ [])) ≡ Some (stage_note (suc r) v.stage)
   reader_told = told_last h [] (Reader (suc r)) ∙ ap (λ (o : Option Stage). Some (reader_transition (machine_of h) r o).1) found_there.0
 
-  pub reader_register : (machine_of (longer h (Reader (suc r) ∷ []))).ledger ≡ (machine_of h).ledger
+  pub reader_register : (machine_of (history_with h (Reader (suc r) ∷ []))).ledger ≡ (machine_of h).ledger
   reader_register =
       ap (λ (m : MachineState). m.ledger) (machine_longer h (Reader (suc r) ∷ []))
       ∙ ap (λ (o : Option Stage). (reader_transition (machine_of h) r o).0.ledger) found_there.0
@@ -134,7 +134,7 @@ and_right false b h = cc
 
 accepted_there : (r : Roll) (commands : List Command) (command : Command) (rest : List Command) → IsTrue (all_accepted r (commands ++ command ∷ rest)) → IsTrue (is_ok (step (fold_from r commands) command))
 accepted_there r [] command rest h = and_left (is_ok (step r command)) _ h
-accepted_there r (c ∷ cs) command rest h = accepted_there (rolls.after r c) cs command rest (and_right (is_ok (step r c)) _ h)
+accepted_there r (c ∷ cs) command rest h = accepted_there (rolls.next_roll r c) cs command rest (and_right (is_ok (step r c)) _ h)
 
 verdict_is : (v : Result Roll Refusal) (room : Result ⊤ Refusal) → IsTrue (is_ok v) → verdict v room ≡ room
 verdict_is (Ok r) room h = refl
@@ -152,32 +152,32 @@ pub record Fits (ledger : Ledger) (rest : List Command) : Type 0 where
   pub accepted : IsAccepted ledger.opening (ledger.journal ++ rest)
   pub within : length (ledger.journal ++ rest) ≤ ledger.limit
 
-fits_on : (ledger : Ledger) (command : Command) (rest : List Command) → Fits ledger (command ∷ rest) → Fits (appended ledger command) rest
+fits_on : (ledger : Ledger) (command : Command) (rest : List Command) → Fits ledger (command ∷ rest) → Fits (ledger_with ledger command) rest
 fits_on ledger command rest h =
     let e = sym (append_assoc ledger.journal (command ∷ []) rest) in
     record { accepted = subst (IsAccepted ledger.opening) e h.accepted; within = subst (λ (l : List Command). length l ≤ ledger.limit) e h.within }
 
-submit_transition : (m : MachineState) (command : Command) (rest : List Command) → is_idle m.writer.phase ≡ true → Fits m.ledger (command ∷ rest) → (transition m (Submit command)).0 ≡ record m { ledger = appended m.ledger command }
+submit_transition : (m : MachineState) (command : Command) (rest : List Command) → is_idle m.writer.phase ≡ true → Fits m.ledger (command ∷ rest) → (transition m (Submit command)).0 ≡ record m { ledger = ledger_with m.ledger command }
 submit_transition m command rest idle h =
     let within = h.within in
     let ok : verdict_of m.ledger command ≡ Ok tt = verdict_is (step (roll_of m.ledger) command) (room_of m.ledger) (accepted_there (opening_roll m.ledger.opening) m.ledger.journal command rest h.accepted)
     ∙ room_is m.ledger (omega (arith, length-append m.ledger.journal (command ∷ rest))) in
-    ap (λ (b : Bool). (cond b (submitted m command (verdict_of m.ledger command)) (m, Skipped)).0) idle ∙ ap (λ (v : Result ⊤ Refusal). (submitted m command v).0) ok
+    ap (λ (b : Bool). (cond b (machine_and_note m command (verdict_of m.ledger command)) (m, Skipped)).0) idle ∙ ap (λ (v : Result ⊤ Refusal). (machine_and_note m command v).0) ok
 
 pub submits_transition : (rest : List Command) (m : MachineState) (p : Auxiliary) → is_idle m.writer.phase ≡ true → Fits m.ledger rest
-    → (after m (map Submit rest) ≡ with_journal m (m.ledger.journal ++ rest)) × (auxiliary_steps m p (map Submit rest) ≡ p)
+    → (state_after_events m (map Submit rest) ≡ with_journal m (m.ledger.journal ++ rest)) × (auxiliary_steps m p (map Submit rest) ≡ p)
 submits_transition [] m p idle h = (ap (with_journal m) (sym (append-nil m.ledger.journal)), refl)
 submits_transition (command ∷ rest) m p idle h =
-    let n : MachineState = record m { ledger = appended m.ledger command } in
+    let n : MachineState = record m { ledger = ledger_with m.ledger command } in
     let e : (transition m (Submit command)).0 ≡ n = submit_transition m command rest idle h in
     let more = submits_transition rest n p idle (fits_on m.ledger command rest h) in
-    (ap (λ (k : MachineState). after k (map Submit rest)) e ∙ (more.0 ∙ ap (with_journal m) (append_assoc m.ledger.journal (command ∷ []) rest)), ap (λ (k : MachineState). auxiliary_steps k p (map Submit rest)) e ∙ more.1)
+    (ap (λ (k : MachineState). state_after_events k (map Submit rest)) e ∙ (more.0 ∙ ap (with_journal m) (append_assoc m.ledger.journal (command ∷ []) rest)), ap (λ (k : MachineState). auxiliary_steps k p (map Submit rest)) e ∙ more.1)
 
 -- the writer's next step
-pub writer_known : (h : History) → known_after (longer h (Writer ∷ [])) ≡ written_by (machine_of h).ledger.opening (known_after h)
+pub writer_known : (h : History) → known_after (history_with h (Writer ∷ [])) ≡ written_by (machine_of h).ledger.opening (known_after h)
 writer_known h = known_longer h (Writer ∷ [])
 
-pub writer_register : (h : History) → (machine_of (longer h (Writer ∷ []))).ledger ≡ (machine_of h).ledger
+pub writer_register : (h : History) → (machine_of (history_with h (Writer ∷ []))).ledger ≡ (machine_of h).ledger
 writer_register h = ap (λ (m : MachineState). m.ledger) (machine_longer h (Writer ∷ []))
 
 -- a publication begins over a journal that extends what the register had
@@ -193,19 +193,19 @@ module _ (h : History) (rest : List Command) (idle : is_idle (machine_of h).writ
   abbrev handed : MachineState
   handed = with_journal m journal
 
-  begun_transition : (transition handed Publish).0 ≡ record handed { writer = begun journal m.writer }
+  begun_transition : (transition handed Publish).0 ≡ record handed { writer = writing_of_staged journal m.writer }
   begun_transition =
       ap (λ (b : Bool). (cond b (published_by handed (is_pending handed)) (handed, Skipped)).0) idle
       ∙ ap (λ (b : Bool). (published_by handed b).0) (lt-ltb (length m.writer.published) (length journal) more)
 
-  begin_after : after m (map Submit rest ++ Publish ∷ []) ≡ record handed { writer = begun journal m.writer }
+  begin_after : state_after_events m (map Submit rest ++ Publish ∷ []) ≡ record handed { writer = writing_of_staged journal m.writer }
   begin_after = after_append (map Submit rest) (Publish ∷ []) m ∙ (ap (λ (n : MachineState). (transition n Publish).0) (submits_transition rest m (auxiliary_of h) idle fits).0 ∙ begun_transition)
 
   begin_auxiliary : auxiliary_steps m (auxiliary_of h) (map Submit rest ++ Publish ∷ []) ≡ auxiliary_of h
   begin_auxiliary = auxiliary_append (map Submit rest) (Publish ∷ []) m (auxiliary_of h) ∙ (submits_transition rest m (auxiliary_of h) idle fits).1
 
-  pub begin_known : known_after (longer h (map Submit rest ++ Publish ∷ [])) ≡ begun_by (known_after h) journal
+  pub begin_known : known_after (history_with h (map Submit rest ++ Publish ∷ [])) ≡ begun_by (known_after h) journal
   begin_known = known_longer h (map Submit rest ++ Publish ∷ []) ∙ (λ i. state_of (begin_after i) (begin_auxiliary i))
 
-  pub begin_register : (machine_of (longer h (map Submit rest ++ Publish ∷ []))).ledger ≡ record m.ledger { journal = journal }
+  pub begin_register : (machine_of (history_with h (map Submit rest ++ Publish ∷ []))).ledger ≡ record m.ledger { journal = journal }
   begin_register = ap (λ (n : MachineState). n.ledger) (machine_longer h (map Submit rest ++ Publish ∷ []) ∙ begin_after)

@@ -8,17 +8,17 @@ use Rattle.board_share.specs.declared.views.View.{View}
 use Rattle.board_share.specs.declared.views.Beginning.{Beginning}
 use Rattle.board_share.specs.declared.views.History.{History}
 use Rattle.board_share.specs.Histories.{known_after}
-use Rattle.board_share.specs.Laws.{HistoryLaw, RecordsLaw, ApartLaw, RepliesLaw}
+use Rattle.board_share.specs.Laws.{HistoryLaw, SharedRecordsLaw, ApartLaw, SharedRepliesLaw}
 
 module _ (holds : Beginning → table.State Unit View → Type 0) (begun : Beginning) (s : table.State Unit View) (held : holds begun s) where
   of_this_board : HistoryLaw holds → (h : History) × (h.begun ≡ begun)
   of_this_board law = let found = law begun s held in (found.0, found.1)
 
-  legal_of_this_board : RecordsLaw holds → (h : History) × (h.begun ≡ begun) × HasRecords begun.register.opening (known_after h)
+  legal_of_this_board : SharedRecordsLaw holds → (h : History) × (h.begun ≡ begun) × HasRecords begun.register.opening (known_after h)
   legal_of_this_board law = let found = law begun s held in (found.0, found.1, found.3)
 
   apart_on_this_board : ApartLaw holds → (h : History) × (h.begun ≡ begun) × IsApart (known_after h)
   apart_on_this_board law = let found = law begun s held in (found.0, found.1, found.3)
 
-  replies_on_this_board : RepliesLaw holds → IsLedger begun.register → (h : History) × (h.begun ≡ begun) × TellsReplies begun.register begun.readers h.events
+  replies_on_this_board : SharedRepliesLaw holds → IsLedger begun.register → (h : History) × (h.begun ≡ begun) × TellsReplies begun.register begun.readers h.events
   replies_on_this_board law ledger = let found = law begun s ledger held in (found.0, found.1, found.3)

@@ -10,7 +10,7 @@ use Rattle.two_copy_steps.specs.declared.events.Event.{Event}
 use Rattle.two_copy_steps.specs.declared.views.WriterView.{WriterView}
 use Rattle.board_share.specs.declared.views.History.{History}
 use Rattle.board_share.specs.declared.views.View.{View}
-use Rattle.board_share.specs.Histories.{longer, is_writers, is_readers, Adds}
+use Rattle.board_share.specs.Histories.{history_with, is_writers, is_readers, Adds}
 use Rattle.board_share.specs.Seats.{Part, as_reader}
 use Rattle.atomic_table.specs.Table as table
 use Rattle.board_share.specs.Laws.{IsKnownIn, SeatsReader, SeatsWriter}
@@ -29,11 +29,11 @@ none_both : (own : Event → Bool) (xs ys : List Event) → filter own xs ≡ []
 none_both own xs ys e f = filter-append own xs ys ∙ (λ i. e i ++ f i)
 
 -- a seat's history is still a prefix
-pub prefix_on : (v : View) (whole : History) (more : List Event) → KnowsPrefix v whole → NoneOf v more → KnowsPrefix v (longer whole more)
+pub prefix_on : (v : View) (whole : History) (more : List Event) → KnowsPrefix v whole → NoneOf v more → KnowsPrefix v (history_with whole more)
 prefix_on v whole more f none =
     record {
       rest = f.rest ++ more;
-      whole_is = ap (λ (h : History). longer h more) f.whole_is ∙ longer_twice v.history f.rest more;
+      whole_is = ap (λ (h : History). history_with h more) f.whole_is ∙ longer_twice v.history f.rest more;
       writer = λ x e. none_both is_writers f.rest more (f.writer x e) (none.writer x e);
       readers = λ r x e. none_both (is_readers (suc r)) f.rest more (f.readers r x e) (none.readers r x e);
     }
@@ -44,20 +44,20 @@ prefix_whole v whole e = record { rest = []; whole_is = sym (longer_none v.histo
 
 -- after a step of one seat all histories are prefixes
 pub prefixes_set : (views : List View) (id : ℕ) (w : View) (whole : History) (more : List Event) → ((j : ℕ) (u : View) → get_elem? views j ≡ some u → KnowsPrefix u whole)
-    → w.history ≡ longer whole more → ((j : ℕ) (u : View) → j ≢ id → get_elem? views j ≡ some u → NoneOf u more)
-    → (j : ℕ) (u : View) → get_elem? (set views id w) j ≡ some u → KnowsPrefix u (longer whole more)
+    → w.history ≡ history_with whole more → ((j : ℕ) (u : View) → j ≢ id → get_elem? views j ≡ some u → NoneOf u more)
+    → (j : ℕ) (u : View) → get_elem? (set views id w) j ≡ some u → KnowsPrefix u (history_with whole more)
 prefixes_set views id w whole more prefixes is others j u at =
     ⊎_elim
-    (λ (t : (j ≡ id) × (w ≡ u)). subst (λ (z : View). KnowsPrefix z (longer whole more)) t.1 (prefix_whole w (longer whole more) is))
+    (λ (t : (j ≡ id) × (w ≡ u)). subst (λ (z : View). KnowsPrefix z (history_with whole more)) t.1 (prefix_whole w (history_with whole more) is))
     (λ (t : (j ≢ id) × (get_elem? views j ≡ some u)). prefix_on u whole more (prefixes j u t.1) (others j u t.0 t.1))
     (at_set views id j w u at)
 
 -- what is added to a seat's own history, where the whole one goes on
-pub adds_on : (own : Event → Bool) (h whole : History) (rest more mine : List Event) → whole ≡ longer h rest → filter own rest ≡ [] → filter own more ≡ mine → Adds own mine h (longer whole more)
+pub adds_on : (own : Event → Bool) (h whole : History) (rest more mine : List Event) → whole ≡ history_with h rest → filter own rest ≡ [] → filter own more ≡ mine → Adds own mine h (history_with whole more)
 adds_on own h whole rest more mine e none is =
     record {
       events = rest ++ more;
-      longer_by = ap (λ (x : History). longer x more) e ∙ longer_twice h rest more;
+      longer_by = ap (λ (x : History). history_with x more) e ∙ longer_twice h rest more;
       own_are = filter-append own rest more ∙ (λ i. none i ++ is i);
     }
 
@@ -66,7 +66,7 @@ pub adds_then : (own : Event → Bool) (a b c : History) (first second : List Ev
 adds_then own a b c first second x y =
     record {
       events = x.events ++ y.events;
-      longer_by = y.longer_by ∙ (ap (λ (h : History). longer h y.events) x.longer_by ∙ longer_twice a x.events y.events);
+      longer_by = y.longer_by ∙ (ap (λ (h : History). history_with h y.events) x.longer_by ∙ longer_twice a x.events y.events);
       own_are = filter-append own x.events y.events ∙ (λ i. x.own_are i ++ y.own_are i);
     }
 
@@ -86,9 +86,9 @@ one_is_prefix (x ∷ xs) (y ∷ ys) a b e =
     rest_of_list (z ∷ zs) = zs
 
 pub prefix_or_prefix : (v w : View) (whole : History) → KnowsPrefix v whole → KnowsPrefix w whole
-    → ((more : List Event) × (w.history ≡ longer v.history more)) ⊎ ((more : List Event) × (v.history ≡ longer w.history more))
+    → ((more : List Event) × (w.history ≡ history_with v.history more)) ⊎ ((more : List Event) × (v.history ≡ history_with w.history more))
 prefix_or_prefix v w whole f g =
-    let same : longer v.history f.rest ≡ longer w.history g.rest = sym f.whole_is ∙ g.whole_is in
+    let same : history_with v.history f.rest ≡ history_with w.history g.rest = sym f.whole_is ∙ g.whole_is in
     let begun : v.history.begun ≡ w.history.begun = ap (λ (h : History). h.begun) same in
     ⊎_elim
     (λ (t : (more : List Event) × (w.history.events ≡ v.history.events ++ more)). inl (t.0, (λ i. record { begun = sym begun i; events = t.1 i })))
@@ -96,10 +96,10 @@ prefix_or_prefix v w whole f g =
     (one_is_prefix v.history.events w.history.events f.rest g.rest (ap (λ (h : History). h.events) same))
 
 -- the history that a reader or the writer knows is a prefix of the whole one
-pub known_prefix : (s : table.State Unit View) (whole : History) → IsAfter whole s → (h : History) → IsKnownIn s h → (rest : List Event) × (whole ≡ longer h rest)
+pub known_prefix : (s : table.State Unit View) (whole : History) → IsAfter whole s → (h : History) → IsKnownIn s h → (rest : List Event) × (whole ≡ history_with h rest)
 known_prefix s whole after h known =
-    let begins : (v : View) → KnowsPrefix v whole → v.history ≡ h → (rest : List Event) × (whole ≡ longer h rest) =
-    λ v k same. (k.rest, k.whole_is ∙ ap (λ (x : History). longer x k.rest) same) in
+    let begins : (v : View) → KnowsPrefix v whole → v.history ≡ h → (rest : List Event) × (whole ≡ history_with h rest) =
+    λ v k same. (k.rest, k.whole_is ∙ ap (λ (x : History). history_with x k.rest) same) in
     ⊎_elim
     (λ (t : (p : ReaderSeen) × SeatsReader s p × (p.history ≡ h)). begins (seat_view t.0) (after.prefixes t.1.0 (seat_view t.0) t.1.1) t.2)
     (λ (t : (b : Publisher) × SeatsWriter s b × (b.history ≡ h)). begins t.1.1 (after.prefixes t.1.0 t.1.1 t.1.2) (t.1.3.history ∙ t.2))

@@ -10,12 +10,12 @@ use Rattle.two_copy_steps.specs.declared.events.Note.TheVariants.{Busy, Moved}
 use Rattle.two_copy_steps.specs.declared.views.WriterView.{WriterView}
 use Rattle.two_copy_steps.specs.declared.views.Phase.{Phase}
 use Rattle.two_copy_steps.specs.declared.views.Phase.TheVariants.{Idle, Seeing, Filling}
-use Rattle.two_copy_steps.specs.Actions.{all_true, filled, first_false, seeing}
+use Rattle.two_copy_steps.specs.Actions.{all_true, filled_writing, first_false, writing_with_quiescent}
 use Rattle.two_copy_steps.specs.Publications.{StaySeen}
 use Rattle.board_share.specs.declared.views.History.{History}
 use Rattle.board_share.specs.Histories.{Adds, is_writers, last_told}
 use Rattle.board_share.specs.Steps.{begin_events, step_note}
-use Rattle.board_share.specs.Writers.{WriterSeen, known_at, WroteSteps, Wrote, Underway, Filled, IsFilling, IsIdle, IsSeeing, unseen}
+use Rattle.board_share.specs.Writers.{WriterSeen, known_at, WroteSteps, Wrote, Underway, Filled, IsFilling, IsIdle, IsSeeing, unseen_count}
 use Rattle.board_share.proofs.Prefixes.{adds_then}
 use Rattle.board_share.proofs.WriterSeats.{action_in}
 
@@ -68,7 +68,7 @@ way d d' found v w e a b c k =
 
 -- a pin was loaded
 abbrev looked : WriterView → Bool → WriterView
-looked v b = record { state = cond b (seeing v.state (set v.state.seen_out (first_false v.state.seen_out) true)) (record v.state { phase = Idle }); cuts = v.cuts }
+looked v b = record { state = cond b (writing_with_quiescent v.state (set v.state.seen_out (first_false v.state.seen_out) true)) (record v.state { phase = Idle }); cuts = v.cuts }
 
 module _ (d d' : WriterSeen) (found : ℕ) (w : Wrote d d' found) (e : (known_at d).state.phase ≡ Seeing) (out : Bool) (is : out ≡ eqb found 0) where
   after_look : known_at d' ≡ looked (known_at d) out
@@ -138,7 +138,7 @@ wrote_then m n a b c x y =
 pub filled_first : (d d' : WriterSeen) (found : ℕ) → Wrote d d' found → IsFilling d 0 → Filled 0 1 d d'
 filled_first d d' found w f =
     let e = knows_after d d' found (Filling 0) w f.phase in
-    let on = way d d' found (record { state = filled (known_at d).state 0; cuts = (known_at d).cuts }) w e refl refl refl refl in
+    let on = way d d' found (record { state = filled_writing (known_at d).state 0; cuts = (known_at d).cuts }) w e refl refl refl refl in
     record {
       way = on;
       seen = ap (λ (x : WriterView). x.state.seen_out) e;
@@ -156,14 +156,14 @@ from_rest n rest begun after events same is none wrote =
     subst (λ (h : History). Adds is_writers (events ++ replicate n Writer) h after.history) same (subst (λ (l : List Event). Adds is_writers l begun.history after.history) own wrote.adds)
 
 -- one more reader is quiescent
-pub unseen_set : (bs : List Bool) (r : ℕ) → slice_get bs r ≡ Some false → unseen (set bs r true) + 1 ≡ unseen bs
+pub unseen_set : (bs : List Bool) (r : ℕ) → slice_get bs r ≡ Some false → unseen_count (set bs r true) + 1 ≡ unseen_count bs
 unseen_set [] r e = absurd (none-some false e)
 unseen_set (true ∷ bs) zero e = absurd cc
-unseen_set (false ∷ bs) zero e = let out : unseen (true ∷ bs) ≡ unseen bs = refl in let not_out : unseen (false ∷ bs) ≡ suc (unseen bs) = refl in omega arith
+unseen_set (false ∷ bs) zero e = let out : unseen_count (true ∷ bs) ≡ unseen_count bs = refl in let not_out : unseen_count (false ∷ bs) ≡ suc (unseen_count bs) = refl in omega arith
 unseen_set (true ∷ bs) (suc r) e = unseen_set bs r e
-unseen_set (false ∷ bs) (suc r) e = let h = unseen_set bs r e in let more : unseen (false ∷ set bs r true) ≡ suc (unseen (set bs r true)) = refl in let not_out : unseen (false ∷ bs) ≡ suc (unseen bs) = refl in omega arith
+unseen_set (false ∷ bs) (suc r) e = let h = unseen_set bs r e in let more : unseen_count (false ∷ set bs r true) ≡ suc (unseen_count (set bs r true)) = refl in let not_out : unseen_count (false ∷ bs) ≡ suc (unseen_count bs) = refl in omega arith
 
-pub none_unseen : (bs : List Bool) → all_true bs ≡ true → unseen bs ≡ 0
+pub none_unseen : (bs : List Bool) → all_true bs ≡ true → unseen_count bs ≡ 0
 none_unseen [] e = refl
 none_unseen (true ∷ bs) e = none_unseen bs e
 none_unseen (false ∷ bs) e = absurd cc

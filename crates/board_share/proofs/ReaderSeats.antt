@@ -8,19 +8,19 @@ use Rattle.council_core.specs.Rolls.{Opening}
 use Rattle.two_copy_steps.specs.declared.views.ReaderView.{ReaderView}
 use Rattle.two_copy_steps.specs.declared.views.Stage.{Stage}
 use Rattle.two_copy_steps.specs.declared.views.Stage.TheVariants.{Reading, Leaving}
-use Rattle.two_copy_steps.specs.Actions.{loaded, reader_action}
+use Rattle.two_copy_steps.specs.Actions.{stage_with_words, reader_action}
 use Rattle.two_copy_steps.specs.States.{IsKnown}
 use Rattle.two_copy_steps.specs.declared.table.TheConstants.{COPY_WORDS}
 use Rattle.board_share.specs.declared.views.View.{View}
 use Rattle.board_share.specs.declared.views.Beginning.{Beginning}
-use Rattle.board_share.specs.Seats.{Part, only, reads}
+use Rattle.board_share.specs.Seats.{Part, lone_part, seat_of_reader}
 use Rattle.board_share.specs.Rule.{RuleHolds}
-use Rattle.board_share.specs.Steps.{bare, read_then}
-use Rattle.board_share.specs.Readers.{ReaderSeen, known_by, TookStep, sole, reader_at, IsReader, Stepped}
+use Rattle.board_share.specs.Steps.{bare_seat, read_then}
+use Rattle.board_share.specs.Readers.{ReaderSeen, known_by, TookStep, sole_part, reader_at, IsReader, Stepped}
 use Rattle.board_share.proofs.Accesses.{load_of, store_of}
 use Rattle.board_share.proofs.ReaderSteps.{reads_allows}
 
-pub sole_only : (r : ℕ) (x : Part) → sole (only r x) ≡ x
+pub sole_only : (r : ℕ) (x : Part) → sole_part (lone_part r x) ≡ x
 sole_only zero x = refl
 sole_only (suc r) x = sole_only r x
 
@@ -50,15 +50,15 @@ left table seat seat' me me' p h found stage moved =
     let w : ReaderView = (reader_action p.index (known_by p)).after found in
     let t = moved.next p.index p.opening (known_by p) p.history h.alone in
     let F : Me Unit View → Type 0 = λ m. Stepped table p seat' m stage in
-    let m : Me Unit View = bare (reads t.0 p.index (p.opening, w)) in
-    let s : sole m.0.readers ≡ (p.opening, w) = sole_only p.index (p.opening, w) in
+    let m : Me Unit View = bare_seat (seat_of_reader t.0 p.index (p.opening, w)) in
+    let s : sole_part m.0.readers ≡ (p.opening, w) = sole_only p.index (p.opening, w) in
     let know : known_by (reader_at table m.0 p.index stage) ≡ w = (λ i. let v : ReaderView = record { stage = moved.stage_is i; readings = (s i).1.readings } in v) in
     subst F (sym t.1) record {
       seat_is = record {
         same = moved.same ∙ h.same;
         within = h.within;
-        few = h.few;
-        alone = λ i. bare (reads t.0 p.index (sym (ap (λ (x : Part). x.0) s) i, sym know i));
+        bound = h.bound;
+        alone = λ i. bare_seat (seat_of_reader t.0 p.index (sym (ap (λ (x : Part). x.0) s) i, sym know i));
         known = subst (λ (x : Opening × ReaderView). IsKnown x.0 x.1) (λ i. (sym (ap (λ (x : Part). x.0) s) i, sym know i)) t.2;
       };
       opening_is = ap (λ (x : Part). x.0) s;
@@ -68,11 +68,11 @@ left table seat seat' me me' p h found stage moved =
     }
 
 -- a reader that has loaded all words leaves next
-pub loaded_all : (side : ℕ) (ws : List ℕ) → length ws ≡ COPY_WORDS → loaded side (take COPY_WORDS ws) ≡ Leaving side ws
-loaded_all side ws e = ap (loaded side) (take_all COPY_WORDS ws (omega arith)) ∙ ap (λ (b : Bool). cond b (Leaving side ws) (Reading side ws)) (eq-eqb (length ws) COPY_WORDS e)
+pub loaded_all : (side : ℕ) (ws : List ℕ) → length ws ≡ COPY_WORDS → stage_with_words side (take COPY_WORDS ws) ≡ Leaving side ws
+loaded_all side ws e = ap (stage_with_words side) (take_all COPY_WORDS ws (omega arith)) ∙ ap (λ (b : Bool). cond b (Leaving side ws) (Reading side ws)) (eq-eqb (length ws) COPY_WORDS e)
 
-pub loaded_some : (side n : ℕ) (ws : List ℕ) → length ws ≡ COPY_WORDS → n < COPY_WORDS → loaded side (take n ws) ≡ Reading side (take n ws)
-loaded_some side n ws e few =
+pub loaded_some : (side n : ℕ) (ws : List ℕ) → length ws ≡ COPY_WORDS → n < COPY_WORDS → stage_with_words side (take n ws) ≡ Reading side (take n ws)
+loaded_some side n ws e bound =
     ap (λ (b : Bool). cond b (Leaving side (take n ws)) (Reading side (take n ws)))
     (ne_eqb (length (take n ws)) COPY_WORDS (let short : length (take n ws) ≡ n = length-take-le n ws (omega arith) in (λ f. omega arith)))
 

@@ -3,14 +3,14 @@ use Rattle.std.proofs.Common.{◌≡◌, ℕ, zero, suc, eqb, ◌+◌, ◌≤◌
 use Rattle.std.proofs.lemmas.Option.{none-some, same_Some}
 use Rattle.std.specs.Option.{option_map, option_map_or}
 use Rattle.std.specs.Prelude.{IsTrue, is_ok, ◌&&◌}
-use Rattle.council_core.specs.Rolls.{Opening, Roll, opening_roll, after, step, all_accepted, sheet}
+use Rattle.council_core.specs.Rolls.{Opening, Roll, opening_roll, next_roll, step, all_accepted, sheet}
 use Rattle.council_core.specs.Sheets.{front_of}
 use Rattle.council_core.specs.Sequential.{IsRecordFrom}
 use Rattle.council_core.specs.declared.commands.Command.{Command}
 use Rattle.two_copy_steps.specs.declared.views.ReaderView.{ReaderView}
 use Rattle.two_copy_steps.specs.declared.views.Stage.{Stage}
 use Rattle.two_copy_steps.specs.declared.views.Stage.TheVariants.{AtRest, Arrived, Reading, Leaving}
-use Rattle.two_copy_steps.specs.Actions.{recorded, stage_action}
+use Rattle.two_copy_steps.specs.Actions.{readings_after, stage_action}
 use Rattle.two_copy_steps.specs.Lawful.{last_front}
 use Rattle.two_copy_steps.specs.Stages.{IsReadable, sheet_read, steps_taken, last_step}
 use Rattle.two_copy_steps.specs.States.{EndsWith}
@@ -43,7 +43,7 @@ front_is low (x ∷ y ∷ rest) = front_after low (front_of x) y rest
 
 -- what is answered is the last sheet of the record
 ended_at : (r : ℕ) (st : Stage) (found : ℕ) (readings : List (List ℕ)) (words : List ℕ) → sheet_read st ≡ Some words → EndsWith readings st
-    → (earlier : List (List ℕ)) × (recorded st ((stage_action r st).after found) readings ≡ earlier ++ words ∷ [])
+    → (earlier : List (List ℕ)) × (readings_after st ((stage_action r st).after found) readings ≡ earlier ++ words ∷ [])
 ended_at r AtRest found readings words e h = absurd (none-some words e)
 ended_at r Arrived found readings words e h = absurd (none-some words e)
 ended_at r (Reading s ws) found readings words e h = absurd (none-some words e)
@@ -71,7 +71,7 @@ accepted_take : (r : Roll) (k : ℕ) (list : List Command) → IsTrue (all_accep
 accepted_take r zero list h = refl
 accepted_take r (suc k) [] h = h
 accepted_take r (suc k) (c ∷ cs) h =
-    elim (is_ok (step r c)) as (λ b. IsTrue (b && all_accepted (after r c) cs) → IsTrue (b && all_accepted (after r c) (take k cs))) [ true ↦ λ g. accepted_take (after r c) k cs g | false ↦ λ g. g ] h
+    elim (is_ok (step r c)) as (λ b. IsTrue (b && all_accepted (next_roll r c) cs) → IsTrue (b && all_accepted (next_roll r c) (take k cs))) [ true ↦ λ g. accepted_take (next_roll r c) k cs g | false ↦ λ g. g ] h
 
 last_cut : (opening : Opening) (list : List Command) (cuts : List ℕ) (low : ℕ) (before : List (List ℕ)) (words : List ℕ) → IsRecordFrom opening list cuts low (before ++ words ∷ [])
     → (cut : ℕ) × (words ≡ sheet opening (take cut list))
@@ -83,5 +83,5 @@ pub last_legal : (p : ReaderSeen) (before : List (List ℕ)) (words : List ℕ) 
 last_legal p before words h e =
     let c = last_cut p.opening h.0 h.1 0 before words (subst (λ (x : List (List ℕ)). IsRecordFrom p.opening h.0 h.1 0 x) e h.2.readings.0) in
     let legal = h.2.legal in
-    let few = legal.1 in
+    let bound = legal.1 in
     (take c.0 h.0, (accepted_take (opening_roll p.opening) c.0 h.0 legal.0, omega (arith, length-take c.0 h.0)), c.1)

@@ -11,9 +11,9 @@ use Rattle.two_copy_steps.specs.declared.events.Note.TheVariants.{Busy, Publishe
 use Rattle.two_copy_steps.specs.declared.views.Stage.TheVariants.{AtRest, Arrived}
 use Rattle.board_share.specs.declared.views.Beginning.{Beginning}
 use Rattle.board_share.specs.declared.views.History.{History}
-use Rattle.board_share.specs.Histories.{Adds, first_history, is_writers, last_told, longer}
+use Rattle.board_share.specs.Histories.{Adds, first_history, is_writers, last_told, history_with}
 use Rattle.board_share.specs.Readers.{HasLegalRecord, IsLegalSheet, ReaderSeen, TookStep, last_front_of, new_reader}
-use Rattle.board_share.specs.Writers.{looks, publication, publication_steps}
+use Rattle.board_share.specs.Writers.{look_count, publication, publication_steps}
 
 abbrev one_member : Opening
 one_member = (65 ∷ 65 ∷ 65 ∷ [], 10) ∷ []
@@ -37,7 +37,7 @@ abbrev begun : Beginning
 begun = record { register = record { opening = one_member; journal = []; limit = 100 }; readers = 1 }
 
 -- the events of a publication: the commands are submitted, it begins, and steps are taken
-pub handed : publication (longer (first_history begun) (Submit (Open 1) ∷ [])) seated 2 ≡ Submit (Move (65 ∷ 65 ∷ 65 ∷ []) (Some 1)) ∷ Publish ∷ Writer ∷ Writer ∷ []
+pub handed : publication (history_with (first_history begun) (Submit (Open 1) ∷ [])) seated 2 ≡ Submit (Move (65 ∷ 65 ∷ 65 ∷ []) (Some 1)) ∷ Publish ∷ Writer ∷ Writer ∷ []
 handed = refl
 
 -- with one of two readers quiescent, it needs a load, the stores of the words, and the store of
@@ -45,13 +45,13 @@ handed = refl
 pub steps_of_one : publication_steps (true ∷ false ∷ []) ≡ 36
 steps_of_one = refl
 
-pub looks_at_two : looks (false ∷ false ∷ []) (true ∷ false ∷ []) ≡ 2
+pub looks_at_two : look_count (false ∷ false ∷ []) (true ∷ false ∷ []) ≡ 2
 looks_at_two = refl
 
 -- the output of a publication's last step is the number of published commands, and that of a
 -- reading is the sheet read
 abbrev after_events : List Event → History
-after_events events = longer (first_history begun) events
+after_events events = history_with (first_history begun) events
 
 pub tells_published : last_told (after_events (Submit (Open 1) ∷ Publish ∷ [] ++ replicate 35 Writer)) ≡ Some (Published 1)
 tells_published = refl

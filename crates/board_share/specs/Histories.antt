@@ -8,7 +8,7 @@ use Rattle.two_copy_steps.specs.declared.events.Event.TheVariants.{Submit, Publi
 use Rattle.two_copy_steps.specs.declared.events.Note.{Note}
 use Rattle.two_copy_steps.specs.declared.views.WriterView.{WriterView}
 use Rattle.two_copy_steps.specs.Lawful.{State}
-use Rattle.two_copy_steps.specs.Transitions.{MachineState, started, notes}
+use Rattle.two_copy_steps.specs.Transitions.{MachineState, machine_at_start, notes}
 use Rattle.two_copy_steps.specs.Auxiliary.{state_of}
 use Rattle.two_copy_steps.specs.Runs.{machine_after, auxiliary_after}
 use Rattle.board_share.specs.declared.views.Beginning.{Beginning}
@@ -29,7 +29,7 @@ pub record KnowsAfter (h : History) (v : WriterView) : Type 0 where
 
 -- the outputs of the events, in order
 abbrev pub told_in : History → List Note
-told_in h = notes (started h.begun.register h.begun.readers) h.events
+told_in h = notes (machine_at_start h.begun.register h.begun.readers) h.events
 
 -- the last of these outputs
 abbrev pub last_note : List Note → Option Note
@@ -46,8 +46,8 @@ abbrev pub first_history : Beginning → History
 first_history begun = record { begun = begun; events = [] }
 
 -- a history with more events appended
-abbrev pub longer : History → List Event → History
-longer h events = record h { events = h.events ++ events }
+abbrev pub history_with : History → List Event → History
+history_with h events = record h { events = h.events ++ events }
 
 -- whether an event belongs to the writer
 abbrev pub is_writers : Event → Bool
@@ -67,7 +67,7 @@ is_readers number (Reader n) = n == number
 -- exactly `own`
 pub record Adds (is_own : Event → Bool) (own : List Event) (before after : History) : Type 0 where
   pub events : List Event
-  pub longer_by : after ≡ longer before events
+  pub longer_by : after ≡ history_with before events
   pub own_are : filter is_own events ≡ own
 
 -- the submit events at the start of a publication: the commands of the journal after those already

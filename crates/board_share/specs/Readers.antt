@@ -22,9 +22,9 @@ use Rattle.board_share.specs.declared.views.View.{View}
 use Rattle.board_share.specs.declared.views.Beginning.{Beginning}
 use Rattle.board_share.specs.declared.views.History.{History}
 use Rattle.board_share.specs.Histories.{Adds, first_history, is_readers, known_after, last_told}
-use Rattle.board_share.specs.Seats.{Part, reads}
+use Rattle.board_share.specs.Seats.{Part, seat_of_reader}
 use Rattle.board_share.specs.Rule.{first_reader}
-use Rattle.board_share.specs.Steps.{bare}
+use Rattle.board_share.specs.Steps.{bare_seat}
 
 -- the table of shared words that the reader reads, the members and votes of the opening, the
 -- reader's index, counted from 0, its stage, its readings so far, and the history of the board up
@@ -94,32 +94,32 @@ abbrev pub IsLegalSheet : Opening → List ℕ → Type 0
 IsLegalSheet opening words = (list : List Command) × IsLegal opening list × (words ≡ sheet opening list)
 
 -- the part of the one reader of a seat
-abbrev pub sole : List (Option Part) → Part
-sole [] = ([], first_reader)
-sole (None ∷ xs) = sole xs
-sole (Some x ∷ xs) = x
+abbrev pub sole_part : List (Option Part) → Part
+sole_part [] = ([], first_reader)
+sole_part (None ∷ xs) = sole_part xs
+sole_part (Some x ∷ xs) = x
 
 -- a reader, from its table, the view of its seat, its index and its stage
 abbrev pub reader_at : TableId → View → ℕ → Stage → ReaderSeen
 reader_at table v r stage = record {
   table = table;
-  opening = (sole v.readers).0;
+  opening = (sole_part v.readers).0;
   index = r;
   stage = stage;
-  readings = (sole v.readers).1.readings;
+  readings = (sole_part v.readers).1.readings;
   history = v.history;
 }
 
 -- the view of a reader's seat
 abbrev pub seat_view : ReaderSeen → View
-seat_view p = reads p.history p.index (p.opening, known_by p)
+seat_view p = seat_of_reader p.history p.index (p.opening, known_by p)
 
 -- a seat of the table is that of this reader alone
 pub record IsReader (table seat : TableId) (me : Me Unit View) (p : ReaderSeen) : Type 0 where
   pub same : seat ≡ table
   pub within : pin p.index < table.words
-  pub few : p.index < READERS
-  pub alone : me ≡ bare (seat_view p)
+  pub bound : p.index < READERS
+  pub alone : me ≡ bare_seat (seat_view p)
   pub known : IsKnown p.opening (known_by p)
 
 -- after one step the seat is that of the same reader, at this stage

@@ -13,17 +13,17 @@ use Rattle.two_copy_steps.specs.declared.views.Writing.{Writing}
 use Rattle.two_copy_steps.specs.declared.views.Phase.{Phase}
 use Rattle.two_copy_steps.specs.declared.views.Phase.TheVariants.{Idle, Seeing, Filling, Swapping}
 use Rattle.two_copy_steps.specs.declared.views.WriterView.{WriterView}
-use Rattle.two_copy_steps.specs.Actions.{first_false, reader_action, writer_action, begun}
+use Rattle.two_copy_steps.specs.Actions.{first_false, reader_action, writer_action, writing_of_staged}
 use Rattle.two_copy_steps.specs.States.{IsKnown}
 use Rattle.two_copy_steps.specs.Transitions.{stage_note}
 use Rattle.board_share.specs.declared.views.View.{View}
 use Rattle.board_share.specs.declared.views.History.{History}
 use Rattle.board_share.specs.Histories.{Adds, KnowsAfter, handed_over, is_readers, is_writers, known_after, last_told}
-use Rattle.board_share.specs.Seats.{reads}
+use Rattle.board_share.specs.Seats.{seat_of_reader}
 
 -- the seat with this view and no slot
-abbrev pub bare : View → Me Unit View
-bare v = (v, [])
+abbrev pub bare_seat : View → Me Unit View
+bare_seat v = (v, [])
 
 -- one event of the reader at r was added, with its output and with the reader's view after it
 pub record ReaderActed (r : ℕ) (before after : History) (v w : ReaderView) : Type 0 where
@@ -34,17 +34,17 @@ pub record ReaderActed (r : ℕ) (before after : History) (v w : ReaderView) : T
 -- the seat's reader took its step, which left this number in its word
 abbrev pub IsStepOn : Me Unit View → ℕ → Me Unit View → Type 0
 IsStepOn me found me' =
-    (r : ℕ) (opening : Opening) (v : ReaderView) (h : History) → me ≡ bare (reads h r (opening, v))
+    (r : ℕ) (opening : Opening) (v : ReaderView) (h : History) → me ≡ bare_seat (seat_of_reader h r (opening, v))
     → let w = (reader_action r v).after found in
-    (h' : History) × (me' ≡ bare (reads h' r (opening, w))) × IsKnown opening w × ReaderActed r h h' v w
+    (h' : History) × (me' ≡ bare_seat (seat_of_reader h' r (opening, w))) × IsKnown opening w × ReaderActed r h h' v w
 
 abbrev pub read_then : Step Unit → Me Unit View → ℕ → Me Unit View → Type 0
 read_then st me found me' = IsStepOn me found me'
 
 -- the writer begins to publish these commands, if any
-abbrev pub begun_with : Option (List Command) → WriterView → WriterView
-begun_with None v = v
-begun_with (Some list) v = record v { state = begun list v.state }
+abbrev pub writer_begun_with : Option (List Command) → WriterView → WriterView
+writer_begun_with None v = v
+writer_begun_with (Some list) v = record v { state = writing_of_staged list v.state }
 
 -- the view with another writer, after a history
 abbrev pub with_writer : View → Opening → WriterView → History → View
@@ -69,12 +69,12 @@ pub record WriterActed (list : Option (List Command)) (found : ℕ) (before afte
     : Type 0 where
   pub adds : Adds is_writers (begin_events list v ++ Writer ∷ []) before after
   pub knows : KnowsAfter after w
-  pub told : last_told after ≡ Some (step_note (begun_with list v).state (begun_with list v).state.phase found)
+  pub told : last_told after ≡ Some (step_note (writer_begun_with list v).state (writer_begun_with list v).state.phase found)
 
 -- the writer took its step, and began to publish these commands before it, if any
 abbrev pub write_then : Option (List Command) → Step Unit → Me Unit View → ℕ → Me Unit View → Type 0
 write_then list st me found me' =
     (opening : Opening) (v : WriterView) → me.0.writer ≡ Some (opening, v)
-    → let w = (writer_action (sheet opening) (begun_with list v)).after found in
+    → let w = (writer_action (sheet opening) (writer_begun_with list v)).after found in
     (me' ≡ (with_writer me.0 opening w me'.0.history, me.1))
     × WriterActed list found me.0.history me'.0.history v w

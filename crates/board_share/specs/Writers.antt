@@ -12,14 +12,14 @@ use Rattle.two_copy_steps.specs.declared.events.Event.TheVariants.{Publish, Writ
 use Rattle.two_copy_steps.specs.declared.events.Note.TheVariants.{Busy}
 use Rattle.two_copy_steps.specs.declared.views.WriterView.{WriterView}
 use Rattle.two_copy_steps.specs.declared.views.Phase.TheVariants.{Idle, Seeing, Filling, Swapping}
-use Rattle.two_copy_steps.specs.Actions.{Action, all_true, first_false, other, pin, writer_action}
+use Rattle.two_copy_steps.specs.Actions.{Action, all_true, first_false, other_side, pin, writer_action}
 use Rattle.two_copy_steps.specs.Lawful.{IsPublishable}
 use Rattle.two_copy_steps.specs.Publications.{StaySeen}
 use Rattle.two_copy_steps.specs.declared.table.TheConstants.{COPY_WORDS, READERS}
 use Rattle.board_share.specs.declared.views.View.{View}
 use Rattle.board_share.specs.declared.views.History.{History}
 use Rattle.board_share.specs.Histories.{Adds, KnowsAfter, handed_over, is_writers, known_after, last_told, machine_of}
-use Rattle.board_share.specs.Steps.{WriterActed, begin_events, begun_with, step_note, with_writer}
+use Rattle.board_share.specs.Steps.{WriterActed, begin_events, writer_begun_with, step_note, with_writer}
 
 -- the state of a `WordWriter`, step by step: the table of shared words, the register, the view of
 -- its seat, the commands of a publication that has begun but has taken no step yet, and the history
@@ -33,7 +33,7 @@ pub record WriterSeen : Type 0 where
 
 -- the writer's view, including a publication that has begun but has taken no step yet
 abbrev pub known_at : WriterSeen → WriterView
-known_at d = begun_with d.due d.held
+known_at d = writer_begun_with d.due d.held
 
 abbrev pub seen_out_of : WriterSeen → List Bool
 seen_out_of d = (known_at d).state.seen_out
@@ -85,7 +85,7 @@ pub record IsWriter (table seat : TableId) (me : Me Unit View) (d : WriterSeen) 
     (seen_out : List Bool) : Type 0 where
   pub same : seat ≡ table
   pub within : pin (length seen_out) ≤ table.words
-  pub few : length seen_out ≤ READERS
+  pub bound : length seen_out ≤ READERS
   pub writes : me.0.writer ≡ Some (d.ledger.opening, d.held)
   pub bare : me.1 ≡ []
   pub two : side < 2
@@ -110,7 +110,7 @@ pub record Wrote (before after : WriterSeen) (found : ℕ) : Type 0 where
 
 -- the next step of the writer's seat; it begins a publication of these commands, if any
 abbrev pub next_action : Option (List Command) → Me Unit View → Action WriterView
-next_action list me = let w = writer_or me.0.writer in writer_action (sheet w.0) (begun_with list w.1)
+next_action list me = let w = writer_or me.0.writer in writer_action (sheet w.0) (writer_begun_with list w.1)
 
 -- the requirements of a step of the writer's seat: its word, and what the word becomes
 pub record MayWrite (table seat : TableId) (me : Me Unit View) (list : Option (List Command)) (place : ℕ)
@@ -148,7 +148,7 @@ pub record MayFill (table seat : TableId) (me : Me Unit View) (ledger : Ledger) 
   pub next : me ≡ at_word me k me.0.history
   pub opening : (writer_or me.0.writer).0 ≡ ledger.opening
   pub taken : (writer_or me.0.writer).1.state.taken ≡ ledger.journal
-  pub copy_is : copy ≡ other (writer_or me.0.writer).1.state.side
+  pub copy_is : copy ≡ other_side (writer_or me.0.writer).1.state.side
   pub knows : KnowsAfter me.0.history (writer_or me.0.writer).1
 
 -- `steps` steps were taken, and word k is the next to be stored
@@ -225,8 +225,8 @@ pub record IsViewOf (b : Publisher) (v : View) : Type 0 where
   pub history : v.history ≡ b.history
 
 -- more commands are accepted than published
-abbrev pub is_pending : Publisher → Bool
-is_pending b = nat_lt (length b.published) (length b.ledger.journal)
+abbrev pub has_pending : Publisher → Bool
+has_pending b = nat_lt (length b.published) (length b.ledger.journal)
 
 -- the events of a publication that begins after a history with this journal and takes `steps` steps
 abbrev pub publication : History → List Command → ℕ → List Event
@@ -241,18 +241,18 @@ pub record TookTry (steps : ℕ) (before after : Publisher) : Type 0 where
   pub seen_out : after.seen_out ≡ (known_after after.history).writer.state.seen_out
 
 -- the number of readers that are not quiescent
-abbrev pub unseen : List Bool → ℕ
-unseen seen_out = length (filter not seen_out)
+abbrev pub unseen_count : List Bool → ℕ
+unseen_count seen_out = length (filter not seen_out)
 
 -- the steps of a publication: a load of the pin of each reader that is not quiescent, a store of
 -- each word, and a store of side
 abbrev pub publication_steps : List Bool → ℕ
-publication_steps seen_out = unseen seen_out + (COPY_WORDS + 1)
+publication_steps seen_out = unseen_count seen_out + (COPY_WORDS + 1)
 
 -- the steps of an abandoned publication: a load for each reader that it found quiescent, and one
 -- for the blocking reader
-abbrev pub looks : List Bool → List Bool → ℕ
-looks before after = unseen before - unseen after + 1
+abbrev pub look_count : List Bool → List Bool → ℕ
+look_count before after = unseen_count before - unseen_count after + 1
 
 -- the events of a publication that begins in the first state and takes `steps` steps were added
 abbrev pub AddsTry : ℕ → WriterSeen → WriterSeen → Type 0
@@ -272,13 +272,13 @@ pub record GaveUp (before after : WriterSeen) (reader : ℕ) : Type 0 where
 abbrev pub TookTries : ℕ → Publisher → Publisher → Type 0
 TookTries zero before after = TookTry (publication_steps before.seen_out) before after
 TookTries (suc tries) before after =
-    (between : Publisher) × TookTry (looks before.seen_out between.seen_out) before between
+    (between : Publisher) × TookTry (look_count before.seen_out between.seen_out) before between
     × (between.ledger ≡ before.ledger) × TookTries tries between after
 
 -- the cuts after a publication: one more if a command was pending
 abbrev pub cuts_after : Publisher → List ℕ
-cuts_after b = if is_pending b then b.cuts ++ length b.ledger.journal ∷ [] else b.cuts
+cuts_after b = if has_pending b then b.cuts ++ length b.ledger.journal ∷ [] else b.cuts
 
 -- the quiescent readers after a publication: none if a command was pending
 abbrev pub seen_out_after : Publisher → List Bool
-seen_out_after b = if is_pending b then replicate (length b.seen_out) false else b.seen_out
+seen_out_after b = if has_pending b then replicate (length b.seen_out) false else b.seen_out

@@ -67,7 +67,7 @@ fn seat_all(
     alloc: Global,
     begun: &Beginning,
 ) -> Result<(Arc<Board>, Seat<(), View>, Vec<Reader>), AllocError>
-    requires few { begun.now.readers ≤ READERS }
+    requires bound { begun.now.readers ≤ READERS }
     ensures writer { IfOk result
         (λ b. IsSplitting begun.now (arc_value b.0).shared.table_id b.1.table_id b.1.me begun.now.readers 0) }
     ensures readers { IfOk result
@@ -80,7 +80,7 @@ fn seat_all(
 
 // The shared words, and one seat for the writer and all readers.
 fn lay(alloc: Global, begun: &Beginning) -> Result<(Arc<Board>, Seat<(), View>), AllocError>
-    requires few { begun.now.readers ≤ READERS }
+    requires bound { begun.now.readers ≤ READERS }
     ensures laid { IfOk result
         (λ b. IsSplitting begun.now (arc_value b.0).shared.table_id b.1.table_id b.1.me 0 begun.now.readers) }
 {
@@ -97,7 +97,7 @@ fn seat_readers(
     seat: &mut Seat<(), View>,
     begun: &Beginning,
 ) -> Result<Vec<Reader>, AllocError>
-    requires few { begun.now.readers ≤ READERS }
+    requires bound { begun.now.readers ≤ READERS }
     requires whole { IsSplitting begun.now (arc_value board.now).shared.table_id seat.old.table_id seat.old.me 0
         begun.now.readers }
     ensures writer { OnOk result

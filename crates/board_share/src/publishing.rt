@@ -5,7 +5,7 @@ ghost use Rattle.two_copy_steps.specs.declared.events.Note.TheVariants.{Publishe
 ghost use Rattle.two_copy_steps.specs.Actions.{all_true};
 ghost use Rattle.board_share.specs.Histories.{KnowsAfter, last_told};
 ghost use Rattle.board_share.specs.Writers.{AddsTry, GaveUp, IsFilling, IsIdle, IsSeeing, Underway, WroteSteps};
-ghost use Rattle.board_share.specs.Writers.{known_at, looks, publication_steps, seen_out_of, unseen};
+ghost use Rattle.board_share.specs.Writers.{known_at, look_count, publication_steps, seen_out_of, unseen_count};
 
 use crate::busy::Busy;
 use crate::writer_steps::WordWriter;
@@ -39,7 +39,7 @@ pub(crate) fn publish_all(words: &mut WordWriter) -> Result<u32, Busy>
         × ((known_at words.new).cuts ≡ (known_at words.old).cuts)) }
     ensures in_the_way { IfErr result (λ b. GaveUp words.old words.new b.reader) }
     ensures gave_up { OnErr result
-        (AddsTry (looks (seen_out_of words.old) (seen_out_of words.new)) words.old words.new) }
+        (AddsTry (look_count (seen_out_of words.old) (seen_out_of words.new)) words.old words.new) }
 {
     let front = words.begin();
     see_all(words)?;
@@ -57,10 +57,10 @@ fn see_all(words: &mut WordWriter) -> Result<(), Busy>
     ensures count { length (seen_out_of words.new) ≡ length (seen_out_of words.old) }
     ensures sure { all_true (seen_out_of words.old) ≡ true → IsOk result }
     ensures out { OnOk result (IsFilling words.new 0) }
-    ensures looked { OnOk result (WroteSteps (unseen (seen_out_of words.old)) words.old words.new) }
+    ensures looked { OnOk result (WroteSteps (unseen_count (seen_out_of words.old)) words.old words.new) }
     ensures in_the_way { IfErr result (λ b. GaveUp words.old words.new b.reader) }
     ensures gave_up { OnErr result
-        (WroteSteps (looks (seen_out_of words.old) (seen_out_of words.new)) words.old words.new) }
+        (WroteSteps (look_count (seen_out_of words.old) (seen_out_of words.new)) words.old words.new) }
 {
     for r in 0..words.readers() {
         if words.is_seen_out(r) {

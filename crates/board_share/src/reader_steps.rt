@@ -2,7 +2,7 @@
 ghost use Rattle.std.specs.Prelude.{◌≡◌, ◌+◌, ◌<◌, [], take};
 ghost use Rattle.std.specs.Option.{option_map};
 ghost use Rattle.two_copy_steps.specs.declared.views.Stage.TheVariants.{AtRest, Arrived, Leaving};
-ghost use Rattle.two_copy_steps.specs.Actions.{loaded};
+ghost use Rattle.two_copy_steps.specs.Actions.{stage_with_words};
 ghost use Rattle.two_copy_steps.specs.Stages.{sheet_read};
 ghost use Rattle.board_share.specs.Steps.{IsStepOn};
 ghost use Rattle.board_share.specs.Readers.{IsReader, Stepped, HasRead, reader_at};
@@ -100,10 +100,10 @@ fn load_word(
 )
     requires reader { IsReader board.now.shared.table_id seat.old.table_id seat.old.me
         (reader_at board.now.shared.table_id seat.old.me.0 r (Stage.Reading side (take k words.old))) }
-    requires few { k < COPY_WORDS }
+    requires bound { k < COPY_WORDS }
     ensures { Stepped board.now.shared.table_id
         (reader_at board.now.shared.table_id seat.old.me.0 r (Stage.Reading side (take k words.old)))
-        seat.new.table_id seat.new.me (loaded side (take (k + 1) words.new)) }
+        seat.new.table_id seat.new.me (stage_with_words side (take (k + 1) words.new)) }
 {
     words[k] = board.shared.load::<Reads>(seat, place(side, k));
 }

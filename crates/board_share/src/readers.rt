@@ -59,7 +59,7 @@ impl Reader {
     /// The reader's number, counted from 1.
     pub fn number(&self) -> u8
         ensures same { result ≡ number_of self.now }
-        ensures few { result ≤ READERS }
+        ensures bound { result ≤ READERS }
     {
         self.index + 1
     }

@@ -3,14 +3,14 @@ ghost use Rattle.std.specs.Prelude.{◌≡◌, ℕ, suc, true, false, length, No
 ghost use Rattle.std.specs.List.{last_or};
 ghost use Rattle.std.specs.List.Sorted.{IsStrictlyIncreasing};
 ghost use Rattle.council_core.specs.Rolls.{IsLegal};
-ghost use Rattle.council_core.specs.Ledgers.{verdict_of, appended};
+ghost use Rattle.council_core.specs.Ledgers.{verdict_of, ledger_with};
 ghost use Rattle.council_core.specs.Verdicts.{Follows};
 ghost use Rattle.council_core.specs.declared.refusals.Refusal.TheVariants.{OutOfMemory};
 ghost use Rattle.two_copy_steps.specs.declared.events.Note.TheVariants.{Busy as BusyAt, Published};
 ghost use Rattle.two_copy_steps.specs.Actions.{all_true, first_false};
 ghost use Rattle.two_copy_steps.specs.Publications.{StaySeen, seen_out_at};
 ghost use Rattle.board_share.specs.Histories.{last_told};
-ghost use Rattle.board_share.specs.Writers.{IsPrefix, IsIdle, TookTries, TookTry, cuts_after, is_pending, looks};
+ghost use Rattle.board_share.specs.Writers.{IsPrefix, IsIdle, TookTries, TookTry, cuts_after, has_pending, look_count};
 ghost use Rattle.board_share.specs.Writers.{publication_steps, publisher_of, seen_out_after};
 
 use crate::busy::Busy;
@@ -61,7 +61,7 @@ impl Writer {
     pub fn submit(&mut self, command: Command) -> Result<u32, Refusal>
         ensures verdict { Follows (verdict_of self.old.ledger command) result OutOfMemory }
         ensures accepted { IfOk result
-            (λ n. (self.new.ledger ≡ appended self.old.ledger command) × (n ≡ length self.new.ledger.journal)) }
+            (λ n. (self.new.ledger ≡ ledger_with self.old.ledger command) × (n ≡ length self.new.ledger.journal)) }
         ensures refused { OnErr result (self.new ≡ self.old) }
         ensures table { self.new.table ≡ self.old.table }
         ensures published { self.new.published ≡ self.old.published }
@@ -93,8 +93,8 @@ impl Writer {
 
         // Whether it succeeds.
         ensures sure { all_true self.old.seen_out ≡ true → IsOk result }
-        ensures nothing_pending { is_pending self.old ≡ false → IsOk result }
-        ensures still { is_pending self.old ≡ false → self.new ≡ self.old }
+        ensures nothing_pending { has_pending self.old ≡ false → IsOk result }
+        ensures still { has_pending self.old ≡ false → self.new ≡ self.old }
 
         // All commands are published.
         ensures front { IfOk result (λ n. n ≡ length self.old.ledger.journal) }
@@ -110,10 +110,10 @@ impl Writer {
             (λ b. (b.reader ≡ suc (first_false self.new.seen_out)) × (all_true self.new.seen_out ≡ false)) }
 
         // The events that the call added to the board's history, and the output of the last one.
-        ensures steps { is_pending self.old ≡ true
+        ensures steps { has_pending self.old ≡ true
             → OnOk result (TookTry (publication_steps self.old.seen_out) self.old self.new) }
-        ensures gave_up { OnErr result (TookTry (looks self.old.seen_out self.new.seen_out) self.old self.new) }
-        ensures told { is_pending self.old ≡ true
+        ensures gave_up { OnErr result (TookTry (look_count self.old.seen_out self.new.seen_out) self.old self.new) }
+        ensures told { has_pending self.old ≡ true
             → IfOk result (λ n. last_told self.new.history ≡ Some (Published n)) }
         ensures in_the_way { IfErr result (λ b. last_told self.new.history ≡ Some (BusyAt b.reader)) }
     {
@@ -133,11 +133,11 @@ impl Writer {
         ensures published { self.new.published ≡ self.old.ledger.journal }
         ensures cuts { self.new.cuts ≡ cuts_after self.old }
         ensures seen_out { self.new.seen_out ≡ seen_out_after self.old }
-        ensures still { is_pending self.old ≡ false → self.new ≡ self.old }
+        ensures still { has_pending self.old ≡ false → self.new ≡ self.old }
 
         // The events that the call added to the board's history, and the output of the last one.
-        ensures steps { is_pending self.old ≡ true → (tries : ℕ) × TookTries tries self.old self.new }
-        ensures told { is_pending self.old ≡ true → last_told self.new.history ≡ Some (Published result) }
+        ensures steps { has_pending self.old ≡ true → (tries : ℕ) × TookTries tries self.old self.new }
+        ensures told { has_pending self.old ≡ true → last_told self.new.history ≡ Some (Published result) }
     {
         for _ in rt.forever() {
             if let Ok(front) = self.try_publish() {

@@ -1,5 +1,5 @@
 //! Calls of `replay`, `trace` and `serve` on whole inputs.
-use board_report::{Fault, FreeGate, Given, Limits, replay, serve, trace};
+use board_report::{Fault, FreeGate, Limits, RecordingReader, replay, serve, trace};
 use std::alloc::Global;
 use std::io::{Read, Write};
 use std::sync::Wait;
@@ -28,7 +28,7 @@ pub(crate) fn run<T: Threads + Wait + Sync, R: Read + Drop, W: Write>(
     input: R,
     out: &mut W,
 ) -> Option<Fault> {
-    let mut given = Given::new(input);
+    let mut given = RecordingReader::new(input);
     match call {
         Call::Replay => replay(alloc, &mut given, out, limits).err(),
         Call::Trace => trace(alloc, &mut given, out, limits).err(),

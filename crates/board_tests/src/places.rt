@@ -1,5 +1,5 @@
 //! A test of the order of all places of a run with threads.
-use board_report::{Gate, GateClosed, Given, Place, Served, serve};
+use board_report::{Gate, GateClosed, Place, RecordingReader, Served, serve};
 use std::alloc::Global;
 use std::sync::Wait;
 use std::sync::atomic::{AtomicU64, Ordering};
@@ -132,7 +132,7 @@ fn read_in_order(served: &Served) -> bool {
 }
 
 fn runs_in_order<G: Gate, R: Threads + Wait + Sync>(rt: &R, alloc: Global, gate: &G) -> bool {
-    let mut input = Given::new(INPUT.as_bytes());
+    let mut input = RecordingReader::new(INPUT.as_bytes());
     let mut out: Vec<u8> = Vec::new(alloc);
     match serve(rt, alloc, gate, &mut input, &mut out, 10) {
         Ok(served) => read_in_order(&served),

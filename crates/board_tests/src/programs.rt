@@ -1,6 +1,8 @@
 //! Tests of the program with its arguments, and of its calls on whole inputs.
 use crate::calls::{Call, LIMITS, writes};
-use board_report::{Fault, Given, Limits, Streams, program, words_out_of_memory, words_refused};
+use board_report::{
+    Fault, Limits, RecordingReader, Streams, program, words_out_of_memory, words_refused,
+};
 use std::alloc::{AllocError, Global};
 use std::process::Abort;
 use std::sync::Wait;
@@ -137,7 +139,7 @@ fn status_of<R: Threads + Wait + Sync>(
     said: &str,
 ) -> (u8, bool) {
     let mut streams = Streams {
-        input: Given::new(text),
+        input: RecordingReader::new(text),
         out: Vec::<u8>::new(alloc),
         err: Vec::<u8>::new(alloc),
     };

@@ -1,5 +1,5 @@
 //! Tests of a run with one writer thread and two reader threads, held up by gates.
-use board_report::{FreeGate, Gate, GateClosed, Given, Place, Served, serve};
+use board_report::{FreeGate, Gate, GateClosed, Place, RecordingReader, Served, serve};
 use std::alloc::Global;
 use std::sync::Wait;
 use std::sync::atomic::{AtomicU64, Ordering};
@@ -121,7 +121,7 @@ fn run<G: Gate, R: Threads + Wait + Sync>(
     text: &str,
     journal: u32,
 ) -> (Vec<u8>, u8, Option<u32>) {
-    let mut input = Given::new(text.as_bytes());
+    let mut input = RecordingReader::new(text.as_bytes());
     let mut out: Vec<u8> = Vec::new(alloc);
     match serve(rt, alloc, gate, &mut input, &mut out, journal) {
         Ok(served) => (out, 0, first_front(&served)),
@@ -243,7 +243,7 @@ fn a_gate_may_close_at_each_place(rt: HostRuntime) -> Result<(), Fail> {
 #[test]
 fn serves_what_was_read(rt: HostRuntime) -> Result<(), Fail> {
     let text = "member,votes\nAAA,10\nscript\nopen,1\nmove,AAA,1\nmove,AAA,1\nread,2,85\n";
-    let mut input = Given::new(text.as_bytes());
+    let mut input = RecordingReader::new(text.as_bytes());
     let mut out: Vec<u8> = Vec::new(rt.alloc());
     let served = match serve(&rt, rt.alloc(), &FreeGate, &mut input, &mut out, 10) {
         Ok(served) => served,

@@ -2,7 +2,7 @@
 //! result of that call.
 ghost use Rattle.std.specs.Prelude.{◌≤◌, IfOk};
 
-use board_report::{Given, Told};
+use board_report::{RecordingReader, RecordingWriter};
 use std::io;
 use std::io::{ErrorKind, Read, Write};
 use std::sync::atomic::{AtomicU64, Ordering};
@@ -85,7 +85,7 @@ fn a_read_is_one_read_below(rt: HostRuntime) -> Result<(), Fail> {
             calls: &calls,
         };
         let mut piece = [0u8; 3];
-        let seen = Answer::of(Given::new(device).read(&mut piece));
+        let seen = Answer::of(RecordingReader::new(device).read(&mut piece));
         assert!(rt; (seen, calls.load(Ordering::SeqCst)) == (first, 1));
     }
     Ok(())
@@ -101,7 +101,7 @@ fn a_write_is_one_write_below(rt: HostRuntime) -> Result<(), Fail> {
             first,
             calls: &calls,
         };
-        let seen = Answer::of(Told::new(&mut device).write(b"abc"));
+        let seen = Answer::of(RecordingWriter::new(&mut device).write(b"abc"));
         assert!(rt; (seen, calls.load(Ordering::SeqCst)) == (first, 1));
     }
     Ok(())

@@ -1,8 +1,8 @@
 -- The bytes that were read, and the input that they are of.
 use Rattle.std.proofs.Common.{◌≡◌, ◌<◌, ◌≤◌, ◌+◌, ℕ, List, ◌++◌, length, take, arith, ap, subst}
 use Rattle.std.proofs.lemmas.List.{length-append, length-take-le}
-use Rattle.told_streams.specs.Tapes.{Giving, HasEnded, IsInput, WasGiven}
-use Rattle.told_streams.proofs.Inputs.{given-more, given-same, input-begins, input-whole}
+use Rattle.recording_io.specs.Tapes.{Giving, HasEnded, IsInput, WasGiven}
+use Rattle.recording_io.proofs.Inputs.{given-more, given-same, input-begins, input-whole}
 
 -- the read that said that this is all
 pub ended-by : (from mid to : Giving) (text piece : List ℕ) (n : ℕ) → n ≡ 0 → WasGiven from mid text → WasGiven mid to (take n piece) → HasEnded to → (bytes : List ℕ) → IsInput from to bytes → text ≡ bytes

@@ -5,7 +5,7 @@ use Rattle.std.proofs.lemmas.Grind.{flat_map-append}
 use Rattle.std.proofs.KnownBytes.{Appends-trans, Appends-nil}
 use Rattle.std.specs.Io.KnownBytes.{Appends}
 use Rattle.board_text.specs.Lines.{Line}
-use Rattle.board_text.specs.Text.{Run, after, line_text, prints, text_of}
+use Rattle.board_text.specs.Text.{Run, with_lines, line_text, printed_run, text_of}
 use Rattle.board_text.specs.Output.{AppendsFront, IsFrontOf, Plays, StopsIn, Writes}
 use Rattle.board_text.specs.declared.faults.Fault.{Fault}
 use Rattle.board_text.specs.declared.stops.Stop.{Stop}
@@ -34,64 +34,64 @@ appends-same a b x y e p = let P : List ℕ → Type 0 = λ bs. Appends a b bs i
 pub lines-then : (a b c : Option (List ℕ)) (done ls : List (List ℕ)) → Appends a b (text_of done) → Appends b c (text_of ls) → Appends a c (text_of (done ++ ls))
 lines-then a b c done ls p q = appends-same a c _ _ (sym (text-after done ls)) (Appends-trans a b c _ _ p q)
 
-stops-after : (a b c : Option (List ℕ)) (done : List (List ℕ)) (e : Stop) (run : Run) → Appends a b (text_of done) → StopsIn b c e run → StopsIn a c e (after done run)
+stops-after : (a b c : Option (List ℕ)) (done : List (List ℕ)) (e : Stop) (run : Run) → Appends a b (text_of done) → StopsIn b c e run → StopsIn a c e (with_lines done run)
 stops-after a b c done stop.OutOfMemory run p q = (done ++ q.0, front-after done q.0 run.lines q.1, lines-then a b c done q.0 p q.2)
 stops-after a b c done stop.ReadFault run p q = (done ++ q.0, front-after done q.0 run.lines q.1, lines-then a b c done q.0 p q.2)
 stops-after a b c done stop.WriteFault run p q =
     let P : List ℕ → Type 0 = λ t. IsFrontOf (text_of done ++ q.0) t in
     (text_of done ++ q.0, subst P (sym (text-after done run.lines)) (front-after (text_of done) q.0 (text_of run.lines) q.1), Appends-trans a b c _ _ p q.2)
-stops-after a b c done (stop.Told f) run p q = (q.0, lines-then a b c done run.lines p q.1)
+stops-after a b c done (stop.Input f) run p q = (q.0, lines-then a b c done run.lines p q.1)
 
 -- lines written, and then a run played
-pub plays-after : (a b c : Option (List ℕ)) (done : List (List ℕ)) (r : Result (Unit {0}) Stop) (run : Run) → Appends a b (text_of done) → Plays b c r run → Plays a c r (after done run)
+pub plays-after : (a b c : Option (List ℕ)) (done : List (List ℕ)) (r : Result (Unit {0}) Stop) (run : Run) → Appends a b (text_of done) → Plays b c r run → Plays a c r (with_lines done run)
 plays-after a b c done (Ok u) run p q = (q.0, lines-then a b c done run.lines p q.1)
 plays-after a b c done (Err e) run p q = stops-after a b c done e run p q
 
-stops-more : (a b : Option (List ℕ)) (e : Stop) (ls : List (List ℕ)) (run : Run) → StopsIn a b e (prints ls) → StopsIn a b e (after ls run)
+stops-more : (a b : Option (List ℕ)) (e : Stop) (ls : List (List ℕ)) (run : Run) → StopsIn a b e (printed_run ls) → StopsIn a b e (with_lines ls run)
 stops-more a b stop.OutOfMemory ls run p = (p.0, front-before p.0 ls run.lines p.1, p.2)
 stops-more a b stop.ReadFault ls run p = (p.0, front-before p.0 ls run.lines p.1, p.2)
 stops-more a b stop.WriteFault ls run p =
     let P : List ℕ → Type 0 = λ t. IsFrontOf p.0 t in
     (p.0, subst P (sym (text-after ls run.lines)) (front-before p.0 (text_of ls) (text_of run.lines) p.1), p.2)
-stops-more a b (stop.Told f) ls run p = cc p.0
+stops-more a b (stop.Input f) ls run p = cc p.0
 
 -- what stops the first lines of a run stops the run
-pub plays-more : (a b : Option (List ℕ)) (e : Stop) (ls : List (List ℕ)) (run : Run) → Plays a b (Err e) (prints ls) → Plays a b (Err e) (after ls run)
+pub plays-more : (a b : Option (List ℕ)) (e : Stop) (ls : List (List ℕ)) (run : Run) → Plays a b (Err e) (printed_run ls) → Plays a b (Err e) (with_lines ls run)
 plays-more a b e ls run p = stops-more a b e ls run p
 
-written-line : (a b : Option (List ℕ)) (e : Stop) (l : List ℕ) → e ≡ stop.WriteFault → AppendsFront a b (line_text l) → StopsIn a b e (prints (l ∷ []))
+written-line : (a b : Option (List ℕ)) (e : Stop) (l : List ℕ) → e ≡ stop.WriteFault → AppendsFront a b (line_text l) → StopsIn a b e (printed_run (l ∷ []))
 written-line a b stop.WriteFault l e p =
     let P : List ℕ → Type 0 = λ t. IsFrontOf p.0 t in
     (p.0, subst P (sym (append-nil (line_text l))) p.1, p.2)
 written-line a b stop.OutOfMemory l e p = cc e
 written-line a b stop.ReadFault l e p = cc e
-written-line a b (stop.Told f) l e p = cc e
+written-line a b (stop.Input f) l e p = cc e
 
 -- a line written is a run of one line
-pub plays-line : (a b : Option (List ℕ)) (r : Result (Unit {0}) Stop) (l : List ℕ) → Writes a b r (line_text l) → Plays a b r (prints (l ∷ []))
+pub plays-line : (a b : Option (List ℕ)) (r : Result (Unit {0}) Stop) (l : List ℕ) → Writes a b r (line_text l) → Plays a b r (printed_run (l ∷ []))
 plays-line a b (Ok u) l p = (refl, appends-same a b _ _ (sym (append-nil (line_text l))) p)
 plays-line a b (Err e) l p = written-line a b e l p.0 p.1
 
 -- the same of a line that is spelled so
-pub plays-spelled : (a b : Option (List ℕ)) (r : Result (Unit {0}) Stop) (l m : List ℕ) → l ≡ m → Writes a b r (line_text l) → Plays a b r (prints (m ∷ []))
+pub plays-spelled : (a b : Option (List ℕ)) (r : Result (Unit {0}) Stop) (l m : List ℕ) → l ≡ m → Writes a b r (line_text l) → Plays a b r (printed_run (m ∷ []))
 plays-spelled a b r l m e p = rw (← e) (plays-line a b r l p)
 
 -- an error that is passed on is the error that stopped the run
 pub plays-passed : (a b : Option (List ℕ)) (e d : Stop) (run : Run) → d ≡ e → Plays a b (Err e) run → Plays a b (Err d) run
 plays-passed a b e d run same p = let P : Stop → Type 0 = λ s. Plays a b (Err s) run in subst P (sym same) p
 
-after-after : (ls ms : List (List ℕ)) (r : Run) → after ls (after ms r) ≡ after (ls ++ ms) r
+after-after : (ls ms : List (List ℕ)) (r : Run) → with_lines ls (with_lines ms r) ≡ with_lines (ls ++ ms) r
 after-after ls ms r = ap (λ (l : List (List ℕ)). let run : Run = record { lines = l; end = r.end } in run) (sym (append_assoc ls ms r.lines))
 
 -- the first lines of a run were written, and this run is left of it
 pub record PlayedTo (a b : Option (List ℕ)) (whole left : Run) : Type 0 where
   pub lines : List Line
   pub written : Appends a b (text_of lines)
-  pub goes_on : whole ≡ after lines left
+  pub goes_on : whole ≡ with_lines lines left
 
 -- what is left, said in other words
 pub left-as : (a b : Option (List ℕ)) (whole left other : Run) → PlayedTo a b whole left → left ≡ other → PlayedTo a b whole other
-left-as a b whole left other so_far same = record { lines = so_far.lines; written = so_far.written; goes_on = so_far.goes_on ∙ ap (λ r. after so_far.lines r) same }
+left-as a b whole left other so_far same = record { lines = so_far.lines; written = so_far.written; goes_on = so_far.goes_on ∙ ap (λ r. with_lines so_far.lines r) same }
 
 pub played-none : (a : Option (List ℕ)) (whole : Run) → PlayedTo a a whole whole
 played-none a whole = record { lines = []; written = Appends-nil a; goes_on = refl }
@@ -101,14 +101,14 @@ pub played-on : (a b c : Option (List ℕ)) (whole left more : Run) → PlayedTo
 played-on a b c whole left more so_far next = record {
   lines = so_far.lines ++ next.lines;
   written = lines-then a b c so_far.lines next.lines so_far.written next.written;
-  goes_on = so_far.goes_on ∙ ap (λ r. after so_far.lines r) next.goes_on ∙ after-after so_far.lines next.lines more;
+  goes_on = so_far.goes_on ∙ ap (λ r. with_lines so_far.lines r) next.goes_on ∙ after-after so_far.lines next.lines more;
 }
 
 -- a run goes on after lines that were written
 pub plays-whole : (a b c : Option (List ℕ)) (r : Result (Unit {0}) Stop) (whole left : Run) → PlayedTo a b whole left → Plays b c r left → Plays a c r whole
 plays-whole a b c r whole left so_far q = rw so_far.goes_on (plays-after a b c so_far.lines r left so_far.written q)
 
-pub plays-nothing : (a : Option (List ℕ)) (u : Unit {0}) → Plays a a (Ok u) (prints [])
+pub plays-nothing : (a : Option (List ℕ)) (u : Unit {0}) → Plays a a (Ok u) (printed_run [])
 plays-nothing a u = (refl, Appends-nil a)
 
 -- the item at an index of a list, and its line
@@ -132,13 +132,13 @@ rows-more f a b c xs i row p q =
 
 -- lines of a list's first things, of which the next stopped the run
 pub rows-stop : {X : Type 0} (f : X → Line) (a b c : Option (List ℕ)) (e : Stop) (xs : List X) (i : ℕ) (row : RowAt f xs i)
-    → Appends a b (text_of (map f (take i xs))) → Writes b c (Err e) (line_text row.line) → Plays a c (Err e) (prints (map f xs))
+    → Appends a b (text_of (map f (take i xs))) → Writes b c (Err e) (line_text row.line) → Plays a c (Err e) (printed_run (map f xs))
 rows-stop f a b c e xs i row p q =
     let x = row.thing in
     let rest = map f (drop (suc i) xs) in
     let split : map f xs ≡ map f (take i xs) ++ (f x ∷ rest) = ap (map f) (split-at xs i x row.stands) ∙ map-append f (take i xs) (x ∷ drop (suc i) xs) in
-    let so_far : PlayedTo a b (prints (map f xs)) (prints (f x ∷ rest)) = record { lines = map f (take i xs); written = p; goes_on = ap prints split } in
-    plays-whole a b c (Err e) _ _ so_far (plays-more b c e (f x ∷ []) (prints rest) (plays-spelled b c (Err e) row.line (f x) row.spelled q))
+    let so_far : PlayedTo a b (printed_run (map f xs)) (printed_run (f x ∷ rest)) = record { lines = map f (take i xs); written = p; goes_on = ap printed_run split } in
+    plays-whole a b c (Err e) _ _ so_far (plays-more b c e (f x ∷ []) (printed_run rest) (plays-spelled b c (Err e) row.line (f x) row.spelled q))
 
 -- a line with others after it, as they are written and as they are spelled
 pub record FirstLine (spelled : Line) (behind : List Line) : Type 0 where
@@ -148,15 +148,15 @@ pub record FirstLine (spelled : Line) (behind : List Line) : Type 0 where
   pub others_are : others ≡ behind
 
 -- lines of which the first stopped the run
-pub first-stops : (a b : Option (List ℕ)) (e : Stop) (l m : Line) (rest : List Line) → l ≡ m → Writes a b (Err e) (line_text l) → Plays a b (Err e) (prints (m ∷ rest))
-first-stops a b e l m rest spelled p = plays-more a b e (m ∷ []) (prints rest) (plays-spelled a b (Err e) l m spelled p)
+pub first-stops : (a b : Option (List ℕ)) (e : Stop) (l m : Line) (rest : List Line) → l ≡ m → Writes a b (Err e) (line_text l) → Plays a b (Err e) (printed_run (m ∷ rest))
+first-stops a b e l m rest spelled p = plays-more a b e (m ∷ []) (printed_run rest) (plays-spelled a b (Err e) l m spelled p)
 
 -- lines of which the first was written
 pub first-then : (a b c : Option (List ℕ)) (r : Result (Unit {0}) Stop) (m : Line) (rest : List Line) (first : FirstLine m rest)
-    → Appends a b (line_text first.line) → Plays b c r (prints first.others) → Plays a c r (prints (m ∷ rest))
+    → Appends a b (line_text first.line) → Plays b c r (printed_run first.others) → Plays a c r (printed_run (m ∷ rest))
 first-then a b c r m rest first p q =
-    let P : List Line → Type 0 = λ ls. Plays b c r (prints ls) in
-    plays-after a b c (m ∷ []) r (prints rest) (appends-same a b _ _ (ap line_text first.line_is ∙ sym (append-nil (line_text m))) p) (subst P first.others_are q)
+    let P : List Line → Type 0 = λ ls. Plays b c r (printed_run ls) in
+    plays-after a b c (m ∷ []) r (printed_run rest) (appends-same a b _ _ (ap line_text first.line_is ∙ sym (append-nil (line_text m))) p) (subst P first.others_are q)
 
 broken-here : (a : Option (List ℕ)) (e : Stop) (run : Run) → (e ≡ stop.OutOfMemory) ⊎ (e ≡ stop.ReadFault) → StopsIn a a e run
 broken-here a e run (inl memory) = rw memory ([], front-none run.lines, Appends-nil a)

@@ -1,6 +1,6 @@
 -- How often a run asks for a read, by how its input was read.
 use Rattle.std.proofs.Common.{◌≡◌, ◌≤◌, ◌+◌, ◌⊎◌, inl, inr, ℕ, List, Option, Some, None, Result, Ok, Err, sym, ◌∙◌, arith}
-use Rattle.told_streams.specs.Tapes.{Giving}
+use Rattle.recording_io.specs.Tapes.{Giving}
 use Rattle.council_core.specs.declared.refusals.Refusal.TheVariants as why
 use Rattle.board_text.specs.Inputs.{InterruptedAtMost, NoReadInVain, RetriesAtMost, RunRetriesAtMost, WastesAtMost}
 use Rattle.board_text.specs.Output.{Ends, fault_of}
@@ -25,7 +25,7 @@ module _ (from to : Giving) where
   wastes-one (Err stop.ReadFault) p = p
   wastes-one (Err stop.OutOfMemory) p = omega (arith, p)
   wastes-one (Err stop.WriteFault) p = omega (arith, p)
-  wastes-one (Err (stop.Told f)) p = omega (arith, p)
+  wastes-one (Err (stop.Input f)) p = omega (arith, p)
 
   module _ (count : ℕ) where
     one-more : InterruptedAtMost count from to → InterruptedAtMost (count + 1) from to
@@ -37,13 +37,13 @@ module _ (from to : Giving) where
     retries-on (Err stop.ReadFault) p = one-more p
     retries-on (Err stop.OutOfMemory) p = p
     retries-on (Err stop.WriteFault) p = p
-    retries-on (Err (stop.Told f)) p = p
+    retries-on (Err (stop.Input f)) p = p
 
     retries-any : (A : Type 0) (e : Stop) → RetriesAtMost {A = A} count from to (Err e) → InterruptedAtMost (count + 1) from to
     retries-any A stop.ReadFault p = p
     retries-any A stop.OutOfMemory p = one-more p
     retries-any A stop.WriteFault p = one-more p
-    retries-any A (stop.Told f) p = one-more p
+    retries-any A (stop.Input f) p = one-more p
 
     module _ (A B : Type 0) where
       -- the same stop, passed on
@@ -51,7 +51,7 @@ module _ (from to : Giving) where
       retries-passed stop.ReadFault d same p = rw same p
       retries-passed stop.OutOfMemory d same p = rw same p
       retries-passed stop.WriteFault d same p = rw same p
-      retries-passed (stop.Told f) d same p = rw same p
+      retries-passed (stop.Input f) d same p = rw same p
 
       -- a run that a failed write ended
       pub retries-cut : (e : Stop) (g : Fault) → g ≡ fault_at why.WriteFault 0 → RetriesAtMost {A = A} count from to (Err e) → RunRetriesAtMost {A = B} count from to (Err g)
@@ -63,7 +63,7 @@ module _ (from to : Giving) where
       retries-ended stop.ReadFault f g is (inl same) p = inr (inl (same ∙ sym (some is)), p)
       retries-ended stop.OutOfMemory f g is (inl same) p = inl p
       retries-ended stop.WriteFault f g is (inl same) p = cc is
-      retries-ended (stop.Told h) f g is (inl same) p = inl p
+      retries-ended (stop.Input h) f g is (inl same) p = inl p
 
       -- a run that ended in the line of its fault, or where that could not be written
       pub retries-told : (a b : Option (List ℕ)) (e : Stop) (g : Fault) → FaultTold a b e g → RetriesAtMost {A = A} count from to (Err e) → RunRetriesAtMost {A = B} count from to (Err g)

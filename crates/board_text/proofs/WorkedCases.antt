@@ -5,10 +5,10 @@ use Rattle.std.specs.Fmt.{digits}
 use Rattle.council_core.specs.declared.commands.Command.TheVariants.{Open, Move}
 use Rattle.council_core.specs.Rolls.{Opening}
 use Rattle.council_core.specs.declared.refusals.Refusal.TheVariants.{BadHeader, BadLimit, BadRecord, ChairOpen, OutOfMemory, ReadFault, TooLong, WriteFault}
-use Rattle.told_streams.specs.Tapes.{Giving}
+use Rattle.recording_io.specs.Tapes.{Giving}
 use Rattle.board_text.specs.Inputs.{IsOfDevice, NoReadInVain, RetriesAtMost, RunRetriesAtMost}
 use Rattle.board_text.specs.Output.{Fails, IsBadLimit, IsBroken, Plays, Starts}
-use Rattle.board_text.specs.Text.{fault_at, prints, stops}
+use Rattle.board_text.specs.Text.{fault_at, printed_run, stopped_run}
 use Rattle.board_text.specs.declared.bounds.Limits.{Limits}
 use Rattle.board_text.specs.declared.faults.Fault.{Fault}
 use Rattle.board_text.specs.declared.input.TheConstants.{INTERRUPTIONS, READS}
@@ -127,7 +127,7 @@ read_without_memory h = absurd (omega (arith, h))
 read_for_a_failed_write : NoReadInVain {A = Unit {0}} (reader 0 0) (reader 1 0) (Err stop.WriteFault) → ⊥
 read_for_a_failed_write h = absurd (omega (arith, h))
 
-read_behind_too_long : NoReadInVain {A = Unit {0}} (reader 0 0) (reader 1 0) (Err (stop.Told (fault_at TooLong 0))) → ⊥
+read_behind_too_long : NoReadInVain {A = Unit {0}} (reader 0 0) (reader 1 0) (Err (stop.Input (fault_at TooLong 0))) → ⊥
 read_behind_too_long h = absurd (omega (arith, h))
 
 -- of at most two retries the third interruption is a failed read, and there is no fourth
@@ -149,7 +149,7 @@ retried_thrice_without_memory h = absurd (omega (arith, h))
 retried_thrice_for_a_failed_write : RetriesAtMost {A = Unit {0}} 2 (reader 0 0) (reader 3 3) (Err stop.WriteFault) → ⊥
 retried_thrice_for_a_failed_write h = absurd (omega (arith, h))
 
-retried_thrice_and_too_long : RetriesAtMost {A = Unit {0}} 2 (reader 0 0) (reader 3 3) (Err (stop.Told (fault_at TooLong 0))) → ⊥
+retried_thrice_and_too_long : RetriesAtMost {A = Unit {0}} 2 (reader 0 0) (reader 3 3) (Err (stop.Input (fault_at TooLong 0))) → ⊥
 retried_thrice_and_too_long h = absurd (omega (arith, h))
 
 -- the number of a fault's refusal, and of its record
@@ -170,12 +170,12 @@ run_retried_thrice : RunRetriesAtMost {A = Unit {0}} 2 (reader 0 0) (reader 4 3)
 run_retried_thrice h = absurd (omega (arith, h))
 
 bad_record_behind_three : RunRetriesAtMost {A = Unit {0}} 2 (reader 0 0) (reader 4 3) (Err (fault_at BadRecord 5)) → ⊥
-bad_record_behind_three (inl few) = absurd (omega (arith, few))
+bad_record_behind_three (inl bound) = absurd (omega (arith, bound))
 bad_record_behind_three (inr (inl e, more)) = absurd (omega (arith, code e))
 bad_record_behind_three (inr (inr e, more)) = absurd (omega (arith, code e))
 
 failed_run_behind_four : RunRetriesAtMost {A = Unit {0}} 2 (reader 0 0) (reader 4 4) (Err (fault_at ReadFault 0)) → ⊥
-failed_run_behind_four (inl few) = absurd (omega (arith, few))
+failed_run_behind_four (inl bound) = absurd (omega (arith, bound))
 failed_run_behind_four (inr more) = absurd (omega (arith, more.1))
 
 -- a fault of a record is no device's, and a device's has no record
@@ -213,7 +213,7 @@ broken_at_a_record (inr e) = absurd (omega (arith, place e))
 input_not_written : Fails {A = Unit {0}} stop.WriteFault (Ok tt) → ⊥
 input_not_written h = h
 
-another_fault_told : Fails {A = Unit {0}} (stop.Told (fault_at BadRecord 2)) (Err (fault_at BadRecord 3)) → ⊥
+another_fault_told : Fails {A = Unit {0}} (stop.Input (fault_at BadRecord 2)) (Err (fault_at BadRecord 3)) → ⊥
 another_fault_told e = absurd (omega (arith, place (told e)))
 
 start_reads_nothing : (lim : Limits) (members : Opening) → Starts lim members (Err stop.ReadFault) → ⊥
@@ -223,13 +223,13 @@ start_writes_nothing : (lim : Limits) (members : Opening) → Starts lim members
 start_writes_nothing lim members h = h
 
 -- a run that stops is not played to its end, nor does another fault stop it
-stopped_run_played : Plays (Some []) (Some []) (Ok tt) (stops (fault_at BadRecord 5)) → ⊥
+stopped_run_played : Plays (Some []) (Some []) (Ok tt) (stopped_run (fault_at BadRecord 5)) → ⊥
 stopped_run_played h = let e = h.0 in cc e
 
-stopped_by_another : Plays (Some []) (Some []) (Err (stop.Told (fault_at BadRecord 6))) (stops (fault_at BadRecord 5)) → ⊥
+stopped_by_another : Plays (Some []) (Some []) (Err (stop.Input (fault_at BadRecord 6))) (stopped_run (fault_at BadRecord 5)) → ⊥
 stopped_by_another h = let e : fault_at BadRecord 5 ≡ fault_at BadRecord 6 = let d = h.0 in cc d in absurd (omega (arith, place e))
 
-line_left_out : Plays (Some []) (Some []) (Ok tt) (prints (codes "began" ∷ [])) → ⊥
+line_left_out : Plays (Some []) (Some []) (Ok tt) (printed_run (codes "began" ∷ [])) → ⊥
 line_left_out h = let e = h.1 in cc e
 
 -- the limits of a run's reads and retries by number

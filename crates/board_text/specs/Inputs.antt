@@ -5,7 +5,7 @@ use Rattle.board_text.specs.Text.{fault_at}
 use Rattle.board_text.specs.declared.faults.Fault.{Fault}
 use Rattle.board_text.specs.declared.stops.Stop.{Stop}
 use Rattle.board_text.specs.declared.stops.Stop.TheVariants as stop
-use Rattle.told_streams.specs.Tapes.{Giving, HasEnded, WasGiven}
+use Rattle.recording_io.specs.Tapes.{Giving, HasEnded, WasGiven}
 
 -- between two states at most `count` reads returned no byte, not counting interrupted reads
 abbrev pub WastesAtMost : ℕ → Giving → Giving → Type 0
@@ -18,7 +18,7 @@ NoReadInVain from to (Ok _) = WastesAtMost 1 from to
 NoReadInVain from to (Err stop.ReadFault) = WastesAtMost 1 from to
 NoReadInVain from to (Err stop.OutOfMemory) = WastesAtMost 0 from to
 NoReadInVain from to (Err stop.WriteFault) = WastesAtMost 0 from to
-NoReadInVain from to (Err (stop.Told f)) = WastesAtMost 0 from to
+NoReadInVain from to (Err (stop.Input f)) = WastesAtMost 0 from to
 
 -- between two states at most `count` reads were interrupted
 abbrev pub InterruptedAtMost : ℕ → Giving → Giving → Type 0
@@ -31,7 +31,7 @@ RetriesAtMost count from to (Ok _) = InterruptedAtMost count from to
 RetriesAtMost count from to (Err stop.ReadFault) = InterruptedAtMost (count + 1) from to
 RetriesAtMost count from to (Err stop.OutOfMemory) = InterruptedAtMost count from to
 RetriesAtMost count from to (Err stop.WriteFault) = InterruptedAtMost count from to
-RetriesAtMost count from to (Err (stop.Told f)) = InterruptedAtMost count from to
+RetriesAtMost count from to (Err (stop.Input f)) = InterruptedAtMost count from to
 
 -- a device failed: the input (ReadFault) or the output (WriteFault, which also replaces a fault
 -- whose line can't be written)

@@ -9,7 +9,7 @@ use Rattle.council_core.specs.declared.refusals.Refusal.TheVariants as why
 use Rattle.board_text.specs.declared.bounds.Limits.{Limits}
 use Rattle.board_text.specs.Lines.{Line, fault_line}
 use Rattle.board_text.specs.Requests.{Row}
-use Rattle.board_text.specs.Text.{Opened, Run, fault_at, line_text, started, text_of}
+use Rattle.board_text.specs.Text.{Opened, Run, fault_at, line_text, ledger_at_start, text_of}
 use Rattle.board_text.specs.declared.opening.OpeningRead.{OpeningRead}
 use Rattle.board_text.specs.declared.faults.Fault.{Fault}
 use Rattle.board_text.specs.declared.stops.Stop.{Stop}
@@ -43,7 +43,7 @@ abbrev pub StopsIn : Option (List ℕ) → Option (List ℕ) → Stop → Run �
 StopsIn old new stop.OutOfMemory run = AppendsLines old new run.lines
 StopsIn old new stop.ReadFault run = AppendsLines old new run.lines
 StopsIn old new stop.WriteFault run = AppendsFront old new (text_of run.lines)
-StopsIn old new (stop.Told f) run = (run.end ≡ Some f) × Appends old new (text_of run.lines)
+StopsIn old new (stop.Input f) run = (run.end ≡ Some f) × Appends old new (text_of run.lines)
 
 abbrev pub Plays : Option (List ℕ) → Option (List ℕ) → Result (Unit {0}) Stop → Run → Type 0
 Plays old new (Ok _) run = (run.end ≡ None) × Appends old new (text_of run.lines)
@@ -55,7 +55,7 @@ abbrev pub Fails : {A : Type 0} → Stop → Result A Fault → Type 0
 Fails stop.OutOfMemory spec = Unit {0}
 Fails stop.ReadFault spec = Unit {0}
 Fails stop.WriteFault spec = ⊥
-Fails (stop.Told f) spec = spec ≡ Err f
+Fails (stop.Input f) spec = spec ≡ Err f
 
 -- the result of reading the opening: the script's records are left, or the error is allowed by
 -- `Fails`
@@ -65,11 +65,11 @@ Opens (Err e) left spec = Fails e spec
 
 -- the result of starting a register over these members: the definition's, or out of memory
 abbrev pub Starts : Limits → Opening → Result Ledger Stop → Type 0
-Starts lim members (Ok ledger) = (start_verdict members lim.journal ≡ Ok tt) × (ledger ≡ started lim members)
+Starts lim members (Ok ledger) = (start_verdict members lim.journal ≡ Ok tt) × (ledger ≡ ledger_at_start lim members)
 Starts lim members (Err stop.OutOfMemory) = Unit {0}
 Starts lim members (Err stop.ReadFault) = ⊥
 Starts lim members (Err stop.WriteFault) = ⊥
-Starts lim members (Err (stop.Told f)) = (e : Refusal) × (start_verdict members lim.journal ≡ Err e)
+Starts lim members (Err (stop.Input f)) = (e : Refusal) × (start_verdict members lim.journal ≡ Err e)
     × (f ≡ fault_at e 0)
 
 -- the fault whose line is to be written; none after a failed write
@@ -77,7 +77,7 @@ abbrev pub fault_of : Stop → Option Fault
 fault_of stop.OutOfMemory = Some (fault_at why.OutOfMemory 0)
 fault_of stop.ReadFault = Some (fault_at why.ReadFault 0)
 fault_of stop.WriteFault = None
-fault_of (stop.Told f) = Some f
+fault_of (stop.Input f) = Some f
 
 -- out of memory or a failed read: a fault that is possible at any time and names no record
 abbrev pub IsBroken : Fault → Type 0

@@ -6,8 +6,8 @@ use Rattle.council_core.specs.Sequential.{Call, submit, publish, read}
 use Rattle.council_core.specs.declared.commands.Command.{Command}
 use Rattle.council_core.specs.declared.commands.Command.TheVariants.{Open, Close, Move, SetVotes, Suspend, Restore}
 use Rattle.council_core.specs.declared.commands.Command.TheVariants.{Admit, Withdraw}
-use Rattle.board_text.specs.Numbers.{number_of}
-use Rattle.board_text.specs.Words.{both, chair_of, code_of_member, majority_of, seat_of, votes_of}
+use Rattle.board_text.specs.Numbers.{number_of_digits}
+use Rattle.board_text.specs.Words.{pair_of, chair_of, code_of_member, majority_of, target_chair, votes_of}
 use Rattle.board_text.specs.declared.requests.Request.{Request}
 use Rattle.board_text.specs.declared.requests.Request.TheVariants as ask
 
@@ -27,7 +27,7 @@ is_mark _ = false
 
 -- a member and its votes
 abbrev pub member_of : Row → Option (List ℕ × ℕ)
-member_of (a ∷ b ∷ []) = both (λ code votes. (code, votes)) (code_of_member a) (votes_of b)
+member_of (a ∷ b ∷ []) = pair_of (λ code votes. (code, votes)) (code_of_member a) (votes_of b)
 member_of _ = None
 
 -- the command of a word and one field
@@ -43,9 +43,9 @@ command_of_one word a =
 -- the command of a word and two fields
 abbrev pub command_of_two : List ℕ → List ℕ → List ℕ → Option Command
 command_of_two word a b =
-    if bytes_eq word (codes "move") then both Move (code_of_member a) (seat_of b)
-    else if bytes_eq word (codes "votes") then both SetVotes (code_of_member a) (votes_of b)
-    else if bytes_eq word (codes "admit") then both Admit (code_of_member a) (votes_of b)
+    if bytes_eq word (codes "move") then pair_of Move (code_of_member a) (target_chair b)
+    else if bytes_eq word (codes "votes") then pair_of SetVotes (code_of_member a) (votes_of b)
+    else if bytes_eq word (codes "admit") then pair_of Admit (code_of_member a) (votes_of b)
     else None
 
 -- the command of a record, if it is one of the nine command records
@@ -56,7 +56,7 @@ command_of _ = None
 
 -- a reading by a numbered reader at a majority
 abbrev pub reading_of : Row → Option Request
-reading_of (word ∷ a ∷ b ∷ []) = if bytes_eq word (codes "read") then both ask.Read (number_of a) (majority_of b)
+reading_of (word ∷ a ∷ b ∷ []) = if bytes_eq word (codes "read") then pair_of ask.Read (number_of_digits a) (majority_of b)
     else None
 reading_of _ = None
 
@@ -66,14 +66,14 @@ is_publish (word ∷ []) = bytes_eq word (codes "publish")
 is_publish _ = false
 
 -- the first of two options that is present
-abbrev pub first_of : {A : Type 0} → Option A → Option A → Option A
-first_of None other = other
-first_of (Some a) other = Some a
+abbrev pub first_some : {A : Type 0} → Option A → Option A → Option A
+first_some None other = other
+first_some (Some a) other = Some a
 
 -- the request of a record in the script of `replay`, if it is well formed
 abbrev pub request_of : Row → Option Request
 request_of row = if is_publish row then Some ask.Publish
-    else first_of (reading_of row) (option_map ask.Submit (command_of row))
+    else first_some (reading_of row) (option_map ask.Submit (command_of row))
 
 -- the sequential register's call for a request
 abbrev pub call_of : Request → Call

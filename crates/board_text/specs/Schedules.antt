@@ -3,17 +3,17 @@ use Rattle.std.specs.Prelude.{ℕ, List, [], ◌∷◌, Bool, true, Option, Some
 use Rattle.std.specs.Prelude.{if◌then◌else◌, option_map, codes}
 use Rattle.std.specs.Option.{option_and_then}
 use Rattle.std.specs.Str.{bytes_eq}
-use Rattle.board_text.specs.Numbers.{number_of}
+use Rattle.board_text.specs.Numbers.{number_of_digits}
 use Rattle.board_text.specs.Requests.{Row, command_of}
 use Rattle.board_text.specs.Text.{is_reader}
-use Rattle.board_text.specs.Words.{both, within}
+use Rattle.board_text.specs.Words.{pair_of, number_within}
 use Rattle.board_text.specs.declared.bounds.Limits.{Limits}
 use Rattle.board_text.specs.declared.schedules.Act.{Act}
 use Rattle.board_text.specs.declared.schedules.Act.TheVariants as act
 
 -- a number of steps: from 1 to 1,000
 abbrev pub count_of : List ℕ → Option ℕ
-count_of field = option_and_then (within 1 1000) (number_of field)
+count_of field = option_and_then (number_within 1 1000) (number_of_digits field)
 
 -- `submit` followed by the fields of a command record
 abbrev pub submission_of : List ℕ → Row → Option Act
@@ -24,7 +24,7 @@ abbrev pub act_of : Row → Option Act
 act_of (word ∷ []) = if bytes_eq word (codes "publish") then Some act.Publish else None
 act_of (word ∷ a ∷ []) = if bytes_eq word (codes "writer") then option_map act.Writer (count_of a) else None
 act_of (word ∷ a ∷ b ∷ []) =
-    if bytes_eq word (codes "reader") then both act.Reader (number_of a) (count_of b)
+    if bytes_eq word (codes "reader") then pair_of act.Reader (number_of_digits a) (count_of b)
     else submission_of word (a ∷ b ∷ [])
 act_of (word ∷ a ∷ b ∷ c ∷ []) = submission_of word (a ∷ b ∷ c ∷ [])
 act_of _ = None

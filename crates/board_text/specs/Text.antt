@@ -28,15 +28,15 @@ pub record Run : Type 0 where
 abbrev pub fault_at : Refusal → ℕ → Fault
 fault_at why number = record { code = code_of why; place = number }
 
-abbrev pub stops : Fault → Run
-stops f = record { lines = []; end = Some f }
+abbrev pub stopped_run : Fault → Run
+stopped_run f = record { lines = []; end = Some f }
 
-abbrev pub prints : List Line → Run
-prints ls = record { lines = ls; end = None }
+abbrev pub printed_run : List Line → Run
+printed_run ls = record { lines = ls; end = None }
 
 -- a run with these lines before its own
-abbrev pub after : List Line → Run → Run
-after ls r = record { lines = ls ++ r.lines; end = r.end }
+abbrev pub with_lines : List Line → Run → Run
+with_lines ls r = record { lines = ls ++ r.lines; end = r.end }
 
 -- a line with its line end
 abbrev pub line_text : Line → List ℕ
@@ -75,8 +75,8 @@ opening_of members k (r ∷ rs) =
     else member_then k (member_of r) (λ m. opening_of (members ++ m ∷ []) (k + 1) rs)
 
 -- a register with these members and an empty journal
-abbrev pub started : Limits → Opening → Ledger
-started lim members = record { opening = members; journal = []; limit = lim.journal }
+abbrev pub ledger_at_start : Limits → Opening → Ledger
+ledger_at_start lim members = record { opening = members; journal = []; limit = lim.journal }
 
 -- the start of a script: the register, the number of the script's first record, and its records
 abbrev pub Begun : Type 0
@@ -84,11 +84,11 @@ Begun = Ledger × ℕ × List Row
 
 abbrev pub started_with : Limits → Result ⊤ Refusal → Opened → Result Begun Fault
 started_with lim (Err why) p = Err (fault_at why 0)
-started_with lim (Ok u) p = Ok (started lim p.0, p.1, p.2)
+started_with lim (Ok u) p = Ok (ledger_at_start lim p.0, p.1, p.2)
 
-abbrev pub begun_with : Limits → Result Opened Fault → Result Begun Fault
-begun_with lim (Err f) = Err f
-begun_with lim (Ok p) = started_with lim (start_verdict p.0 lim.journal) p
+abbrev pub run_begun_with : Limits → Result Opened Fault → Result Begun Fault
+run_begun_with lim (Err f) = Err f
+run_begun_with lim (Ok p) = started_with lim (start_verdict p.0 lim.journal) p
 
 -- the members and the script of the records of an input, or the first fault before the script
 abbrev pub opened_of : List Row → Result Opened Fault
@@ -104,13 +104,13 @@ in_range lim =
 unfoldable pub begun_of : Limits → List ℕ → Result Begun Fault
 begun_of lim bytes =
     if in_range lim
-    then if nat_le (length bytes) 4194304 then begun_with lim (opened_of (records default_config (strip_bom bytes)))
+    then if nat_le (length bytes) 4194304 then run_begun_with lim (opened_of (records default_config (strip_bom bytes)))
     else Err (fault_at TooLong 0)
     else Err (fault_at BadLimit 0)
 
 -- the sequential register at the start of a replay: no command is published
-abbrev pub fresh : Ledger → Sequential
-fresh ledger = record { ledger = ledger; published = 0 }
+abbrev pub unpublished : Ledger → Sequential
+unpublished ledger = record { ledger = ledger; published = 0 }
 
 abbrev pub end_lines : Option Fault → List Line
 end_lines None = []

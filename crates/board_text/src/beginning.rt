@@ -1,12 +1,12 @@
 //! The start of a run: reads the whole input, then the records before the script.
 ghost use Rattle.std.specs.Prelude.{◌≡◌, ◌≤◌, ◌<◌, ◌+◌, ◌^◌, [], Ok, true, false, length};
 ghost use Rattle.std.specs.Prelude.{IfOk, IfErr, IsErrOf, OnOk};
-ghost use Rattle.told_streams.specs.Tapes.{OfInput};
+ghost use Rattle.recording_io.specs.Tapes.{OfInput};
 ghost use Rattle.council_core.specs.declared.refusals.Refusal.TheVariants as why;
 ghost use Rattle.council_core.specs.Ledgers.{start_verdict};
 ghost use Rattle.board_text.specs.Inputs.{NoReadInVain, RetriesAtMost};
 ghost use Rattle.board_text.specs.Output.{Fails, Starts};
-ghost use Rattle.board_text.specs.Text.{begun_of, begun_with, fault_at, in_range, opened_of};
+ghost use Rattle.board_text.specs.Text.{begun_of, run_begun_with, fault_at, in_range, opened_of};
 
 use crate::bounds::Limits;
 use crate::input::{INPUT_LIMIT, INTERRUPTIONS, READS, read_input};
@@ -16,13 +16,13 @@ use crate::script::Script;
 use crate::stops::Stop;
 use council_core::{MAX_COMMANDS, MemberCode, Refusal, Register, Votes};
 use csv::ByteRecord;
+use recording_io::RecordingReader;
 use std::alloc::Global;
 use std::io::Read;
-use told_streams::Given;
 
 /// The start of a script: a register with the members of the input's opening.
 #[derive(Drop)]
-pub struct Beginning {
+pub struct RunStart {
     /// The register, with an empty journal.
     pub register: Register,
     /// The members of the opening, in input order.
@@ -35,15 +35,15 @@ pub struct Beginning {
 ///
 /// # Errors
 ///
-/// - `Stop::Told` with `BadLimit` at 0: a limit is out of range. Nothing was read.
+/// - `Stop::Input` with `BadLimit` at 0: a limit is out of range. Nothing was read.
 /// - `Stop::ReadFault`: a read failed, or was interrupted after `INTERRUPTIONS` retries.
-/// - `Stop::Told` with `TooLong` at 0: the input has more than `INPUT_LIMIT` bytes.
+/// - `Stop::Input` with `TooLong` at 0: the input has more than `INPUT_LIMIT` bytes.
 /// - `Stop::OutOfMemory`.
 ///
 /// After each of the last three some of the input has been read, and none of it is returned.
 pub fn read_within<R: Read + Drop>(
     alloc: Global,
-    input: &mut Given<R>,
+    input: &mut RecordingReader<R>,
     limits: Limits,
 ) -> Result<Vec<u8>, Stop>
     ensures whole { IfOk result (λ text. OfInput input.old input.new (λ bytes. text.items ≡ bytes)) }
@@ -54,10 +54,10 @@ pub fn read_within<R: Read + Drop>(
     ensures retried { RetriesAtMost INTERRUPTIONS input.old input.new result }
     ensures fault { IfErr result (λ e. OfInput input.old input.new (λ bytes. Fails e (begun_of limits bytes))) }
     ensures limits_first { in_range limits ≡ false
-        → IsErrOf result (Stop.Told (fault_at why.BadLimit 0)) × (input.new ≡ input.old) }
+        → IsErrOf result (Stop.Input (fault_at why.BadLimit 0)) × (input.new ≡ input.old) }
 {
     if !limits.is_in_range() {
-        return Err(Stop::told(Refusal::BadLimit, 0));
+        return Err(Stop::of_fault(Refusal::BadLimit, 0));
     }
     read_input(alloc, input)
 }
@@ -74,7 +74,7 @@ fn start_register(
     match Register::start(alloc, members, limits.journal) {
         Ok(register) => Ok(register),
         Err(Refusal::OutOfMemory) => Err(Stop::OutOfMemory),
-        Err(why) => Err(Stop::told(why, 0)),
+        Err(why) => Err(Stop::of_fault(why, 0)),
     }
 }
 
@@ -83,7 +83,7 @@ fn start_register(
 ///
 /// # Errors
 ///
-/// All are `Stop::Told` except the last two; the first fault in the order of the records is
+/// All are `Stop::Input` except the last two; the first fault in the order of the records is
 /// returned.
 ///
 /// - `BadHeader` at 0: there is no first record, or it isn't `member,votes`.
@@ -98,13 +98,13 @@ pub fn begin(
     script: &mut Script<'_>,
     row: &mut ByteRecord,
     limits: Limits,
-) -> Result<Beginning, Stop>
+) -> Result<RunStart, Stop>
     requires { length script.old < 2 ^ 31 }
 
     // The contents of the records, or the first fault in them.
     ensures begun { IfOk result
-        (λ b. begun_with limits (opened_of script.old) ≡ Ok (b.register, b.place, script.new)) }
-    ensures fault { IfErr result (λ e. Fails e (begun_with limits (opened_of script.old))) }
+        (λ b. run_begun_with limits (opened_of script.old) ≡ Ok (b.register, b.place, script.new)) }
+    ensures fault { IfErr result (λ e. Fails e (run_begun_with limits (opened_of script.old))) }
 
     // The register is at its start, and the remaining records can be numbered.
     ensures members { IfOk result (λ b. b.register.opening ≡ b.members.items) }
@@ -113,14 +113,14 @@ pub fn begin(
     ensures numbers { IfOk result (λ b. b.place + length script.new < 2 ^ 32) }
 {
     if !script.next(row)? {
-        return Err(Stop::told(Refusal::BadHeader, 0));
+        return Err(Stop::of_fault(Refusal::BadHeader, 0));
     }
     if !is_header_row(row) {
-        return Err(Stop::told(Refusal::BadHeader, 0));
+        return Err(Stop::of_fault(Refusal::BadHeader, 0));
     }
     let opening = read_opening(alloc, script, row)?;
     let register = start_register(alloc, opening.members.as_slice(), limits)?;
-    Ok(Beginning {
+    Ok(RunStart {
         register,
         members: opening.members,
         place: opening.number,

@@ -12,7 +12,7 @@ use std::io::Write;
 /// written.
 pub fn end_with<W: Write>(out: &mut Output<'_, W>, fault: Fault) -> Fault
     ensures ends { Ends out.old.held out.new.held fault result }
-    ensures on { GoesOn out.old out.new }
+    ensures continues { GoesOn out.old out.new }
 {
     match out.write_line(line_of_fault(fault)) {
         Ok(()) => return fault,

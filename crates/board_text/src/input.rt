@@ -1,6 +1,6 @@
 //! Reads the whole input before any record is interpreted.
 ghost use Rattle.std.specs.Prelude.{◌≡◌, ◌≤◌, ◌<◌, ◌+◌, length, IfOk, IfErr, ◌⊎◌, IsErrOf, IsOkUnless};
-ghost use Rattle.told_streams.specs.Tapes.{OfInput};
+ghost use Rattle.recording_io.specs.Tapes.{OfInput};
 ghost use Rattle.council_core.specs.declared.refusals.Refusal.TheVariants as why;
 ghost use Rattle.board_text.specs.Inputs.{InterruptedAtMost, NoReadInVain, Reads, RetriesAtMost, WastesAtMost};
 ghost use Rattle.board_text.specs.Text.{fault_at};
@@ -8,9 +8,9 @@ ghost use Rattle.board_text.specs.declared.stops.Stop.TheVariants as stop;
 
 use crate::stops::Stop;
 use council_core::Refusal;
+use recording_io::RecordingReader;
 use std::alloc::Global;
 use std::io::{ErrorKind, Read};
-use told_streams::Given;
 
 // The number of bytes that one read asks for.
 const PIECE: usize = 4096;
@@ -28,14 +28,14 @@ pub const READS: u32 = INPUT_LIMIT as u32 + INTERRUPTIONS + 1;
 // One read: the number of bytes returned, or `None` if the read was interrupted and may be retried.
 // After an error nothing is promised of the reader.
 fn read_some<R: Read + Drop>(
-    input: &mut Given<R>,
+    input: &mut RecordingReader<R>,
     piece: &mut [u8],
     interrupted: &mut u32,
 ) -> Result<Option<usize>, Stop>
-    requires few { interrupted.old ≤ INTERRUPTIONS }
+    requires bound { interrupted.old ≤ INTERRUPTIONS }
     ensures once { input.new.asks ≡ input.old.asks + 1 }
     ensures read { IfOk result (Reads input.old input.new interrupted.old interrupted.new piece.new) }
-    ensures few { interrupted.new ≤ INTERRUPTIONS }
+    ensures bound { interrupted.new ≤ INTERRUPTIONS }
     ensures vain { WastesAtMost 1 input.old input.new }
     ensures interrupted { InterruptedAtMost 1 input.old input.new }
     ensures only { IsOkUnless result stop.ReadFault }
@@ -53,16 +53,16 @@ fn read_some<R: Read + Drop>(
 // Returns all bytes of the input, if there are at most `INPUT_LIMIT`.
 pub(crate) fn read_input<R: Read + Drop>(
     alloc: Global,
-    input: &mut Given<R>,
+    input: &mut RecordingReader<R>,
 ) -> Result<Vec<u8>, Stop>
     ensures whole { IfOk result (λ text. OfInput input.old input.new (λ bytes. text.items ≡ bytes)) }
     ensures causes { IfErr result
-        (λ e. (e ≡ Stop.OutOfMemory) ⊎ (e ≡ Stop.ReadFault) ⊎ (e ≡ Stop.Told (fault_at why.TooLong 0))) }
+        (λ e. (e ≡ Stop.OutOfMemory) ⊎ (e ≡ Stop.ReadFault) ⊎ (e ≡ Stop.Input (fault_at why.TooLong 0))) }
     ensures asks { input.new.asks ≤ input.old.asks + READS }
     ensures vain { NoReadInVain input.old input.new result }
     ensures retried { RetriesAtMost INTERRUPTIONS input.old input.new result }
     ensures fits { IfOk result (λ text. length text.items ≤ INPUT_LIMIT) }
-    ensures too_long { IsErrOf result (Stop.Told (fault_at why.TooLong 0))
+    ensures too_long { IsErrOf result (Stop.Input (fault_at why.TooLong 0))
         → OfInput input.old input.new (λ bytes. INPUT_LIMIT < length bytes) }
 {
     let mut text = Vec::new(alloc);
@@ -74,7 +74,7 @@ pub(crate) fn read_input<R: Read + Drop>(
             Some(0) => return Ok(text),
             Some(n) => {
                 if n > INPUT_LIMIT - text.len() {
-                    return Err(Stop::told(Refusal::TooLong, 0));
+                    return Err(Stop::of_fault(Refusal::TooLong, 0));
                 }
                 if text.extend_from_slice(&piece[..n]).is_err() {
                     return Err(Stop::OutOfMemory);

@@ -20,7 +20,7 @@ mod schedules;
 mod script;
 mod stops;
 
-pub use beginning::{Beginning, begin, read_within};
+pub use beginning::{RunStart, begin, read_within};
 pub use bounds::Limits;
 pub use endings::end_with;
 pub use faults::Fault;

@@ -1,10 +1,10 @@
 //! Parses the decimal numbers in records.
 ghost use Rattle.std.specs.Prelude.{◌≡◌, ◌+◌, ◌*◌, nat_lt, if◌then◌else◌};
-ghost use Rattle.board_text.specs.Numbers.{number_of};
+ghost use Rattle.board_text.specs.Numbers.{number_of_digits};
 
 // The number of one to twenty decimal digits, if it is below 2^64.
 pub(crate) fn number_of_field(field: &[u8]) -> Option<u64>
-    ensures { result ≡ number_of field.now }
+    ensures { result ≡ number_of_digits field.now }
 {
     if field.is_empty() || field.len() > 20 {
         return None;

@@ -31,7 +31,7 @@ pub(crate) fn read_opening(
     let mut number: u32 = 2;
     'records: loop {
         if !script.next(row)? {
-            return Err(Stop::told(Refusal::NoScript, 0));
+            return Err(Stop::of_fault(Refusal::NoScript, 0));
         }
         if is_mark_row(row) {
             return Ok(OpeningRead {
@@ -40,10 +40,10 @@ pub(crate) fn read_opening(
             });
         }
         if members.len() == MAX_MEMBERS {
-            return Err(Stop::told(Refusal::TooManyMembers, 0));
+            return Err(Stop::of_fault(Refusal::TooManyMembers, 0));
         }
         let Some(member) = member_in(row) else {
-            return Err(Stop::told(Refusal::BadRecord, number));
+            return Err(Stop::of_fault(Refusal::BadRecord, number));
         };
         let Ok(()) = members.push(member) else {
             return Err(Stop::OutOfMemory);

@@ -8,15 +8,15 @@ ghost use Rattle.board_text.specs.Text.{line_text};
 use crate::input::INTERRUPTIONS;
 use crate::line::{LINE, Line};
 use crate::stops::Stop;
+use recording_io::RecordingWriter;
 use std::io::{ErrorKind, Write};
 use std::marker::Model;
-use told_streams::Told;
 
 /// A writer that retries interrupted writes. At most `INTERRUPTIONS` interrupted writes are retried
 /// in one `Output`.
 #[derive(Drop)]
 pub struct Output<'a, W: Write> {
-    out: Told<'a, W>,
+    out: RecordingWriter<'a, W>,
     interrupted: u32,
 }
 
@@ -44,7 +44,7 @@ impl<'a, W: Write> Output<'a, W> {
         ensures held { result.held ≡ W.contents out.entry.now }
     {
         Output {
-            out: Told::new(out),
+            out: RecordingWriter::new(out),
             interrupted: 0,
         }
     }
@@ -64,8 +64,8 @@ impl<'a, W: Write> Output<'a, W> {
         ensures vain { NoWriteInVain self.old self.new result }
         ensures taken { WritesSome self.old.held self.new.held result text.now }
         ensures turn { IfOk result (λ n. self.old.interrupted + 1 ≤ n + self.new.interrupted) }
-        ensures few { self.new.interrupted ≤ INTERRUPTIONS }
-        ensures on { GoesOn self.old self.new }
+        ensures bound { self.new.interrupted ≤ INTERRUPTIONS }
+        ensures continues { GoesOn self.old self.new }
     {
         match self.out.write(text) {
             Ok(n) if n > 0 => return Ok(n),
@@ -84,7 +84,7 @@ impl<'a, W: Write> Output<'a, W> {
         ensures written { Writes self.old.held self.new.held result text.now }
         ensures asks { AsksAtMost self.old self.new (length text.now) }
         ensures vain { NoWriteInVain self.old self.new result }
-        ensures on { GoesOn self.old self.new }
+        ensures continues { GoesOn self.old self.new }
     {
         let mut at = 0;
         let turns = text.len() + (INTERRUPTIONS - self.interrupted) as usize + 1;
@@ -102,7 +102,7 @@ impl<'a, W: Write> Output<'a, W> {
         ensures front { AppendsFront self.old.held self.new.held text.now }
         ensures whole_or_failed { Appends self.old.held self.new.held text.now ⊎ HasFailed self.old self.new }
         ensures asks { AsksAtMost self.old self.new (length text.now) }
-        ensures on { GoesOn self.old self.new }
+        ensures continues { GoesOn self.old self.new }
     {
         let _ = self.write_text(text);
     }
@@ -118,7 +118,7 @@ impl<'a, W: Write> Output<'a, W> {
         ensures written { Writes self.old.held self.new.held result (line_text line) }
         ensures asks { AsksAtMost self.old self.new (length (line_text line)) }
         ensures vain { NoWriteInVain self.old self.new result }
-        ensures on { GoesOn self.old self.new }
+        ensures continues { GoesOn self.old self.new }
     {
         line.end();
         self.write_text(line.as_bytes())

@@ -3,10 +3,10 @@ ghost use Rattle.std.specs.Prelude.{◌≡◌};
 ghost use Rattle.csv.specs.Records.{fields_of};
 ghost use Rattle.board_text.specs.Requests.{command_of_one, command_of_two, is_header, is_mark, member_of};
 ghost use Rattle.board_text.specs.Requests.{request_of};
-ghost use Rattle.board_text.specs.Numbers.{number_of};
+ghost use Rattle.board_text.specs.Numbers.{number_of_digits};
 ghost use Rattle.board_text.specs.declared.requests.Request.TheVariants.{Read};
 ghost use Rattle.board_text.specs.Text.{is_served};
-ghost use Rattle.board_text.specs.Words.{both, chair_of, code_of_member, majority_of, seat_of, votes_of};
+ghost use Rattle.board_text.specs.Words.{pair_of, chair_of, code_of_member, majority_of, target_chair, votes_of};
 
 use crate::bounds::Limits;
 use crate::fields::{Fields, fields_in, is_word};
@@ -54,7 +54,7 @@ fn code_in(field: &[u8]) -> Option<MemberCode>
 
 // The destination of a member: a chair, or none.
 fn seat_in(field: &[u8]) -> Option<Option<ChairId>>
-    ensures { result ≡ seat_of field.now }
+    ensures { result ≡ target_chair field.now }
 {
     if is_word(field, "none") {
         return Some(None);
@@ -106,7 +106,7 @@ pub(crate) fn command_of_two(word: &[u8], first: &[u8], second: &[u8]) -> Option
 
 // A reading by a numbered reader at a majority.
 fn reading_in(reader: &[u8], majority: &[u8]) -> Option<Request>
-    ensures { result ≡ both Read (number_of reader.now) (majority_of majority.now) }
+    ensures { result ≡ pair_of Read (number_of_digits reader.now) (majority_of majority.now) }
 {
     let reader = number_of_field(reader)?;
     let majority = majority_in(majority)?;

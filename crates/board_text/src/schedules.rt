@@ -1,9 +1,9 @@
 //! Parses the records of a schedule for the two-copy machine.
 ghost use Rattle.std.specs.Prelude.{◌≡◌};
 ghost use Rattle.csv.specs.Records.{fields_of};
-ghost use Rattle.board_text.specs.Numbers.{number_of};
+ghost use Rattle.board_text.specs.Numbers.{number_of_digits};
 ghost use Rattle.board_text.specs.Schedules.{act_of, count_of, is_scheduled};
-ghost use Rattle.board_text.specs.Words.{both};
+ghost use Rattle.board_text.specs.Words.{pair_of};
 ghost use Rattle.board_text.specs.declared.schedules.Act.TheVariants.{Reader};
 
 use crate::bounds::Limits;
@@ -40,7 +40,7 @@ fn count_in(field: &[u8]) -> Option<u32>
 
 // A number of steps of a reader.
 fn steps_in(reader: &[u8], count: &[u8]) -> Option<Act>
-    ensures { result ≡ both Reader (number_of reader.now) (count_of count.now) }
+    ensures { result ≡ pair_of Reader (number_of_digits reader.now) (count_of count.now) }
 {
     let reader = number_of_field(reader)?;
     let count = count_in(count)?;

@@ -17,15 +17,15 @@ pub enum Stop {
     /// written after it.
     WriteFault,
     /// A fault of the input, at the number of a record or at 0.
-    Told(Fault),
+    Input(Fault),
 }
 
 impl Stop {
     /// A fault of the input: a refusal at the number of a record, or at 0.
-    pub fn told(why: Refusal, number: u32) -> Stop
-        ensures same { result ≡ Stop.Told (fault_at why number) }
+    pub fn of_fault(why: Refusal, number: u32) -> Stop
+        ensures same { result ≡ Stop.Input (fault_at why number) }
     {
-        Stop::Told(Fault::new(why, number))
+        Stop::Input(Fault::new(why, number))
     }
 
     /// The fault whose line is to be written; `None` after a failed write. Out of memory and a
@@ -37,7 +37,7 @@ impl Stop {
             Stop::OutOfMemory => Some(Fault::new(Refusal::OutOfMemory, 0)),
             Stop::ReadFault => Some(Fault::new(Refusal::ReadFault, 0)),
             Stop::WriteFault => None,
-            Stop::Told(fault) => Some(fault),
+            Stop::Input(fault) => Some(fault),
         }
     }
 }

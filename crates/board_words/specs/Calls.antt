@@ -46,8 +46,8 @@ abbrev pub IsAnswered : Result Call NoCall → Call → Type 0
 IsAnswered answer call = (answer ≡ Ok call) ⊎ (answer ≡ Err OutOfMemory)
 
 -- the kind of a text that clap shows on request: the help or the version
-abbrev pub IsShown : ErrorKind → Type 0
-IsShown k = (k ≡ DisplayHelp) ⊎ (k ≡ DisplayVersion)
+abbrev pub IsShownText : ErrorKind → Type 0
+IsShownText k = (k ≡ DisplayHelp) ⊎ (k ≡ DisplayVersion)
 
 -- clap accepts the arguments as no command: they ask for a text, or have a fault
 abbrev pub AreNotTaken : List Text → Type 0
@@ -55,11 +55,11 @@ AreNotTaken words = fault_of board_app words ≢ []
 
 -- one of the kinds that clap's definition gives for the arguments is a text that they ask for
 abbrev pub AskText : List Text → Type 0
-AskText words = (k : ErrorKind) × IsAmong k (fault_of board_app words) × IsShown k
+AskText words = (k : ErrorKind) × IsAmong k (fault_of board_app words) × IsShownText k
 
 -- one of the kinds that clap's definition gives for the arguments is a fault
 abbrev pub HaveFault : List Text → Type 0
-HaveFault words = (k : ErrorKind) × IsAmong k (fault_of board_app words) × (IsShown k → ⊥)
+HaveFault words = (k : ErrorKind) × IsAmong k (fault_of board_app words) × (IsShownText k → ⊥)
 
 abbrev pub Explains : List Text → NoCall → Type 0
 Explains words (Shown text) = AskText words

@@ -14,7 +14,7 @@ use Rattle.council_core.specs.declared.commands.Command.TheVariants.{Open, Close
 use Rattle.council_core.specs.declared.commands.Standing.{Standing}
 use Rattle.council_core.specs.declared.refusals.Refusal.{Refusal}
 use Rattle.council_core.specs.declared.refusals.Refusal.TheVariants.{ChairOpen, ChairNotOpen, ChairHasMembers, UnknownMember, MemberSuspended, AlreadyThere, AlreadySuspended, NotSuspended, TooManyMembers, MemberExists, MemberSeated}
-use Rattle.council_core.specs.Rolls.{Roll, Entry, Opening, IsLegal, after, cast, can_receive, chair_numbers, chair_word, closed, fold_from, has_members, is_open, max_members, move_member, opening_roll, roll_after, same_chair, same_code, sheet, standing_among, step, total, update, weight, with_member, withdrawn, words_of, admit_member, admitted, entered}
+use Rattle.council_core.specs.Rolls.{Roll, Entry, Opening, IsLegal, next_roll, cast, can_receive, chair_numbers, chair_word, roll_with_closed, fold_from, has_members, is_open, max_members, move_member, opening_roll, roll_after, same_chair, same_code, sheet, standing_among, step, total, update, weight, with_member, roll_without_member, sheet_words, admit_member, roll_with_member, new_entry}
 use Rattle.council_core.specs.Sheets.{IsSheet, cast_of, front_of, weight_in}
 use Rattle.council_core.specs.Laws.{IsOpening, SetsInRange}
 use Rattle.council_core.specs.Ledgers.{Ledger, roll_of, sheet_of}
@@ -32,7 +32,7 @@ words_cast : (roll : Roll) (ns : List ℕ) → sum_by (λ c. if is_open roll c t
 words_cast roll [] = refl
 words_cast roll (c ∷ ns) = omega (arith, word_of_open roll c, words_cast roll ns, sum_by-cons (λ (d : ℕ). if is_open roll d then weight roll d else 0) c ns, sum_by-cons weight_in (chair_word roll c) (map (chair_word roll) ns))
 
-pub cast-sheet : (roll : Roll) (front : ℕ) → cast roll ≡ cast_of (words_of roll front)
+pub cast-sheet : (roll : Roll) (front : ℕ) → cast roll ≡ cast_of (sheet_words roll front)
 cast-sheet roll front =
     words_cast roll chair_numbers ∙ sym (ap (sum_by weight_in) (take_at (map (chair_word roll) chair_numbers) (total roll ∷ front ∷ []) 32 refl))
 
@@ -45,7 +45,7 @@ front_of_first opening commands front within = front-sheet opening (take front c
 
 -- a roll of few members, none with more votes than a member may have
 record IsSmall (roll : Roll) : Type 0 where
-  pub few : length roll.members ≤ 256
+  pub bound : length roll.members ≤ 256
   pub small : All (λ m. m.1.votes ≤ 2 ^ 40) roll.members
 
 -- the same of the roll that a step gives, if it gives one
@@ -66,10 +66,10 @@ not_full n h = grind (arith, nat_tests, h)
 
 module _ (roll : Roll) (small : IsSmall roll) where
   opened_small : (chairs : List ℕ) → IsSmall (record roll { open_chairs = chairs })
-  opened_small chairs = record { few = small.few; small = small.small }
+  opened_small chairs = record { bound = small.bound; small = small.small }
 
   updated_small : (code : List ℕ) (s : Standing) → s.votes ≤ 2 ^ 40 → GivesSmall (update roll code s)
-  updated_small code s h = record { few = rw length-with_standing small.few; small = all_with_standing code s (λ t. t.votes ≤ 2 ^ 40) roll.members small.small h }
+  updated_small code s h = record { bound = rw length-with_standing small.bound; small = all_with_standing code s (λ t. t.votes ≤ 2 ^ 40) roll.members small.small h }
 
   found_small : (code : List ℕ) (es : List Entry) → AllByRecursion (λ m. m.1.votes ≤ 2 ^ 40) es → (s : Standing) → standing_among code es ≡ Some s → s.votes ≤ 2 ^ 40
   found_small code [] h s found = cc
@@ -89,29 +89,29 @@ module _ (roll : Roll) (small : IsSmall roll) where
       unless_refused s.suspended MemberSuspended _
       (or_refused (can_receive roll to) ChairNotOpen _ (unless_refused (same_chair s.chair to) AlreadyThere _ (updated_small code (record s { chair = to }) h)))
 
-  left_small : (code : List ℕ) → IsSmall (withdrawn roll code)
+  left_small : (code : List ℕ) → IsSmall (roll_without_member roll code)
   left_small code =
       record {
-        few = omega (arith, small.few, length-without code roll.members);
+        bound = omega (arith, small.bound, length-without code roll.members);
         small = all_without code (λ (t : Standing). t.votes ≤ 2 ^ 40) roll.members small.small;
       }
 
-  entered_small : (code : List ℕ) (n : ℕ) → n ≤ 2 ^ 40 → length roll.members < max_members → IsSmall (admitted roll code n)
+  entered_small : (code : List ℕ) (n : ℕ) → n ≤ 2 ^ 40 → length roll.members < max_members → IsSmall (roll_with_member roll code n)
   entered_small code n h room =
       record {
-        few = rw length-append (omega (arith, room));
-        small = All-append (λ (m : Entry). m.1.votes ≤ 2 ^ 40) roll.members (entered (code, n) ∷ []) small.small (All-from_recursion (λ (m : Entry). m.1.votes ≤ 2 ^ 40) (entered (code, n) ∷ []) (h, tt));
+        bound = rw length-append (omega (arith, room));
+        small = All-append (λ (m : Entry). m.1.votes ≤ 2 ^ 40) roll.members (new_entry (code, n) ∷ []) small.small (All-from_recursion (λ (m : Entry). m.1.votes ≤ 2 ^ 40) (new_entry (code, n) ∷ []) (h, tt));
       }
 
   admitted_small : (code : List ℕ) (n : ℕ) → n ≤ 2 ^ 40 → GivesSmall (admit_member roll code n)
   admitted_small code n h =
       unless_refused (is_some (standing_among code roll.members)) MemberExists _
-      (elim (nat_le max_members (length roll.members)) as (λ b. nat_le max_members (length roll.members) ≡ b → GivesSmall (if b then Err TooManyMembers else Ok (admitted roll code n)))
+      (elim (nat_le max_members (length roll.members)) as (λ b. nat_le max_members (length roll.members) ≡ b → GivesSmall (if b then Err TooManyMembers else Ok (roll_with_member roll code n)))
       [ true ↦ λ e. tt | false ↦ λ e. entered_small code n h (not_full (length roll.members) e) ] refl)
 
   step_small : (command : Command) → SetsInRange command → GivesSmall (step roll command)
   step_small (Open c) h = unless_refused (is_open roll c) ChairOpen _ (opened_small (c ∷ roll.open_chairs))
-  step_small (Close c) h = or_refused (is_open roll c) ChairNotOpen _ (unless_refused (has_members roll c) ChairHasMembers _ (opened_small (closed roll c).open_chairs))
+  step_small (Close c) h = or_refused (is_open roll c) ChairNotOpen _ (unless_refused (has_members roll c) ChairHasMembers _ (opened_small (roll_with_closed roll c).open_chairs))
   step_small (Move code to) h = member_small code (move_member roll code to) (moved_small code to)
   step_small (SetVotes code n) h = member_small code (λ s. update roll code (record s { votes = n })) (λ s k. updated_small code (record s { votes = n }) h)
   step_small (Suspend code) h = member_small code _ (λ s k. unless_refused s.suspended AlreadySuspended _ (updated_small code (record s { suspended = true }) k))
@@ -125,20 +125,20 @@ module _ (roll : Roll) (small : IsSmall roll) where
 
 fold_small : (roll : Roll) (commands : List Command) → IsSmall roll → AllByRecursion SetsInRange commands → IsSmall (fold_from roll commands)
 fold_small roll [] small h = small
-fold_small roll (command ∷ rest) small h = fold_small (after roll command) rest (unwrapped_small roll small (step roll command) (step_small roll small command h.0)) h.1
+fold_small roll (command ∷ rest) small h = fold_small (next_roll roll command) rest (unwrapped_small roll small (step roll command) (step_small roll small command h.0)) h.1
 
 start_is_small : (opening : Opening) → IsOpening opening → IsSmall (opening_roll opening)
 start_is_small opening is =
-    record { few = rw length-map is.few; small = All-from_recursion _ _ (start_small opening (recursion_from_All _ _ is.small)) }
+    record { bound = rw length-map is.bound; small = All-from_recursion _ _ (start_small opening (recursion_from_All _ _ is.small)) }
 
 word_within : (roll : Roll) (c : ℕ) → total roll ≤ 2 ^ 48 → chair_word roll c ≤ 2 ^ 48 + 1
 word_within roll c h = elim (is_open roll c) as (λ b. cond b (weight roll c + 1) 0 ≤ 2 ^ 48 + 1) [ true ↦ omega (arith, h, weight_within roll c) | false ↦ omega arith ]
 
 -- the numbers of a small roll, after at most a million commands
-small_sheet : (roll : Roll) (front : ℕ) → IsSmall roll → front ≤ 1000000 → IsSheet (words_of roll front)
-small_sheet roll front small few =
-    let all = total_within roll small.few small.small in
-    IsSheet-made (map (chair_word roll) chair_numbers) (total roll) front refl (λ k h. each k h all) (cast_within roll) all few
+small_sheet : (roll : Roll) (front : ℕ) → IsSmall roll → front ≤ 1000000 → IsSheet (sheet_words roll front)
+small_sheet roll front small bound =
+    let all = total_within roll small.bound small.small in
+    IsSheet-made (map (chair_word roll) chair_numbers) (total roll) front refl (λ k h. each k h all) (cast_within roll) all bound
   where
     each : (k : ℕ) → k < 32 → total roll ≤ 2 ^ 48 → slice_index (map (chair_word roll) chair_numbers) k ≤ 2 ^ 48 + 1
     each k h all = subst (λ (w : ℕ). w ≤ 2 ^ 48 + 1) (sym (get_or-map-range_with_len (chair_word roll) 1 32 k (k + 1) 0 h (omega arith))) (word_within roll (k + 1) all)
@@ -149,7 +149,7 @@ sheet_kept l kept k =
     let m = k.mirrors in
     small_sheet (roll_of l) (length l.journal)
     record {
-      few = subst (λ (es : List Entry). length es ≤ 256) m.same_members m.few;
+      bound = subst (λ (es : List Entry). length es ≤ 256) m.same_members m.bound;
       small = subst (λ (es : List Entry). All (λ e. e.1.votes ≤ 2 ^ 40) es) m.same_members m.small;
     }
     (omega (arith, k.within, k.small_limit))

@@ -9,12 +9,12 @@ use Rattle.std.proofs.lemmas.List.Sums.{sum_by-append, sum_by-cons}
 use Rattle.council_core.specs.declared.commands.Standing.{Standing}
 use Rattle.council_core.specs.declared.registers.Register.TheInside.{Inside}
 use Rattle.council_core.specs.declared.totals.ChairTotals.{ChairTotals}
-use Rattle.council_core.specs.Rolls.{Roll, Entry, same_chair, standing_among, with_standing, without, entered, fresh, admitted, withdrawn, max_members, sits_in, counted, votes_in, weight, is_open, chair_word, can_receive, has_members, step, opening_roll}
+use Rattle.council_core.specs.Rolls.{Roll, Entry, same_chair, standing_among, with_standing, members_without, new_entry, new_standing, roll_with_member, roll_without_member, max_members, sits_in, effective_votes, votes_in, weight, is_open, chair_word, can_receive, has_members, step, opening_roll}
 use Rattle.std.specs.Result.{result_unwrap_or}
 use Rattle.council_core.specs.declared.commands.Command.{Command}
-use Rattle.council_core.specs.Ledgers.{Ledger, roll_of, appended}
+use Rattle.council_core.specs.Ledgers.{Ledger, roll_of, ledger_with}
 use Rattle.council_core.specs.Laws.{SetsInRange}
-use Rattle.council_core.specs.Registers.{Mirrors, IsKept, seated, sits_as}
+use Rattle.council_core.specs.Registers.{Mirrors, IsKept, members_in_chair, sits_as}
 use Rattle.council_core.proofs.RollLemmas.{fold_from-push, all_accepted-push, sum_with_standing, sum_without, part_of_sum, length-with_standing, length-without, all_with_standing, all_without}
 
 -- what a register stores in addition to its journal: its members, and the running numbers of the
@@ -39,20 +39,20 @@ IsBeside l kept = IsKept l kept.entries kept.totals.words kept.totals.counts kep
 pub record Loss (before after : ChairTotals) (old : Standing) : Type 0 where
   pub words : (k : ℕ) → k < 32 → slice_index after.words k + votes_in (k + 1) old ≡ slice_index before.words k
   pub counts : (k : ℕ) → k < 32 → slice_index after.counts k + sits_as (k + 1) old ≡ slice_index before.counts k
-  pub total : after.total + counted old ≡ before.total
+  pub total : after.total + effective_votes old ≡ before.total
 
 -- the running numbers gain what a standing gives them, and its votes are in range
 pub record Gain (before after : ChairTotals) (new : Standing) : Type 0 where
   pub words : (k : ℕ) → k < 32 → slice_index after.words k ≡ slice_index before.words k + votes_in (k + 1) new
   pub counts : (k : ℕ) → k < 32 → slice_index after.counts k ≡ slice_index before.counts k + sits_as (k + 1) new
-  pub total : after.total ≡ before.total + counted new
+  pub total : after.total ≡ before.total + effective_votes new
   pub high : new.votes ≤ 2 ^ 40
 
 -- in the running numbers one standing gives way to another, with votes in range
 pub record Exchange (before after : ChairTotals) (old new : Standing) : Type 0 where
   pub words : (k : ℕ) → k < 32 → slice_index after.words k + votes_in (k + 1) old ≡ slice_index before.words k + votes_in (k + 1) new
   pub counts : (k : ℕ) → k < 32 → slice_index after.counts k + sits_as (k + 1) old ≡ slice_index before.counts k + sits_as (k + 1) new
-  pub total : after.total + counted old ≡ before.total + counted new
+  pub total : after.total + effective_votes old ≡ before.total + effective_votes new
   pub high : new.votes ≤ 2 ^ 40
 
 -- a loss and then a gain are an exchange
@@ -70,13 +70,13 @@ no_one true h = absurd (omega (arith, h))
 no_one false h = refl
 
 -- a chair with no members has no weight
-pub empty_weight : (c : ℕ) (es : List Entry) → seated es c ≡ 0 → sum_by (λ m. votes_in c m.1) es ≡ 0
+pub empty_weight : (c : ℕ) (es : List Entry) → members_in_chair es c ≡ 0 → sum_by (λ m. votes_in c m.1) es ≡ 0
 empty_weight c [] h = refl
 empty_weight c (e ∷ es) h =
     let split = sum_by-cons (λ (m : Entry). sits_as c m.1) e es in
-    let rest : seated es c ≡ 0 = omega (arith, split) in
+    let rest : members_in_chair es c ≡ 0 = omega (arith, split) in
     let here : sits_as c e.1 ≡ 0 = omega (arith, split) in
-    let none : votes_in c e.1 ≡ 0 = ap (λ b. cond b (counted e.1) 0) (no_one (sits_in c e.1) here) in
+    let none : votes_in c e.1 ≡ 0 = ap (λ b. cond b (effective_votes e.1) 0) (no_one (sits_in c e.1) here) in
     omega (arith, none, empty_weight c es rest, sum_by-cons (λ (m : Entry). votes_in c m.1) e es)
 
 same_number : (d : ℕ) → (d == d) ≡ true
@@ -89,13 +89,13 @@ seat_is_open roll (Some d) c fits shut =
     elim (d == c) as (λ b. (d == c) ≡ b → b ≡ false) [ true ↦ λ e. absurd (true≢false (sym fits ∙ ap (is_open roll) (eqb-true d c e) ∙ shut)) | false ↦ λ e. refl ] refl
 
 -- and no member sits in an empty one
-pub seat_is_free : (c : ℕ) (roll : Roll) (code : List ℕ) (s : Standing) → standing_among code roll.members ≡ Some s → seated roll.members c ≡ 0 → sits_in c s ≡ false
+pub seat_is_free : (c : ℕ) (roll : Roll) (code : List ℕ) (s : Standing) → standing_among code roll.members ≡ Some s → members_in_chair roll.members c ≡ 0 → sits_in c s ≡ false
 seat_is_free c roll code s found none =
     let here : sits_as c s ≡ 0 = omega (arith, part_of_sum code (sits_as c) roll.members s found) in
     no_one (sits_in c s) here
 
 -- a member's own chair is open
-pub own_seat : (roll : Roll) (code : List ℕ) (s : Standing) → standing_among code roll.members ≡ Some s → ((c : ℕ) → is_open roll c ≡ false → seated roll.members c ≡ 0)
+pub own_seat : (roll : Roll) (code : List ℕ) (s : Standing) → standing_among code roll.members ≡ Some s → ((c : ℕ) → is_open roll c ≡ false → members_in_chair roll.members c ≡ 0)
     → (chair : Option ℕ) → s.chair ≡ chair → can_receive roll chair ≡ true
 own_seat roll code s found empty None at = refl
 own_seat roll code s found empty (Some d) at =
@@ -104,7 +104,7 @@ own_seat roll code s found empty (Some d) at =
       | false ↦ λ e. absurd (true≢false (sym (ap (λ o. same_chair o (Some d)) at ∙ same_number d) ∙ seat_is_free d roll code s found (empty d e)))
     ] refl
 
-pub own_seats : (roll : Roll) (code : List ℕ) → ((c : ℕ) → is_open roll c ≡ false → seated roll.members c ≡ 0)
+pub own_seats : (roll : Roll) (code : List ℕ) → ((c : ℕ) → is_open roll c ≡ false → members_in_chair roll.members c ≡ 0)
     → (o : Option Standing) → o ≡ standing_among code roll.members → IfSome o (λ s. can_receive roll s.chair ≡ true)
 own_seats roll code empty None at = tt
 own_seats roll code empty (Some s) at = own_seat roll code s (sym at) empty s.chair refl
@@ -118,18 +118,18 @@ not_zero : (n : ℕ) → 0 < n → (n == 0) ≡ false
 not_zero n h = grind (arith, nat_tests, h)
 
 -- a chair has members where the number of them isn't 0
-pub has_members_is : (c : ℕ) (es : List Entry) → list_any (λ m. sits_in c m.1) es ≡ not (seated es c == 0)
+pub has_members_is : (c : ℕ) (es : List Entry) → list_any (λ m. sits_in c m.1) es ≡ not (members_in_chair es c == 0)
 has_members_is c [] = refl
 has_members_is c (e ∷ es) =
     let split = sum_by-cons (λ (m : Entry). sits_as c m.1) e es in
-    elim (sits_in c e.1) as (λ b. seated (e ∷ es) c ≡ cond b 1 0 + seated es c → (b || list_any (λ m. sits_in c m.1) es) ≡ not (seated (e ∷ es) c == 0)) [
+    elim (sits_in c e.1) as (λ b. members_in_chair (e ∷ es) c ≡ cond b 1 0 + members_in_chair es c → (b || list_any (λ m. sits_in c m.1) es) ≡ not (members_in_chair (e ∷ es) c == 0)) [
       | true ↦ λ q. ap not (sym (not_zero _ (omega (arith, q))))
       | false ↦ λ q. has_members_is c es ∙ ap (λ n. not (n == 0)) (sym (omega (arith, q)))
     ] split
 
-pub no_members : (c : ℕ) (es : List Entry) → list_any (λ m. sits_in c m.1) es ≡ false → seated es c ≡ 0
+pub no_members : (c : ℕ) (es : List Entry) → list_any (λ m. sits_in c m.1) es ≡ false → members_in_chair es c ≡ 0
 no_members c es h =
-    elim (seated es c == 0) as (λ b. (seated es c == 0) ≡ b → not b ≡ false → seated es c ≡ 0) [ true ↦ λ e q. eqb-true _ _ e | false ↦ λ e q. absurd (true≢false q) ] refl (sym (has_members_is c es) ∙ h)
+    elim (members_in_chair es c == 0) as (λ b. (members_in_chair es c == 0) ≡ b → not b ≡ false → members_in_chair es c ≡ 0) [ true ↦ λ e q. eqb-true _ _ e | false ↦ λ e q. absurd (true≢false q) ] refl (sym (has_members_is c es) ∙ h)
 
 any_cond : (p : ℕ → Bool) (b : Bool) (xs ys : List ℕ) → list_any p (cond b xs ys) ≡ cond b (list_any p xs) (list_any p ys)
 any_cond p true xs ys = refl
@@ -167,8 +167,8 @@ Mirrors-open roll kept m k small within shut =
       each_word = λ j h. open_word roll kept.totals.words k j within (m.each_word j h) (empty_weight (k + 1) roll.members (m.closed_empty (k + 1) shut));
       each_count = m.each_count;
       same_total = m.same_total;
-      closed_empty = λ c. (elim (c == (k + 1)) as (λ b. (b || is_open roll c) ≡ false → seated roll.members c ≡ 0) [ true ↦ λ e. absurd (true≢false e) | false ↦ λ e. m.closed_empty c e ]);
-      few = m.few;
+      closed_empty = λ c. (elim (c == (k + 1)) as (λ b. (b || is_open roll c) ≡ false → members_in_chair roll.members c ≡ 0) [ true ↦ λ e. absurd (true≢false e) | false ↦ λ e. m.closed_empty c e ]);
+      bound = m.bound;
       small = m.small;
     }
 
@@ -187,11 +187,11 @@ Mirrors-close roll kept m k small within empty =
       each_count = m.each_count;
       same_total = m.same_total;
       closed_empty = λ c shut.
-          elim (k + 1 == c) as (λ b. (k + 1 == c) ≡ b → (not b && is_open roll c) ≡ false → seated roll.members c ≡ 0) [
-            | true ↦ λ e q. subst (λ d. seated roll.members d ≡ 0) (eqb-true _ _ e) (no_members (k + 1) roll.members empty)
+          elim (k + 1 == c) as (λ b. (k + 1 == c) ≡ b → (not b && is_open roll c) ≡ false → members_in_chair roll.members c ≡ 0) [
+            | true ↦ λ e q. subst (λ d. members_in_chair roll.members d ≡ 0) (eqb-true _ _ e) (no_members (k + 1) roll.members empty)
             | false ↦ λ e q. m.closed_empty c q
           ] refl (sym (is_open-closed (k + 1) c roll.open_chairs) ∙ shut);
-      few = m.few;
+      bound = m.bound;
       small = m.small;
     }
 
@@ -208,31 +208,31 @@ Mirrors-update roll kept m code old new known fits after x =
             says = m.each_word k h;
             weighs = sum_with_standing code new (votes_in (k + 1)) roll.members old known;
             moves = x.words k h;
-            none_old = λ shut. ap (λ b. cond b (counted old) 0) (seat_is_free (k + 1) roll code old known (m.closed_empty (k + 1) shut));
-            none_new = λ shut. ap (λ b. cond b (counted new) 0) (seat_is_open roll new.chair (k + 1) fits shut);
+            none_old = λ shut. ap (λ b. cond b (effective_votes old) 0) (seat_is_free (k + 1) roll code old known (m.closed_empty (k + 1) shut));
+            none_new = λ shut. ap (λ b. cond b (effective_votes new) 0) (seat_is_open roll new.chair (k + 1) fits shut);
           });
       each_count = λ k h. omega (arith, sum_with_standing code new (sits_as (k + 1)) roll.members old known, x.counts k h, m.each_count k h);
-      same_total = omega (arith, sum_with_standing code new counted roll.members old known, x.total, m.same_total);
+      same_total = omega (arith, sum_with_standing code new effective_votes roll.members old known, x.total, m.same_total);
       closed_empty = λ c shut.
           let a = sum_with_standing code new (sits_as c) roll.members old known in
           let b : sits_as c new ≡ 0 = ap (λ b. cond b 1 0) (seat_is_open roll new.chair c fits shut) in
           omega (arith, a, b, m.closed_empty c shut);
-      few = rw length-with_standing m.few;
+      bound = rw length-with_standing m.bound;
       small = all_with_standing code new (λ s. s.votes ≤ 2 ^ 40) kept.entries m.small x.high;
     }
 
 -- a member is entered, in no chair
 pub Mirrors-admit : (roll : Roll) (kept : Kept) → IsMirror roll kept → (code : List ℕ) (votes : ℕ) → length roll.members < max_members
-    → (after : ChairTotals) → Gain kept.totals after (fresh votes)
-    → IsMirror (admitted roll code votes) (record { entries = kept.entries ++ entered (code, votes) ∷ []; totals = after })
+    → (after : ChairTotals) → Gain kept.totals after (new_standing votes)
+    → IsMirror (roll_with_member roll code votes) (record { entries = kept.entries ++ new_entry (code, votes) ∷ []; totals = after })
 Mirrors-admit roll kept m code votes room after gain =
-    let more : (f : Standing → ℕ) → sum_by (λ e. f e.1) (roll.members ++ entered (code, votes) ∷ []) ≡ sum_by (λ e. f e.1) roll.members + (0 + f (fresh votes))
-    = λ f. sum_by-append (λ (e : Entry). f e.1) roll.members (entered (code, votes) ∷ []) in
-    let few : length kept.entries < max_members = subst (λ (l : List Entry). length l < max_members) (sym m.same_members) room in
+    let more : (f : Standing → ℕ) → sum_by (λ e. f e.1) (roll.members ++ new_entry (code, votes) ∷ []) ≡ sum_by (λ e. f e.1) roll.members + (0 + f (new_standing votes))
+    = λ f. sum_by-append (λ (e : Entry). f e.1) roll.members (new_entry (code, votes) ∷ []) in
+    let bound : length kept.entries < max_members = subst (λ (l : List Entry). length l < max_members) (sym m.same_members) room in
     record {
-      same_members = ap (λ (l : List Entry). l ++ entered (code, votes) ∷ []) m.same_members;
+      same_members = ap (λ (l : List Entry). l ++ new_entry (code, votes) ∷ []) m.same_members;
       each_word = λ k h.
-          changed_word (is_open roll (k + 1)) (weight roll (k + 1)) (weight (admitted roll code votes) (k + 1)) 0 0 (slice_index kept.totals.words k) (slice_index after.words k)
+          changed_word (is_open roll (k + 1)) (weight roll (k + 1)) (weight (roll_with_member roll code votes) (k + 1)) 0 0 (slice_index kept.totals.words k) (slice_index after.words k)
           (record {
             says = m.each_word k h;
             weighs = omega (arith, more (votes_in (k + 1)));
@@ -241,23 +241,23 @@ Mirrors-admit roll kept m code votes room after gain =
             none_new = λ shut. refl;
           });
       each_count = λ k h. omega (arith, more (sits_as (k + 1)), gain.counts k h, m.each_count k h);
-      same_total = omega (arith, more counted, gain.total, m.same_total);
+      same_total = omega (arith, more effective_votes, gain.total, m.same_total);
       closed_empty = λ c shut. omega (arith, more (sits_as c), m.closed_empty c shut);
-      few = rw length-append (omega (arith, few));
-      small = All-append (λ (e : Entry). e.1.votes ≤ 2 ^ 40) kept.entries (entered (code, votes) ∷ []) m.small (All-from_recursion (λ (e : Entry). e.1.votes ≤ 2 ^ 40) (entered (code, votes) ∷ []) (gain.high, tt));
+      bound = rw length-append (omega (arith, bound));
+      small = All-append (λ (e : Entry). e.1.votes ≤ 2 ^ 40) kept.entries (new_entry (code, votes) ∷ []) m.small (All-from_recursion (λ (e : Entry). e.1.votes ≤ 2 ^ 40) (new_entry (code, votes) ∷ []) (gain.high, tt));
     }
 
 -- a member that sits in no chair leaves
 pub Mirrors-withdraw : (roll : Roll) (kept : Kept) → IsMirror roll kept → (code : List ℕ) (old : Standing) → standing_among code roll.members ≡ Some old → old.chair ≡ None
     → (after : ChairTotals) → Loss kept.totals after old
-    → IsMirror (withdrawn roll code) (record { entries = without code kept.entries; totals = after })
+    → IsMirror (roll_without_member roll code) (record { entries = members_without code kept.entries; totals = after })
 Mirrors-withdraw roll kept m code old known unseated after loss =
-    let no_votes : (c : ℕ) → votes_in c old ≡ 0 = λ c. ap (λ chair. cond (same_chair chair (Some c)) (counted old) 0) unseated in
+    let no_votes : (c : ℕ) → votes_in c old ≡ 0 = λ c. ap (λ chair. cond (same_chair chair (Some c)) (effective_votes old) 0) unseated in
     let no_seat : (c : ℕ) → sits_as c old ≡ 0 = λ c. ap (λ chair. cond (same_chair chair (Some c)) 1 0) unseated in
     record {
-      same_members = ap (without code) m.same_members;
+      same_members = ap (members_without code) m.same_members;
       each_word = λ k h.
-          changed_word (is_open roll (k + 1)) (weight roll (k + 1)) (weight (withdrawn roll code) (k + 1)) (votes_in (k + 1) old) 0 (slice_index kept.totals.words k) (slice_index after.words k)
+          changed_word (is_open roll (k + 1)) (weight roll (k + 1)) (weight (roll_without_member roll code) (k + 1)) (votes_in (k + 1) old) 0 (slice_index kept.totals.words k) (slice_index after.words k)
           (record {
             says = m.each_word k h;
             weighs = omega (arith, sum_without code (votes_in (k + 1)) roll.members old known);
@@ -266,15 +266,15 @@ Mirrors-withdraw roll kept m code old known unseated after loss =
             none_new = λ shut. refl;
           });
       each_count = λ k h. omega (arith, sum_without code (sits_as (k + 1)) roll.members old known, loss.counts k h, m.each_count k h);
-      same_total = omega (arith, sum_without code counted roll.members old known, loss.total, m.same_total);
+      same_total = omega (arith, sum_without code effective_votes roll.members old known, loss.total, m.same_total);
       closed_empty = λ c shut. omega (arith, sum_without code (sits_as c) roll.members old known, no_seat c, m.closed_empty c shut);
-      few = omega (arith, m.few, length-without code kept.entries);
+      bound = omega (arith, m.bound, length-without code kept.entries);
       small = all_without code (λ (s : Standing). s.votes ≤ 2 ^ 40) kept.entries m.small;
     }
 
 -- one more command is accepted, and the rest follows the roll
 pub IsKept-appended : (l : Ledger) (kept : Kept) → IsBeside l kept → (command : Command) (next : Roll) → step (roll_of l) command ≡ Ok next → length l.journal < l.limit → SetsInRange command
-    → (now : Kept) → IsMirror next now → IsBeside (appended l command) now
+    → (now : Kept) → IsMirror next now → IsBeside (ledger_with l command) now
 IsKept-appended l kept beside command next steps room votes now m =
     record {
       begun = beside.begun;

@@ -12,10 +12,10 @@ use Rattle.council_core.specs.declared.commands.Command.{Command}
 use Rattle.council_core.specs.declared.commands.Standing.{Standing}
 use Rattle.council_core.specs.declared.refusals.Refusal.{Refusal}
 use Rattle.council_core.specs.declared.refusals.Refusal.TheVariants.{JournalFull}
-use Rattle.council_core.specs.Rolls.{Roll, Entry, same_code, standing_among, place_among, with_standing, without, entered, fresh, sits_in, counted, votes_in, weight, total, is_open, opened, closed, has_members, admitted, withdrawn, step}
+use Rattle.council_core.specs.Rolls.{Roll, Entry, same_code, standing_among, place_among, with_standing, members_without, new_entry, new_standing, sits_in, effective_votes, votes_in, weight, total, is_open, roll_with_open, roll_with_closed, has_members, roll_with_member, roll_without_member, step}
 use Rattle.council_core.specs.Ledgers.{Ledger, roll_of, room_of}
 use Rattle.council_core.specs.Laws.{SetsInRange}
-use Rattle.council_core.specs.Registers.{IsPlanned, IsOpening, IsClosing, IsChange, IsEntry, IsLeaving, seated, sits_as}
+use Rattle.council_core.specs.Registers.{IsPlanned, OpensChair, IsClosing, IsChange, IsEntry, IsLeaving, members_in_chair, sits_as}
 use Rattle.council_core.proofs.RollLemmas.{insert-with_standing, without-removed, part_of_sum}
 use Rattle.council_core.proofs.MirrorLemmas.{Kept, IsMirror, IsBeside, Loss, Gain, Exchange, Mirrors-open, Mirrors-close, Mirrors-update, Mirrors-admit, Mirrors-withdraw, IsKept-appended, seat_is_free}
 
@@ -29,15 +29,15 @@ room_is l h within =
     [ true ↦ λ e (q : ◌≡◌ {A = Result ⊤ Refusal} (Err JournalFull) (Ok tt)). absurd (cc) | false ↦ λ e q. below _ _ (eqb-false _ _ e) within ] refl h
 
 -- what the weights are bounded by
-pub counted_small : (s : Standing) → s.votes ≤ 2 ^ 40 → counted s ≤ 2 ^ 40
+pub counted_small : (s : Standing) → s.votes ≤ 2 ^ 40 → effective_votes s ≤ 2 ^ 40
 counted_small s h = elim s.suspended as (λ b. cond b 0 s.votes ≤ 2 ^ 40) [ true ↦ omega arith | false ↦ h ]
 
-all_counted : (es : List Entry) → AllByRecursion (λ m. m.1.votes ≤ 2 ^ 40) es → AllByRecursion (λ m. counted m.1 ≤ 2 ^ 40) es
+all_counted : (es : List Entry) → AllByRecursion (λ m. m.1.votes ≤ 2 ^ 40) es → AllByRecursion (λ m. effective_votes m.1 ≤ 2 ^ 40) es
 all_counted [] h = tt
 all_counted (e ∷ es) h = (counted_small e.1 h.0, all_counted es h.1)
 
-votes_in-le : (c : ℕ) (s : Standing) → votes_in c s ≤ counted s
-votes_in-le c s = elim (sits_in c s) as (λ b. cond b (counted s) 0 ≤ counted s) [ true ↦ omega arith | false ↦ omega arith ]
+votes_in-le : (c : ℕ) (s : Standing) → votes_in c s ≤ effective_votes s
+votes_in-le c s = elim (sits_in c s) as (λ b. cond b (effective_votes s) 0 ≤ effective_votes s) [ true ↦ omega arith | false ↦ omega arith ]
 
 sits_as-le : (c : ℕ) (s : Standing) → sits_as c s ≤ 1
 sits_as-le c s = elim (sits_in c s) as (λ b. cond b 1 0 ≤ 1) [ true ↦ omega arith | false ↦ omega arith ]
@@ -48,29 +48,29 @@ all_sits c (e ∷ es) = (sits_as-le c e.1, all_sits c es)
 
 -- all votes together
 pub total_within : (roll : Roll) → length roll.members ≤ 256 → All (λ m. m.1.votes ≤ 2 ^ 40) roll.members → total roll ≤ 2 ^ 48
-total_within roll few small =
-    let most = sum_by-le (λ (m : Entry). counted m.1) (2 ^ 40) roll.members (All-from_recursion _ _ (all_counted roll.members (recursion_from_All _ _ small))) in
-    omega (arith, most, few)
+total_within roll bound small =
+    let most = sum_by-le (λ (m : Entry). effective_votes m.1) (2 ^ 40) roll.members (All-from_recursion _ _ (all_counted roll.members (recursion_from_All _ _ small))) in
+    omega (arith, most, bound)
 
 -- a chair weighs no more than all members
 pub weight_within : (roll : Roll) (c : ℕ) → weight roll c ≤ total roll
-weight_within roll c = sum_by-le-sum_by (λ (m : Entry). votes_in c m.1) (λ (m : Entry). counted m.1) roll.members (λ e. votes_in-le c e.1)
+weight_within roll c = sum_by-le-sum_by (λ (m : Entry). votes_in c m.1) (λ (m : Entry). effective_votes m.1) roll.members (λ e. votes_in-le c e.1)
 
 module _ (roll : Roll) (kept : Kept) (m : IsMirror roll kept) where
   pub total_small : total roll ≤ 2 ^ 48
   total_small =
       total_within roll
-      (subst (λ (l : List Entry). length l ≤ 256) m.same_members m.few)
+      (subst (λ (l : List Entry). length l ≤ 256) m.same_members m.bound)
       (subst (λ (l : List Entry). All (λ m. m.1.votes ≤ 2 ^ 40) l) m.same_members m.small)
 
   pub weight_small : (c : ℕ) → weight roll c ≤ total roll
   weight_small c = weight_within roll c
 
-  pub seated_small : (c : ℕ) → seated roll.members c ≤ 256
+  pub seated_small : (c : ℕ) → members_in_chair roll.members c ≤ 256
   seated_small c =
       let most = sum_by-le (λ (m : Entry). sits_as c m.1) 1 roll.members (All-from_recursion _ _ (all_sits c roll.members)) in
-      let few : length roll.members ≤ 256 = subst (λ (l : List Entry). length l ≤ 256) m.same_members m.few in
-      omega (arith, most, few)
+      let bound : length roll.members ≤ 256 = subst (λ (l : List Entry). length l ≤ 256) m.same_members m.bound in
+      omega (arith, most, bound)
 
   pub word_small : (k : ℕ) → k < 32 → slice_index kept.totals.words k ≤ 2 ^ 48 + 1
   word_small k h =
@@ -84,15 +84,15 @@ module _ (roll : Roll) (kept : Kept) (m : IsMirror roll kept) where
         elim (is_open roll (k + 1)) as (λ b. is_open roll (k + 1) ≡ b → slice_index kept.totals.words k ≡ cond b (weight roll (k + 1) + 1) 0 → votes_in (k + 1) old ≤ slice_index kept.totals.words k) [
           | true ↦ λ p e. omega (arith, e, part_of_sum code (votes_in (k + 1)) roll.members old found)
           | false ↦ λ p e.
-              let none : votes_in (k + 1) old ≡ 0 = ap (λ b. cond b (counted old) 0) (seat_is_free (k + 1) roll code old found (m.closed_empty (k + 1) p)) in
+              let none : votes_in (k + 1) old ≡ 0 = ap (λ b. cond b (effective_votes old) 0) (seat_is_free (k + 1) roll code old found (m.closed_empty (k + 1) p)) in
               omega (arith, e, none)
         ] refl (m.each_word k h)
 
     pub count_holds : (k : ℕ) → k < 32 → sits_as (k + 1) old ≤ slice_index kept.totals.counts k
     count_holds k h = omega (arith, m.each_count k h, part_of_sum code (sits_as (k + 1)) roll.members old found)
 
-    pub total_holds : counted old ≤ kept.totals.total
-    total_holds = omega (arith, m.same_total, part_of_sum code counted roll.members old found)
+    pub total_holds : effective_votes old ≤ kept.totals.total
+    total_holds = omega (arith, m.same_total, part_of_sum code effective_votes roll.members old found)
 
   -- and there is room for a new one in its place
   module _ (old new : Standing) (small : new.votes ≤ 2 ^ 40) where
@@ -102,7 +102,7 @@ module _ (roll : Roll) (kept : Kept) (m : IsMirror roll kept) where
     pub count_fits : (k count : ℕ) → k < 32 → count + sits_as (k + 1) old ≡ slice_index kept.totals.counts k → count + 1 < 2 ^ 16
     count_fits k count h e = omega (arith, e, m.each_count k h, seated_small (k + 1))
 
-    pub total_fits : (rest : ℕ) → rest + counted old ≡ kept.totals.total → rest + counted new < 2 ^ 64
+    pub total_fits : (rest : ℕ) → rest + effective_votes old ≡ kept.totals.total → rest + effective_votes new < 2 ^ 64
     total_fits rest e = omega (arith, e, m.same_total, total_small, counted_small new small)
 
 -- a plan, said of the fields of a register in place of its view, and of the change in place of its match
@@ -130,12 +130,12 @@ module _ (l : Ledger) (command : Command) (a : Accepts l command) where
       (IsKept-appended l a.kept a.beside command next steps (room_is l a.room a.beside.within) a.votes now m)
 
   -- a chair is opened
-  pub IsKept-open : (k c : ℕ) → k + 1 ≡ c → k < 32 → k < length a.kept.totals.words → IsOpening (roll_of l) command c
+  pub IsKept-open : (k c : ℕ) → k + 1 ≡ c → k < 32 → k < length a.kept.totals.words → OpensChair (roll_of l) command c
       → IsAfter (record a.kept { totals = record a.kept.totals { words = slice_set a.kept.totals.words k 1 } })
   IsKept-open k c place small within opening =
       let now : Kept = record a.kept { totals = record a.kept.totals { words = slice_set a.kept.totals.words k 1 } } in
       let m = Mirrors-open (roll_of l) a.kept a.beside.mirrors k small within (ap (is_open (roll_of l)) place ∙ opening.shut) in
-      written (opened (roll_of l) c) opening.effect now (subst (λ (d : ℕ). IsMirror (opened (roll_of l) d) now) place m)
+      written (roll_with_open (roll_of l) c) opening.effect now (subst (λ (d : ℕ). IsMirror (roll_with_open (roll_of l) d) now) place m)
 
   -- a chair is closed
   pub IsKept-close : (k c : ℕ) → k + 1 ≡ c → k < 32 → k < length a.kept.totals.words → IsClosing (roll_of l) command c
@@ -143,7 +143,7 @@ module _ (l : Ledger) (command : Command) (a : Accepts l command) where
   IsKept-close k c place small within closing =
       let now : Kept = record a.kept { totals = record a.kept.totals { words = slice_set a.kept.totals.words k 0 } } in
       let m = Mirrors-close (roll_of l) a.kept a.beside.mirrors k small within (ap (has_members (roll_of l)) place ∙ closing.empty) in
-      written (closed (roll_of l) c) closing.effect now (subst (λ (d : ℕ). IsMirror (closed (roll_of l) d) now) place m)
+      written (roll_with_closed (roll_of l) c) closing.effect now (subst (λ (d : ℕ). IsMirror (roll_with_closed (roll_of l) d) now) place m)
 
   -- a member's standing is changed
   pub IsKept-change : (place : ℕ) (old new : Standing) → (code : List ℕ) × (place_among code (roll_of l).members ≡ Some place) × IsChange (roll_of l) command code old new
@@ -163,10 +163,10 @@ module _ (l : Ledger) (command : Command) (a : Accepts l command) where
 
   -- a member is entered
   pub IsKept-admit : (code : List ℕ) (votes : ℕ) → IsEntry (roll_of l) command code votes
-      → (now : Kept) → Gain a.kept.totals now.totals (fresh votes) → now.entries ≡ a.kept.entries ++ entered (code, votes) ∷ [] → IsAfter now
+      → (now : Kept) → Gain a.kept.totals now.totals (new_standing votes) → now.entries ≡ a.kept.entries ++ new_entry (code, votes) ∷ [] → IsAfter now
   IsKept-admit code votes entry now gain put =
       let m = Mirrors-admit (roll_of l) a.kept a.beside.mirrors code votes entry.room now.totals gain in
-      written (admitted (roll_of l) code votes) entry.effect now (subst (λ (e : List Entry). IsMirror (admitted (roll_of l) code votes) (record { entries = e; totals = now.totals })) (sym put) m)
+      written (roll_with_member (roll_of l) code votes) entry.effect now (subst (λ (e : List Entry). IsMirror (roll_with_member (roll_of l) code votes) (record { entries = e; totals = now.totals })) (sym put) m)
 
   -- a member leaves
   pub IsKept-withdraw : (place : ℕ) (old : Standing) → (code : List ℕ) × (place_among code (roll_of l).members ≡ Some place) × IsLeaving (roll_of l) command code old
@@ -177,6 +177,6 @@ module _ (l : Ledger) (command : Command) (a : Accepts l command) where
       let leaving = planned.2 in
       let at : place_among code es ≡ Some place = ap (place_among code) a.beside.mirrors.same_members ∙ planned.1 in
       let first = (Found-position (same_code code) es place at).first in
-      let same : now.entries ≡ without code es = put ∙ sym (remove_entry-first (same_code code) es place first) ∙ sym (without-removed code es) in
+      let same : now.entries ≡ members_without code es = put ∙ sym (remove_entry-first (same_code code) es place first) ∙ sym (without-removed code es) in
       let m = Mirrors-withdraw (roll_of l) a.kept a.beside.mirrors code old leaving.known leaving.unseated now.totals loss in
-      written (withdrawn (roll_of l) code) leaving.effect now (subst (λ (e : List Entry). IsMirror (withdrawn (roll_of l) code) (record { entries = e; totals = now.totals })) (sym same) m)
+      written (roll_without_member (roll_of l) code) leaving.effect now (subst (λ (e : List Entry). IsMirror (roll_without_member (roll_of l) code) (record { entries = e; totals = now.totals })) (sym same) m)

@@ -7,18 +7,18 @@ use Rattle.std.proofs.lemmas.List.Elements.{All-from_recursion, recursion_from_A
 use Rattle.std.proofs.lemmas.List.Sums.{sum_by-cons}
 use Rattle.council_core.specs.declared.commands.Command.{Command}
 use Rattle.council_core.specs.declared.commands.Standing.{Standing}
-use Rattle.council_core.specs.Rolls.{Roll, Entry, same_code, standing_among, with_standing, without, step, after, fold_from, all_accepted}
+use Rattle.council_core.specs.Rolls.{Roll, Entry, same_code, standing_among, with_standing, members_without, step, next_roll, fold_from, all_accepted}
 
 -- one more command, at the end
-pub fold_from-push : (r : Roll) (xs : List Command) (c : Command) → fold_from r (xs ++ c ∷ []) ≡ after (fold_from r xs) c
+pub fold_from-push : (r : Roll) (xs : List Command) (c : Command) → fold_from r (xs ++ c ∷ []) ≡ next_roll (fold_from r xs) c
 fold_from-push r [] c = refl
-fold_from-push r (x ∷ xs) c = fold_from-push (after r x) xs c
+fold_from-push r (x ∷ xs) c = fold_from-push (next_roll r x) xs c
 
 pub all_accepted-push : (r : Roll) (xs : List Command) (c : Command) → all_accepted r (xs ++ c ∷ []) ≡ (all_accepted r xs && is_ok (step (fold_from r xs) c))
 all_accepted-push r [] c = elim (is_ok (step r c)) as (λ b. (b && true) ≡ (true && b)) [ true ↦ refl | false ↦ refl ]
 all_accepted-push r (x ∷ xs) c =
-    let rest = all_accepted-push (after r x) xs c in
-    elim (is_ok (step r x)) as (λ b. (b && all_accepted (after r x) (xs ++ c ∷ [])) ≡ ((b && all_accepted (after r x) xs) && is_ok (step (fold_from (after r x) xs) c))) [ true ↦ rest | false ↦ refl ]
+    let rest = all_accepted-push (next_roll r x) xs c in
+    elim (is_ok (step r x)) as (λ b. (b && all_accepted (next_roll r x) (xs ++ c ∷ [])) ≡ ((b && all_accepted (next_roll r x) xs) && is_ok (step (fold_from (next_roll r x) xs) c))) [ true ↦ rest | false ↦ refl ]
 
 module _ (code : List ℕ) (new : Standing) where
   -- a member that is there keeps its place
@@ -51,30 +51,30 @@ module _ (code : List ℕ) (new : Standing) where
 
 module _ (code : List ℕ) where
   -- a member leaves
-  pub without-removed : (es : List Entry) → without code es ≡ remove_entry (same_code code) es
+  pub without-removed : (es : List Entry) → members_without code es ≡ remove_entry (same_code code) es
   without-removed [] = refl
   without-removed (e ∷ es) =
-      elim (same_code code e.0) as (λ b. cond b es (e ∷ without code es) ≡ cond b es (e ∷ remove_entry (same_code code) es))
+      elim (same_code code e.0) as (λ b. cond b es (e ∷ members_without code es) ≡ cond b es (e ∷ remove_entry (same_code code) es))
       [ true ↦ refl | false ↦ ap (λ (l : List Entry). e ∷ l) (without-removed es) ]
 
-  pub length-without : (es : List Entry) → length (without code es) ≤ length es
+  pub length-without : (es : List Entry) → length (members_without code es) ≤ length es
   length-without [] = omega arith
   length-without (e ∷ es) =
-      elim (same_code code e.0) as (λ b. length (cond b es (e ∷ without code es)) ≤ length (e ∷ es))
+      elim (same_code code e.0) as (λ b. length (cond b es (e ∷ members_without code es)) ≤ length (e ∷ es))
       [ true ↦ omega arith | false ↦ omega (arith, length-without es) ]
 
   -- a sum over the members gives up what its standing gave
   pub sum_without : (f : Standing → ℕ) (es : List Entry) (old : Standing) → standing_among code es ≡ Some old
-      → sum_by (λ m. f m.1) (without code es) + f old ≡ sum_by (λ m. f m.1) es
+      → sum_by (λ m. f m.1) (members_without code es) + f old ≡ sum_by (λ m. f m.1) es
   sum_without f [] old h = cc
   sum_without f (e ∷ es) old h =
       elim (same_code code e.0) as (λ b. cond b (Some e.1) (standing_among code es) ≡ Some old
-      → sum_by (λ m. f m.1) (cond b es (e ∷ without code es)) + f old ≡ sum_by (λ m. f m.1) (e ∷ es)) [
+      → sum_by (λ m. f m.1) (cond b es (e ∷ members_without code es)) + f old ≡ sum_by (λ m. f m.1) (e ∷ es)) [
         | true ↦ λ q.
             let k : f e.1 ≡ f old = cc in
             omega (arith, k, sum_by-cons (λ (m : Entry). f m.1) e es)
         | false ↦ λ q.
-            omega (arith, sum_without f es old q, sum_by-cons (λ (m : Entry). f m.1) e (without code es), sum_by-cons (λ (m : Entry). f m.1) e es)
+            omega (arith, sum_without f es old q, sum_by-cons (λ (m : Entry). f m.1) e (members_without code es), sum_by-cons (λ (m : Entry). f m.1) e es)
       ] h
 
 -- a member's part of a sum is within it
@@ -97,11 +97,11 @@ all_with_standing code new P es h p = All-from_recursion _ _ (by es (recursion_f
         [ true ↦ (p, h.1) | false ↦ (h.0, by es h.1) ]
 
 -- and those that stay keep it
-pub all_without : (code : List ℕ) (P : Standing → Type 0) (es : List Entry) → All (λ m. P m.1) es → All (λ m. P m.1) (without code es)
+pub all_without : (code : List ℕ) (P : Standing → Type 0) (es : List Entry) → All (λ m. P m.1) es → All (λ m. P m.1) (members_without code es)
 all_without code P es h = All-from_recursion _ _ (by es (recursion_from_All _ _ h))
   where
-    by : (es : List Entry) → AllByRecursion (λ m. P m.1) es → AllByRecursion (λ m. P m.1) (without code es)
+    by : (es : List Entry) → AllByRecursion (λ m. P m.1) es → AllByRecursion (λ m. P m.1) (members_without code es)
     by [] h = tt
     by (e ∷ es) h =
-        elim (same_code code e.0) as (λ b. AllByRecursion (λ m. P m.1) (cond b es (e ∷ without code es)))
+        elim (same_code code e.0) as (λ b. AllByRecursion (λ m. P m.1) (cond b es (e ∷ members_without code es)))
         [ true ↦ h.1 | false ↦ (h.0, by es h.1) ]

@@ -6,7 +6,7 @@ use Rattle.std.proofs.lemmas.List.{get_or_append_left}
 use Rattle.std.proofs.lemmas.List.FromFn.{get_or-map-range_with_len}
 use Rattle.std.proofs.lemmas.Bool.Decides.{nat_tests}
 use Rattle.std.proofs.lemmas.List.Sums.{sum_by-cons}
-use Rattle.council_core.specs.Rolls.{Roll, Entry, same_chair, counted, votes_in, weight, total, is_open, chair_word, chair_numbers, words_of}
+use Rattle.council_core.specs.Rolls.{Roll, Entry, same_chair, effective_votes, votes_in, weight, total, is_open, chair_word, chair_numbers, sheet_words}
 use Rattle.council_core.specs.Sheets.{weight_in}
 
 different : (d a : ℕ) → d < a → (d == a) ≡ false
@@ -51,12 +51,12 @@ same_sums f g [] h = refl
 same_sums f g (c ∷ ns) h = omega (arith, h c, same_sums f g ns h, sum_by-cons f c ns, sum_by-cons g c ns)
 
 -- all chairs together weigh no more than all members
-weights_within : (es : List Entry) (a n : ℕ) → sum_by (λ c. sum_by (λ m. votes_in c m.1) es) (range_with_len a n) ≤ sum_by (λ m. counted m.1) es
+weights_within : (es : List Entry) (a n : ℕ) → sum_by (λ c. sum_by (λ m. votes_in c m.1) es) (range_with_len a n) ≤ sum_by (λ m. effective_votes m.1) es
 weights_within [] a n = omega (arith, no_sum a n)
 weights_within (e ∷ es) a n =
     let ns = range_with_len a n in
     let split = same_sums (λ c. sum_by (λ m. votes_in c m.1) (e ∷ es)) (λ c. votes_in c e.1 + sum_by (λ m. votes_in c m.1) es) ns (λ c. sum_by-cons (λ (m : Entry). votes_in c m.1) e es) in
-    omega (arith, split, sum_of_sums (λ c. votes_in c e.1) (λ c. sum_by (λ m. votes_in c m.1) es) ns, seat_sum (counted e.1) e.1.chair a n, weights_within es a n, sum_by-cons (λ (m : Entry). counted m.1) e es)
+    omega (arith, split, sum_of_sums (λ c. votes_in c e.1) (λ c. sum_by (λ m. votes_in c m.1) es) ns, seat_sum (effective_votes e.1) e.1.chair a n, weights_within es a n, sum_by-cons (λ (m : Entry). effective_votes m.1) e es)
 
 word_weight : (roll : Roll) (c : ℕ) → chair_word roll c - 1 ≤ weight roll c
 word_weight roll c = elim (is_open roll c) as (λ b. cond b (weight roll c + 1) 0 - 1 ≤ weight roll c) [ true ↦ omega arith | false ↦ omega arith ]
@@ -81,12 +81,12 @@ same_words roll words long each =
     kept_words roll words 1 (λ k h. each k (omega (arith, h, long))) ∙ ap (λ n. map (chair_word roll) (range_with_len 1 n)) long
 
 pub sheet_is : (roll : Roll) (words : List ℕ) (t f n : ℕ) → length words ≡ 32 → ((k : ℕ) → k < 32 → slice_index words k ≡ chair_word roll (k + 1)) → t ≡ total roll → f ≡ n
-    → words ++ t ∷ f ∷ [] ≡ words_of roll n
+    → words ++ t ∷ f ∷ [] ≡ sheet_words roll n
 sheet_is roll words t f n long each e g =
     ap (λ (l : List ℕ). l ++ t ∷ f ∷ []) (same_words roll words long each) ∙ ap (λ (x : ℕ). map (chair_word roll) chair_numbers ++ x ∷ f ∷ []) e ∙ ap (λ (x : ℕ). map (chair_word roll) chair_numbers ++ total roll ∷ x ∷ []) g
 
 -- a sheet's number at the place of a chair
-pub word_at : (roll : Roll) (front k : ℕ) → k < 32 → slice_index (words_of roll front) k ≡ chair_word roll (k + 1)
+pub word_at : (roll : Roll) (front k : ℕ) → k < 32 → slice_index (sheet_words roll front) k ≡ chair_word roll (k + 1)
 word_at roll front k h =
     get_or_append_left (map (chair_word roll) chair_numbers) (total roll ∷ front ∷ []) 0 k h
     ∙ get_or-map-range_with_len (chair_word roll) 1 32 k (k + 1) 0 h (omega arith)

@@ -6,11 +6,11 @@ use Rattle.std.proofs.lemmas.Bool.Decides.{nat_tests}
 use Rattle.std.proofs.lemmas.List.{length-map}
 use Rattle.std.proofs.lemmas.List.Elements.{All-from_recursion, recursion_from_All}
 use Rattle.std.proofs.lemmas.List.Sums.{sum_by-cons}
-use Rattle.council_core.specs.Rolls.{Entry, Opening, entered, same_code, standing_among, counted}
+use Rattle.council_core.specs.Rolls.{Entry, Opening, new_entry, same_code, standing_among, effective_votes}
 use Rattle.council_core.specs.Ledgers.{has_duplicate, start_verdict}
 use Rattle.council_core.specs.declared.refusals.Refusal.{Refusal}
 use Rattle.council_core.specs.declared.refusals.Refusal.TheVariants.{BadLimit, DuplicateMember, TooManyMembers}
-use Rattle.council_core.specs.Registers.{seated, sits_as}
+use Rattle.council_core.specs.Registers.{members_in_chair, sits_as}
 use Rattle.council_core.specs.Laws.{IsOpening, SetsInRange}
 use Rattle.council_core.proofs.MirrorLemmas.{Kept, IsBeside}
 
@@ -28,12 +28,12 @@ no_right true b h = absurd (true≢false h)
 no_right false b h = h
 
 -- where no two codes are the same, none is among those before it
-not_before : (xs : Opening) (m : List ℕ × ℕ) (ys : Opening) → has_duplicate (xs ++ m ∷ ys) ≡ false → standing_among m.0 (map entered xs) ≡ None
+not_before : (xs : Opening) (m : List ℕ × ℕ) (ys : Opening) → has_duplicate (xs ++ m ∷ ys) ≡ false → standing_among m.0 (map new_entry xs) ≡ None
 not_before [] m ys h = refl
 not_before (x ∷ xs) m ys h =
     let later : list_any (λ n. same_code n.0 x.0) (xs ++ m ∷ ys) ≡ false = no_left _ (has_duplicate (xs ++ m ∷ ys)) h in
     let off : same_code m.0 x.0 ≡ false = among xs later in
-    ap (λ b. cond b (Some (entered x).1) (standing_among m.0 (map entered xs))) off ∙ not_before xs m ys (no_right (list_any (λ n. same_code n.0 x.0) (xs ++ m ∷ ys)) _ h)
+    ap (λ b. cond b (Some (new_entry x).1) (standing_among m.0 (map new_entry xs))) off ∙ not_before xs m ys (no_right (list_any (λ n. same_code n.0 x.0) (xs ++ m ∷ ys)) _ h)
   where
     among : (zs : Opening) → list_any (λ n. same_code n.0 x.0) (zs ++ m ∷ ys) ≡ false → same_code m.0 x.0 ≡ false
     among [] q = no_left _ _ q
@@ -44,28 +44,28 @@ split_here [] i m h at = absurd (omega arith)
 split_here (x ∷ xs) zero m h at = ap (λ (y : List ℕ × ℕ). y ∷ xs) (sym at)
 split_here (x ∷ xs) (suc i) m h at = ap (λ (l : Opening). x ∷ l) (split_here xs i m (omega arith) at)
 
-pub fresh : (members : Opening) (i : ℕ) (m : List ℕ × ℕ) → has_duplicate members ≡ false → i < length members → m ≡ get_or members i m → standing_among m.0 (map entered (take i members)) ≡ None
+pub fresh : (members : Opening) (i : ℕ) (m : List ℕ × ℕ) → has_duplicate members ≡ false → i < length members → m ≡ get_or members i m → standing_among m.0 (map new_entry (take i members)) ≡ None
 fresh members i m none within at =
     let split : members ≡ take i members ++ (m ∷ drop (suc i) members) = split_here members i m within at in
     not_before (take i members) m (drop (suc i) members) (ap has_duplicate (sym split) ∙ none)
 
-start_seated : (opening : Opening) (c : ℕ) → seated (map entered opening) c ≡ 0
+start_seated : (opening : Opening) (c : ℕ) → members_in_chair (map new_entry opening) c ≡ 0
 start_seated [] c = refl
-start_seated (m ∷ ms) c = omega (arith, start_seated ms c, sum_by-cons (λ (e : Entry). sits_as c e.1) (entered m) (map entered ms))
+start_seated (m ∷ ms) c = omega (arith, start_seated ms c, sum_by-cons (λ (e : Entry). sits_as c e.1) (new_entry m) (map new_entry ms))
 
-start_total : (opening : Opening) → sum_by (λ (e : Entry). counted e.1) (map entered opening) ≡ sum_by (λ (m : List ℕ × ℕ). m.1) opening
+start_total : (opening : Opening) → sum_by (λ (e : Entry). effective_votes e.1) (map new_entry opening) ≡ sum_by (λ (m : List ℕ × ℕ). m.1) opening
 start_total [] = refl
-start_total (m ∷ ms) = omega (arith, start_total ms, sum_by-cons (λ (e : Entry). counted e.1) (entered m) (map entered ms), sum_by-cons (λ (m : List ℕ × ℕ). m.1) m ms)
+start_total (m ∷ ms) = omega (arith, start_total ms, sum_by-cons (λ (e : Entry). effective_votes e.1) (new_entry m) (map new_entry ms), sum_by-cons (λ (m : List ℕ × ℕ). m.1) m ms)
 
-pub start_small : (opening : Opening) → AllByRecursion (λ m. m.1 ≤ 2 ^ 40) opening → AllByRecursion (λ (e : Entry). e.1.votes ≤ 2 ^ 40) (map entered opening)
+pub start_small : (opening : Opening) → AllByRecursion (λ m. m.1 ≤ 2 ^ 40) opening → AllByRecursion (λ (e : Entry). e.1.votes ≤ 2 ^ 40) (map new_entry opening)
 start_small [] h = tt
 start_small (m ∷ ms) h = (h.0, start_small ms h.1)
 
 -- a register at its start: the members given, no weight and no member in any chair, and all their
 -- votes
 pub record IsStart (opening : Opening) (limit : ℕ) (kept : Kept) : Type 0 where
-  pub made : kept.entries ≡ map entered opening
-  pub few : length opening ≤ 256
+  pub made : kept.entries ≡ map new_entry opening
+  pub bound : length opening ≤ 256
   pub apart : has_duplicate opening ≡ false
   pub small : limit ≤ 1000000
   pub words : (k : ℕ) → slice_index kept.totals.words k ≡ 0
@@ -76,7 +76,7 @@ pub record IsStart (opening : Opening) (limit : ℕ) (kept : Kept) : Type 0 wher
 pub IsKept-start : (opening : Opening) (limit : ℕ) (kept : Kept) → IsStart opening limit kept → IsBeside (record { opening = opening; journal = []; limit = limit }) kept
 IsKept-start opening limit kept start =
     record {
-      begun = record { few = start.few; apart = start.apart; small = start.votes };
+      begun = record { bound = start.bound; apart = start.apart; small = start.votes };
       votes = All-from_recursion SetsInRange [] tt;
       legal = refl;
       within = omega arith;
@@ -87,7 +87,7 @@ IsKept-start opening limit kept start =
         each_count = λ k h. start.counts k ∙ sym (start_seated opening (k + 1));
         same_total = start.total ∙ sym (start_total opening);
         closed_empty = λ c h. start_seated opening c;
-        few = subst (λ (l : List Entry). length l ≤ 256) (sym start.made) (rw length-map start.few);
+        bound = subst (λ (l : List Entry). length l ≤ 256) (sym start.made) (rw length-map start.bound);
         small = subst (λ (l : List Entry). All (λ m. m.1.votes ≤ 2 ^ 40) l) (sym start.made) (All-from_recursion _ _ (start_small opening (recursion_from_All _ _ start.votes)));
       };
     }
@@ -118,9 +118,9 @@ pub starts : (opening : Opening) (limit : ℕ) → All (λ m. m.1 ≤ 2 ^ 40) op
 starts opening limit small = (
   λ h.
       let none = none_refused _ _ _ h in
-      (not_zero limit (no_left _ _ none.0), not_above 1000000 limit (no_right (limit == 0) _ none.0), record { few = not_above 256 (length opening) none.1; apart = none.2; small = small }),
+      (not_zero limit (no_left _ _ none.0), not_above 1000000 limit (no_right (limit == 0) _ none.0), record { bound = not_above 256 (length opening) none.1; apart = none.2; small = small }),
   λ is.
       ap (λ b. refusals b (nat_lt 256 (length opening)) (has_duplicate opening)) (ap (λ b. b || nat_lt 1000000 limit) (is_some_number limit is.0) ∙ is_above 1000000 limit is.1)
-      ∙ ap (λ b. refusals false b (has_duplicate opening)) (is_above 256 (length opening) is.2.few)
+      ∙ ap (λ b. refusals false b (has_duplicate opening)) (is_above 256 (length opening) is.2.bound)
       ∙ ap (λ b. refusals false false b) is.2.apart,
 )

@@ -3,8 +3,8 @@ use Rattle.std.proofs.Common.{◌≡◌, ◌^◌, ℕ, List, [], ◌∷◌, ◌+
 use Rattle.std.specs.List.{range_with_len}
 use Rattle.council_core.specs.Refusals.{code_of, every_refusal, refusal_of}
 use Rattle.council_core.specs.Ledgers.{start_verdict}
-use Rattle.council_core.specs.Rolls.{Roll, Opening, entered, admit_member, sheet, cast, roll_after}
-use Rattle.council_core.specs.Coalitions.{eta_of, omega_of, reaching}
+use Rattle.council_core.specs.Rolls.{Roll, Opening, new_entry, admit_member, sheet, cast, roll_after}
+use Rattle.council_core.specs.Coalitions.{eta_of, omega_of, threshold_rule}
 use Rattle.council_core.specs.Sheets.{Chair}
 use Rattle.council_core.specs.Sequential.{Sequential, submit, publish, read, accepted, refused, published, reading, replies_of}
 use Rattle.council_core.specs.declared.limits.TheConstants.{MAX_COMMANDS, MAX_MEMBERS, MAX_TOTAL, MAX_VOTES}
@@ -77,7 +77,7 @@ journal_full_of_members = refl
 
 -- as many members as there may be
 abbrev full_roll : Roll
-full_roll = record { members = replicate 256 (entered (AAA, 1)); open_chairs = [] }
+full_roll = record { members = replicate 256 (new_entry (AAA, 1)); open_chairs = [] }
 
 pub no_257th_member : (admit_member full_roll AAA 1 ≡ Err MemberExists) × (admit_member full_roll BBB 1 ≡ Err TooManyMembers)
 no_257th_member = (refl, refl)
@@ -86,16 +86,16 @@ no_257th_member = (refl, refl)
 abbrev pub three : List Chair
 three = (1, 50) ∷ (2, 49) ∷ (3, 1) ∷ []
 
-pub three_win : omega_of (reaching 51 0) three ≡ 3
+pub three_win : omega_of (threshold_rule 51 0) three ≡ 3
 three_win = refl
 
-pub swings_of_first : eta_of (reaching 51 0) (1, 50) three ≡ 3
+pub swings_of_first : eta_of (threshold_rule 51 0) (1, 50) three ≡ 3
 swings_of_first = refl
 
-pub swings_of_second : eta_of (reaching 51 0) (2, 49) three ≡ 1
+pub swings_of_second : eta_of (threshold_rule 51 0) (2, 49) three ≡ 1
 swings_of_second = refl
 
-pub swings_of_third : eta_of (reaching 51 0) (3, 1) three ≡ 1
+pub swings_of_third : eta_of (threshold_rule 51 0) (3, 1) three ≡ 1
 swings_of_third = refl
 
 -- the limits by number, which definitions name

@@ -6,7 +6,7 @@ use Rattle.std.specs.Cmp.Lexicographic.{pointwise}
 use Rattle.council_core.specs.declared.limits.TheConstants.{MAX_COMMANDS, MAX_MEMBERS, MAX_VOTES}
 use Rattle.council_core.specs.Coalitions.{subsets}
 use Rattle.council_core.specs.Ledgers.{has_duplicate, start_verdict}
-use Rattle.council_core.specs.Rolls.{Opening, Roll, IsLegal, cast, sheet, words_of}
+use Rattle.council_core.specs.Rolls.{Opening, Roll, IsLegal, cast, sheet, sheet_words}
 use Rattle.council_core.specs.Sheets.{Chair, IsSheet, cast_of, front_of, open_chairs, weight_of}
 use Rattle.council_core.specs.declared.commands.Command.{Command}
 use Rattle.council_core.specs.declared.commands.Command.TheVariants.{Open, Close, Move, SetVotes, Suspend, Restore}
@@ -14,7 +14,7 @@ use Rattle.council_core.specs.declared.commands.Command.TheVariants.{Admit, With
 
 -- the cast of a roll, counted by its members, is the cast that its sheet shows
 abbrev pub CastLaw : Type 0
-CastLaw = (roll : Roll) (front : ℕ) → cast roll ≡ cast_of (words_of roll front)
+CastLaw = (roll : Roll) (front : ℕ) → cast roll ≡ cast_of (sheet_words roll front)
 
 -- the weights of the open chairs of a sheet add up to its cast
 abbrev pub WeightsLaw : Type 0
@@ -46,7 +46,7 @@ FrontLaw = (opening : Opening) (commands : List Command) (front : ℕ) → front
 
 -- members with which a register can start: at most MAX_MEMBERS, no code twice, and votes in range
 pub record IsOpening (opening : Opening) : Type 0 where
-  pub few : length opening ≤ MAX_MEMBERS
+  pub bound : length opening ≤ MAX_MEMBERS
   pub apart : has_duplicate opening ≡ false
   pub small : All (λ m. m.1 ≤ MAX_VOTES) opening
 

@@ -41,8 +41,8 @@ abbrev pub verdict_of : Ledger → Command → Result ⊤ Refusal
 verdict_of l command = verdict (step (roll_of l) command) (room_of l)
 
 -- the ledger with one more accepted command
-abbrev pub appended : Ledger → Command → Ledger
-appended l command = record l { journal = l.journal ++ command ∷ [] }
+abbrev pub ledger_with : Ledger → Command → Ledger
+ledger_with l command = record l { journal = l.journal ++ command ∷ [] }
 
 -- whether two members have the same code
 abbrev pub has_duplicate : Opening → Bool

@@ -2,7 +2,7 @@
 use Rattle.std.specs.Prelude.{◌≡◌, ℕ, ◌+◌, ◌≤◌, ◌<◌, true, false, if◌then◌else◌}
 use Rattle.std.specs.Prelude.{List, length, sum_by, All, slice_index, None, Some, Ok}
 use Rattle.council_core.specs.Rolls.{Roll, Entry, chair_word, sits_in, total, is_open, can_receive, standing_among}
-use Rattle.council_core.specs.Rolls.{place_among, has_members, opened, closed, admitted, withdrawn, max_members, step}
+use Rattle.council_core.specs.Rolls.{place_among, has_members, roll_with_open, roll_with_closed, roll_with_member, roll_without_member, max_members, step}
 use Rattle.council_core.specs.Rolls.{update, all_accepted, opening_roll}
 use Rattle.council_core.specs.declared.limits.TheConstants.{CHAIRS, MAX_COMMANDS, MAX_VOTES}
 use Rattle.council_core.specs.declared.changes.Change.{Change}
@@ -18,18 +18,18 @@ abbrev pub sits_as : ℕ → Standing → ℕ
 sits_as c s = if sits_in c s then 1 else 0
 
 -- the number of members that sit in a chair, suspended or not
-abbrev pub seated : List Entry → ℕ → ℕ
-seated members c = sum_by (λ m. sits_as c m.1) members
+abbrev pub members_in_chair : List Entry → ℕ → ℕ
+members_in_chair members c = sum_by (λ m. sits_as c m.1) members
 
 -- the stored members are those of the roll, and so are each chair's word and number of members, and
 -- the total
 pub record Mirrors (roll : Roll) (entries : List Entry) (words counts : List ℕ) (sum : ℕ) : Type 0 where
   pub same_members : entries ≡ roll.members
   pub each_word : (k : ℕ) → k < CHAIRS → slice_index words k ≡ chair_word roll (k + 1)
-  pub each_count : (k : ℕ) → k < CHAIRS → slice_index counts k ≡ seated roll.members (k + 1)
+  pub each_count : (k : ℕ) → k < CHAIRS → slice_index counts k ≡ members_in_chair roll.members (k + 1)
   pub same_total : sum ≡ total roll
-  pub closed_empty : (c : ℕ) → is_open roll c ≡ false → seated roll.members c ≡ 0
-  pub few : length entries ≤ max_members
+  pub closed_empty : (c : ℕ) → is_open roll c ≡ false → members_in_chair roll.members c ≡ 0
+  pub bound : length entries ≤ max_members
   pub small : All (λ m. m.1.votes ≤ MAX_VOTES) entries
 
 -- the invariant of every register: members with which a register can start, commands that set votes
@@ -44,14 +44,14 @@ pub record IsKept (ledger : Ledger) (entries : List Entry) (words counts : List 
   pub mirrors : Mirrors (roll_of ledger) entries words counts sum
 
 -- the command opens a chair that is closed
-pub record IsOpening (roll : Roll) (command : Command) (chair : ℕ) : Type 0 where
+pub record OpensChair (roll : Roll) (command : Command) (chair : ℕ) : Type 0 where
   pub shut : is_open roll chair ≡ false
-  pub effect : step roll command ≡ Ok (opened roll chair)
+  pub effect : step roll command ≡ Ok (roll_with_open roll chair)
 
 -- the command closes an open chair that has no members
 pub record IsClosing (roll : Roll) (command : Command) (chair : ℕ) : Type 0 where
   pub empty : has_members roll chair ≡ false
-  pub effect : step roll command ≡ Ok (closed roll chair)
+  pub effect : step roll command ≡ Ok (roll_with_closed roll chair)
 
 -- the command gives the member with this code a new standing, and changes nothing else
 pub record IsChange (roll : Roll) (command : Command) (code : List ℕ) (old new : Standing) : Type 0 where
@@ -63,17 +63,17 @@ pub record IsChange (roll : Roll) (command : Command) (code : List ℕ) (old new
 pub record IsEntry (roll : Roll) (command : Command) (code : List ℕ) (votes : ℕ) : Type 0 where
   pub unknown : standing_among code roll.members ≡ None
   pub room : length roll.members < max_members
-  pub effect : step roll command ≡ Ok (admitted roll code votes)
+  pub effect : step roll command ≡ Ok (roll_with_member roll code votes)
 
 -- the command removes the member with this code, which sits in no chair
 pub record IsLeaving (roll : Roll) (command : Command) (code : List ℕ) (old : Standing) : Type 0 where
   pub known : standing_among code roll.members ≡ Some old
   pub unseated : old.chair ≡ None
-  pub effect : step roll command ≡ Ok (withdrawn roll code)
+  pub effect : step roll command ≡ Ok (roll_without_member roll code)
 
 -- the effect of the command on the roll is this change
 abbrev pub IsPlanned : Roll → Command → Change → Type 0
-IsPlanned roll command (change.Open chair) = IsOpening roll command chair
+IsPlanned roll command (change.Open chair) = OpensChair roll command chair
 IsPlanned roll command (change.Close chair) = IsClosing roll command chair
 IsPlanned roll command (change.Stand place old new) =
     (code : List ℕ) × (place_among code roll.members ≡ Some place) × IsChange roll command code old new

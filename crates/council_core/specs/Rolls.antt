@@ -41,14 +41,14 @@ abbrev pub Opening : Type 0
 Opening = List (List ℕ × ℕ)
 
 -- the standing of a newly entered member: in no chair, not suspended
-abbrev pub fresh : ℕ → Standing
-fresh votes = record { votes = votes; chair = None; suspended = false }
+abbrev pub new_standing : ℕ → Standing
+new_standing votes = record { votes = votes; chair = None; suspended = false }
 
-abbrev pub entered : List ℕ × ℕ → Entry
-entered m = (m.0, fresh m.1)
+abbrev pub new_entry : List ℕ × ℕ → Entry
+new_entry m = (m.0, new_standing m.1)
 
 abbrev pub opening_roll : Opening → Roll
-opening_roll opening = record { members = map entered opening; open_chairs = [] }
+opening_roll opening = record { members = map new_entry opening; open_chairs = [] }
 
 abbrev pub is_open : Roll → ℕ → Bool
 is_open r c = list_any (λ d. c == d) r.open_chairs
@@ -70,9 +70,9 @@ with_standing code s [] = []
 with_standing code s (m ∷ ms) = if same_code code m.0 then (m.0, s) ∷ ms else m ∷ with_standing code s ms
 
 -- the members without the one with this code; those after it move up
-abbrev pub without : List ℕ → List Entry → List Entry
-without code [] = []
-without code (m ∷ ms) = if same_code code m.0 then ms else m ∷ without code ms
+abbrev pub members_without : List ℕ → List Entry → List Entry
+members_without code [] = []
+members_without code (m ∷ ms) = if same_code code m.0 then ms else m ∷ members_without code ms
 
 -- the index of the member with this code, or None
 abbrev pub place_among : List ℕ → List Entry → Option ℕ
@@ -81,19 +81,19 @@ place_among code ms = position (same_code code) (keys_of ms)
 abbrev pub update : Roll → List ℕ → Standing → Result Roll Refusal
 update r code s = Ok (record r { members = with_standing code s r.members })
 
-abbrev pub opened : Roll → ℕ → Roll
-opened r c = record r { open_chairs = c ∷ r.open_chairs }
+abbrev pub roll_with_open : Roll → ℕ → Roll
+roll_with_open r c = record r { open_chairs = c ∷ r.open_chairs }
 
 abbrev pub open_chair : Roll → ℕ → Result Roll Refusal
-open_chair r c = if is_open r c then Err ChairOpen else Ok (opened r c)
+open_chair r c = if is_open r c then Err ChairOpen else Ok (roll_with_open r c)
 
-abbrev pub closed : Roll → ℕ → Roll
-closed r c = record r { open_chairs = filter (λ d. not (c == d)) r.open_chairs }
+abbrev pub roll_with_closed : Roll → ℕ → Roll
+roll_with_closed r c = record r { open_chairs = filter (λ d. not (c == d)) r.open_chairs }
 
 abbrev pub close_chair : Roll → ℕ → Result Roll Refusal
 close_chair r c =
     if is_open r c
-    then (if has_members r c then Err ChairHasMembers else Ok (closed r c))
+    then (if has_members r c then Err ChairHasMembers else Ok (roll_with_closed r c))
     else Err ChairNotOpen
 
 -- whether this is no chair or an open one
@@ -122,20 +122,20 @@ abbrev pub max_members : ℕ
 max_members = MAX_MEMBERS
 
 -- the roll with one more member, last in the order of entry
-abbrev pub admitted : Roll → List ℕ → ℕ → Roll
-admitted r code votes = record r { members = r.members ++ entered (code, votes) ∷ [] }
+abbrev pub roll_with_member : Roll → List ℕ → ℕ → Roll
+roll_with_member r code votes = record r { members = r.members ++ new_entry (code, votes) ∷ [] }
 
 abbrev pub admit_member : Roll → List ℕ → ℕ → Result Roll Refusal
 admit_member r code votes =
     if is_some (standing_among code r.members) then Err MemberExists
-    else (if nat_le max_members (length r.members) then Err TooManyMembers else Ok (admitted r code votes))
+    else (if nat_le max_members (length r.members) then Err TooManyMembers else Ok (roll_with_member r code votes))
 
-abbrev pub withdrawn : Roll → List ℕ → Roll
-withdrawn r code = record r { members = without code r.members }
+abbrev pub roll_without_member : Roll → List ℕ → Roll
+roll_without_member r code = record r { members = members_without code r.members }
 
 -- a member that sits in a chair, suspended or not, cannot leave
 abbrev pub withdraw_member : Roll → List ℕ → Standing → Result Roll Refusal
-withdraw_member r code s = if is_some s.chair then Err MemberSeated else Ok (withdrawn r code)
+withdraw_member r code s = if is_some s.chair then Err MemberSeated else Ok (roll_without_member r code)
 
 -- the next roll, or the first refusal
 abbrev pub step : Roll → Command → Result Roll Refusal
@@ -149,37 +149,37 @@ step r (Admit code votes) = admit_member r code votes
 step r (Withdraw code) = with_member r code (withdraw_member r code)
 
 -- the roll after a command; a refused command leaves it unchanged
-abbrev pub after : Roll → Command → Roll
-after r command = result_unwrap_or (step r command) r
+abbrev pub next_roll : Roll → Command → Roll
+next_roll r command = result_unwrap_or (step r command) r
 
 -- the roll after all commands of a list
 abbrev pub fold_from : Roll → List Command → Roll
 fold_from r [] = r
-fold_from r (command ∷ rest) = fold_from (after r command) rest
+fold_from r (command ∷ rest) = fold_from (next_roll r command) rest
 
 abbrev pub roll_after : Opening → List Command → Roll
 roll_after opening commands = fold_from (opening_roll opening) commands
 
 abbrev pub all_accepted : Roll → List Command → Bool
 all_accepted r [] = true
-all_accepted r (command ∷ rest) = is_ok (step r command) && all_accepted (after r command) rest
+all_accepted r (command ∷ rest) = is_ok (step r command) && all_accepted (next_roll r command) rest
 
 -- each command is accepted at its turn, and there are at most MAX_COMMANDS
 abbrev pub IsLegal : Opening → List Command → Type 0
 IsLegal opening commands = IsTrue (all_accepted (opening_roll opening) commands) × (length commands ≤ MAX_COMMANDS)
 
 -- the votes of a member that count: none while it is suspended
-abbrev pub counted : Standing → ℕ
-counted s = if s.suspended then 0 else s.votes
+abbrev pub effective_votes : Standing → ℕ
+effective_votes s = if s.suspended then 0 else s.votes
 
 abbrev pub votes_in : ℕ → Standing → ℕ
-votes_in c s = if sits_in c s then counted s else 0
+votes_in c s = if sits_in c s then effective_votes s else 0
 
 abbrev pub weight : Roll → ℕ → ℕ
 weight r c = sum_by (λ m. votes_in c m.1) r.members
 
 abbrev pub total : Roll → ℕ
-total r = sum_by (λ m. counted m.1) r.members
+total r = sum_by (λ m. effective_votes m.1) r.members
 
 -- the numbers of all chairs
 abbrev pub chair_numbers : List ℕ
@@ -193,8 +193,8 @@ abbrev pub chair_word : Roll → ℕ → ℕ
 chair_word r c = if is_open r c then weight r c + 1 else 0
 
 -- the numbers of a roll's sheet; `front` is the number of accepted commands
-abbrev pub words_of : Roll → ℕ → List ℕ
-words_of r front = map (chair_word r) chair_numbers ++ total r ∷ front ∷ []
+abbrev pub sheet_words : Roll → ℕ → List ℕ
+sheet_words r front = map (chair_word r) chair_numbers ++ total r ∷ front ∷ []
 
 abbrev pub sheet : Opening → List Command → List ℕ
-sheet opening commands = words_of (roll_after opening commands) (length commands)
+sheet opening commands = sheet_words (roll_after opening commands) (length commands)

@@ -4,7 +4,7 @@ use Rattle.std.specs.Prelude.{⊤, Contains, All}
 use Rattle.std.specs.List.Sorted.{IsNonDecreasing}
 use Rattle.council_core.specs.Rolls.{Opening, IsLegal, sheet}
 use Rattle.council_core.specs.Sheets.{front_of}
-use Rattle.council_core.specs.Ledgers.{Ledger, verdict_of, appended}
+use Rattle.council_core.specs.Ledgers.{Ledger, verdict_of, ledger_with}
 use Rattle.council_core.specs.declared.refusals.Refusal.{Refusal}
 use Rattle.council_core.specs.declared.commands.Command.{Command}
 
@@ -24,30 +24,30 @@ pub data Reply : Type 0 where
   reading : List ℕ → Reply
 
 -- the published sheet
-abbrev pub shown : Sequential → List ℕ
-shown s = sheet s.ledger.opening (take s.published s.ledger.journal)
+abbrev pub published_sheet : Sequential → List ℕ
+published_sheet s = sheet s.ledger.opening (take s.published s.ledger.journal)
 
 -- the state and the reply after a submitted command; a refused command changes nothing
-abbrev pub submitted : Sequential → Command → Result ⊤ Refusal → Sequential × Reply
-submitted s command (Ok u) = (record s { ledger = appended s.ledger command }, accepted (length s.ledger.journal + 1))
-submitted s command (Err e) = (s, refused e)
+abbrev pub submit_response : Sequential → Command → Result ⊤ Refusal → Sequential × Reply
+submit_response s command (Ok u) = (record s { ledger = ledger_with s.ledger command }, accepted (length s.ledger.journal + 1))
+submit_response s command (Err e) = (s, refused e)
 
 -- the next state and the reply
-abbrev pub respond : Sequential → Call → Sequential × Reply
-respond s (submit command) =
-    submitted s command (verdict_of s.ledger command)
-respond s publish = (record s { published = length s.ledger.journal }, published (length s.ledger.journal))
-respond s read = (s, reading (shown s))
+abbrev pub response_to : Sequential → Call → Sequential × Reply
+response_to s (submit command) =
+    submit_response s command (verdict_of s.ledger command)
+response_to s publish = (record s { published = length s.ledger.journal }, published (length s.ledger.journal))
+response_to s read = (s, reading (published_sheet s))
 
 -- the replies to a list of calls
 abbrev pub replies_of : Sequential → List Call → List Reply
 replies_of s [] = []
-replies_of s (call ∷ calls) = (respond s call).1 ∷ replies_of (respond s call).0 calls
+replies_of s (call ∷ calls) = (response_to s call).1 ∷ replies_of (response_to s call).0 calls
 
 -- the state after a list of calls
 abbrev pub state_after : Sequential → List Call → Sequential
 state_after s [] = s
-state_after s (call ∷ calls) = state_after (respond s call).0 calls
+state_after s (call ∷ calls) = state_after (response_to s call).0 calls
 
 -- cuts: ascending, each at most the number of commands
 abbrev pub AreCuts : List Command → List ℕ → Type 0

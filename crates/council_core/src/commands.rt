@@ -1,6 +1,6 @@
 //! The commands that change the register, and its record of a member.
 ghost use Rattle.std.specs.Prelude.{◌≡◌, ◌≤◌};
-ghost use Rattle.council_core.specs.Rolls.{fresh};
+ghost use Rattle.council_core.specs.Rolls.{new_standing};
 ghost use Rattle.council_core.specs.Laws.{SetsInRange};
 
 use crate::limits::MAX_VOTES;
@@ -57,7 +57,7 @@ pub struct Standing {
 impl Standing {
     // The standing of a newly entered member.
     pub(crate) fn fresh(votes: Votes) -> Standing
-        ensures same { result ≡ fresh votes }
+        ensures same { result ≡ new_standing votes }
         ensures small { votes ≤ MAX_VOTES }
     {
         // The prover needs this line: the votes are in range.

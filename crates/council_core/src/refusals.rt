@@ -106,7 +106,7 @@ macro_rules! refusals {
             WriteFault: "the output could not be written",
             BadHeader: "the first record is not 'member,votes'",
             BadReader: "there is no reader of this number",
-            Busy: "a reader is in the way of the publication",
+            Busy: "a reader is blocking the publication",
             Mismatch: "a reading is not the sheet of a publication, or is older than the one before",
             MemberExists: "a member has this code already",
             MemberSeated: "the member sits in a chair",

@@ -10,7 +10,7 @@ ghost use Rattle.council_core.specs.Rolls.{has_members};
 ghost use Rattle.council_core.specs.Laws.{IsOpening, SetsInRange};
 ghost use Rattle.council_core.specs.Verdicts.{Follows};
 ghost use Rattle.council_core.specs.Registers.{IsPlanned};
-ghost use Rattle.council_core.specs.Ledgers.{Ledger, IsLedger, roll_of, verdict_of, room_of, appended, sheet_of};
+ghost use Rattle.council_core.specs.Ledgers.{Ledger, IsLedger, roll_of, verdict_of, room_of, ledger_with, sheet_of};
 ghost use Rattle.council_core.specs.Ledgers.{has_duplicate, start_verdict};
 ghost use Rattle.council_core.specs.declared.commands.Command.TheVariants.{Open, Close, Move, SetVotes, Suspend};
 ghost use Rattle.council_core.specs.declared.commands.Command.TheVariants.{Restore, Admit, Withdraw};
@@ -395,7 +395,7 @@ impl Register {
     pub fn apply(&mut self, command: Command) -> Result<u32, Refusal>
         ensures verdict { Follows (verdict_of self.old command) result OutOfMemory }
         ensures accepted { IfOk result
-            (λ n. (self.new ≡ appended self.old command) × (n ≡ length self.new.journal)) }
+            (λ n. (self.new ≡ ledger_with self.old command) × (n ≡ length self.new.journal)) }
         ensures unchanged { OnErr result (self.new ≡ self.old) }
     {
         // The prover needs this line, since a plan has chairs.

@@ -100,7 +100,7 @@ impl Sheet {
     /// The open chairs in ascending order of their numbers, each with its weight in votes.
     pub fn open_chairs(&self) -> ArrayVec<(ChairId, u64), CHAIRS>
         ensures same { result.items ≡ open_chairs self.now }
-        ensures few { array_vec_len result ≤ CHAIRS }
+        ensures bound { array_vec_len result ≤ CHAIRS }
     {
         let mut chairs = ArrayVec::new();
         for place in 0..CHAIRS {

@@ -5,7 +5,7 @@ ghost use Rattle.std.specs.Vec.{vec_len, vec_capacity};
 ghost use Rattle.indexmap.specs.IndexMap.{set_value_at};
 ghost use Rattle.council_core.specs.declared.refusals.Refusal.TheVariants.{OutOfMemory};
 ghost use Rattle.council_core.specs.Ledgers.{has_duplicate};
-ghost use Rattle.council_core.specs.Rolls.{standing_among, entered};
+ghost use Rattle.council_core.specs.Rolls.{standing_among, new_entry};
 
 use crate::commands::{Command, Standing};
 use crate::refusals::Refusal;
@@ -67,7 +67,7 @@ pub(crate) fn enter_all(
     members: &[(MemberCode, Votes)],
 ) -> Result<IndexMap<MemberCode, Standing>, Refusal>
     requires { has_duplicate members.now ≡ false }
-    ensures ok { IfOk result (λ m. m.entries ≡ map entered members.now) }
+    ensures ok { IfOk result (λ m. m.entries ≡ map new_entry members.now) }
     ensures memory { IsOkUnless result OutOfMemory }
 {
     let mut entered = IndexMap::new(alloc);
@@ -84,7 +84,7 @@ pub(crate) fn enter_new(
     votes: Votes,
 ) -> Result<(), Refusal>
     requires { standing_among code members.old.entries ≡ None }
-    ensures ok { OnOk result (members.new.entries ≡ members.old.entries ++ entered (code, votes) ∷ []) }
+    ensures ok { OnOk result (members.new.entries ≡ members.old.entries ++ new_entry (code, votes) ∷ []) }
     ensures err { OnErr result (members.new.entries ≡ members.old.entries) }
     ensures memory { IsOkUnless result OutOfMemory }
 {

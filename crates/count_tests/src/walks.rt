@@ -1,6 +1,6 @@
 //! Tests of the winning pairs and swings of two lists.
 ghost use Rattle.half_sums.specs.Entries.{AreSubsets};
-ghost use Rattle.swing_walk.specs.Laws.{ones};
+ghost use Rattle.swing_walk.specs.Laws.{equal_chairs};
 
 use crate::lent::{with_half, with_ordered_half};
 use council_core::Refusal;
@@ -60,7 +60,7 @@ fn ordered_sums_of_three(rt: HostRuntime) -> Result<(), Fail> {
 
 /// Sets the half to that of sixteen chairs with one vote each.
 fn fill_with_ones(half: &mut HalfSums)
-    ensures ones { AreSubsets ones half.new }
+    ensures ones { AreSubsets equal_chairs half.new }
 {
     half.rebuild(&[
         (0, 1),

@@ -14,7 +14,7 @@ use Rattle.half_sums.specs.declared.entry.Entry.{Entry}
 use Rattle.half_sums.specs.Masks.{mask_of, IsOver}
 use Rattle.half_sums.specs.Entries.{entry_of, AreSubsets}
 use Rattle.half_sums.specs.Groups.{size_of}
-use Rattle.half_sums.specs.Laws.{times, MaskLaw}
+use Rattle.half_sums.specs.Laws.{occurrences, MaskLaw}
 use Rattle.half_sums.proofs.GroupFacts.{no_ones, size_more}
 use Rattle.half_sums.proofs.SetSums.{at_most_one, sum_by-map, sum_agree, sum_agree_on, sum_zero, over, over-cons, subsets_avoid}
 
@@ -37,7 +37,7 @@ mask_has k (chair ∷ s) =
 abbrev hits : ℕ → List Chair → ℕ
 hits mask chairs = over (λ s. cond (eqb (mask_of s) mask) 1 0) chairs
 
-times_hits : (mask : ℕ) (chairs : List Chair) (entries : List Entry) → AreSubsets chairs entries → times mask entries ≡ hits mask chairs
+times_hits : (mask : ℕ) (chairs : List Chair) (entries : List Entry) → AreSubsets chairs entries → occurrences mask entries ≡ hits mask chairs
 times_hits mask chairs entries are =
     let f : Entry → ℕ = λ e. cond (eqb e.mask mask) 1 0 in
     sum_by-IsPermutation f _ _ are.each_once ∙ sum_by-map f entry_of (subsets chairs)

@@ -17,25 +17,25 @@ use Rattle.half_sums.specs.declared.entry.Entry.{Entry}
 use Rattle.council_core.specs.Sheets.{weight_of}
 use Rattle.council_core.specs.Coalitions.{subsets}
 use Rattle.half_sums.specs.Masks.{mask_of}
-use Rattle.half_sums.specs.Entries.{joined, entry_of, entries_of, AreSubsets, IsHalf}
+use Rattle.half_sums.specs.Entries.{entry_with, entry_of, entries_of, AreSubsets, IsHalf}
 use Rattle.half_sums.specs.declared.groups.TheConstants.{SLOTS}
 use Rattle.half_sums.specs.declared.lists.TheConstants.{ROOM}
 
-map_joined : (chair : ℕ × ℕ) (sets : List (List (ℕ × ℕ))) → map entry_of (map (λ s. chair ∷ s) sets) ≡ map (joined chair.1 (2 ^ chair.0)) (map entry_of sets)
+map_joined : (chair : ℕ × ℕ) (sets : List (List (ℕ × ℕ))) → map entry_of (map (λ s. chair ∷ s) sets) ≡ map (entry_with chair.1 (2 ^ chair.0)) (map entry_of sets)
 map_joined chair [] = refl
 map_joined chair (s ∷ sets) =
-    let here : entry_of (chair ∷ s) ≡ joined chair.1 (2 ^ chair.0) (entry_of s) =
+    let here : entry_of (chair ∷ s) ≡ entry_with chair.1 (2 ^ chair.0) (entry_of s) =
     ap (λ n. let e : Entry = record { sum = n; mask = bit_or (mask_of s) (2 ^ chair.0) } in e) (omega (arith, sum_by-cons (λ (c : ℕ × ℕ). c.1) chair s)) in
     cc (here, map_joined chair sets)
 
-entries_of-cons : (chair : ℕ × ℕ) (chairs : List (ℕ × ℕ)) → entries_of (chair ∷ chairs) ≡ entries_of chairs ++ map (joined chair.1 (2 ^ chair.0)) (entries_of chairs)
+entries_of-cons : (chair : ℕ × ℕ) (chairs : List (ℕ × ℕ)) → entries_of (chair ∷ chairs) ≡ entries_of chairs ++ map (entry_with chair.1 (2 ^ chair.0)) (entries_of chairs)
 entries_of-cons chair chairs =
     map-append entry_of (subsets chairs) _ ∙ ap (λ es. entries_of chairs ++ es) (map_joined chair (subsets chairs))
 
 length-entries_of : (chairs : List (ℕ × ℕ)) → length (entries_of chairs) ≡ 2 ^ length chairs
 length-entries_of [] = refl
 length-entries_of (chair ∷ chairs) =
-    rw (entries_of-cons chair chairs) (omega (arith, length-append (entries_of chairs) (map (joined chair.1 (2 ^ chair.0)) (entries_of chairs)), length-map (entries_of chairs) (joined chair.1 (2 ^ chair.0)), length-entries_of chairs, pow-suc 2 (length chairs)))
+    rw (entries_of-cons chair chairs) (omega (arith, length-append (entries_of chairs) (map (entry_with chair.1 (2 ^ chair.0)) (entries_of chairs)), length-map (entries_of chairs) (entry_with chair.1 (2 ^ chair.0)), length-entries_of chairs, pow-suc 2 (length chairs)))
 
 sums_within : (chairs : List (ℕ × ℕ)) → All (λ e. e.sum ≤ weight_of chairs) (entries_of chairs)
 sums_within [] = All-cons (λ (e : Entry). e.sum ≤ weight_of []) (entry_of []) [] (omega arith) (All-nil (λ (e : Entry). e.sum ≤ weight_of []))
@@ -43,19 +43,19 @@ sums_within (chair ∷ chairs) =
     let P : Entry → Type 0 = λ e. e.sum ≤ weight_of (chair ∷ chairs) in
     let all : weight_of (chair ∷ chairs) ≡ chair.1 + weight_of chairs = sum_by-cons (λ (c : ℕ × ℕ). c.1) chair chairs in
     let old : All P (entries_of chairs) = All-weaker (λ (e : Entry). e.sum ≤ weight_of chairs) P (λ e h. omega (arith, all)) (entries_of chairs) (sums_within chairs) in
-    let new : All (λ e. P (joined chair.1 (2 ^ chair.0) e)) (entries_of chairs) =
-    All-weaker (λ (e : Entry). e.sum ≤ weight_of chairs) (λ e. P (joined chair.1 (2 ^ chair.0) e)) (λ e h. omega (arith, all)) (entries_of chairs) (sums_within chairs) in
-    rw (entries_of-cons chair chairs) (All-append P (entries_of chairs) _ old (All-map P (joined chair.1 (2 ^ chair.0)) (entries_of chairs) new))
+    let new : All (λ e. P (entry_with chair.1 (2 ^ chair.0) e)) (entries_of chairs) =
+    All-weaker (λ (e : Entry). e.sum ≤ weight_of chairs) (λ e. P (entry_with chair.1 (2 ^ chair.0) e)) (λ e h. omega (arith, all)) (entries_of chairs) (sums_within chairs) in
+    rw (entries_of-cons chair chairs) (All-append P (entries_of chairs) _ old (All-map P (entry_with chair.1 (2 ^ chair.0)) (entries_of chairs) new))
 
 pub AreSubsets-none : AreSubsets [] (record { sum = 0; mask = 0 } ∷ [])
 AreSubsets-none =
     let one : List Entry = record { sum = 0; mask = 0 } ∷ [] in
     record { each_once = IsPermutation-refl one; ascending = IsNonDecreasingBy-short (λ (e : Entry). e.sum) one (omega arith) }
 
-pub AreSubsets-more : (chairs : List (ℕ × ℕ)) (chair : ℕ × ℕ) (bit : ℕ) (es out : List Entry) → AreSubsets chairs es → 2 ^ chair.0 ≡ bit → IsPermutation (es ++ map (joined chair.1 bit) es) out → IsNonDecreasingBy (λ e. e.sum) out → AreSubsets (chair ∷ chairs) out
+pub AreSubsets-more : (chairs : List (ℕ × ℕ)) (chair : ℕ × ℕ) (bit : ℕ) (es out : List Entry) → AreSubsets chairs es → 2 ^ chair.0 ≡ bit → IsPermutation (es ++ map (entry_with chair.1 bit) es) out → IsNonDecreasingBy (λ e. e.sum) out → AreSubsets (chair ∷ chairs) out
 AreSubsets-more chairs chair bit es out are bit_is moves up =
-    let f : Entry → Entry = joined chair.1 (2 ^ chair.0) in
-    let f_is : f ≡ joined chair.1 bit = ap (joined chair.1) bit_is in
+    let f : Entry → Entry = entry_with chair.1 (2 ^ chair.0) in
+    let f_is : f ≡ entry_with chair.1 bit = ap (entry_with chair.1) bit_is in
     let ends : IsPermutation (es ++ map f es) out = rw f_is moves in
     record {
       each_once = rw (entries_of-cons chair chairs) (IsPermutation-trans _ _ _ (IsPermutation-append _ _ _ _ are.each_once (IsPermutation-map f _ _ are.each_once)) ends);
@@ -72,8 +72,8 @@ slot_found : (xs : List ℕ) (n q : ℕ) → All (λ x. x < n) xs → list_any (
 slot_found xs n q small found = All-contains (λ x. x < n) xs q small (Contains-from_any eqb-true q xs found)
 
 -- chairs at distinct slots below 16 are at most 16
-pub few : (chairs : List (ℕ × ℕ)) → All (λ c. c.0 < SLOTS) chairs → IsDistinct eqb (map (λ c. c.0) chairs) → length chairs ≤ SLOTS
-few chairs small apart =
+pub chairs_within_slots : (chairs : List (ℕ × ℕ)) → All (λ c. c.0 < SLOTS) chairs → IsDistinct eqb (map (λ c. c.0) chairs) → length chairs ≤ SLOTS
+chairs_within_slots chairs small apart =
     let slots : List ℕ = map (λ (c : ℕ × ℕ). c.0) chairs in
     let below : All (λ x. x < SLOTS) slots = All-map (λ x. x < SLOTS) (λ (c : ℕ × ℕ). c.0) chairs small in
     omega (arith, length-map chairs (λ (c : ℕ × ℕ). c.0), length-le_from_distinct_below slots SLOTS apart (λ q found. slot_found slots SLOTS q below found))
@@ -118,19 +118,19 @@ pub IsHalf-one : IsHalf (record { sum = 0; mask = 0 } ∷ [])
 IsHalf-one =
     let one : List Entry = record { sum = 0; mask = 0 } ∷ [] in
     record {
-      few = omega arith;
+      bound = omega arith;
       ascending = IsNonDecreasingBy-short (λ (e : Entry). e.sum) one (omega arith);
       small = All-cons (λ (e : Entry). e.sum ≤ 2 ^ 48) (record { sum = 0; mask = 0 }) [] (omega arith) (All-nil (λ (e : Entry). e.sum ≤ 2 ^ 48));
       slots = All-cons (λ (e : Entry). e.mask < 2 ^ SLOTS) (record { sum = 0; mask = 0 }) [] (omega arith) (All-nil (λ (e : Entry). e.mask < 2 ^ SLOTS));
     }
 
-pub IsHalf-more : (es out : List Entry) (weight bit : ℕ) → IsHalf es → bit < 2 ^ SLOTS → 2 * length es ≤ ROOM → All (λ e. e.sum + weight ≤ 2 ^ 48) es → IsPermutation (es ++ map (joined weight bit) es) out → IsNonDecreasingBy (λ e. e.sum) out → IsHalf out
+pub IsHalf-more : (es out : List Entry) (weight bit : ℕ) → IsHalf es → bit < 2 ^ SLOTS → 2 * length es ≤ ROOM → All (λ e. e.sum + weight ≤ 2 ^ 48) es → IsPermutation (es ++ map (entry_with weight bit) es) out → IsNonDecreasingBy (λ e. e.sum) out → IsHalf out
 IsHalf-more es out weight bit half slot room small moves up =
     let P : Entry → Type 0 = λ e. e.sum ≤ 2 ^ 48 in
     let Q : Entry → Type 0 = λ e. e.mask < 2 ^ SLOTS in
     record {
-      few = omega (arith, length_permutation _ _ moves, length-append es (map (joined weight bit) es), length-map es (joined weight bit));
+      bound = omega (arith, length_permutation _ _ moves, length-append es (map (entry_with weight bit) es), length-map es (entry_with weight bit));
       ascending = up;
-      small = All-permutation P _ _ moves (All-append P es _ half.small (All-map P (joined weight bit) es small));
-      slots = All-permutation Q _ _ moves (All-append Q es _ half.slots (All-map Q (joined weight bit) es (All-weaker Q (λ e. Q (joined weight bit e)) (λ e h. or_lt SLOTS e.mask bit h slot) es half.slots)));
+      small = All-permutation P _ _ moves (All-append P es _ half.small (All-map P (entry_with weight bit) es small));
+      slots = All-permutation Q _ _ moves (All-append Q es _ half.slots (All-map Q (entry_with weight bit) es (All-weaker Q (λ e. Q (entry_with weight bit e)) (λ e h. or_lt SLOTS e.mask bit h slot) es half.slots)));
     }

@@ -21,8 +21,8 @@ abbrev pub entries_of : List (ℕ × ℕ) → List Entry
 entries_of chairs = map entry_of (subsets chairs)
 
 -- an entry with one more chair
-abbrev pub joined : ℕ → ℕ → Entry → Entry
-joined weight bit e = record { sum = e.sum + weight; mask = bit_or e.mask bit }
+abbrev pub entry_with : ℕ → ℕ → Entry → Entry
+entry_with weight bit e = record { sum = e.sum + weight; mask = bit_or e.mask bit }
 
 -- the entries whose sums and masks are in two lists
 abbrev pub entries_from : List ℕ → List ℕ → List Entry
@@ -40,7 +40,7 @@ pub record AreSubsets (chairs : List (ℕ × ℕ)) (entries : List Entry) : Type
 -- the invariant of every list of a half: at most 65,536 entries, ascending, no sum above 2^48, and
 -- no slot above 15
 pub record IsHalf (entries : List Entry) : Type 0 where
-  pub few : length entries ≤ ROOM
+  pub bound : length entries ≤ ROOM
   pub ascending : IsNonDecreasingBy (λ e. e.sum) entries
   pub small : All (λ e. e.sum ≤ 2 ^ 48) entries
   pub slots : All (λ e. e.mask < 2 ^ SLOTS) entries
@@ -50,5 +50,5 @@ abbrev pub zero_entry : Entry
 zero_entry = record { sum = 0; mask = 0 }
 
 -- worked example: chairs of 50, 49 and 1 votes
-abbrev pub three : List (ℕ × ℕ)
+abbrev pub three_chairs : List (ℕ × ℕ)
 three = (0, 50) ∷ (1, 49) ∷ (2, 1) ∷ []

@@ -6,7 +6,7 @@ use crate::SLOTS;
 /// The number of chairs in the set with this mask, from 0 to `SLOTS`.
 pub fn size(mask: u16) -> usize
     ensures size { result ≡ count_ones mask }
-    ensures few { result ≤ SLOTS }
+    ensures bound { result ≤ SLOTS }
 {
     mask.count_ones() as usize
 }

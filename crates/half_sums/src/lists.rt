@@ -33,7 +33,7 @@ impl<'a> SumList<'a> {
     /// The list whose set at each index has the sum and the mask at that index of the slices.
     pub fn over(sums: &'a [u64], masks: &'a [u16]) -> SumList<'a>
         requires same { length sums.now ≡ length masks.now }
-        requires few { length sums.now ≤ ROOM }
+        requires bound { length sums.now ≤ ROOM }
         ensures entries { result ≡ entries_from sums.now masks.now }
     {
         SumList { sums, masks }

@@ -95,7 +95,7 @@ pub fn list_subsets(chairs: &[(u8, u64)], sums: &mut [u64], masks: &mut [u16]) -
     // The resulting list.
     ensures subsets { AreSubsets chairs.now (first_entries result sums.new masks.new) }
     ensures half { IsHalf (first_entries result sums.new masks.new) }
-    ensures few { result ≤ ROOM }
+    ensures bound { result ≤ ROOM }
     ensures sums_room { length sums.new ≡ ROOM }
     ensures masks_room { length masks.new ≡ ROOM }
 {

@@ -9,7 +9,7 @@ ghost use Rattle.council_core.specs.Sheets.{weight_of};
 ghost use Rattle.half_sums.specs.declared.entry.Entry.{Entry};
 ghost use Rattle.half_sums.specs.declared.lists.TheConstants.{ROOM};
 ghost use Rattle.half_sums.specs.Entries.{AreSubsets, IsHalf};
-ghost use Rattle.half_sums.specs.Groups.{group_of, grouped, AreGroups};
+ghost use Rattle.half_sums.specs.Groups.{group_of, all_groups, AreGroups};
 
 use crate::choices::part;
 use crate::groups::{SIZES, SLOTS, STARTS, regroup};
@@ -84,7 +84,7 @@ impl HalfSums {
     /// The sets of the half's chairs grouped by size, from 0 to 16 chairs, and ascending by sum
     /// within each size.
     pub fn entries(&self) -> &[Entry]
-        ensures grouped { result.now ≡ grouped self.now }
+        ensures grouped { result.now ≡ all_groups self.now }
         ensures each_once { IsPermutation self.now result.now }
     {
         &self.groups[..self.ordered.ascending().len()]

@@ -3,7 +3,8 @@ use crate::growth_calls::{NONE, begun, open, opens};
 use crate::refused_growths::{Call, OUT_OF_MEMORY};
 use crate::seen::{add_machine, add_note, add_number, add_register};
 use board_report::{
-    FreeGate, Gate, GateClosed, Given, Limits, Place, Streams, program, replay, serve, trace,
+    FreeGate, Gate, GateClosed, Limits, Place, RecordingReader, Streams, program, replay, serve,
+    trace,
 };
 use council_core::Register;
 use std::alloc::Global;
@@ -181,7 +182,7 @@ impl Call for Replaying {
     }
 
     fn call<R: Threads + Wait + Sync>(&self, _rt: &R, alloc: Global, state: &mut Vec<u8>) -> u8 {
-        let mut input = Given::new(THREE_CHAIRS.as_bytes());
+        let mut input = RecordingReader::new(THREE_CHAIRS.as_bytes());
         match replay(alloc, &mut input, state, LIMITS) {
             Ok(()) => 0,
             Err(fault) => fault.code,
@@ -213,7 +214,7 @@ impl Call for Tracing {
     }
 
     fn call<R: Threads + Wait + Sync>(&self, _rt: &R, alloc: Global, state: &mut Vec<u8>) -> u8 {
-        let mut input = Given::new(A_READER_IN_THE_WAY.as_bytes());
+        let mut input = RecordingReader::new(A_READER_IN_THE_WAY.as_bytes());
         match trace(alloc, &mut input, state, LIMITS) {
             Ok(()) => 0,
             Err(fault) => fault.code,
@@ -245,7 +246,7 @@ impl Call for Serving {
     }
 
     fn call<R: Threads + Wait + Sync>(&self, rt: &R, alloc: Global, state: &mut Vec<u8>) -> u8 {
-        let mut input = Given::new(THREE_PUBLICATIONS.as_bytes());
+        let mut input = RecordingReader::new(THREE_PUBLICATIONS.as_bytes());
         match serve(rt, alloc, &FreeGate, &mut input, state, 1_000) {
             Ok(_) => 0,
             Err(fault) => fault.code,
@@ -289,7 +290,7 @@ impl Call for ServingClosed {
     }
 
     fn call<R: Threads + Wait + Sync>(&self, rt: &R, alloc: Global, state: &mut Vec<u8>) -> u8 {
-        let mut input = Given::new(THREE_PUBLICATIONS.as_bytes());
+        let mut input = RecordingReader::new(THREE_PUBLICATIONS.as_bytes());
         match serve(rt, alloc, &ClosedGate, &mut input, state, 1_000) {
             Ok(_) => 0,
             Err(fault) => fault.code,
@@ -340,7 +341,7 @@ impl Call for Programming {
     fn prepare(&self, alloc: Global) -> Option<WordsAndStreams> {
         let words = words(alloc)?;
         let streams = Streams {
-            input: Given::new(THREE_CHAIRS.as_bytes()),
+            input: RecordingReader::new(THREE_CHAIRS.as_bytes()),
             out: output(alloc)?,
             err: output(alloc)?,
         };

@@ -9,7 +9,7 @@ use Rattle.std.proofs.lemmas.Map.Keys.{IsDistinct-tail}
 use Rattle.std.proofs.lemmas.Simd.{map-map}
 use Rattle.std.proofs.Math.Seq.{split_at}
 use Rattle.council_core.specs.Sheets.{Chair, open_chairs}
-use Rattle.council_core.specs.Coalitions.{has_chair, omega_of, eta_of, reaching, subsets}
+use Rattle.council_core.specs.Coalitions.{has_chair, omega_of, eta_of, threshold_rule, subsets}
 use Rattle.council_core.proofs.OpenChairs.{numbers_distinct}
 use Rattle.half_sums.specs.declared.entry.Entry.{Entry}
 use Rattle.swing_walk.specs.Pairs.{large_pairs, large_with, swings_of}
@@ -19,7 +19,7 @@ use Rattle.swing_walk.proofs.BoardSets as sets
 use Rattle.half_sums.proofs.SetSums.{sum_by-map, sum_agree, over, or_left, or_right}
 use Rattle.half_sums.proofs.MaskLemmas.{first_apart}
 use Rattle.swing_walk.proofs.PairLaws.{over-map, pair_law, shifted}
-use Rattle.power_index.specs.Halves.{weights, slotted, left_count, left_weights, right_weights, seat, seat_of, AreHalves}
+use Rattle.power_index.specs.Halves.{weights, chairs_from_slot, left_count, left_weights, right_weights, seat, open_chair_place, AreHalves}
 use Rattle.power_index.specs.Counts.{etas, EvaluationLaw}
 use Rattle.power_index.proofs.HalfLemmas.{slotted_slots, slotted_distinct, slotted_weights, slotted_length, slotted_at, left_few, right_few}
 use Rattle.power_index.proofs.RowLemmas.{etas_at}
@@ -33,7 +33,7 @@ enough quota least_size ws = leb quota (sum_by (λ n. n) ws) && leb least_size (
 abbrev weight : Chair → ℕ
 weight chair = chair.1
 
-by_weights : (quota least_size : ℕ) (s : List Chair) → reaching quota least_size s ≡ enough quota least_size (map weight s)
+by_weights : (quota least_size : ℕ) (s : List Chair) → threshold_rule quota least_size s ≡ enough quota least_size (map weight s)
 by_weights quota least_size s =
     ap (λ n. leb quota n && leb least_size (length s)) (sym (sum_by-map (λ n. n) weight s))
     ∙ ap (λ n. leb quota (sum_by (λ n. n) (map weight s)) && leb least_size n) (sym (length-map s weight))
@@ -42,9 +42,9 @@ by_weights quota least_size s =
 abbrev omega_by : ℕ → ℕ → List ℕ → ℕ
 omega_by quota least_size ws = over (λ s. cond (enough quota least_size s) 1 0) ws
 
-omega_weights : (quota least_size : ℕ) (chairs : List Chair) → omega_of (reaching quota least_size) chairs ≡ omega_by quota least_size (map weight chairs)
+omega_weights : (quota least_size : ℕ) (chairs : List Chair) → omega_of (threshold_rule quota least_size) chairs ≡ omega_by quota least_size (map weight chairs)
 omega_weights quota least_size chairs =
-    sum_agree (λ s. cond (reaching quota least_size s) 1 0) (λ s. cond (enough quota least_size (map weight s)) 1 0) (subsets chairs) (λ s. ap (λ b. cond b 1 0) (by_weights quota least_size s))
+    sum_agree (λ s. cond (threshold_rule quota least_size s) 1 0) (λ s. cond (enough quota least_size (map weight s)) 1 0) (subsets chairs) (λ s. ap (λ b. cond b 1 0) (by_weights quota least_size s))
     ∙ sym (over-map (λ s. cond (enough quota least_size s) 1 0) weight chairs)
 
 -- a chair by whether it has a number, and its weight
@@ -66,13 +66,13 @@ weights_marks n (c ∷ s) = ap (λ l. c.1 ∷ l) (weights_marks n s)
 abbrev turned : ℕ → ℕ → ℕ → List Marked → ℕ
 turned quota least_size w s = cond (not (list_any (λ m. m.0) s) && (not (enough quota least_size (map (λ m. m.1) s)) && enough quota least_size (w ∷ map (λ m. m.1) s))) 1 0
 
-eta_marks : (quota least_size : ℕ) (chair : Chair) (chairs : List Chair) → eta_of (reaching quota least_size) chair chairs ≡ over (turned quota least_size chair.1) (map (mark chair.0) chairs)
+eta_marks : (quota least_size : ℕ) (chair : Chair) (chairs : List Chair) → eta_of (threshold_rule quota least_size) chair chairs ≡ over (turned quota least_size chair.1) (map (mark chair.0) chairs)
 eta_marks quota least_size chair chairs =
     let n : ℕ = chair.0 in
     let g : Bool → Bool → Bool → ℕ = λ h m o. cond (not h && (not m && o)) 1 0 in
-    sum_agree (λ s. g (has_chair n s) (reaching quota least_size s) (reaching quota least_size (chair ∷ s))) (λ s. turned quota least_size chair.1 (map (mark n) s)) (subsets chairs)
-    (λ s. ap (λ h. g h (reaching quota least_size s) (reaching quota least_size (chair ∷ s))) (has_marks n s)
-    ∙ ap (λ m. g (list_any (λ m. m.0) (map (mark n) s)) m (reaching quota least_size (chair ∷ s))) (by_weights quota least_size s)
+    sum_agree (λ s. g (has_chair n s) (threshold_rule quota least_size s) (threshold_rule quota least_size (chair ∷ s))) (λ s. turned quota least_size chair.1 (map (mark n) s)) (subsets chairs)
+    (λ s. ap (λ h. g h (threshold_rule quota least_size s) (threshold_rule quota least_size (chair ∷ s))) (has_marks n s)
+    ∙ ap (λ m. g (list_any (λ m. m.0) (map (mark n) s)) m (threshold_rule quota least_size (chair ∷ s))) (by_weights quota least_size s)
     ∙ ap (λ o. g (list_any (λ m. m.0) (map (mark n) s)) (enough quota least_size (map weight s)) o) (by_weights quota least_size (chair ∷ s))
     ∙ ap (λ ws. g (list_any (λ m. m.0) (map (mark n) s)) (enough quota least_size ws) (enough quota least_size (chair.1 ∷ ws))) (weights_marks n s))
     ∙ sym (over-map (turned quota least_size chair.1) (mark n) chairs)
@@ -116,7 +116,7 @@ none = (0, 0)
 abbrev eta_by : ℕ → ℕ → ℕ → List ℕ → ℕ
 eta_by quota least_size i ws = over (turned quota least_size (get_or ws i 0)) (marks i ws)
 
-eta_weights : (quota least_size : ℕ) (chairs : List Chair) (i : ℕ) → IsDistinct eqb (map (λ c. c.0) chairs) → i < length chairs → eta_of (reaching quota least_size) (get_or chairs i none) chairs ≡ eta_by quota least_size i (map weight chairs)
+eta_weights : (quota least_size : ℕ) (chairs : List Chair) (i : ℕ) → IsDistinct eqb (map (λ c. c.0) chairs) → i < length chairs → eta_of (threshold_rule quota least_size) (get_or chairs i none) chairs ≡ eta_by quota least_size i (map weight chairs)
 eta_weights quota least_size chairs i distinct h =
     let chair : Chair = get_or chairs i none in
     let same : chair.1 ≡ get_or (map weight chairs) i 0 = sym (get_or-map weight chairs i none 0 h) in
@@ -126,10 +126,10 @@ eta_weights quota least_size chairs i distinct h =
 
 -- the board of a sheet
 abbrev left_of : List ℕ → List Chair
-left_of words = slotted 0 (left_weights words)
+left_of words = chairs_from_slot 0 (left_weights words)
 
 abbrev right_of : List ℕ → List Chair
-right_of words = slotted 0 (right_weights words)
+right_of words = chairs_from_slot 0 (right_weights words)
 
 abbrev board : List ℕ → List Chair
 board words = board_of (left_of words) (right_of words)
@@ -184,7 +184,7 @@ Meet quota least_size words from to = laws.CountsMeet quota least_size (left_of 
 
 -- the swings that the counts give at a seat are those of its chair
 swings_at : (quota least_size : ℕ) (words : List ℕ) (from to : List Entry) (i : ℕ) → i < length (open_chairs words) → Meet quota least_size words from to →
-    swings_of (large_pairs quota least_size from to) (large_with quota least_size (seat_of words i) from to) ≡ get_or (etas (reaching quota least_size) (open_chairs words)) i 0
+    swings_of (large_pairs quota least_size from to) (large_with quota least_size (open_chair_place words i) from to) ≡ get_or (etas (threshold_rule quota least_size) (open_chairs words)) i 0
 swings_at quota least_size words from to i inside law =
     let on_board : i < length (board words) = omega (arith, inside, board_length words) in
     let chair : Chair = get_or (board words) i none in
@@ -193,9 +193,9 @@ swings_at quota least_size words from to i inside law =
     ∙ eta_weights quota least_size (board words) i (board_distinct words) on_board
     ∙ ap (eta_by quota least_size i) (board_weights words)
     ∙ sym (eta_weights quota least_size (open_chairs words) i (numbers_distinct 1 (take CHAIRS words)) inside)
-    ∙ sym (etas_at (reaching quota least_size) (open_chairs words) i none inside)
+    ∙ sym (etas_at (threshold_rule quota least_size) (open_chairs words) i none inside)
 
-omega_law : (quota least_size : ℕ) (words : List ℕ) (from to : List Entry) → AreHalves words from to → large_pairs quota least_size from to ≡ omega_of (reaching quota least_size) (open_chairs words)
+omega_law : (quota least_size : ℕ) (words : List ℕ) (from to : List Entry) → AreHalves words from to → large_pairs quota least_size from to ≡ omega_of (threshold_rule quota least_size) (open_chairs words)
 omega_law quota least_size words from to halves =
     (pair_law quota least_size (left_of words) (right_of words) from to (left_half words) (right_half words) halves.left_half halves.right_half).winning
     ∙ omega_weights quota least_size (board words)
@@ -207,7 +207,7 @@ evaluation_law quota least_size words from to halves =
     let law : Meet quota least_size words from to = sets.two_halves_law quota least_size (left_of words) (right_of words) from to (left_half words) (right_half words) halves.left_half halves.right_half in
     record {
       omega = omega_law quota least_size words from to halves;
-      few = law.few;
+      bound = law.bound;
       within = λ place h. law.within place;
       half = λ place h. law.half place;
       swings = λ i h. swings_at quota least_size words from to i h law;

@@ -5,7 +5,7 @@ use Rattle.std.proofs.lemmas.Bool.{leb-true, le-leb}
 use Rattle.std.proofs.lemmas.List.{length-take}
 use Rattle.std.proofs.lemmas.List.Sums.{count_by-le-length}
 use Rattle.council_core.specs.Sheets.{Chair, open_chairs, weight_of}
-use Rattle.council_core.specs.Coalitions.{Rule, has_chair, omega_of, eta_of, reaching, subsets}
+use Rattle.council_core.specs.Coalitions.{Rule, has_chair, omega_of, eta_of, threshold_rule, subsets}
 use Rattle.council_core.proofs.OpenChairs.{length-open}
 use Rattle.council_core.proofs.CoalitionLemmas.{length-subsets}
 use Rattle.majority_rule.specs.declared.majorities.Majority.{Majority}
@@ -57,15 +57,15 @@ eta_agree p q chair chairs same =
     (λ s. (let f : Bool → Bool → ℕ = λ a b. cond (not (has_chair chair.0 s) && (not a && b)) 1 0 in
     ap (λ a. f a (p (chair ∷ s))) (same s) ∙ ap (f (q s)) (same (chair ∷ s))))
 
-pub omega_by_majority : (quota least_size : ℕ) (majority : Majority) (words : List ℕ) → IsQuota quota least_size majority words → omega_of (reaching quota least_size) (open_chairs words) ≡ omega_of (rule_of majority words) (open_chairs words)
-omega_by_majority quota least_size majority words is = omega_agree (reaching quota least_size) (rule_of majority words) (open_chairs words) (λ s. same_win quota least_size (weight_of s) (length s) majority words is)
+pub omega_by_majority : (quota least_size : ℕ) (majority : Majority) (words : List ℕ) → IsQuota quota least_size majority words → omega_of (threshold_rule quota least_size) (open_chairs words) ≡ omega_of (rule_of majority words) (open_chairs words)
+omega_by_majority quota least_size majority words is = omega_agree (threshold_rule quota least_size) (rule_of majority words) (open_chairs words) (λ s. same_win quota least_size (weight_of s) (length s) majority words is)
 
 alike_at_each : (f g : Chair → ℕ) (chairs : List Chair) → ((c : Chair) → f c ≡ g c) → map f chairs ≡ map g chairs
 alike_at_each f g [] same = refl
 alike_at_each f g (c ∷ chairs) same = ap (λ n. n ∷ map f chairs) (same c) ∙ ap (λ l. g c ∷ l) (alike_at_each f g chairs same)
 
-pub etas_by_majority : (quota least_size : ℕ) (majority : Majority) (words : List ℕ) → IsQuota quota least_size majority words → etas (reaching quota least_size) (open_chairs words) ≡ etas (rule_of majority words) (open_chairs words)
+pub etas_by_majority : (quota least_size : ℕ) (majority : Majority) (words : List ℕ) → IsQuota quota least_size majority words → etas (threshold_rule quota least_size) (open_chairs words) ≡ etas (rule_of majority words) (open_chairs words)
 etas_by_majority quota least_size majority words is =
     let board : List Chair = open_chairs words in
-    alike_at_each (λ c. eta_of (reaching quota least_size) c board) (λ c. eta_of (rule_of majority words) c board) board
-    (λ c. eta_agree (reaching quota least_size) (rule_of majority words) c board (λ s. same_win quota least_size (weight_of s) (length s) majority words is))
+    alike_at_each (λ c. eta_of (threshold_rule quota least_size) c board) (λ c. eta_of (rule_of majority words) c board) board
+    (λ c. eta_agree (threshold_rule quota least_size) (rule_of majority words) c board (λ s. same_win quota least_size (weight_of s) (length s) majority words is))

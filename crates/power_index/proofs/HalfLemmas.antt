@@ -10,7 +10,7 @@ use Rattle.half_sums.proofs.SetSums.{sum_by-map}
 use Rattle.council_core.specs.Sheets.{Chair, open_from, open_chairs, weight_of, IsSheet, cast_of}
 use Rattle.council_core.proofs.OpenChairs.{open_from-cons, chair_of-open, chair_of, weight_of-open, numbers_within, numbers_distinct}
 use Rattle.power_index.proofs.Bounds.{few_chairs}
-use Rattle.power_index.specs.Halves.{weights, slotted, left_count, left_weights, right_weights}
+use Rattle.power_index.specs.Halves.{weights, chairs_from_slot, left_count, left_weights, right_weights}
 use Rattle.half_sums.specs.declared.groups.TheConstants.{SLOTS}
 use Rattle.council_core.specs.declared.limits.TheConstants.{CHAIRS, SHEET_WORDS}
 
@@ -18,47 +18,47 @@ use Rattle.council_core.specs.declared.limits.TheConstants.{CHAIRS, SHEET_WORDS}
 abbrev more : List ℕ → List ℕ
 more ws = map (λ w. w + 1) ws
 
-slotted_is : (c : ℕ) (ws : List ℕ) → slotted c ws ≡ open_from c (more ws)
+slotted_is : (c : ℕ) (ws : List ℕ) → chairs_from_slot c ws ≡ open_from c (more ws)
 slotted_is c [] = refl
 slotted_is c (w ∷ ws) =
     let back : w + 1 - 1 ≡ w = omega arith in
     let one : chair_of c (w + 1) ≡ (c, w) ∷ [] = chair_of-open c (w + 1) (λ e. absurd (omega arith)) ∙ ap (λ v. (c, v) ∷ []) back in
     sym (open_from-cons c (w + 1) (more ws) ∙ ap (λ l. l ++ open_from (c + 1) (more ws)) one ∙ ap (λ l. (c, w) ∷ l) (sym (slotted_is (c + 1) ws)))
 
-pub slotted_slots : (ws : List ℕ) → length ws ≤ SLOTS → All (λ chair. chair.0 < SLOTS) (slotted 0 ws)
-slotted_slots ws few =
+pub slotted_slots : (ws : List ℕ) → length ws ≤ SLOTS → All (λ chair. chair.0 < SLOTS) (chairs_from_slot 0 ws)
+slotted_slots ws bound =
     rw (slotted_is 0 ws)
     (All-weaker (λ (ch : Chair). (0 ≤ ch.0) × (ch.0 < 0 + length (more ws))) (λ ch. ch.0 < SLOTS)
     (λ ch h. omega (arith, h.1, length-map ws (λ w. w + 1))) (open_from 0 (more ws)) (numbers_within 0 (more ws)))
 
-pub slotted_distinct : (c : ℕ) (ws : List ℕ) → IsDistinct eqb (map (λ ch. ch.0) (slotted c ws))
+pub slotted_distinct : (c : ℕ) (ws : List ℕ) → IsDistinct eqb (map (λ ch. ch.0) (chairs_from_slot c ws))
 slotted_distinct c ws = rw (slotted_is c ws) (numbers_distinct c (more ws))
 
-pub slotted_weights : (c : ℕ) (ws : List ℕ) → map (λ ch. ch.1) (slotted c ws) ≡ ws
+pub slotted_weights : (c : ℕ) (ws : List ℕ) → map (λ ch. ch.1) (chairs_from_slot c ws) ≡ ws
 slotted_weights c [] = refl
 slotted_weights c (w ∷ ws) = ap (λ l. w ∷ l) (slotted_weights (c + 1) ws)
 
-pub slotted_length : (c : ℕ) (ws : List ℕ) → length (slotted c ws) ≡ length ws
+pub slotted_length : (c : ℕ) (ws : List ℕ) → length (chairs_from_slot c ws) ≡ length ws
 slotted_length c [] = refl
 slotted_length c (w ∷ ws) = ap suc (slotted_length (c + 1) ws)
 
-pub slotted_sum : (c : ℕ) (ws : List ℕ) → weight_of (slotted c ws) ≡ sum_by (λ n. n) ws
-slotted_sum c ws = sym (sum_by-map (λ n. n) (λ (ch : Chair). ch.1) (slotted c ws)) ∙ ap (sum_by (λ n. n)) (slotted_weights c ws)
+pub slotted_sum : (c : ℕ) (ws : List ℕ) → weight_of (chairs_from_slot c ws) ≡ sum_by (λ n. n) ws
+slotted_sum c ws = sym (sum_by-map (λ n. n) (λ (ch : Chair). ch.1) (chairs_from_slot c ws)) ∙ ap (sum_by (λ n. n)) (slotted_weights c ws)
 
-pub slotted-append : (c : ℕ) (xs ys : List ℕ) → slotted c (xs ++ ys) ≡ slotted c xs ++ slotted (c + length xs) ys
-slotted-append c [] ys = ap (λ n. slotted n ys) (omega arith)
+pub slotted-append : (c : ℕ) (xs ys : List ℕ) → chairs_from_slot c (xs ++ ys) ≡ chairs_from_slot c xs ++ chairs_from_slot (c + length xs) ys
+slotted-append c [] ys = ap (λ n. chairs_from_slot n ys) (omega arith)
 slotted-append c (x ∷ xs) ys =
     let turn : c + 1 + length xs ≡ c + length (x ∷ xs) = omega arith in
-    ap (λ l. (c, x) ∷ l) (slotted-append (c + 1) xs ys ∙ ap (λ n. slotted (c + 1) xs ++ slotted n ys) turn)
+    ap (λ l. (c, x) ∷ l) (slotted-append (c + 1) xs ys ∙ ap (λ n. chairs_from_slot (c + 1) xs ++ chairs_from_slot n ys) turn)
 
-pub slotted_more : (ws : List ℕ) (i : ℕ) → i < length ws → slotted 0 (take (i + 1) ws) ≡ slotted 0 (take i ws) ++ (i, get_or ws i 0) ∷ []
+pub slotted_more : (ws : List ℕ) (i : ℕ) → i < length ws → chairs_from_slot 0 (take (i + 1) ws) ≡ chairs_from_slot 0 (take i ws) ++ (i, get_or ws i 0) ∷ []
 slotted_more ws i h =
     let at : 0 + length (take i ws) ≡ i = omega (arith, length-take i ws) in
-    ap (slotted 0) (take_more ws i 0 h)
+    ap (chairs_from_slot 0) (take_more ws i 0 h)
     ∙ slotted-append 0 (take i ws) (get_or ws i 0 ∷ [])
-    ∙ ap (λ n. slotted 0 (take i ws) ++ slotted n (get_or ws i 0 ∷ [])) at
+    ∙ ap (λ n. chairs_from_slot 0 (take i ws) ++ chairs_from_slot n (get_or ws i 0 ∷ [])) at
 
-pub slotted_at : (c : ℕ) (ws : List ℕ) (i : ℕ) (d : Chair) → i < length ws → get_or (slotted c ws) i d ≡ (c + i, get_or ws i 0)
+pub slotted_at : (c : ℕ) (ws : List ℕ) (i : ℕ) (d : Chair) → i < length ws → get_or (chairs_from_slot c ws) i d ≡ (c + i, get_or ws i 0)
 slotted_at c [] i d h = absurd (omega arith)
 slotted_at c (w ∷ ws) zero d h = let same : c ≡ c + 0 = omega arith in ap (λ n. (n, w)) same
 slotted_at c (w ∷ ws) (suc i) d h =

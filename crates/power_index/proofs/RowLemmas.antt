@@ -8,7 +8,7 @@ use Rattle.std.proofs.Math.Nat.{pow-le-pow_right}
 use Rattle.half_sums.proofs.SetSums.{sum_by-map}
 use Rattle.council_core.specs.Sheets.{Chair, open_chairs}
 use Rattle.council_core.specs.Coalitions.{Rule, eta_of}
-use Rattle.power_index.specs.Halves.{left_count, seat_of}
+use Rattle.power_index.specs.Halves.{left_count, open_chair_place}
 use Rattle.power_index.specs.Counts.{etas}
 use Rattle.power_index.specs.Indices.{swings_among}
 use Rattle.power_index.proofs.Bounds.{eta_bound, few_chairs}
@@ -24,19 +24,19 @@ pub set_count_few : (n : ℕ) → n ≤ CHAIRS → 2 ^ n ≤ 2 ^ CHAIRS
 set_count_few n h = pow-le-pow_right (omega arith) h
 
 small_among : (wins : Rule) (board chairs : List Chair) → length board ≤ CHAIRS → All (λ c. eta_of wins c board ≤ 2 ^ CHAIRS) chairs
-small_among wins board [] few = All-nil (λ (c : Chair). eta_of wins c board ≤ 2 ^ CHAIRS)
-small_among wins board (c ∷ chairs) few =
-    All-cons (λ (ch : Chair). eta_of wins ch board ≤ 2 ^ CHAIRS) c chairs (omega (arith, eta_bound wins c board, set_count_few (length board) few)) (small_among wins board chairs few)
+small_among wins board [] bound = All-nil (λ (c : Chair). eta_of wins c board ≤ 2 ^ CHAIRS)
+small_among wins board (c ∷ chairs) bound =
+    All-cons (λ (ch : Chair). eta_of wins ch board ≤ 2 ^ CHAIRS) c chairs (omega (arith, eta_bound wins c board, set_count_few (length board) bound)) (small_among wins board chairs bound)
 
 pub etas_small : (wins : Rule) (board : List Chair) → length board ≤ CHAIRS → All (λ n. n ≤ 2 ^ CHAIRS) (etas wins board)
-etas_small wins board few = All-map (λ n. n ≤ 2 ^ CHAIRS) (λ (c : Chair). eta_of wins c board) board (small_among wins board board few)
+etas_small wins board bound = All-map (λ n. n ≤ 2 ^ CHAIRS) (λ (c : Chair). eta_of wins c board) board (small_among wins board board bound)
 
 -- a seat is one of the 32
-pub seat_below : (words : List ℕ) (i : ℕ) → i < length (open_chairs words) → seat_of words i < CHAIRS
+pub seat_below : (words : List ℕ) (i : ℕ) → i < length (open_chairs words) → open_chair_place words i < CHAIRS
 seat_below words i inside =
     let n : ℕ = length (open_chairs words) in
-    let few : n ≤ CHAIRS = few_chairs words in
-    elim (cases_lt i (left_count n)) as (λ _. seat_of words i < CHAIRS) [
+    let bound : n ≤ CHAIRS = few_chairs words in
+    elim (cases_lt i (left_count n)) as (λ _. open_chair_place words i < CHAIRS) [
       | inl below ↦ rw (lt-ltb i (left_count n) below) (omega arith)
       | inr above ↦ rw (le-ltb i (left_count n) above) (omega arith)
     ]

@@ -7,7 +7,7 @@ use Rattle.half_sums.specs.declared.entry.Entry.{Entry}
 use Rattle.majority_rule.specs.declared.majorities.Majority.{Majority}
 use Rattle.majority_rule.specs.Winning.{rule_of}
 use Rattle.swing_walk.specs.Pairs.{large_pairs, large_with, swings_of}
-use Rattle.power_index.specs.Halves.{AreHalves, left_count, seat, seat_of}
+use Rattle.power_index.specs.Halves.{AreHalves, left_count, seat, open_chair_place}
 use Rattle.power_index.specs.Counts.{AreCounts, etas}
 use Rattle.power_index.specs.Indices.{power_of, swings_among}
 use Rattle.power_index.specs.Tallies.{IsSwingTally}
@@ -40,10 +40,10 @@ are_counts quota least_size words from to winning with_chair halves w each =
     let law : AreCounts quota least_size words (large_pairs quota least_size from to) (λ place. large_with quota least_size place from to) = evaluation_law quota least_size words from to halves in
     record {
       omega = w ∙ law.omega;
-      few = omega (arith, law.few);
+      bound = omega (arith, law.bound);
       within = λ place h. omega (arith, each place h, law.within place h);
       half = λ place h some. omega (arith, each place h, law.half place h (omega (arith, each place h)));
-      swings = λ i h. ap (λ n. swings_of n (with_chair (seat_of words i))) w ∙ ap (swings_of (large_pairs quota least_size from to)) (each (seat_of words i) (seat_below words i h)) ∙ law.swings i h;
+      swings = λ i h. ap (λ n. swings_of n (with_chair (open_chair_place words i))) w ∙ ap (swings_of (large_pairs quota least_size from to)) (each (open_chair_place words i) (seat_below words i h)) ∙ law.swings i h;
     }
 
 -- the items at the seats of the open chairs, in their order, are the chairs' swings
@@ -57,6 +57,6 @@ swings_in_order quota least_size majority words winning n with_chair seated swin
     (λ i h. (let inside : i < length board = omega (arith, long, count) in
     ordered i (omega (arith, long))
     ∙ ap (λ m. get_or seated (seat (left_count m) i) 0) count
-    ∙ each (seat_of words i) (seat_below words i inside)
+    ∙ each (open_chair_place words i) (seat_below words i inside)
     ∙ counts.swings i inside
     ∙ ap (λ l. get_or l i 0) (etas_by_majority quota least_size majority words is)))

@@ -24,14 +24,14 @@ abbrev pub right_weights : List ℕ → List ℕ
 right_weights words = drop (left_count (length (open_chairs words))) (weights words)
 
 -- chairs of these weights, at consecutive slots from `slot` on
-abbrev pub slotted : ℕ → List ℕ → List Chair
-slotted slot [] = []
-slotted slot (weight ∷ rest) = (slot, weight) ∷ slotted (slot + 1) rest
+abbrev pub chairs_from_slot : ℕ → List ℕ → List Chair
+chairs_from_slot slot [] = []
+chairs_from_slot slot (weight ∷ rest) = (slot, weight) ∷ chairs_from_slot (slot + 1) rest
 
 -- two lists of entries are those of the two halves of a sheet
 pub record AreHalves (words : List ℕ) (left right : List Entry) : Type 0 where
-  pub left_half : AreSubsets (slotted 0 (left_weights words)) left
-  pub right_half : AreSubsets (slotted 0 (right_weights words)) right
+  pub left_half : AreSubsets (chairs_from_slot 0 (left_weights words)) left
+  pub right_half : AreSubsets (chairs_from_slot 0 (right_weights words)) right
 
 -- the seat of an open chair with `before` open chairs before it, if `on_left` chairs are on the
 -- left: its slot on the left, or 16 plus its slot on the right
@@ -39,8 +39,8 @@ abbrev pub seat : ℕ → ℕ → ℕ
 seat on_left before = if nat_lt before on_left then before else SLOTS + (before - on_left)
 
 -- the seat of the open chair of a sheet with `before` open chairs before it
-abbrev pub seat_of : List ℕ → ℕ → ℕ
-seat_of words before = seat (left_count (length (open_chairs words))) before
+abbrev pub open_chair_place : List ℕ → ℕ → ℕ
+open_chair_place words before = seat (left_count (length (open_chairs words))) before
 
 -- the words of the sixteen chairs from index `from` on
 abbrev pub half_words : ℕ → List ℕ → List ℕ

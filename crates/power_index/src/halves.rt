@@ -3,7 +3,7 @@
 ghost use Rattle.std.specs.Prelude.{◌≡◌, ◌+◌, ◌<◌, ◌≤◌, ◌^◌, ℕ, not, length, sum_by, slice_index};
 ghost use Rattle.council_core.specs.Sheets.{open_chairs};
 ghost use Rattle.half_sums.specs.Entries.{AreSubsets};
-ghost use Rattle.power_index.specs.Halves.{weights, slotted, left_count, seat, same_half, one_if};
+ghost use Rattle.power_index.specs.Halves.{weights, chairs_from_slot, left_count, seat, same_half, one_if};
 
 use arrayvec::ArrayVec;
 use council_core::{CHAIRS, SHEET_WORDS, Sheet};
@@ -24,7 +24,7 @@ pub(crate) fn weights_of(sheet: &Sheet) -> ArrayVec<u64, CHAIRS>
 
 // The size of the left half of `chairs` open chairs.
 pub(crate) fn on_left(chairs: usize) -> usize
-    requires few { chairs ≤ CHAIRS }
+    requires bound { chairs ≤ CHAIRS }
     ensures half { result ≡ left_count chairs }
 {
     chairs.div_ceil(2)
@@ -32,8 +32,8 @@ pub(crate) fn on_left(chairs: usize) -> usize
 
 // The chairs with these weights, at the slots from 0 on.
 pub(crate) fn chairs_of(weights: &[u64]) -> ArrayVec<(u8, u64), SLOTS>
-    requires few { length weights.now ≤ SLOTS }
-    ensures chairs { result.items ≡ slotted 0 weights.now }
+    requires bound { length weights.now ≤ SLOTS }
+    ensures chairs { result.items ≡ chairs_from_slot 0 weights.now }
 {
     let mut chairs = ArrayVec::new();
     for slot in 0..weights.len() {
@@ -45,7 +45,7 @@ pub(crate) fn chairs_of(weights: &[u64]) -> ArrayVec<(u8, u64), SLOTS>
 // 1 if the words of the sixteen chairs from index `from` on differ, otherwise 0.
 pub(crate) fn differ(old: &[u64; SHEET_WORDS], new: &[u64; SHEET_WORDS], from: usize) -> u8
     requires place { from ≤ SLOTS }
-    ensures few { result ≤ 1 }
+    ensures bound { result ≤ 1 }
     ensures changed { result ≡ one_if (not (same_half from old.now new.now)) }
 {
     if old[from..from + SLOTS] == new[from..from + SLOTS] {
@@ -57,10 +57,10 @@ pub(crate) fn differ(old: &[u64; SHEET_WORDS], new: &[u64; SHEET_WORDS], from: u
 
 // Rebuilds a half if its weights differ.
 pub(crate) fn refresh(half: &mut OrderedSums, old: &[u64], new: &[u64])
-    requires few { length new.now ≤ SLOTS }
+    requires bound { length new.now ≤ SLOTS }
     requires small { sum_by (λ n. n) new.now ≤ 2 ^ 48 }
-    requires before { AreSubsets (slotted 0 old.now) half.old }
-    ensures after { AreSubsets (slotted 0 new.now) half.new }
+    requires before { AreSubsets (chairs_from_slot 0 old.now) half.old }
+    ensures after { AreSubsets (chairs_from_slot 0 new.now) half.new }
 {
     if old == new {
         return;
@@ -70,7 +70,7 @@ pub(crate) fn refresh(half: &mut OrderedSums, old: &[u64], new: &[u64])
 
 // The items of `seated` at the seats of the open chairs, in the order of the chairs.
 pub(crate) fn in_order(chairs: u8, seated: &[u64; CHAIRS]) -> ArrayVec<u64, CHAIRS>
-    requires few { chairs ≤ CHAIRS }
+    requires bound { chairs ≤ CHAIRS }
     ensures count { length result.items ≡ chairs }
     ensures each { (i : ℕ) → i < chairs
         → slice_index result.items i ≡ slice_index seated.now (seat (left_count chairs) i) }

@@ -2,7 +2,7 @@
 ghost use Rattle.std.specs.Prelude.{◌≡◌, ◌≤◌, ◌^◌, length, sum_by};
 ghost use Rattle.half_sums.specs.declared.lists.TheConstants.{ROOM};
 ghost use Rattle.half_sums.specs.Entries.{AreSubsets, IsHalf};
-ghost use Rattle.power_index.specs.Halves.{slotted};
+ghost use Rattle.power_index.specs.Halves.{chairs_from_slot};
 ghost use Rattle.power_index.specs.Indices.{AreIndices, indices_of};
 
 use crate::halves::{chairs_of, on_left, weights_of};
@@ -86,11 +86,11 @@ impl<'a> LentEvaluator<'a> {
 
 // Lists the sets of the chairs with these weights in borrowed slices.
 fn listed<'a>(weights: &[u64], sums: &'a mut [u64], masks: &'a mut [u16]) -> SumList<'a>
-    requires few { length weights.now ≤ SLOTS }
+    requires bound { length weights.now ≤ SLOTS }
     requires small { sum_by (λ n. n) weights.now ≤ 2 ^ 48 }
     requires sums_room { length sums.old ≡ ROOM }
     requires masks_room { length masks.old ≡ ROOM }
-    ensures subsets { AreSubsets (slotted 0 weights.now) result }
+    ensures subsets { AreSubsets (chairs_from_slot 0 weights.now) result }
     ensures half { IsHalf result }
 {
     let count = list_subsets(chairs_of(weights).as_slice(), sums, masks);

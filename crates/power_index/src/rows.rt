@@ -32,7 +32,7 @@ struct Totals {
 pub(crate) fn coalition_count(chairs: u8) -> u64
     requires chairs { chairs ≤ CHAIRS }
     ensures same { result ≡ 2 ^ chairs }
-    ensures few { result ≤ 2 ^ 32 }
+    ensures bound { result ≤ 2 ^ 32 }
 {
     1 << chairs
 }
@@ -73,7 +73,7 @@ fn row(totals: &Totals, chair: (ChairId, u64), swings: u64) -> ChairPower
 
 // The sum of the swings of all open chairs.
 fn swing_sum(swings: &[u64]) -> u64
-    requires few { length swings.now ≤ CHAIRS }
+    requires bound { length swings.now ≤ CHAIRS }
     requires small { All (λ n. n ≤ 2 ^ CHAIRS) swings.now }
     ensures sum { result ≡ sum_by (λ n. n) swings.now }
 {

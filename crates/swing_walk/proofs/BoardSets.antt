@@ -11,11 +11,11 @@ use Rattle.std.proofs.lemmas.Map.Keys.{IsDistinct-cons, IsDistinct-tail}
 use Rattle.std.proofs.lemmas.Simd.{map-map}
 use Rattle.std.proofs.Math.Nat.{mul-le-mul, pow-le-pow_right}
 use Rattle.council_core.specs.Sheets.{Chair}
-use Rattle.council_core.specs.Coalitions.{subsets, has_chair, omega_of, omega_with, eta_of, reaching}
+use Rattle.council_core.specs.Coalitions.{subsets, has_chair, omega_of, omega_with, eta_of, threshold_rule}
 use Rattle.half_sums.specs.declared.entry.Entry.{Entry}
 use Rattle.half_sums.specs.Entries.{AreSubsets}
 use Rattle.half_sums.proofs.SetSums.{subsets_avoid, or_left, or_right}
-use Rattle.half_sums.proofs.SubsetFacts.{length_of_half, few}
+use Rattle.half_sums.proofs.SubsetFacts.{length_of_half, chairs_within_slots}
 use Rattle.half_sums.proofs.MaskLemmas.{first_apart, of_others}
 use Rattle.swing_walk.specs.Pairs.{large_pairs, large_with, reaches, is_large, swings_of}
 use Rattle.swing_walk.specs.Laws.{board_of, CoalitionLaw, AreHalf, TwoHalvesLaw, PairsAreCoalitions}
@@ -118,28 +118,28 @@ find place (x ∷ chairs) h = elim (cases_eq x.0 place) as (λ _. Found place (x
 ]
 
 -- no winning set has a chair that isn't there
-omega_with-absent : (quota least_size place : ℕ) (chairs : List Chair) → has_chair place chairs ≡ false → omega_with (reaching quota least_size) place chairs ≡ 0
+omega_with-absent : (quota least_size place : ℕ) (chairs : List Chair) → has_chair place chairs ≡ false → omega_with (threshold_rule quota least_size) place chairs ≡ 0
 omega_with-absent quota least_size place chairs h =
-    count_none (λ s. has_chair place s && reaching quota least_size s) (subsets chairs)
-    (All-weaker (λ (s : List Chair). has_chair place s ≡ false) (λ s. (has_chair place s && reaching quota least_size s) ≡ false) (λ s e. ap (λ t. t && reaching quota least_size s) e) (subsets chairs) (subsets_avoid (λ (c : Chair). eqb c.0 place) chairs h))
+    count_none (λ s. has_chair place s && threshold_rule quota least_size s) (subsets chairs)
+    (All-weaker (λ (s : List Chair). has_chair place s ≡ false) (λ s. (has_chair place s && threshold_rule quota least_size s) ≡ false) (λ s e. ap (λ t. t && threshold_rule quota least_size s) e) (subsets chairs) (subsets_avoid (λ (c : Chair). eqb c.0 place) chairs h))
 
 -- at least half of the winning sets have a chair that is there
-half_at_least : (quota least_size place : ℕ) (chairs : List Chair) → IsDistinct eqb (map (λ c. c.0) chairs) → has_chair place chairs ≡ true → omega_of (reaching quota least_size) chairs ≤ 2 * omega_with (reaching quota least_size) place chairs
+half_at_least : (quota least_size place : ℕ) (chairs : List Chair) → IsDistinct eqb (map (λ c. c.0) chairs) → has_chair place chairs ≡ true → omega_of (threshold_rule quota least_size) chairs ≤ 2 * omega_with (threshold_rule quota least_size) place chairs
 half_at_least quota least_size place chairs distinct there =
     let f : Found place chairs = find place chairs there in
     let absent : has_chair f.chair.0 (f.before ++ f.after) ≡ false = alone f.before f.after f.chair (subst (λ l. IsDistinct eqb (map (λ c. c.0) l)) f.is distinct) in
-    let law = swing_law (reaching quota least_size) f.before f.after f.chair (reaching_rule quota least_size) absent in
-    let here : omega_of (reaching quota least_size) (f.before ++ f.chair ∷ f.after) ≤ 2 * omega_with (reaching quota least_size) f.chair.0 (f.before ++ f.chair ∷ f.after) = omega (arith, law) in
-    subst (λ n. omega_of (reaching quota least_size) chairs ≤ 2 * omega_with (reaching quota least_size) n chairs) f.at
-    (subst (λ l. omega_of (reaching quota least_size) l ≤ 2 * omega_with (reaching quota least_size) f.chair.0 l) (sym f.is) here)
+    let law = swing_law (threshold_rule quota least_size) f.before f.after f.chair (reaching_rule quota least_size) absent in
+    let here : omega_of (threshold_rule quota least_size) (f.before ++ f.chair ∷ f.after) ≤ 2 * omega_with (threshold_rule quota least_size) f.chair.0 (f.before ++ f.chair ∷ f.after) = omega (arith, law) in
+    subst (λ n. omega_of (threshold_rule quota least_size) chairs ≤ 2 * omega_with (threshold_rule quota least_size) n chairs) f.at
+    (subst (λ l. omega_of (threshold_rule quota least_size) l ≤ 2 * omega_with (threshold_rule quota least_size) f.chair.0 l) (sym f.is) here)
 
-half_or_none : (quota least_size place : ℕ) (chairs : List Chair) (b : Bool) → has_chair place chairs ≡ b → IsDistinct eqb (map (λ c. c.0) chairs) → 0 < omega_with (reaching quota least_size) place chairs → omega_of (reaching quota least_size) chairs ≤ 2 * omega_with (reaching quota least_size) place chairs
+half_or_none : (quota least_size place : ℕ) (chairs : List Chair) (b : Bool) → has_chair place chairs ≡ b → IsDistinct eqb (map (λ c. c.0) chairs) → 0 < omega_with (threshold_rule quota least_size) place chairs → omega_of (threshold_rule quota least_size) chairs ≤ 2 * omega_with (threshold_rule quota least_size) place chairs
 half_or_none quota least_size place chairs true there distinct some = half_at_least quota least_size place chairs distinct there
 half_or_none quota least_size place chairs false absent distinct some = absurd (omega (arith, some, omega_with-absent quota least_size place chairs absent))
 
 entries_few : (chairs : List Chair) (es : List Entry) → AreHalf chairs → AreSubsets chairs es → length es ≤ ROOM
 entries_few chairs es half are =
-    let bound : 2 ^ length chairs ≤ 2 ^ SLOTS = pow-le-pow_right (omega arith) (few chairs half.slots half.distinct) in
+    let bound : 2 ^ length chairs ≤ 2 ^ SLOTS = pow-le-pow_right (omega arith) (chairs_within_slots chairs half.slots half.distinct) in
     omega (arith, length_of_half chairs es are, bound)
 
 pub two_halves_law : TwoHalvesLaw
@@ -148,14 +148,14 @@ two_halves_law quota least_size left right from to half_left half_right are_left
     let p : PairsAreCoalitions quota least_size left right from to = pair_law quota least_size left right from to half_left half_right are_left are_right in
     let distinct : IsDistinct eqb (map (λ (c : Chair). c.0) board) = board_distinct left right half_left.slots half_left.distinct half_right.distinct in
     let area : length from * length to ≤ ROOM * ROOM = mul-le-mul (entries_few left from half_left are_left) (entries_few right to half_right are_right) in
-    let as_omega : (place : ℕ) → swings_of (large_pairs quota least_size from to) (large_with quota least_size place from to) ≡ swings_of (omega_of (reaching quota least_size) board) (omega_with (reaching quota least_size) place board) =
-    λ place. ap (λ n. swings_of n (large_with quota least_size place from to)) p.winning ∙ ap (swings_of (omega_of (reaching quota least_size) board)) (p.with_chair place) in
+    let as_omega : (place : ℕ) → swings_of (large_pairs quota least_size from to) (large_with quota least_size place from to) ≡ swings_of (omega_of (threshold_rule quota least_size) board) (omega_with (threshold_rule quota least_size) place board) =
+    λ place. ap (λ n. swings_of n (large_with quota least_size place from to)) p.winning ∙ ap (swings_of (omega_of (threshold_rule quota least_size) board)) (p.with_chair place) in
     record {
-      few = omega (arith, pairs_bound (λ l r. reaches quota l r && is_large least_size l r) from to, area);
+      bound = omega (arith, pairs_bound (λ l r. reaches quota l r && is_large least_size l r) from to, area);
       within = λ place. omega (arith, p.winning, p.with_chair place, bound_law quota least_size place board);
       half = λ place some. omega (arith, p.winning, p.with_chair place, half_or_none quota least_size place board (has_chair place board) refl distinct (omega (arith, some, p.with_chair place)));
       swings = λ before after chair is. as_omega chair.0
-          ∙ subst (λ l. swings_of (omega_of (reaching quota least_size) l) (omega_with (reaching quota least_size) chair.0 l) ≡ eta_of (reaching quota least_size) chair l) (sym is)
+          ∙ subst (λ l. swings_of (omega_of (threshold_rule quota least_size) l) (omega_with (threshold_rule quota least_size) chair.0 l) ≡ eta_of (threshold_rule quota least_size) chair l) (sym is)
           (count_law quota least_size before after chair (alone before after chair (subst (λ l. IsDistinct eqb (map (λ c. c.0) l)) is distinct)));
-      vacant = λ place absent. as_omega place ∙ ap (swings_of (omega_of (reaching quota least_size) board)) (omega_with-absent quota least_size place board absent);
+      vacant = λ place absent. as_omega place ∙ ap (swings_of (omega_of (threshold_rule quota least_size) board)) (omega_with-absent quota least_size place board absent);
     }

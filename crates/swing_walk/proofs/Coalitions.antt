@@ -8,7 +8,7 @@ use Rattle.std.proofs.lemmas.Bool.{eq-eqb, ne_eqb, le-leb, leb-true}
 use Rattle.std.proofs.lemmas.List.Sums.{sum_by-cons, sum_by-le-sum_by}
 use Rattle.std.proofs.lemmas.List.Sorted.{IsPermutation-cons, IsPermutation-append_left, IsPermutation-append_comm, sum_by-IsPermutation, length_permutation, list_any-IsPermutation}
 use Rattle.council_core.specs.Sheets.{weight_of}
-use Rattle.council_core.specs.Coalitions.{subsets, has_chair, IsRule, reaching}
+use Rattle.council_core.specs.Coalitions.{subsets, has_chair, IsRule, threshold_rule}
 use Rattle.swing_walk.specs.Laws.{SwingLaw, CountLaw, BoundLaw}
 use Rattle.swing_walk.specs.Pairs.{swings_of}
 use Rattle.half_sums.proofs.SetSums.{sum_agree, sum_agree_on, sum_zero, over, over-cons, subsets_avoid}
@@ -88,7 +88,7 @@ pub both_true : (a b : Bool) → (a && b) ≡ true → (a ≡ true) × (b ≡ tr
 both_true true b h = (refl, h)
 both_true false b h = absurd (cc)
 
-pub reaching_rule : (quota least_size : ℕ) → IsRule (reaching quota least_size)
+pub reaching_rule : (quota least_size : ℕ) → IsRule (threshold_rule quota least_size)
 reaching_rule quota least_size = record {
   same = λ s t moves.
       ap (λ n. leb quota n && leb least_size (length s)) (sym (sum_by-IsPermutation (λ c. c.1) s t moves))
@@ -105,7 +105,7 @@ swings_from winning zero eta h = omega arith
 swings_from winning (suc n) eta h = ap (λ b. cond b 0 (2 * suc n - winning)) (ne_eqb (suc n) 0 (λ e. absurd (omega arith))) ∙ omega arith
 
 pub count_law : CountLaw
-count_law quota least_size before after chair absent = swings_from _ _ _ (swing_law (reaching quota least_size) before after chair (reaching_rule quota least_size) absent)
+count_law quota least_size before after chair absent = swings_from _ _ _ (swing_law (threshold_rule quota least_size) before after chair (reaching_rule quota least_size) absent)
 
 part_of : (a b : Bool) → cond (a && b) 1 0 ≤ cond b 1 0
 part_of true b = omega arith
@@ -113,4 +113,4 @@ part_of false true = omega arith
 part_of false false = omega arith
 
 pub bound_law : BoundLaw
-bound_law quota least_size place chairs = sum_by-le-sum_by (λ s. cond (has_chair place s && reaching quota least_size s) 1 0) (λ s. cond (reaching quota least_size s) 1 0) (subsets chairs) (λ s. part_of (has_chair place s) (reaching quota least_size s))
+bound_law quota least_size place chairs = sum_by-le-sum_by (λ s. cond (has_chair place s && threshold_rule quota least_size s) 1 0) (λ s. cond (threshold_rule quota least_size s) 1 0) (subsets chairs) (λ s. part_of (has_chair place s) (threshold_rule quota least_size s))

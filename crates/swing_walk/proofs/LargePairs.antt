@@ -10,7 +10,7 @@ use Rattle.std.proofs.lemmas.List.Sums.{count_by-le-length}
 use Rattle.half_sums.specs.declared.entry.Entry.{Entry}
 use Rattle.half_sums.specs.Groups.{size_of}
 use Rattle.half_sums.specs.declared.lists.TheConstants.{ROOM}
-use Rattle.swing_walk.specs.Pairs.{pairs_where, reaches, has, is_large, is_enough, large_pairs}
+use Rattle.swing_walk.specs.Pairs.{pairs_where, reaches, has_slot, is_large, is_enough, large_pairs}
 use Rattle.swing_walk.specs.Sizes.{partners_of}
 use Rattle.swing_walk.proofs.Counting.{Splits, count_none, count_agree, count_all, count_split, bit_times}
 use Rattle.swing_walk.proofs.Steps.{pairs_swap, pairs_agree, turned}
@@ -50,8 +50,8 @@ count_where : (p : Entry → Bool) (b : Bool) (entries : List Entry) → count_b
 count_where p true entries = count_agree (λ e. p e && true) p entries (λ k d h. and_true (p (get_or entries k d)) true refl)
 count_where p false entries = count_none (λ e. p e && false) entries (λ k d h. and_false (p (get_or entries k d)) false refl)
 
-pub count_slot : (p : Entry → Bool) (slot : ℕ) (l : Entry) (entries : List Entry) → count_by (λ e. p e && has slot l) entries ≡ bit_at l.mask slot * count_by p entries
-count_slot p slot l entries = count_where p (has slot l) entries ∙ bit_times (bit_at l.mask slot) (count_by p entries) (bit_at-lt l.mask slot)
+pub count_slot : (p : Entry → Bool) (slot : ℕ) (l : Entry) (entries : List Entry) → count_by (λ e. p e && has_slot slot l) entries ≡ bit_at l.mask slot * count_by p entries
+count_slot p slot l entries = count_where p (has_slot slot l) entries ∙ bit_times (bit_at l.mask slot) (count_by p entries) (bit_at-lt l.mask slot)
 
 -- seen from the right entry
 turned_enough : (quota least : ℕ) (a b : Entry) → is_enough quota least b a ≡ is_enough quota least a b
@@ -63,7 +63,7 @@ turned_enough quota least a b =
 pub turned_pairs : (quota least : ℕ) (left right : List Entry) → pairs_where (is_enough quota least) right left ≡ large_pairs quota least left right
 turned_pairs quota least left right = pairs_swap (is_enough quota least) right left ∙ pairs_agree (λ a b. is_enough quota least b a) (is_enough quota least) left right (turned_enough quota least)
 
-pub turned_marks : (quota least slot : ℕ) (left right : List Entry) → pairs_where (λ a b. is_enough quota least a b && has slot a) right left ≡ pairs_where (λ l r. is_enough quota least l r && has slot r) left right
+pub turned_marks : (quota least slot : ℕ) (left right : List Entry) → pairs_where (λ a b. is_enough quota least a b && has_slot slot a) right left ≡ pairs_where (λ l r. is_enough quota least l r && has_slot slot r) left right
 turned_marks quota least slot left right =
-    let test : Entry → Entry → Bool = λ a b. is_enough quota least a b && has slot a in
-    pairs_swap test right left ∙ pairs_agree (λ a b. test b a) (λ a b. is_enough quota least a b && has slot b) left right (λ a b. ap (λ t. t && has slot b) (turned_enough quota least a b))
+    let test : Entry → Entry → Bool = λ a b. is_enough quota least a b && has_slot slot a in
+    pairs_swap test right left ∙ pairs_agree (λ a b. test b a) (λ a b. is_enough quota least a b && has_slot slot b) left right (λ a b. ap (λ t. t && has_slot slot b) (turned_enough quota least a b))

@@ -11,10 +11,10 @@ use Rattle.half_sums.specs.declared.entry.Entry.{Entry}
 use Rattle.half_sums.specs.Entries.{zero_entry}
 use Rattle.half_sums.proofs.Merging.{sum_default}
 use Rattle.half_sums.specs.Merges.{entry_at}
-use Rattle.swing_walk.specs.Pairs.{pairs_where, is_enough, has}
+use Rattle.swing_walk.specs.Pairs.{pairs_where, is_enough, has_slot}
 use Rattle.swing_walk.specs.Sizes.{partners_of}
 use Rattle.swing_walk.specs.Walks.{IsBetween, IsPassed, HasCredited}
-use Rattle.swing_walk.specs.Tallies.{marked, total, IsEven, CreditsEach}
+use Rattle.swing_walk.specs.Tallies.{slot_amount, tally_total, IsEven, CreditsEach}
 use Rattle.swing_walk.specs.Sides.{side}
 use Rattle.swing_walk.specs.declared.tally.MaskTally.{MaskTally}
 use Rattle.swing_walk.proofs.Counting.{Splits, pairs_more}
@@ -29,16 +29,16 @@ pub record At (quota up rest : ℕ) (rising falling : List Entry) : Type 0 where
 -- the next rising entry is passed
 pub record Rises (quota least up rest : ℕ) (rising falling : List Entry) : Type 0 where
   pub between : IsBetween quota (up + 1) rest rising falling
-  pub total : pairs_where (is_enough quota least) (take (up + 1) rising) falling ≡ pairs_where (is_enough quota least) (take up rising) falling + partners_of least (entry_at rising up).mask (drop rest falling)
-  pub marks : (slot : ℕ) → pairs_where (λ a b. is_enough quota least a b && has slot a) (take (up + 1) rising) falling
-      ≡ pairs_where (λ a b. is_enough quota least a b && has slot a) (take up rising) falling + bit_at (entry_at rising up).mask slot * partners_of least (entry_at rising up).mask (drop rest falling)
+  pub tally_total : pairs_where (is_enough quota least) (take (up + 1) rising) falling ≡ pairs_where (is_enough quota least) (take up rising) falling + partners_of least (entry_at rising up).mask (drop rest falling)
+  pub marks : (slot : ℕ) → pairs_where (λ a b. is_enough quota least a b && has_slot slot a) (take (up + 1) rising) falling
+      ≡ pairs_where (λ a b. is_enough quota least a b && has_slot slot a) (take up rising) falling + bit_at (entry_at rising up).mask slot * partners_of least (entry_at rising up).mask (drop rest falling)
 
 -- the next falling entry is passed
 pub record Falls (quota least up rest : ℕ) (rising falling : List Entry) : Type 0 where
   pub between : IsBetween quota up (rest - 1) rising falling
-  pub total : pairs_where (is_enough quota least) (drop (rest - 1) falling) rising ≡ pairs_where (is_enough quota least) (drop rest falling) rising + partners_of least (entry_at falling (rest - 1)).mask (drop up rising)
-  pub marks : (slot : ℕ) → pairs_where (λ a b. is_enough quota least a b && has slot a) (drop (rest - 1) falling) rising
-      ≡ pairs_where (λ a b. is_enough quota least a b && has slot a) (drop rest falling) rising + bit_at (entry_at falling (rest - 1)).mask slot * partners_of least (entry_at falling (rest - 1)).mask (drop up rising)
+  pub tally_total : pairs_where (is_enough quota least) (drop (rest - 1) falling) rising ≡ pairs_where (is_enough quota least) (drop rest falling) rising + partners_of least (entry_at falling (rest - 1)).mask (drop up rising)
+  pub marks : (slot : ℕ) → pairs_where (λ a b. is_enough quota least a b && has_slot slot a) (drop (rest - 1) falling) rising
+      ≡ pairs_where (λ a b. is_enough quota least a b && has_slot slot a) (drop rest falling) rising + bit_at (entry_at falling (rest - 1)).mask slot * partners_of least (entry_at falling (rest - 1)).mask (drop up rising)
 
 -- the rising entry falls short with all falling ones but those that are passed
 rising_splits : (quota up rest : ℕ) (rising falling : List Entry) → At quota up rest rising falling → up < length rising →
@@ -79,7 +79,7 @@ pub rises : (quota least up rest : ℕ) (rising falling : List Entry) → At quo
 rises quota least up rest rising falling s inside low =
     let r : Entry = entry_at rising up in
     let b : IsBetween quota up rest rising falling = s.between in
-    let test : ℕ → Entry → Entry → Bool = λ slot a b. is_enough quota least a b && has slot a in
+    let test : ℕ → Entry → Entry → Bool = λ slot a b. is_enough quota least a b && has_slot slot a in
     let partners = count_enough quota least rest r falling (rising_splits quota up rest rising falling s inside low) in
     record {
       between = record {
@@ -103,7 +103,7 @@ falls_at quota least up rest rising falling s inside high =
     let b : IsBetween quota up rest rising falling = s.between in
     let partners = count_enough quota least up f rising (falling_splits quota up rest rising falling s inside high) in
     let behind : at + 1 ≡ rest = omega arith in
-    let test : ℕ → Entry → Entry → Bool = λ slot a b. is_enough quota least a b && has slot a in
+    let test : ℕ → Entry → Entry → Bool = λ slot a b. is_enough quota least a b && has_slot slot a in
     record {
       between = record {
         up_in = b.up_in;
@@ -115,7 +115,7 @@ falls_at quota least up rest rising falling s inside high =
         ];
       };
       total = omega (arith, sum_by-drop_more (λ b. count_by (λ a. is_enough quota least b a) rising) falling at zero_entry (omega arith), ap (λ i. pairs_where (is_enough quota least) (drop i falling) rising) behind, partners);
-      marks = λ slot. omega (arith, sum_by-drop_more (λ b. count_by (λ a. is_enough quota least b a && has slot b) rising) falling at zero_entry (omega arith), ap (λ i. pairs_where (test slot) (drop i falling) rising) behind, count_slot (is_enough quota least f) slot f rising, ap (λ n. bit_at f.mask slot * n) partners);
+      marks = λ slot. omega (arith, sum_by-drop_more (λ b. count_by (λ a. is_enough quota least b a && has_slot slot b) rising) falling at zero_entry (omega arith), ap (λ i. pairs_where (test slot) (drop i falling) rising) behind, count_slot (is_enough quota least f) slot f rising, ap (λ n. bit_at f.mask slot * n) partners);
     }
 
 -- two walks from both ends, which have passed all entries between them
@@ -158,11 +158,11 @@ pub record Pass (quota least up rest p q : ℕ) (rising falling : List Entry) (l
   pub credited : HasCredited quota least up rest rising falling old
   pub partners : amount ≡ cond falls (partners_of least high.mask (drop up rising)) (partners_of least low.mask (drop rest falling))
   pub rising_even : IsEven (side 0 new)
-  pub rising_total : total (side 0 new) ≡ total (side 0 old) + cond falls 0 amount
-  pub rising_marked : (slot : ℕ) → marked slot (side 0 new) ≡ marked slot (side 0 old) + bit_at (cond falls high.mask low.mask) slot * cond falls 0 amount
+  pub rising_total : tally_total (side 0 new) ≡ tally_total (side 0 old) + cond falls 0 amount
+  pub rising_marked : (slot : ℕ) → slot_amount slot (side 0 new) ≡ slot_amount slot (side 0 old) + bit_at (cond falls high.mask low.mask) slot * cond falls 0 amount
   pub falling_even : IsEven (side 1 new)
-  pub falling_total : total (side 1 new) ≡ total (side 1 old) + cond falls amount 0
-  pub falling_marked : (slot : ℕ) → marked slot (side 1 new) ≡ marked slot (side 1 old) + bit_at (cond falls high.mask low.mask) slot * cond falls amount 0
+  pub falling_total : tally_total (side 1 new) ≡ tally_total (side 1 old) + cond falls amount 0
+  pub falling_marked : (slot : ℕ) → slot_amount slot (side 1 new) ≡ slot_amount slot (side 1 old) + bit_at (cond falls high.mask low.mask) slot * cond falls amount 0
   pub next_up : p ≡ up + cond falls 0 1
   pub next_rest : q ≡ rest - cond falls 1 0
 
@@ -263,7 +263,7 @@ lefts_credited quota least up rest back_up back_rest left right front back w =
       one_even = w.front_credits.rising_even;
       two_even = w.back_credits.falling_even;
       totals = omega (arith, w.front_credits.rising_total, w.back_credits.falling_total, both_parts (is_enough quota least) left right up back_rest same);
-      marks = λ slot. omega (arith, w.front_credits.rising_marked slot, w.back_credits.falling_marked slot, both_parts (λ a b. is_enough quota least a b && has slot a) left right up back_rest same);
+      marks = λ slot. omega (arith, w.front_credits.rising_marked slot, w.back_credits.falling_marked slot, both_parts (λ a b. is_enough quota least a b && has_slot slot a) left right up back_rest same);
     }
 
 pub rights_credited : (quota least up rest back_up back_rest : ℕ) (left right : List Entry) (front back : List MaskTally) → Walked quota least up rest back_up back_rest left right front back → CreditsEach (is_enough quota least) right left (side 0 back) (side 1 front)
@@ -273,5 +273,5 @@ rights_credited quota least up rest back_up back_rest left right front back w =
       one_even = w.back_credits.rising_even;
       two_even = w.front_credits.falling_even;
       totals = omega (arith, w.back_credits.rising_total, w.front_credits.falling_total, both_parts (is_enough quota least) right left back_up rest same);
-      marks = λ slot. omega (arith, w.back_credits.rising_marked slot, w.front_credits.falling_marked slot, both_parts (λ a b. is_enough quota least a b && has slot a) right left back_up rest same);
+      marks = λ slot. omega (arith, w.back_credits.rising_marked slot, w.front_credits.falling_marked slot, both_parts (λ a b. is_enough quota least a b && has_slot slot a) right left back_up rest same);
     }

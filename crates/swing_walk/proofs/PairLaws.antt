@@ -10,10 +10,10 @@ use Rattle.std.proofs.lemmas.List.Folds.{list_any-append, list_any_none}
 use Rattle.std.proofs.lemmas.List.Elements.{All-weaker}
 use Rattle.half_sums.specs.declared.entry.Entry.{Entry}
 use Rattle.council_core.specs.Sheets.{weight_of}
-use Rattle.council_core.specs.Coalitions.{subsets, has_chair, reaching}
+use Rattle.council_core.specs.Coalitions.{subsets, has_chair, threshold_rule}
 use Rattle.half_sums.specs.Entries.{entry_of, AreSubsets}
 use Rattle.half_sums.specs.Groups.{size_of}
-use Rattle.swing_walk.specs.Pairs.{pairs_where, reaches, has, has_place, is_large}
+use Rattle.swing_walk.specs.Pairs.{pairs_where, reaches, has_slot, has_place, is_large}
 use Rattle.swing_walk.specs.Laws.{board_of, PairLaw}
 use Rattle.half_sums.proofs.SetSums.{sum_by-map, sum_agree, sum_agree_on, over, over-cons, subsets_avoid}
 use Rattle.half_sums.proofs.MaskLemmas.{mask_has, sets_sized}
@@ -75,11 +75,11 @@ as_slot place (c ∷ b) h =
 has_both : (place : ℕ) (a b : List (ℕ × ℕ)) → (SLOTS ≤ place → has_chair place a ≡ false) → has_place place (entry_of a) (entry_of b) ≡ has_chair place (a ++ map shifted b)
 has_both place a b low = elim (cases_lt place SLOTS) as (λ _. has_place place (entry_of a) (entry_of b) ≡ has_chair place (a ++ map shifted b)) [
   | inl below ↦
-      ap (λ t. cond t (has place (entry_of a)) (has (place - SLOTS) (entry_of b))) (lt-ltb place SLOTS below)
+      ap (λ t. cond t (has_slot place (entry_of a)) (has_slot (place - SLOTS) (entry_of b))) (lt-ltb place SLOTS below)
       ∙ mask_has place a
       ∙ sym (list_any-append (λ c. eqb c.0 place) a (map shifted b) ∙ or_none (has_chair place a) (has_chair place (map shifted b)) (none_below place b below))
   | inr above ↦
-      ap (λ t. cond t (has place (entry_of a)) (has (place - SLOTS) (entry_of b))) (le-ltb place SLOTS above)
+      ap (λ t. cond t (has_slot place (entry_of a)) (has_slot (place - SLOTS) (entry_of b))) (le-ltb place SLOTS above)
       ∙ mask_has (place - SLOTS) b
       ∙ sym (as_slot place b above)
       ∙ sym (list_any-append (λ c. eqb c.0 place) a (map shifted b) ∙ ap (λ t. t || has_chair place (map shifted b)) (low above))
@@ -95,7 +95,7 @@ sizes_both a b in_a in_b = omega (arith, in_a, in_b, length-append a (map shifte
 
 -- a pair of sets wins where its entries do
 wins_both : (quota least_size : ℕ) (a b : List (ℕ × ℕ)) → size_of (entry_of a) ≡ length a → size_of (entry_of b) ≡ length b →
-    (reaches quota (entry_of a) (entry_of b) && is_large least_size (entry_of a) (entry_of b)) ≡ reaching quota least_size (a ++ map shifted b)
+    (reaches quota (entry_of a) (entry_of b) && is_large least_size (entry_of a) (entry_of b)) ≡ threshold_rule quota least_size (a ++ map shifted b)
 wins_both quota least_size a b in_a in_b =
     ap (λ n. leb quota n && is_large least_size (entry_of a) (entry_of b)) (sym (weight_both a b))
     ∙ ap (λ n. leb quota (weight_of (a ++ map shifted b)) && leb least_size n) (sym (sizes_both a b in_a in_b))
@@ -116,11 +116,11 @@ pair_law quota least_size left right from to half_left half_right are_left are_r
     let sized_left : All sized (subsets left) = sets_sized left half_left.distinct in
     record {
       winning = pairs_over (λ l r. reaches quota l r && is_large least_size l r) left right from to are_left are_right
-          ∙ pairs_agree (λ a b. cond (reaches quota (entry_of a) (entry_of b) && is_large least_size (entry_of a) (entry_of b)) 1 0) (λ a b. cond (reaching quota least_size (a ++ map shifted b)) 1 0) sized sized left right
+          ∙ pairs_agree (λ a b. cond (reaches quota (entry_of a) (entry_of b) && is_large least_size (entry_of a) (entry_of b)) 1 0) (λ a b. cond (threshold_rule quota least_size (a ++ map shifted b)) 1 0) sized sized left right
           (λ a b in_a in_b. ap (λ t. cond t 1 0) (wins_both quota least_size a b in_a in_b)) sized_left sized_right
-          ∙ sym (board_over (λ s. cond (reaching quota least_size s) 1 0) left right);
+          ∙ sym (board_over (λ s. cond (threshold_rule quota least_size s) 1 0) left right);
       with_chair = λ place.
-          (let g : C → ℕ = λ s. cond (has_chair place s && reaching quota least_size s) 1 0 in
+          (let g : C → ℕ = λ s. cond (has_chair place s && threshold_rule quota least_size s) 1 0 in
           let low : C → Type 0 = λ s. sized s × (SLOTS ≤ place → has_chair place s ≡ false) in
           let low_left : All low (subsets left) = λ k d h. (sized_left k d h, λ t. subsets_avoid (λ (c : ℕ × ℕ). eqb c.0 place) left (absent_left place left half_left.slots t) k d h) in
           pairs_over (λ l r. (reaches quota l r && is_large least_size l r) && has_place place l r) left right from to are_left are_right

@@ -10,7 +10,7 @@ use Rattle.half_sums.specs.declared.entry.Entry.{Entry}
 use Rattle.half_sums.specs.Groups.{size_of, fewer_than}
 use Rattle.half_sums.specs.Merges.{entry_at}
 use Rattle.half_sums.proofs.GroupFacts.{sizes_few}
-use Rattle.swing_walk.specs.Sizes.{partners_of, at_least, one_at, counted, CountsBySize}
+use Rattle.swing_walk.specs.Sizes.{partners_of, at_least, one_at, tally_of_size, CountsBySize}
 use Rattle.swing_walk.specs.Sides.{size_side}
 use Rattle.swing_walk.specs.Walks.{IsPassed}
 use Rattle.swing_walk.specs.declared.partners.BySize.{BySize}
@@ -43,7 +43,7 @@ noughts_at (suc n) m (suc k) h = noughts_at n m k (omega arith)
 
 -- the steps of a set of n chairs
 own_step : (chairs size : ℕ) → chairs ≤ SLOTS → size < LANES → get_or (take (SLOTS - chairs + LANES - (SLOTS - chairs)) (drop (SLOTS - chairs) (steps SIZES 23))) size 0 ≡ cond (nat_le size chairs) 1 0
-own_step chairs size few within =
+own_step chairs size bound within =
     get_or-take (SLOTS - chairs + LANES - (SLOTS - chairs)) (drop (SLOTS - chairs) (steps SIZES 23)) size 0 (omega arith)
     ∙ get_or-drop (SLOTS - chairs) (steps SIZES 23) size 0
     ∙ elim (cases_lt chairs size) [
@@ -52,8 +52,8 @@ own_step chairs size few within =
     ]
 
 pub own_steps : (chairs size : ℕ) → chairs ≤ SLOTS → get_or (take (SLOTS - chairs + LANES - (SLOTS - chairs)) (drop (SLOTS - chairs) (steps SIZES 23))) size 0 ≡ cond (nat_le size chairs) 1 0
-own_steps chairs size few = elim (cases_lt size LANES) [
-  | inl within ↦ own_step chairs size few within
+own_steps chairs size bound = elim (cases_lt size LANES) [
+  | inl within ↦ own_step chairs size bound within
   | inr past ↦ get_or_past (take (SLOTS - chairs + LANES - (SLOTS - chairs)) (drop (SLOTS - chairs) (steps SIZES 23))) size 0 (omega (arith, length-take (SLOTS - chairs + LANES - (SLOTS - chairs)) (drop (SLOTS - chairs) (steps SIZES 23))))
       ∙ ap (λ b. cond b 1 0) (sym (lt-leb size chairs (omega arith)))
 ]
@@ -70,14 +70,14 @@ dropped_more size at entries some within =
 -- two sets have enough chairs together exactly if one has as many as the other lacks
 enough_chairs : (least x y : ℕ) → nat_le least (x + y) ≡ nat_le (least - x) y
 enough_chairs least x y = elim (cases_lt (x + y) least) [
-  | inl few ↦ lt-leb least (x + y) few ∙ sym (lt-leb (least - x) y (omega arith))
+  | inl bound ↦ lt-leb least (x + y) bound ∙ sym (lt-leb (least - x) y (omega arith))
   | inr many ↦ le-leb least (x + y) many ∙ sym (le-leb (least - x) y (omega arith))
 ]
 
 -- no set has more chairs than there are slots
 none_larger : (size : ℕ) (entries : List Entry) → All (λ e. e.mask < 2 ^ SLOTS) entries → SLOTS < size → at_least size entries ≡ 0
 none_larger size entries slots large = count_none (λ e. nat_le size (size_of e)) entries
-    (All-weaker (λ (e : Entry). size_of e ≤ SLOTS) (λ e. nat_le size (size_of e) ≡ false) (λ e few. lt-leb size (size_of e) (omega arith)) entries (sizes_few entries slots))
+    (All-weaker (λ (e : Entry). size_of e ≤ SLOTS) (λ e. nat_le size (size_of e) ≡ false) (λ e bound. lt-leb size (size_of e) (omega arith)) entries (sizes_few entries slots))
 
 -- the partners of a set by the chairs that it lacks
 partners-lacking : (least mask lane : ℕ) (entries : List Entry) → All (λ e. e.mask < 2 ^ SLOTS) entries → lane ≡ min (least - count_ones mask) SIZES → partners_of least mask entries ≡ at_least lane entries
@@ -85,7 +85,7 @@ partners-lacking least mask lane entries slots is =
     let lacks : ℕ = least - count_ones mask in
     let same : partners_of least mask entries ≡ at_least lacks entries = count_agree (λ e. nat_le least (count_ones mask + size_of e)) (λ e. nat_le lacks (size_of e)) entries (λ k d h. enough_chairs least (count_ones mask) (size_of (get_or entries k d))) in
     same ∙ elim (cases_lt lacks SIZES) as (λ _. at_least lacks entries ≡ at_least lane entries) [
-      | inl few ↦ ap (λ n. at_least n entries) (let e : lacks ≡ lane = omega (arith, is) in e)
+      | inl bound ↦ ap (λ n. at_least n entries) (let e : lacks ≡ lane = omega (arith, is) in e)
       | inr many ↦ none_larger lacks entries slots (omega arith) ∙ sym (none_larger lane entries slots (omega (arith, is)))
     ]
 
@@ -94,7 +94,7 @@ one_kind : (size s : ℕ) → cond (nat_lt s size) 1 0 + cond (nat_le size s) 1 
 one_kind size s =
     let v : Bool → ℕ = λ b. cond b 1 0 in
     elim (cases_lt s size) as (λ _. cond (nat_lt s size) 1 0 + cond (nat_le size s) 1 0 ≡ 1) [
-      | inl few ↦ omega (arith, ap v (lt-ltb s size few), ap v (lt-leb size s few))
+      | inl bound ↦ omega (arith, ap v (lt-ltb s size bound), ap v (lt-leb size s bound))
       | inr many ↦ omega (arith, ap v (le-ltb s size many), ap v (le-leb size s many))
     ]
 
@@ -105,15 +105,15 @@ both_kinds size (e ∷ entries) =
 
 -- what is read at a size, as long as fewer sets were passed than a number of 16 bits holds
 pub record Reads (by : BySize) (size up rest : ℕ) (rising falling : List Entry) : Type 0 where
-  pub room : get_or by.fewer size 0 + counted size (size_side 0 by.passed) ≤ length rising
-  pub left : get_or by.fewer size 0 + counted size (size_side 0 by.passed) + at_least size (drop up rising) ≡ length rising
-  pub gone : counted size (size_side 1 by.passed) ≡ at_least size (drop rest falling)
+  pub room : get_or by.fewer size 0 + tally_of_size size (size_side 0 by.passed) ≤ length rising
+  pub left : get_or by.fewer size 0 + tally_of_size size (size_side 0 by.passed) + at_least size (drop up rising) ≡ length rising
+  pub gone : tally_of_size size (size_side 1 by.passed) ≡ at_least size (drop rest falling)
 
 pub reads : (by : BySize) (size up rest : ℕ) (rising falling : List Entry) → CountsBySize by up rest rising falling → size ≤ SIZES → up + length falling < rest + ROOM → rest ≤ length falling → Reads by size up rest rising falling
-reads by size up rest rising falling counts few early within =
+reads by size up rest rising falling counts bound early within =
     let test : Entry → Bool = λ e. nat_le size (size_of e) in
-    let left : get_or by.fewer size 0 + counted size (size_side 0 by.passed) + at_least size (drop up rising) ≡ length rising =
-    omega (arith, counts.fewer size few, counts.risen size (omega arith), both_kinds size rising, sum_by-take-drop (λ (e : Entry). cond (nat_le size (size_of e)) 1 0) rising up, count_by-le-length test (take up rising), length-take up rising) in
+    let left : get_or by.fewer size 0 + tally_of_size size (size_side 0 by.passed) + at_least size (drop up rising) ≡ length rising =
+    omega (arith, counts.fewer size bound, counts.risen size (omega arith), both_kinds size rising, sum_by-take-drop (λ (e : Entry). cond (nat_le size (size_of e)) 1 0) rising up, count_by-le-length test (take up rising), length-take up rising) in
     record {
       room = omega (arith, left);
       left = left;
@@ -122,7 +122,7 @@ reads by size up rest rising falling counts few early within =
 
 -- which are the partners of a set
 pub partners-read : (by : BySize) (least high low lane up rest : ℕ) (rising falling : List Entry) (falls : Bool) (left gone : ℕ) → Reads by lane up rest rising falling → lane ≡ min (least - count_ones (cond falls high low)) SIZES →
-    All (λ e. e.mask < 2 ^ SLOTS) rising → All (λ e. e.mask < 2 ^ SLOTS) falling → left ≡ length rising - get_or by.fewer lane 0 - counted lane (size_side 0 by.passed) → gone ≡ counted lane (size_side 1 by.passed) →
+    All (λ e. e.mask < 2 ^ SLOTS) rising → All (λ e. e.mask < 2 ^ SLOTS) falling → left ≡ length rising - get_or by.fewer lane 0 - tally_of_size lane (size_side 0 by.passed) → gone ≡ tally_of_size lane (size_side 1 by.passed) →
     cond falls left gone ≡ cond falls (partners_of least high (drop up rising)) (partners_of least low (drop rest falling))
 partners-read by least high low lane up rest rising falling true left gone r is rising_slots falling_slots is_left is_gone =
     omega (arith, is_left, r.left, partners-lacking least high lane (drop up rising) (All-drop (λ (e : Entry). e.mask < 2 ^ SLOTS) up rising rising_slots) is)
@@ -132,10 +132,10 @@ partners-read by least high low lane up rest rising falling false left gone r is
 -- a set is passed
 pub record Counted (old new : BySize) (mask : ℕ) (falls : Bool) : Type 0 where
   pub fewer : new.fewer ≡ old.fewer
-  pub rising : (size : ℕ) → size < LANES → counted size (size_side 0 new.passed)
-      ≡ cond falls (counted size (size_side 0 old.passed)) ((counted size (size_side 0 old.passed) + one_at size mask) % 2 ^ 16)
-  pub falling : (size : ℕ) → size < LANES → counted size (size_side 1 new.passed)
-      ≡ cond falls ((counted size (size_side 1 old.passed) + one_at size mask) % 2 ^ 16) (counted size (size_side 1 old.passed))
+  pub rising : (size : ℕ) → size < LANES → tally_of_size size (size_side 0 new.passed)
+      ≡ cond falls (tally_of_size size (size_side 0 old.passed)) ((tally_of_size size (size_side 0 old.passed) + one_at size mask) % 2 ^ 16)
+  pub falling : (size : ℕ) → size < LANES → tally_of_size size (size_side 1 new.passed)
+      ≡ cond falls ((tally_of_size size (size_side 1 old.passed) + one_at size mask) % 2 ^ 16) (tally_of_size size (size_side 1 old.passed))
 
 pub passed : (quota up rest p q : ℕ) (rising falling : List Entry) (old new : BySize) (low high : Entry) (mask : ℕ) (falls : Bool) → CountsBySize old up rest rising falling → IsPassed falls quota low high up rest rising falling → rest ≤ length falling →
     Counted old new mask falls → mask ≡ cond falls high.mask low.mask → p ≡ up + cond falls 0 1 → q ≡ rest - cond falls 1 0 → CountsBySize new p q rising falling
@@ -143,15 +143,15 @@ passed quota up rest p q rising falling old new low high mask true counts next w
     let same_up : p ≡ up = omega (arith, is_up) in
     let same_rest : q ≡ rest - 1 = omega (arith, is_rest) in
     rw (same_up, same_rest) (record {
-      fewer = λ size few. ap (λ xs. get_or xs size 0) c.fewer ∙ counts.fewer size few;
-      risen = λ size few. c.rising size few ∙ counts.risen size few;
-      fallen = λ size few. omega (arith, c.falling size few, counts.fallen size few, dropped_more size rest falling next.0 within, ap (one_at size) (is_mask ∙ ap (λ (e : Entry). e.mask) next.1));
+      fewer = λ size bound. ap (λ xs. get_or xs size 0) c.fewer ∙ counts.fewer size bound;
+      risen = λ size bound. c.rising size bound ∙ counts.risen size bound;
+      fallen = λ size bound. omega (arith, c.falling size bound, counts.fallen size bound, dropped_more size rest falling next.0 within, ap (one_at size) (is_mask ∙ ap (λ (e : Entry). e.mask) next.1));
     })
 passed quota up rest p q rising falling old new low high mask false counts next within c is_mask is_up is_rest =
     let same_up : p ≡ up + 1 = omega (arith, is_up) in
     let same_rest : q ≡ rest = omega (arith, is_rest) in
     rw (same_up, same_rest) (record {
-      fewer = λ size few. ap (λ xs. get_or xs size 0) c.fewer ∙ counts.fewer size few;
-      risen = λ size few. omega (arith, c.rising size few, counts.risen size few, taken_more size up rising next.0, ap (one_at size) (is_mask ∙ ap (λ (e : Entry). e.mask) next.1));
-      fallen = λ size few. c.falling size few ∙ counts.fallen size few;
+      fewer = λ size bound. ap (λ xs. get_or xs size 0) c.fewer ∙ counts.fewer size bound;
+      risen = λ size bound. omega (arith, c.rising size bound, counts.risen size bound, taken_more size up rising next.0, ap (one_at size) (is_mask ∙ ap (λ (e : Entry). e.mask) next.1));
+      fallen = λ size bound. c.falling size bound ∙ counts.fallen size bound;
     })

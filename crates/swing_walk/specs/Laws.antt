@@ -3,9 +3,9 @@ use Rattle.std.specs.Prelude.{ℕ, ◌≡◌, ◌+◌, ◌*◌, ◌^◌, ◌<◌
 use Rattle.std.specs.Prelude.{◌∷◌, ◌++◌, map, flat_map, refl}
 use Rattle.std.specs.List.{All, IsDistinct}
 use Rattle.council_core.specs.Sheets.{Chair}
-use Rattle.council_core.specs.Coalitions.{Rule, subsets, has_chair, omega_of, omega_with, eta_of, IsRule, reaching}
+use Rattle.council_core.specs.Coalitions.{Rule, subsets, has_chair, omega_of, omega_with, eta_of, IsRule, threshold_rule}
 use Rattle.half_sums.specs.declared.entry.Entry.{Entry}
-use Rattle.half_sums.specs.Entries.{AreSubsets, entries_of, three}
+use Rattle.half_sums.specs.Entries.{AreSubsets, entries_of, three_chairs}
 use Rattle.swing_walk.specs.Pairs.{large_pairs, large_with, swings_of}
 use Rattle.half_sums.specs.declared.groups.TheConstants.{SLOTS}
 
@@ -18,32 +18,32 @@ SwingLaw = (wins : Rule) (before after : List Chair) (chair : Chair) → IsRule 
     ≡ 2 * omega_with wins chair.0 (before ++ chair ∷ after)
 
 -- worked example: chairs of 50, 49 and 1 votes, quota 51
-pub three_omega : omega_of (reaching 51 0) three ≡ 3
+pub three_omega : omega_of (threshold_rule 51 0) three_chairs ≡ 3
 three_omega = refl
 
-pub three_with : (omega_with (reaching 51 0) 0 three ≡ 3) × (omega_with (reaching 51 0) 1 three ≡ 2)
-    × (omega_with (reaching 51 0) 2 three ≡ 2)
+pub three_with : (omega_with (threshold_rule 51 0) 0 three_chairs ≡ 3) × (omega_with (threshold_rule 51 0) 1 three_chairs ≡ 2)
+    × (omega_with (threshold_rule 51 0) 2 three_chairs ≡ 2)
 three_with = (refl, refl, refl)
 
-pub three_eta : (eta_of (reaching 51 0) (0, 50) three ≡ 3) × (eta_of (reaching 51 0) (1, 49) three ≡ 1)
-    × (eta_of (reaching 51 0) (2, 1) three ≡ 1)
+pub three_eta : (eta_of (threshold_rule 51 0) (0, 50) three_chairs ≡ 3) × (eta_of (threshold_rule 51 0) (1, 49) three_chairs ≡ 1)
+    × (eta_of (threshold_rule 51 0) (2, 1) three_chairs ≡ 1)
 three_eta = (refl, refl, refl)
 
-pub three_pairs : (large_pairs 51 0 (entries_of three) (entries_of []) ≡ 3)
-    × (large_with 51 0 0 (entries_of three) (entries_of []) ≡ 3)
-    × (large_with 51 0 1 (entries_of three) (entries_of []) ≡ 2)
-    × (large_with 51 0 16 (entries_of three) (entries_of []) ≡ 0)
+pub three_pairs : (large_pairs 51 0 (entries_of three_chairs) (entries_of []) ≡ 3)
+    × (large_with 51 0 0 (entries_of three_chairs) (entries_of []) ≡ 3)
+    × (large_with 51 0 1 (entries_of three_chairs) (entries_of []) ≡ 2)
+    × (large_with 51 0 16 (entries_of three_chairs) (entries_of []) ≡ 0)
 unfolding lib.Count.ones
 three_pairs = (refl, refl, refl, refl)
 
 -- worked example: the same chairs, quota 50 and least size 2
-pub three_large : (omega_of (reaching 50 2) three ≡ 4) × (eta_of (reaching 50 2) (0, 50) three ≡ 2)
-    × (eta_of (reaching 50 2) (2, 1) three ≡ 2) × (large_pairs 50 2 (entries_of three) (entries_of []) ≡ 4)
+pub three_large : (omega_of (threshold_rule 50 2) three_chairs ≡ 4) × (eta_of (threshold_rule 50 2) (0, 50) three_chairs ≡ 2)
+    × (eta_of (threshold_rule 50 2) (2, 1) three_chairs ≡ 2) × (large_pairs 50 2 (entries_of three_chairs) (entries_of []) ≡ 4)
 unfolding lib.Count.ones
 three_large = (refl, refl, refl, refl)
 
 -- worked example: sixteen chairs of one vote each
-abbrev pub ones : List Chair
+abbrev pub equal_chairs : List Chair
 ones = (0, 1) ∷ (1, 1) ∷ (2, 1) ∷ (3, 1) ∷ (4, 1) ∷ (5, 1) ∷ (6, 1) ∷ (7, 1)
     ∷ (8, 1) ∷ (9, 1) ∷ (10, 1) ∷ (11, 1) ∷ (12, 1) ∷ (13, 1) ∷ (14, 1) ∷ (15, 1) ∷ []
 
@@ -66,10 +66,10 @@ pub record AreHalf (chairs : List Chair) : Type 0 where
 
 -- the counts of the pairs are those of the coalitions of the board
 pub record PairsAreCoalitions (quota least_size : ℕ) (left right : List Chair) (from to : List Entry) : Type 0 where
-  pub winning : large_pairs quota least_size from to ≡ omega_of (reaching quota least_size) (board_of left right)
+  pub winning : large_pairs quota least_size from to ≡ omega_of (threshold_rule quota least_size) (board_of left right)
   pub with_chair : (place : ℕ)
       → large_with quota least_size place from to
-      ≡ omega_with (reaching quota least_size) place (board_of left right)
+      ≡ omega_with (threshold_rule quota least_size) place (board_of left right)
 
 abbrev pub PairLaw : Type 0
 PairLaw = (quota least_size : ℕ) (left right : List Chair) (from to : List Entry) → AreHalf left → AreHalf right
@@ -79,25 +79,25 @@ PairLaw = (quota least_size : ℕ) (left right : List Chair) (from to : List Ent
 abbrev pub CountLaw : Type 0
 CountLaw = (quota least_size : ℕ) (before after : List Chair) (chair : Chair)
     → has_chair chair.0 (before ++ after) ≡ false →
-    swings_of (omega_of (reaching quota least_size) (before ++ chair ∷ after))
-    (omega_with (reaching quota least_size) chair.0 (before ++ chair ∷ after))
-    ≡ eta_of (reaching quota least_size) chair (before ++ chair ∷ after)
+    swings_of (omega_of (threshold_rule quota least_size) (before ++ chair ∷ after))
+    (omega_with (threshold_rule quota least_size) chair.0 (before ++ chair ∷ after))
+    ≡ eta_of (threshold_rule quota least_size) chair (before ++ chair ∷ after)
 
 -- the winning coalitions that have a chair are at most as many as all winning coalitions
 abbrev pub BoundLaw : Type 0
 BoundLaw = (quota least_size place : ℕ) (chairs : List Chair)
-    → omega_with (reaching quota least_size) place chairs ≤ omega_of (reaching quota least_size) chairs
+    → omega_with (threshold_rule quota least_size) place chairs ≤ omega_of (threshold_rule quota least_size) chairs
 
 -- the counts of two halves meet the requirements of `swings`, and its results are the swings of
 -- each chair, 0 at a place without a chair
 pub record CountsMeet (quota least_size : ℕ) (left right : List Chair) (from to : List Entry) : Type 0 where
-  pub few : large_pairs quota least_size from to ≤ 2 ^ 32
+  pub bound : large_pairs quota least_size from to ≤ 2 ^ 32
   pub within : (place : ℕ) → large_with quota least_size place from to ≤ large_pairs quota least_size from to
   pub half : (place : ℕ) → 0 < large_with quota least_size place from to
       → large_pairs quota least_size from to ≤ 2 * large_with quota least_size place from to
   pub swings : (before after : List Chair) (chair : Chair) → board_of left right ≡ before ++ chair ∷ after
       → swings_of (large_pairs quota least_size from to) (large_with quota least_size chair.0 from to)
-      ≡ eta_of (reaching quota least_size) chair (board_of left right)
+      ≡ eta_of (threshold_rule quota least_size) chair (board_of left right)
   pub vacant : (place : ℕ) → has_chair place (board_of left right) ≡ false
       → swings_of (large_pairs quota least_size from to) (large_with quota least_size place from to) ≡ 0
 

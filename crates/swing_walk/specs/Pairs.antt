@@ -16,12 +16,12 @@ abbrev pub reaches : ℕ → Entry → Entry → Bool
 reaches quota l r = nat_le quota (l.sum + r.sum)
 
 -- whether an entry has the chair at a slot
-abbrev pub has : ℕ → Entry → Bool
-has slot e = bit_at e.mask slot == 1
+abbrev pub has_slot : ℕ → Entry → Bool
+has_slot slot e = bit_at e.mask slot == 1
 
 -- whether a pair has the chair at a place: 0 to 15 on the left, 16 to 31 on the right
 abbrev pub has_place : ℕ → Entry → Entry → Bool
-has_place place l r = if nat_lt place SLOTS then has place l else has (place - SLOTS) r
+has_place place l r = if nat_lt place SLOTS then has_slot place l else has_slot (place - SLOTS) r
 
 -- whether a pair has enough chairs
 abbrev pub is_large : ℕ → Entry → Entry → Bool

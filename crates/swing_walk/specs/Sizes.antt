@@ -23,12 +23,12 @@ abbrev pub one_at : ℕ → ℕ → ℕ
 one_at size mask = if nat_le size (count_ones mask) then 1 else 0
 
 -- the count of a tally at a size
-abbrev pub counted : ℕ → SizeTally → ℕ
-counted size t = slice_index_or t.at_least size 0
+abbrev pub tally_of_size : ℕ → SizeTally → ℕ
+tally_of_size size t = slice_index_or t.at_least size 0
 
 -- a tally counts exactly these entries, modulo 2^16
 abbrev pub IsSizeTally : List Entry → SizeTally → Type 0
-IsSizeTally entries t = (size : ℕ) → size < LANES → counted size t ≡ at_least size entries % 2 ^ 16
+IsSizeTally entries t = (size : ℕ) → size < LANES → tally_of_size size t ≡ at_least size entries % 2 ^ 16
 
 -- a counter by size has counted the first `up` rising sets, the falling sets from `rest` on, and,
 -- by their sizes, all rising sets

@@ -4,10 +4,10 @@ use Rattle.std.specs.Prelude.{Bool, true, false}
 use Rattle.half_sums.specs.declared.entry.Entry.{Entry}
 use Rattle.half_sums.specs.Entries.{zero_entry}
 use Rattle.half_sums.specs.Merges.{entry_at}
-use Rattle.swing_walk.specs.Pairs.{pairs_where, is_enough, has}
-use Rattle.swing_walk.specs.Tallies.{marked, total, IsEven}
+use Rattle.swing_walk.specs.Pairs.{pairs_where, is_enough, has_slot}
+use Rattle.swing_walk.specs.Tallies.{slot_amount, tally_total, IsEven}
 use Rattle.swing_walk.specs.Sides.{side}
-use Rattle.swing_walk.specs.declared.places.Asked.{Asked}
+use Rattle.swing_walk.specs.declared.places.Threshold.{Threshold}
 use Rattle.swing_walk.specs.declared.places.Places.{Places}
 use Rattle.swing_walk.specs.declared.places.Next.{Next}
 use Rattle.swing_walk.specs.declared.tally.MaskTally.{MaskTally}
@@ -49,16 +49,16 @@ IsNext quota next places rising falling =
 -- entries
 pub record HasCredited (quota least up rest : ℕ) (rising falling : List Entry) (tallies : List MaskTally) : Type 0 where
   pub rising_even : IsEven (side 0 tallies)
-  pub rising_total : total (side 0 tallies) ≡ pairs_where (is_enough quota least) (take up rising) falling
-  pub rising_marked : (slot : ℕ) → marked slot (side 0 tallies)
-      ≡ pairs_where (λ a b. is_enough quota least a b && has slot a) (take up rising) falling
+  pub rising_total : tally_total (side 0 tallies) ≡ pairs_where (is_enough quota least) (take up rising) falling
+  pub rising_marked : (slot : ℕ) → slot_amount slot (side 0 tallies)
+      ≡ pairs_where (λ a b. is_enough quota least a b && has_slot slot a) (take up rising) falling
   pub falling_even : IsEven (side 1 tallies)
-  pub falling_total : total (side 1 tallies) ≡ pairs_where (is_enough quota least) (drop rest falling) rising
-  pub falling_marked : (slot : ℕ) → marked slot (side 1 tallies)
-      ≡ pairs_where (λ a b. is_enough quota least a b && has slot a) (drop rest falling) rising
+  pub falling_total : tally_total (side 1 tallies) ≡ pairs_where (is_enough quota least) (drop rest falling) rising
+  pub falling_marked : (slot : ℕ) → slot_amount slot (side 1 tallies)
+      ≡ pairs_where (λ a b. is_enough quota least a b && has_slot slot a) (drop rest falling) rising
 
 -- a chain at these places: it has credited and counted the entries that it passed
-pub record StandsAt (counts : ℕ → ℕ → ℕ → List Entry → List Entry → Type 0) (asked : Asked) (places : Places)
+pub record StandsAt (counts : ℕ → ℕ → ℕ → List Entry → List Entry → Type 0) (asked : Threshold) (places : Places)
     (rising falling : List Entry) (tallies : List MaskTally) : Type 0 where
   pub between : IsBetween asked.quota places.up places.rest rising falling
   pub credited : HasCredited asked.quota asked.least_size places.up places.rest rising falling tallies

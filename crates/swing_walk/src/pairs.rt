@@ -2,10 +2,10 @@
 ghost use Rattle.std.specs.Prelude.{◌≡◌, ℕ, ◌+◌, ◌*◌, ◌^◌, ◌<◌, ◌≤◌, slice_index};
 ghost use Rattle.half_sums.specs.Entries.{IsHalf};
 ghost use Rattle.swing_walk.specs.Pairs.{is_enough, large_pairs, large_with, swings_of};
-ghost use Rattle.swing_walk.specs.Tallies.{total, IsEven, CreditsLefts, CreditsRights};
+ghost use Rattle.swing_walk.specs.Tallies.{tally_total, IsEven, CreditsLefts, CreditsRights};
 
 use crate::partners::{BySize, OfAnySize};
-use crate::places::Asked;
+use crate::places::Threshold;
 use crate::tally::MaskTally;
 use crate::walking::walk;
 use council_core::CHAIRS;
@@ -74,16 +74,16 @@ fn credit_pairs(
 
     // The tallies before the call.
     requires left_even { IsEven lefts.old }
-    requires left_room { total lefts.old ≤ 2 ^ 62 }
+    requires left_room { tally_total lefts.old ≤ 2 ^ 62 }
     requires right_even { IsEven rights.old }
-    requires right_room { total rights.old ≤ 2 ^ 62 }
+    requires right_room { tally_total rights.old ≤ 2 ^ 62 }
 
     // The counts.
     ensures winning { result ≡ large_pairs quota least_size left.now right.now }
     ensures lefts { CreditsLefts (is_enough quota least_size) left.now right.now lefts.old lefts.new }
     ensures rights { CreditsRights (is_enough quota least_size) left.now right.now rights.old rights.new }
 {
-    let asked = Asked { quota, least_size };
+    let asked = Threshold { quota, least_size };
     if least_size == 0 {
         return walk(
             left,
@@ -114,7 +114,7 @@ fn both(left: &[u64; SLOTS], right: &[u64; SLOTS]) -> [u64; CHAIRS]
 /// Felsenthal and Machover 1998). The counts of the two halves of a board meet the requirements,
 /// and the results are then the swings by the definition.
 pub fn swings(counts: &Counts) -> [u64; CHAIRS]
-    requires few { counts.now.winning ≤ 2 ^ 32 }
+    requires bound { counts.now.winning ≤ 2 ^ 32 }
     requires within { (place : ℕ) → place < CHAIRS
         → slice_index counts.now.with_chair place ≤ counts.now.winning }
     requires half { (place : ℕ) → place < CHAIRS → 0 < slice_index counts.now.with_chair place

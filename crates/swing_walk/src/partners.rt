@@ -11,7 +11,7 @@ ghost use Rattle.half_sums.specs.Entries.{IsHalf};
 ghost use Rattle.swing_walk.specs.Sizes.{partners_of, CountsBySize};
 ghost use Rattle.swing_walk.specs.Walks.{IsNext};
 
-use crate::places::{Asked, Next, Places};
+use crate::places::{Next, Places, Threshold};
 use crate::sides::{FALLING, RISING, count_on};
 use crate::sizes::{SizeTally, lacking};
 use half_sums::{ROOM, STARTS, SumList, either, starts_of};
@@ -25,7 +25,7 @@ pub(crate) trait Partners: Copy {
     // Passes the next set, and returns the number of its partners.
     fn pass(
         &mut self,
-        asked: Asked,
+        asked: Threshold,
         places: Places,
         next: Next,
         rising: &SumList,
@@ -37,7 +37,7 @@ pub(crate) trait Partners: Copy {
         // The position of the chain.
         requires up { places.up ≤ length rising.now }
         requires rest { places.rest ≤ length falling.now }
-        requires few { places.up + length falling.now < places.rest + ROOM }
+        requires bound { places.up + length falling.now < places.rest + ROOM }
         requires next { IsNext asked.quota next places rising.now falling.now }
         requires counted { counts self.old asked.least_size places.up places.rest rising.now falling.now }
 
@@ -59,7 +59,7 @@ impl Partners for OfAnySize {
     #[inline(always)]
     fn pass(
         &mut self,
-        _asked: Asked,
+        _asked: Threshold,
         places: Places,
         next: Next,
         rising: &SumList,
@@ -99,7 +99,7 @@ impl Partners for BySize {
     #[inline(always)]
     fn pass(
         &mut self,
-        asked: Asked,
+        asked: Threshold,
         _places: Places,
         next: Next,
         rising: &SumList,

@@ -5,7 +5,7 @@ use half_sums::{Entry, ROOM, SumList, either};
 
 // The votes and the chairs that a pair must have.
 #[derive(Clone, Copy)]
-pub(crate) struct Asked {
+pub(crate) struct Threshold {
     pub(crate) quota: u64,
     pub(crate) least_size: u8,
 }
@@ -33,7 +33,7 @@ impl Places {
     // The position after the falling entry is passed, or otherwise the rising one.
     pub(crate) fn after(self, falls: bool) -> Places
         requires some { cond falls 1 0 ≤ self.rest }
-        requires few { self.up ≤ ROOM }
+        requires bound { self.up ≤ ROOM }
         ensures up { result.up ≡ self.up + cond falls 0 1 }
         ensures rest { result.rest ≡ self.rest - cond falls 1 0 }
     {

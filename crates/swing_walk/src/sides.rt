@@ -2,9 +2,9 @@
 //! and selects it by an index instead of a branch.
 ghost use Rattle.std.specs.Prelude.{◌≡◌, ℕ, ◌+◌, ◌*◌, ◌^◌, ◌<◌, ◌%◌, cond};
 ghost use Rattle.std.specs.Int.{bit_at};
-ghost use Rattle.swing_walk.specs.Tallies.{marked, total, IsEven};
+ghost use Rattle.swing_walk.specs.Tallies.{slot_amount, tally_total, IsEven};
 ghost use Rattle.swing_walk.specs.Sides.{side, size_side};
-ghost use Rattle.swing_walk.specs.Sizes.{counted, one_at};
+ghost use Rattle.swing_walk.specs.Sizes.{tally_of_size, one_at};
 ghost use Rattle.swing_walk.specs.declared.sizes.TheConstants.{LANES};
 
 use crate::sizes::SizeTally;
@@ -19,22 +19,22 @@ pub(crate) const FALLING: usize = 1;
 pub(crate) fn add_to(sides: &mut [MaskTally; 2], to_right: bool, mask: u16, amount: u64)
     requires left_even { IsEven (side 0 sides.old) }
     requires right_even { IsEven (side 1 sides.old) }
-    requires left_room { total (side 0 sides.old) + amount < 2 ^ 64 }
-    requires right_room { total (side 1 sides.old) + amount < 2 ^ 64 }
+    requires left_room { tally_total (side 0 sides.old) + amount < 2 ^ 64 }
+    requires right_room { tally_total (side 1 sides.old) + amount < 2 ^ 64 }
 
     // The left tally.
     ensures left_even { IsEven (side 0 sides.new) }
-    ensures left_total { total (side 0 sides.new) ≡ total (side 0 sides.old) + cond to_right 0 amount }
+    ensures left_total { tally_total (side 0 sides.new) ≡ tally_total (side 0 sides.old) + cond to_right 0 amount }
     ensures left_marked { (slot : ℕ)
-        → marked slot (side 0 sides.new)
-        ≡ marked slot (side 0 sides.old) + bit_at mask slot * cond to_right 0 amount }
+        → slot_amount slot (side 0 sides.new)
+        ≡ slot_amount slot (side 0 sides.old) + bit_at mask slot * cond to_right 0 amount }
 
     // The right tally.
     ensures right_even { IsEven (side 1 sides.new) }
-    ensures right_total { total (side 1 sides.new) ≡ total (side 1 sides.old) + cond to_right amount 0 }
+    ensures right_total { tally_total (side 1 sides.new) ≡ tally_total (side 1 sides.old) + cond to_right amount 0 }
     ensures right_marked { (slot : ℕ)
-        → marked slot (side 1 sides.new)
-        ≡ marked slot (side 1 sides.old) + bit_at mask slot * cond to_right amount 0 }
+        → slot_amount slot (side 1 sides.new)
+        ≡ slot_amount slot (side 1 sides.old) + bit_at mask slot * cond to_right amount 0 }
 {
     sides[usize::from(to_right)].add(mask, amount);
 }
@@ -44,13 +44,13 @@ pub(crate) fn add_to(sides: &mut [MaskTally; 2], to_right: bool, mask: u16, amou
 #[inline(always)]
 pub(crate) fn count_on(sides: &mut [SizeTally; 2], on_right: bool, mask: u16)
     ensures left { (size : ℕ) → size < LANES
-        → counted size (size_side 0 sides.new)
-        ≡ cond on_right (counted size (size_side 0 sides.old))
-        ((counted size (size_side 0 sides.old) + one_at size mask) % 2 ^ 16) }
+        → tally_of_size size (size_side 0 sides.new)
+        ≡ cond on_right (tally_of_size size (size_side 0 sides.old))
+        ((tally_of_size size (size_side 0 sides.old) + one_at size mask) % 2 ^ 16) }
     ensures right { (size : ℕ) → size < LANES
-        → counted size (size_side 1 sides.new)
-        ≡ cond on_right ((counted size (size_side 1 sides.old) + one_at size mask) % 2 ^ 16)
-        (counted size (size_side 1 sides.old)) }
+        → tally_of_size size (size_side 1 sides.new)
+        ≡ cond on_right ((tally_of_size size (size_side 1 sides.old) + one_at size mask) % 2 ^ 16)
+        (tally_of_size size (size_side 1 sides.old)) }
 {
     sides[usize::from(on_right)].add(mask);
 }

@@ -1,7 +1,7 @@
 //! Numbers of sets that have at least a given size.
 ghost use Rattle.std.specs.Prelude.{◌≡◌, ℕ, ◌+◌, ◌-◌, ◌<◌, ◌%◌, ◌^◌, count_ones, length, min};
 ghost use Rattle.std.specs.Prelude.{slice_index_or};
-ghost use Rattle.swing_walk.specs.Sizes.{counted, one_at};
+ghost use Rattle.swing_walk.specs.Sizes.{tally_of_size, one_at};
 
 use half_sums::{SIZES, SLOTS, part, size};
 
@@ -24,7 +24,7 @@ pub(crate) struct SizeTally {
 impl SizeTally {
     // The tally of no sets.
     pub(crate) fn new() -> SizeTally
-        ensures none { (size : ℕ) → counted size result ≡ 0 }
+        ensures none { (size : ℕ) → tally_of_size size result ≡ 0 }
     {
         SizeTally {
             at_least: [0; LANES],
@@ -35,7 +35,7 @@ impl SizeTally {
     #[inline(always)]
     pub(crate) fn add(&mut self, mask: u16)
         ensures more { (size : ℕ) → size < LANES
-            → counted size self.new ≡ (counted size self.old + one_at size mask) % 2 ^ 16 }
+            → tally_of_size size self.new ≡ (tally_of_size size self.old + one_at size mask) % 2 ^ 16 }
     {
         let steps = steps_of(mask);
         for size in 0..LANES {

@@ -1,7 +1,7 @@
 //! Amounts per chair, stored by the two bytes of the masks to which they belong.
 ghost use Rattle.std.specs.Prelude.{◌≡◌, ℕ, ◌+◌, ◌-◌, ◌*◌, ◌^◌, ◌<◌, slice_index};
 ghost use Rattle.std.specs.Int.{bit_at};
-ghost use Rattle.swing_walk.specs.Tallies.{marked, total, IsEven, low_weight, high_weight};
+ghost use Rattle.swing_walk.specs.Tallies.{slot_amount, tally_total, IsEven, low_weight, high_weight};
 
 use half_sums::SLOTS;
 
@@ -18,8 +18,8 @@ pub(crate) struct MaskTally {
 impl MaskTally {
     // The tally without amounts.
     pub(crate) fn new() -> MaskTally
-        ensures none { (slot : ℕ) → marked slot result ≡ 0 }
-        ensures total { total result ≡ 0 }
+        ensures none { (slot : ℕ) → slot_amount slot result ≡ 0 }
+        ensures total { tally_total result ≡ 0 }
         ensures even { IsEven result }
     {
         MaskTally {
@@ -31,9 +31,9 @@ impl MaskTally {
     // Adds an amount that belongs to this mask.
     pub(crate) fn add(&mut self, mask: u16, amount: u64)
         requires even { IsEven self.old }
-        requires room { total self.old + amount < 2 ^ 64 }
-        ensures marked { (slot : ℕ) → marked slot self.new ≡ marked slot self.old + bit_at mask slot * amount }
-        ensures total { total self.new ≡ total self.old + amount }
+        requires room { tally_total self.old + amount < 2 ^ 64 }
+        ensures marked { (slot : ℕ) → slot_amount slot self.new ≡ slot_amount slot self.old + bit_at mask slot * amount }
+        ensures total { tally_total self.new ≡ tally_total self.old + amount }
         ensures even { IsEven self.new }
     {
         self.low[usize::from(mask % BYTES)] += amount;
@@ -44,9 +44,9 @@ impl MaskTally {
     pub(crate) fn join(&mut self, other: &MaskTally)
         requires even { IsEven self.old }
         requires other_even { IsEven other.now }
-        requires room { total self.old + total other.now < 2 ^ 64 }
-        ensures marked { (slot : ℕ) → marked slot self.new ≡ marked slot self.old + marked slot other.now }
-        ensures total { total self.new ≡ total self.old + total other.now }
+        requires room { tally_total self.old + tally_total other.now < 2 ^ 64 }
+        ensures marked { (slot : ℕ) → slot_amount slot self.new ≡ slot_amount slot self.old + slot_amount slot other.now }
+        ensures total { tally_total self.new ≡ tally_total self.old + tally_total other.now }
         ensures even { IsEven self.new }
     {
         for byte in 0..BYTES as usize {
@@ -57,8 +57,8 @@ impl MaskTally {
 
     // The sum of all amounts.
     pub(crate) fn total(&self) -> u64
-        requires room { total self.now < 2 ^ 64 }
-        ensures total { result ≡ total self.now }
+        requires room { tally_total self.now < 2 ^ 64 }
+        ensures total { result ≡ tally_total self.now }
     {
         let mut total = 0;
         for byte in 0..BYTES as usize {
@@ -70,8 +70,8 @@ impl MaskTally {
     // For each slot, the sum of the amounts whose masks have it.
     pub(crate) fn by_slot(&self) -> [u64; SLOTS]
         requires even { IsEven self.now }
-        requires room { total self.now < 2 ^ 63 }
-        ensures marked { (slot : ℕ) → slot < SLOTS → slice_index result slot ≡ marked slot self.now }
+        requires room { tally_total self.now < 2 ^ 63 }
+        ensures marked { (slot : ℕ) → slot < SLOTS → slice_index result slot ≡ slot_amount slot self.now }
     {
         let mut totals = [0; SLOTS];
         for byte in 0..BYTES {

@@ -13,10 +13,10 @@ ghost use Rattle.half_sums.specs.Entries.{IsHalf, zero_entry};
 ghost use Rattle.swing_walk.specs.Pairs.{is_enough, large_pairs};
 ghost use Rattle.swing_walk.specs.Walks.{IsNext, StandsAt, HasPassed, at_start};
 ghost use Rattle.swing_walk.specs.Sides.{side};
-ghost use Rattle.swing_walk.specs.Tallies.{total, IsEven, CreditsEach, CreditsLefts, CreditsRights};
+ghost use Rattle.swing_walk.specs.Tallies.{tally_total, IsEven, CreditsEach, CreditsLefts, CreditsRights};
 
 use crate::partners::Partners;
-use crate::places::{Asked, Next, Places};
+use crate::places::{Next, Places, Threshold};
 use crate::sides::{FALLING, RISING, add_to};
 use crate::tally::MaskTally;
 use half_sums::{Entry, ROOM, SumList};
@@ -45,7 +45,7 @@ const NO_ENTRY: Entry = Entry { sum: 0, mask: 0 };
 pub(crate) fn walk<P: Partners>(
     left: &SumList,
     right: &SumList,
-    asked: Asked,
+    asked: Threshold,
     front: P,
     back: P,
     lefts: &mut MaskTally,
@@ -60,9 +60,9 @@ pub(crate) fn walk<P: Partners>(
 
     // The tallies before the call.
     requires left_even { IsEven lefts.old }
-    requires left_room { total lefts.old ≤ 2 ^ 62 }
+    requires left_room { tally_total lefts.old ≤ 2 ^ 62 }
     requires right_even { IsEven rights.old }
-    requires right_room { total rights.old ≤ 2 ^ 62 }
+    requires right_room { tally_total rights.old ≤ 2 ^ 62 }
 
     // The counts.
     ensures winning { result ≡ large_pairs asked.quota asked.least_size left.now right.now }
@@ -92,7 +92,7 @@ pub(crate) fn walk<P: Partners>(
 fn walk_from_both_ends<P: Partners>(
     left: &SumList,
     right: &SumList,
-    asked: Asked,
+    asked: Threshold,
     front: &mut Chain<P>,
     back: &mut Chain<P>,
 )
@@ -120,7 +120,7 @@ fn walk_from_both_ends<P: Partners>(
 fn walk_within<P: Partners>(
     left: &SumList,
     right: &SumList,
-    asked: Asked,
+    asked: Threshold,
     front: &mut Chain<P>,
     back: &mut Chain<P>,
 ) -> Ends
@@ -148,7 +148,7 @@ fn walk_within<P: Partners>(
 fn steps_within<P: Partners>(
     left: &SumList,
     right: &SumList,
-    asked: Asked,
+    asked: Threshold,
     front: &mut Chain<P>,
     back: &mut Chain<P>,
 ) -> Ends
@@ -188,7 +188,7 @@ fn walk_on<P: Partners>(
     ends: Ends,
     left: &SumList,
     right: &SumList,
-    asked: Asked,
+    asked: Threshold,
     front: &mut Chain<P>,
     back: &mut Chain<P>,
 )
@@ -226,7 +226,7 @@ fn pass_within<P: Partners>(
     places: Places,
     rising: &SumList,
     falling: &SumList,
-    asked: Asked,
+    asked: Threshold,
     chain: &mut Chain<P>,
 ) -> Places
     requires rising { IsHalf rising.now }
@@ -235,7 +235,7 @@ fn pass_within<P: Partners>(
     // The position of the chain.
     requires some_rising { places.up < length rising.now }
     requires some_falling { 0 < places.rest }
-    requires few { places.up + length falling.now < places.rest + ROOM }
+    requires bound { places.up + length falling.now < places.rest + ROOM }
     requires stands { StandsAt (P.counts chain.old.partners) asked places rising.now falling.now chain.old.tallies }
 
     // The next position.
@@ -261,7 +261,7 @@ fn pass<P: Partners>(
     places: Places,
     rising: &SumList,
     falling: &SumList,
-    asked: Asked,
+    asked: Threshold,
     chain: &mut Chain<P>,
 ) -> Places
     requires rising { IsHalf rising.now }
@@ -269,7 +269,7 @@ fn pass<P: Partners>(
 
     // The position of the chain.
     requires some { places.up < length rising.now + places.rest }
-    requires few { places.up + length falling.now < places.rest + ROOM }
+    requires bound { places.up + length falling.now < places.rest + ROOM }
     requires stands { StandsAt (P.counts chain.old.partners) asked places rising.now falling.now chain.old.tallies }
 
     // The next position.
@@ -297,7 +297,7 @@ fn pass_next<P: Partners>(
     places: Places,
     rising: &SumList,
     falling: &SumList,
-    asked: Asked,
+    asked: Threshold,
     chain: &mut Chain<P>,
 ) -> Places
     requires rising { IsHalf rising.now }
@@ -305,7 +305,7 @@ fn pass_next<P: Partners>(
     requires next { IsNext asked.quota next places rising.now falling.now }
 
     // The position of the chain.
-    requires few { places.up + length falling.now < places.rest + ROOM }
+    requires bound { places.up + length falling.now < places.rest + ROOM }
     requires stands { StandsAt (P.counts chain.old.partners) asked places rising.now falling.now chain.old.tallies }
 
     // The next position.

@@ -16,8 +16,8 @@ use Rattle.two_copy_steps.specs.declared.views.Writing.{Writing}
 use Rattle.two_copy_steps.specs.declared.views.Stage.{Stage}
 use Rattle.two_copy_steps.specs.declared.views.Phase.{Phase}
 use Rattle.two_copy_steps.specs.declared.views.Phase.TheVariants.{Idle, Seeing, Filling, Swapping}
-use Rattle.two_copy_steps.specs.Actions.{cuts_past, first_false, phase_action, seeing}
-use Rattle.two_copy_steps.specs.Transitions.{MachineState, transition, started, after, submitted, published_by, is_pending, is_idle, reader_transition}
+use Rattle.two_copy_steps.specs.Actions.{cuts_past, first_false, phase_action, writing_with_quiescent}
+use Rattle.two_copy_steps.specs.Transitions.{MachineState, transition, machine_at_start, state_after_events, machine_and_note, published_by, is_pending, is_idle, reader_transition}
 use Rattle.two_copy_steps.specs.Auxiliary.{Auxiliary, auxiliary_start, auxiliary_step, auxiliary_steps, auxiliary_reader_step}
 
 last_behind : (o : Option ℕ) (xs : List ℕ) (x : ℕ) → last_or o (xs ++ x ∷ []) ≡ Some x
@@ -59,7 +59,7 @@ cuts_stepped : (opening : Opening) (w : Writing) (p : Phase) (found : ℕ) (cuts
 cuts_stepped opening w Idle found cuts e h = h
 cuts_stepped opening w Seeing found cuts e h =
     let more : length w.published < length w.taken = h.longer (ap is_idle e) in
-    elim (eqb found 0) as (λ b. HasCuts (cond b (seeing w (set w.seen_out (first_false w.seen_out) true)) (record w { phase = Idle })) cuts) [
+    elim (eqb found 0) as (λ b. HasCuts (cond b (writing_with_quiescent w (set w.seen_out (first_false w.seen_out) true)) (record w { phase = Idle })) cuts) [
       | true ↦ record { ascending = h.ascending; last = h.last; longer = λ _. more }
       | false ↦ record { ascending = h.ascending; last = h.last; longer = λ busy. absurd (true≢false busy) }
     ]
@@ -79,7 +79,7 @@ cuts_begun m cuts h =
       | false ↦ λ _. h
     ] refl
 
-by_submit : (m : MachineState) (command : Command) (v : Result ⊤ Refusal) (cuts : List ℕ) → HasCuts m.writer cuts → HasCuts (submitted m command v).0.writer cuts
+by_submit : (m : MachineState) (command : Command) (v : Result ⊤ Refusal) (cuts : List ℕ) → HasCuts m.writer cuts → HasCuts (machine_and_note m command v).0.writer cuts
 by_submit m command (Ok u) cuts h = h
 by_submit m command (Err refusal) cuts h = h
 
@@ -90,7 +90,7 @@ by_reader m aux r (Some stage) h = h
 -- for any event
 cuts_transition : (m : MachineState) (aux : Auxiliary) → HasCuts m.writer aux.cuts → (event : Event) → HasCuts (transition m event).0.writer (auxiliary_step m aux event).cuts
 cuts_transition m aux h (Submit command) =
-    elim (is_idle m.writer.phase) as (λ b. HasCuts (cond b (submitted m command (verdict_of m.ledger command)) (m, Skipped)).0.writer aux.cuts)
+    elim (is_idle m.writer.phase) as (λ b. HasCuts (cond b (machine_and_note m command (verdict_of m.ledger command)) (m, Skipped)).0.writer aux.cuts)
     [ true ↦ by_submit m command (verdict_of m.ledger command) aux.cuts h | false ↦ h ]
 cuts_transition m aux h Publish =
     elim (is_idle m.writer.phase) as (λ b. HasCuts (cond b (published_by m (is_pending m)) (m, Skipped)).0.writer aux.cuts) [ true ↦ cuts_begun m aux.cuts h | false ↦ h ]
@@ -99,11 +99,11 @@ cuts_transition m aux h Writer =
 cuts_transition m aux h (Reader zero) = h
 cuts_transition m aux h (Reader (suc r)) = by_reader m aux r (slice_get m.readers r) h
 
-cuts_along : (events : List Event) (m : MachineState) (aux : Auxiliary) → HasCuts m.writer aux.cuts → HasCuts (after m events).writer (auxiliary_steps m aux events).cuts
+cuts_along : (events : List Event) (m : MachineState) (aux : Auxiliary) → HasCuts m.writer aux.cuts → HasCuts (state_after_events m events).writer (auxiliary_steps m aux events).cuts
 cuts_along [] m aux h = h
 cuts_along (event ∷ events) m aux h = cuts_along events (transition m event).0 (auxiliary_step m aux event) (cuts_transition m aux h event)
 
 -- from the start
-pub run_cuts : (ledger : Ledger) (readers : ℕ) (events : List Event) → HasCuts (after (started ledger readers) events).writer (auxiliary_steps (started ledger readers) (auxiliary_start ledger readers) events).cuts
+pub run_cuts : (ledger : Ledger) (readers : ℕ) (events : List Event) → HasCuts (state_after_events (machine_at_start ledger readers) events).writer (auxiliary_steps (machine_at_start ledger readers) (auxiliary_start ledger readers) events).cuts
 run_cuts ledger readers events =
-    cuts_along events (started ledger readers) (auxiliary_start ledger readers) record { ascending = λ k less. absurd (omega arith); last = refl; longer = λ busy. absurd (true≢false busy) }
+    cuts_along events (machine_at_start ledger readers) (auxiliary_start ledger readers) record { ascending = λ k less. absurd (omega arith); last = refl; longer = λ busy. absurd (true≢false busy) }

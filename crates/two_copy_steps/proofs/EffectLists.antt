@@ -1,6 +1,6 @@
 -- One run of the sequential register over the effects of a list of events.
 use Rattle.std.proofs.Common.{◌≡◌, List, [], ◌∷◌, ◌++◌, refl, ap, ◌∙◌}
-use Rattle.council_core.specs.Sequential.{Sequential, Call, Reply, respond, replies_of, state_after}
+use Rattle.council_core.specs.Sequential.{Sequential, Call, Reply, response_to, replies_of, state_after}
 use Rattle.two_copy_steps.specs.declared.events.Event.{Event}
 use Rattle.two_copy_steps.specs.Transitions.{MachineState, transition}
 use Rattle.two_copy_steps.specs.Effects.{SequentialRun, sequential_step, sequential_steps, effect, effects, sequential_replies}
@@ -8,11 +8,11 @@ use Rattle.two_copy_steps.specs.Effects.{SequentialRun, sequential_step, sequent
 -- calls after calls
 state_after-append : (s : Sequential) (calls more : List Call) → state_after s (calls ++ more) ≡ state_after (state_after s calls) more
 state_after-append s [] more = refl
-state_after-append s (call ∷ calls) more = state_after-append (respond s call).0 calls more
+state_after-append s (call ∷ calls) more = state_after-append (response_to s call).0 calls more
 
 replies_of-append : (s : Sequential) (calls more : List Call) → replies_of s (calls ++ more) ≡ replies_of s calls ++ replies_of (state_after s calls) more
 replies_of-append s [] more = refl
-replies_of-append s (call ∷ calls) more = ap (λ (rs : List Reply). (respond s call).1 ∷ rs) (replies_of-append (respond s call).0 calls more)
+replies_of-append s (call ∷ calls) more = ap (λ (rs : List Reply). (response_to s call).1 ∷ rs) (replies_of-append (response_to s call).0 calls more)
 
 -- the run over the list of effects, event by event
 pub one_run : (events : List Event) (t : SequentialRun) (m : MachineState) → (replies_of t.register (effects m events) ≡ sequential_replies t m events) × (state_after t.register (effects m events) ≡ (sequential_steps t m events).register)

@@ -7,7 +7,7 @@ use Rattle.council_core.specs.declared.commands.Command.{Command}
 use Rattle.council_core.specs.Ledgers.{Ledger, IsLedger}
 use Rattle.two_copy_steps.specs.declared.events.Event.{Event}
 use Rattle.two_copy_steps.specs.declared.events.Note.{Note}
-use Rattle.two_copy_steps.specs.Transitions.{MachineState, transition, started, after, notes}
+use Rattle.two_copy_steps.specs.Transitions.{MachineState, transition, machine_at_start, state_after_events, notes}
 use Rattle.two_copy_steps.specs.Auxiliary.{Auxiliary, auxiliary_start, auxiliary_step, auxiliary_steps, IsLawful, HasLegalRecords, NoneUnder}
 use Rattle.two_copy_steps.specs.Effects.{SequentialRun, sequential_start, sequential_step, AllAnswer}
 use Rattle.two_copy_steps.proofs.TransitionSteps.{transition_keeps, records_are, none_under}
@@ -15,7 +15,7 @@ use Rattle.two_copy_steps.proofs.Replies.{Agrees, event_agrees}
 use Rattle.two_copy_steps.proofs.Journals.{IsAccepted, IsWithin, journal_accepted, journal_within}
 use Rattle.two_copy_steps.proofs.Starts.{start_lawful, start_agrees}
 
-pub always_lawful : (events : List Event) (m : MachineState) (aux : Auxiliary) → IsLawful IsAccepted m aux → IsAccepted m.ledger.opening m.ledger.journal → IsLawful IsAccepted (after m events) (auxiliary_steps m aux events)
+pub always_lawful : (events : List Event) (m : MachineState) (aux : Auxiliary) → IsLawful IsAccepted m aux → IsAccepted m.ledger.opening m.ledger.journal → IsLawful IsAccepted (state_after_events m events) (auxiliary_steps m aux events)
 always_lawful [] m aux l h = l
 always_lawful (event ∷ events) m aux l h = always_lawful events (transition m event).0 (auxiliary_step m aux event) (transition_keeps IsAccepted m aux l h event) (journal_accepted m h event)
 
@@ -35,7 +35,7 @@ together_on t m aux h event =
       agrees = (event_agrees IsAccepted m aux h.lawful t h.agrees event).0;
     }
 
-pub together_after : (events : List Event) (t : SequentialRun) (m : MachineState) (aux : Auxiliary) → Together t m aux → (t' : SequentialRun) × Together t' (after m events) (auxiliary_steps m aux events)
+pub together_after : (events : List Event) (t : SequentialRun) (m : MachineState) (aux : Auxiliary) → Together t m aux → (t' : SequentialRun) × Together t' (state_after_events m events) (auxiliary_steps m aux events)
 together_after [] t m aux h = (t, h)
 together_after (event ∷ events) t m aux h = together_after events (sequential_step t m event) (transition m event).0 (auxiliary_step m aux event) (together_on t m aux h event)
 
@@ -45,22 +45,22 @@ all_answer [] t m aux h = tt
 all_answer (event ∷ events) t m aux h =
     ((event_agrees IsAccepted m aux h.lawful t h.agrees event).1, all_answer events (sequential_step t m event) (transition m event).0 (auxiliary_step m aux event) (together_on t m aux h event))
 
-pub always_within : (events : List Event) (m : MachineState) → IsWithin m.ledger → IsWithin (after m events).ledger
+pub always_within : (events : List Event) (m : MachineState) → IsWithin m.ledger → IsWithin (state_after_events m events).ledger
 always_within [] m h = h
 always_within (event ∷ events) m h = always_within events (transition m event).0 (journal_within m h event)
 
 -- a list of events followed by another
-pub after_append : (events more : List Event) (m : MachineState) → after m (events ++ more) ≡ after (after m events) more
+pub after_append : (events more : List Event) (m : MachineState) → state_after_events m (events ++ more) ≡ state_after_events (state_after_events m events) more
 after_append [] more m = refl
 after_append (event ∷ events) more m = after_append events more (transition m event).0
 
-pub notes_append : (events more : List Event) (m : MachineState) → notes m (events ++ more) ≡ notes m events ++ notes (after m events) more
+pub notes_append : (events more : List Event) (m : MachineState) → notes m (events ++ more) ≡ notes m events ++ notes (state_after_events m events) more
 notes_append [] more m = refl
 notes_append (event ∷ events) more m = ap (λ (l : List Note). (transition m event).1 ∷ l) (notes_append events more (transition m event).0)
 
 -- the records are legal, where the journal has at most a million commands
 pub legal_records : (m : MachineState) (aux : Auxiliary) → IsLawful IsAccepted m aux → length m.ledger.journal ≤ 1000000 → HasLegalRecords m aux
-legal_records m aux l few =
+legal_records m aux l bound =
     let w = m.writer in
     let o = l.state.writer in
     let begins = ap (length {A = Command}) o.begins.1 in
@@ -74,27 +74,27 @@ legal_records m aux l few =
 
 module _ (ledger : Ledger) (readers : ℕ) (accepted : IsAccepted ledger.opening ledger.journal) where
   -- from the start
-  pub start_together : Together (sequential_start ledger) (started ledger readers) (auxiliary_start ledger readers)
+  pub start_together : Together (sequential_start ledger) (machine_at_start ledger readers) (auxiliary_start ledger readers)
   start_together = record { lawful = start_lawful IsAccepted ledger readers accepted; accepted = accepted; agrees = start_agrees ledger readers }
 
-  run_lawful : (events : List Event) → IsLawful IsAccepted (after (started ledger readers) events) (auxiliary_steps (started ledger readers) (auxiliary_start ledger readers) events)
-  run_lawful events = always_lawful events (started ledger readers) (auxiliary_start ledger readers) (start_lawful IsAccepted ledger readers accepted) accepted
+  run_lawful : (events : List Event) → IsLawful IsAccepted (state_after_events (machine_at_start ledger readers) events) (auxiliary_steps (machine_at_start ledger readers) (auxiliary_start ledger readers) events)
+  run_lawful events = always_lawful events (machine_at_start ledger readers) (auxiliary_start ledger readers) (start_lawful IsAccepted ledger readers accepted) accepted
 
-  pub run_answers : (events : List Event) → AllAnswer (sequential_start ledger) (started ledger readers) events
-  run_answers events = all_answer events (sequential_start ledger) (started ledger readers) (auxiliary_start ledger readers) start_together
+  pub run_answers : (events : List Event) → AllAnswer (sequential_start ledger) (machine_at_start ledger readers) events
+  run_answers events = all_answer events (sequential_start ledger) (machine_at_start ledger readers) (auxiliary_start ledger readers) start_together
 
-  pub run_apart : (events : List Event) → NoneUnder (after (started ledger readers) events)
-  run_apart events = none_under IsAccepted (after (started ledger readers) events) (auxiliary_steps (started ledger readers) (auxiliary_start ledger readers) events) (run_lawful events)
+  pub run_apart : (events : List Event) → NoneUnder (state_after_events (machine_at_start ledger readers) events)
+  run_apart events = none_under IsAccepted (state_after_events (machine_at_start ledger readers) events) (auxiliary_steps (machine_at_start ledger readers) (auxiliary_start ledger readers) events) (run_lawful events)
 
-  pub run_records : (events : List Event) → length (after (started ledger readers) events).ledger.journal ≤ 1000000
-      → HasLegalRecords (after (started ledger readers) events) (auxiliary_steps (started ledger readers) (auxiliary_start ledger readers) events)
-  run_records events few = legal_records (after (started ledger readers) events) (auxiliary_steps (started ledger readers) (auxiliary_start ledger readers) events) (run_lawful events) few
+  pub run_records : (events : List Event) → length (state_after_events (machine_at_start ledger readers) events).ledger.journal ≤ 1000000
+      → HasLegalRecords (state_after_events (machine_at_start ledger readers) events) (auxiliary_steps (machine_at_start ledger readers) (auxiliary_start ledger readers) events)
+  run_records events bound = legal_records (state_after_events (machine_at_start ledger readers) events) (auxiliary_steps (machine_at_start ledger readers) (auxiliary_start ledger readers) events) (run_lawful events) bound
 
 -- of a register's ledger the journal stays short enough
 pub ledger_records : (ledger : Ledger) (readers : ℕ) → IsLedger ledger → (events : List Event)
-    → HasLegalRecords (after (started ledger readers) events) (auxiliary_steps (started ledger readers) (auxiliary_start ledger readers) events)
+    → HasLegalRecords (state_after_events (machine_at_start ledger readers) events) (auxiliary_steps (machine_at_start ledger readers) (auxiliary_start ledger readers) events)
 ledger_records ledger readers k events =
-    let w = always_within events (started ledger readers) (k.within, k.small) in
+    let w = always_within events (machine_at_start ledger readers) (k.within, k.small) in
     let short = w.0 in
     let small = w.1 in
     run_records ledger readers k.legal.0 events (omega arith)
@@ -106,9 +106,9 @@ one_more events k event h at =
 
 -- the first events of a list, with one more
 pub after_more : (m : MachineState) (events : List Event) (k : ℕ) (event : Event) → k < length events → event ≡ get_or events k event
-    → after m (take (k + 1) events) ≡ (transition (after m (take k events)) event).0
-after_more m events k event h at = ap (after m) (one_more events k event h at) ∙ after_append (take k events) (event ∷ []) m
+    → state_after_events m (take (k + 1) events) ≡ (transition (state_after_events m (take k events)) event).0
+after_more m events k event h at = ap (state_after_events m) (one_more events k event h at) ∙ after_append (take k events) (event ∷ []) m
 
 pub notes_more : (m : MachineState) (events : List Event) (k : ℕ) (event : Event) → k < length events → event ≡ get_or events k event
-    → notes m (take (k + 1) events) ≡ notes m (take k events) ++ (transition (after m (take k events)) event).1 ∷ []
+    → notes m (take (k + 1) events) ≡ notes m (take k events) ++ (transition (state_after_events m (take k events)) event).1 ∷ []
 notes_more m events k event h at = ap (notes m) (one_more events k event h at) ∙ notes_append (take k events) (event ∷ []) m

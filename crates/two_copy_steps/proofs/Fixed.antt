@@ -34,7 +34,7 @@ zeros (suc n) zero = refl
 zeros (suc n) (suc k) = zeros n k
 
 -- the words at the start, filled in place by place
-module _ (all sheet : List ℕ) (readers : ℕ) (wide : length all ≡ pin READERS) (long : length sheet ≡ COPY_WORDS) (few : readers ≤ READERS) (side : get_or all 0 0 ≡ 0)
+module _ (all sheet : List ℕ) (readers : ℕ) (wide : length all ≡ pin READERS) (long : length sheet ≡ COPY_WORDS) (bound : readers ≤ READERS) (side : get_or all 0 0 ≡ 0)
     (first : (k : ℕ) → k < COPY_WORDS → get_or all (place 0 k) 0 ≡ get_or sheet k 0) (second : (k : ℕ) → k < COPY_WORDS → get_or all (place 1 k) 0 ≡ get_or sheet k 0) (rest : (k : ℕ) → pin 0 ≤ k → k < pin READERS → get_or all k 0 ≡ 0) where
   abbrev Same : ℕ → Type 0
   Same i = get_or all i 0 ≡ get_or (words_at_start sheet (replicate readers 0) long) i 0

@@ -5,7 +5,7 @@ use Rattle.council_core.specs.declared.commands.Command.{Command}
 use Rattle.council_core.specs.Rolls.{sheet}
 use Rattle.council_core.specs.Ledgers.{Ledger, verdict_of}
 use Rattle.council_core.specs.Sheets.{front_of}
-use Rattle.council_core.specs.Sequential.{Sequential, Reply, reading, respond}
+use Rattle.council_core.specs.Sequential.{Sequential, Reply, reading, response_to}
 use Rattle.council_core.specs.Sequential as sequential
 use Rattle.two_copy_steps.specs.declared.events.Event.{Event}
 use Rattle.two_copy_steps.specs.declared.events.Event.TheVariants.{Submit, Publish, Writer, Reader}
@@ -16,22 +16,22 @@ use Rattle.two_copy_steps.specs.declared.views.Stage.TheVariants.{AtRest, Arrive
 use Rattle.two_copy_steps.specs.declared.views.Phase.{Phase}
 use Rattle.two_copy_steps.specs.declared.views.Phase.TheVariants.{Idle, Seeing, Filling, Swapping}
 use Rattle.two_copy_steps.specs.declared.table.TheConstants.{COPY_WORDS}
-use Rattle.two_copy_steps.specs.Actions.{stage_action, phase_action, seeing, first_false}
-use Rattle.two_copy_steps.specs.Transitions.{MachineState, transition, submitted, published_by, is_pending, is_idle, reader_transition, started, after}
+use Rattle.two_copy_steps.specs.Actions.{stage_action, phase_action, writing_with_quiescent, first_false}
+use Rattle.two_copy_steps.specs.Transitions.{MachineState, transition, machine_and_note, published_by, is_pending, is_idle, reader_transition, machine_at_start, state_after_events}
 use Rattle.two_copy_steps.specs.Auxiliary.{Auxiliary, auxiliary_start, auxiliary_step, auxiliary_steps, IsLawful}
 use Rattle.two_copy_steps.specs.Effects.{SequentialRun, sequential_start, replied_at, replied_to, sequential_step}
 use Rattle.two_copy_steps.proofs.Lists.{at_set}
 use Rattle.two_copy_steps.proofs.Journals.{IsAccepted}
 use Rattle.two_copy_steps.proofs.EventLists.{Together, together_on, together_after, start_together, after_append}
 
-looked_published : (w : Writing) (r : ℕ) (b : Bool) → (cond b (seeing w (set w.seen_out r true)) (record w { phase = Idle })).published ≡ w.published
+looked_published : (w : Writing) (r : ℕ) (b : Bool) → (cond b (writing_with_quiescent w (set w.seen_out r true)) (record w { phase = Idle })).published ≡ w.published
 looked_published w r true = refl
 looked_published w r false = refl
 
 -- what is published never gets shorter
 published_grows : (m : MachineState) (aux : Auxiliary) → IsLawful IsAccepted m aux → (event : Event) → length m.writer.published ≤ length (transition m event).0.writer.published
 published_grows m aux l (Submit command) =
-    elim (is_idle m.writer.phase) as (λ b. length m.writer.published ≤ length (cond b (submitted m command (verdict_of m.ledger command)) (m, Skipped)).0.writer.published) [ true ↦ omega arith | false ↦ omega arith ]
+    elim (is_idle m.writer.phase) as (λ b. length m.writer.published ≤ length (cond b (machine_and_note m command (verdict_of m.ledger command)) (m, Skipped)).0.writer.published) [ true ↦ omega arith | false ↦ omega arith ]
 published_grows m aux l Publish =
     elim (is_idle m.writer.phase) as (λ b. length m.writer.published ≤ length (cond b (published_by m (is_pending m)) (m, Skipped)).0.writer.published) [
       | true ↦ elim (is_pending m) as (λ c. length m.writer.published ≤ length (published_by m c).0.writer.published) [ true ↦ omega arith | false ↦ omega arith ]
@@ -73,9 +73,9 @@ module _ (low r : ℕ) (t : SequentialRun) (m : MachineState) (aux : Auxiliary) 
   own : (stage : Stage) → slice_get m.readers r ≡ Some stage → FreshAt low (replied_at t (suc r) stage (suc r)) ((stage_action r stage).after (get_or m.words (stage_action r stage).word 0))
   own AtRest at = tt
   own Arrived at =
-      let given : Option Reply = Some (respond t.register sequential.read).1 in
+      let given : Option Reply = Some (response_to t.register sequential.read).1 in
       let here : cond (eqb (suc r) (suc r)) given (t.replied (suc r)) ≡ given = ap (λ (b : Bool). cond b given (t.replied (suc r))) (eq-eqb (suc r) (suc r) refl) in
-      let is : given ≡ Some (reading (sheet m.ledger.opening (take (length m.writer.published) m.ledger.journal))) = ap (λ (s : Sequential). let g : Option Reply = Some (respond s sequential.read).1 in g) h.agrees.register in
+      let is : given ≡ Some (reading (sheet m.ledger.opening (take (length m.writer.published) m.ledger.journal))) = ap (λ (s : Sequential). let g : Option Reply = Some (response_to s sequential.read).1 in g) h.agrees.register in
       let front = shown_front m aux h.lawful in
       let short = f.0 in
       (sheet m.ledger.opening (take (length m.writer.published) m.ledger.journal), here ∙ is, omega arith)
@@ -88,7 +88,7 @@ module _ (low r : ℕ) (t : SequentialRun) (m : MachineState) (aux : Auxiliary) 
   -- another's step replies nothing to this reader
   apart : (q : ℕ) (stage : Stage) → r ≢ q → replied_at t (suc q) stage (suc r) ≡ t.replied (suc r)
   apart q AtRest ne = ap (λ (b : Bool). cond b None (t.replied (suc r))) (ne_eqb (suc r) (suc q) (λ e. ne (omega arith)))
-  apart q Arrived ne = ap (λ (b : Bool). cond b (Some (respond t.register sequential.read).1) (t.replied (suc r))) (ne_eqb (suc r) (suc q) (λ e. ne (omega arith)))
+  apart q Arrived ne = ap (λ (b : Bool). cond b (Some (response_to t.register sequential.read).1) (t.replied (suc r))) (ne_eqb (suc r) (suc q) (λ e. ne (omega arith)))
   apart q (Reading side words) ne = refl
   apart q (Leaving side words) ne = refl
 
@@ -104,7 +104,7 @@ module _ (low r : ℕ) (t : SequentialRun) (m : MachineState) (aux : Auxiliary) 
 
   fresh_stage : (event : Event) (stage : Stage) → slice_get (transition m event).0.readers r ≡ Some stage → FreshAt low ((sequential_step t m event).replied (suc r)) stage
   fresh_stage (Submit command) =
-      elim (is_idle m.writer.phase) as (λ b. (stage : Stage) → slice_get (cond b (submitted m command (verdict_of m.ledger command)) (m, Skipped)).0.readers r ≡ Some stage → FreshAt low (t.replied (suc r)) stage) [ true ↦ f.1 | false ↦ f.1 ]
+      elim (is_idle m.writer.phase) as (λ b. (stage : Stage) → slice_get (cond b (machine_and_note m command (verdict_of m.ledger command)) (m, Skipped)).0.readers r ≡ Some stage → FreshAt low (t.replied (suc r)) stage) [ true ↦ f.1 | false ↦ f.1 ]
   fresh_stage Publish =
       elim (is_idle m.writer.phase) as (λ b. (stage : Stage) → slice_get (cond b (published_by m (is_pending m)) (m, Skipped)).0.readers r ≡ Some stage → FreshAt low (t.replied (suc r)) stage) [
         | true ↦ elim (is_pending m) as (λ c. (stage : Stage) → slice_get (published_by m c).0.readers r ≡ Some stage → FreshAt low (t.replied (suc r)) stage) [ true ↦ f.1 | false ↦ f.1 ]
@@ -139,7 +139,7 @@ module _ (low r : ℕ) (t : SequentialRun) (m : MachineState) (aux : Auxiliary) 
           subst (λ (x : List ℕ). low ≤ front_of x) is g.2
 
 -- for any later events
-fresh_read : (low r : ℕ) (more : List Event) (t : SequentialRun) (m : MachineState) (aux : Auxiliary) → Together t m aux → Fresh low r t m → (words : List ℕ) → (transition (after m more) (Reader (suc r))).1 ≡ Read (suc r) words
+fresh_read : (low r : ℕ) (more : List Event) (t : SequentialRun) (m : MachineState) (aux : Auxiliary) → Together t m aux → Fresh low r t m → (words : List ℕ) → (transition (state_after_events m more) (Reader (suc r))).1 ≡ Read (suc r) words
     → low ≤ front_of words
 fresh_read low r [] t m aux h f words told = reads_fresh low r t m aux h f words told
 fresh_read low r (event ∷ more) t m aux h f words told =
@@ -148,11 +148,11 @@ fresh_read low r (event ∷ more) t m aux h f words told =
 module _ (ledger : Ledger) (readers : ℕ) (accepted : IsAccepted ledger.opening ledger.journal) where
   -- a reader at rest after some events reads, after any later events, nothing older than what is
   -- published by then
-  pub run_fresh : (events more : List Event) (r : ℕ) (words : List ℕ) → slice_get (after (started ledger readers) events).readers r ≡ Some AtRest
-      → (transition (after (started ledger readers) (events ++ more)) (Reader (suc r))).1 ≡ Read (suc r) words → length (after (started ledger readers) events).writer.published ≤ front_of words
+  pub run_fresh : (events more : List Event) (r : ℕ) (words : List ℕ) → slice_get (state_after_events (machine_at_start ledger readers) events).readers r ≡ Some AtRest
+      → (transition (state_after_events (machine_at_start ledger readers) (events ++ more)) (Reader (suc r))).1 ≡ Read (suc r) words → length (state_after_events (machine_at_start ledger readers) events).writer.published ≤ front_of words
   run_fresh events more r words rest told =
-      let start : MachineState = started ledger readers in
-      let m : MachineState = after start events in
+      let start : MachineState = machine_at_start ledger readers in
+      let m : MachineState = state_after_events start events in
       let t = together_after events (sequential_start ledger) start (auxiliary_start ledger readers) (start_together ledger readers accepted) in
       let low : ℕ = length m.writer.published in
       fresh_read low r more t.0 m (auxiliary_steps start (auxiliary_start ledger readers) events) t.1

@@ -6,14 +6,14 @@ use Rattle.council_core.specs.Laws.{SetsInRange}
 use Rattle.council_core.specs.declared.commands.Command.{Command}
 use Rattle.council_core.specs.declared.refusals.Refusal.{Refusal}
 use Rattle.council_core.specs.declared.refusals.Refusal.TheVariants.{JournalFull}
-use Rattle.council_core.specs.Rolls.{Roll, Opening, opening_roll, fold_from, after, step, all_accepted}
-use Rattle.council_core.specs.Ledgers.{Ledger, roll_of, room_of, verdict, verdict_of, appended}
+use Rattle.council_core.specs.Rolls.{Roll, Opening, opening_roll, fold_from, next_roll, step, all_accepted}
+use Rattle.council_core.specs.Ledgers.{Ledger, roll_of, room_of, verdict, verdict_of, ledger_with}
 use Rattle.two_copy_steps.specs.declared.events.Event.{Event}
 use Rattle.two_copy_steps.specs.declared.events.Event.TheVariants.{Submit, Publish, Writer, Reader}
 use Rattle.two_copy_steps.specs.declared.events.Note.TheVariants.{Skipped}
 use Rattle.two_copy_steps.specs.declared.views.Stage.{Stage}
 use Rattle.two_copy_steps.specs.Laws.{HandsInRange, HasVotesInRange}
-use Rattle.two_copy_steps.specs.Transitions.{MachineState, transition, submitted, published_by, is_pending, is_idle, reader_transition}
+use Rattle.two_copy_steps.specs.Transitions.{MachineState, transition, machine_and_note, published_by, is_pending, is_idle, reader_transition}
 
 -- each command is accepted in its turn
 abbrev pub IsAccepted : Opening → List Command → Type 0
@@ -31,7 +31,7 @@ both false b p q = cc
 accepted_push : (r : Roll) (commands : List Command) (command : Command) → IsTrue (all_accepted r commands) → IsTrue (is_ok (step (fold_from r commands) command)) → IsTrue (all_accepted r (commands ++ command ∷ []))
 accepted_push r [] command h g = both (is_ok (step r command)) true g refl
 accepted_push r (c ∷ cs) command h g =
-    and_on (is_ok (step r c)) (all_accepted (after r c) cs) (all_accepted (after r c) (cs ++ command ∷ [])) (λ q. accepted_push (after r c) cs command q g) h
+    and_on (is_ok (step r c)) (all_accepted (next_roll r c) cs) (all_accepted (next_roll r c) (cs ++ command ∷ [])) (λ q. accepted_push (next_roll r c) cs command q g) h
 
 step_ok : (v : Result Roll Refusal) (room : Result ⊤ Refusal) → verdict v room ≡ Ok tt → IsTrue (is_ok v) × (room ≡ Ok tt)
 step_ok (Ok r) room e = (refl, e)
@@ -49,8 +49,8 @@ room_there : (ledger : Ledger) → room_of ledger ≡ Ok tt → length ledger.jo
 room_there ledger h e = full_room (eqb (length ledger.journal) ledger.limit) (eq-eqb (length ledger.journal) ledger.limit e) (ap is_ok h)
 
 -- a fact of the journal and its limit that each accepted command keeps
-module _ (P : Ledger → Type 0) (more : (ledger : Ledger) (command : Command) → P ledger → verdict_of ledger command ≡ Ok tt → P (appended ledger command)) where
-  by_verdict : (m : MachineState) (command : Command) (v : Result ⊤ Refusal) → verdict_of m.ledger command ≡ v → P m.ledger → P (submitted m command v).0.ledger
+module _ (P : Ledger → Type 0) (more : (ledger : Ledger) (command : Command) → P ledger → verdict_of ledger command ≡ Ok tt → P (ledger_with ledger command)) where
+  by_verdict : (m : MachineState) (command : Command) (v : Result ⊤ Refusal) → verdict_of m.ledger command ≡ v → P m.ledger → P (machine_and_note m command v).0.ledger
   by_verdict m command (Ok u) e h = more m.ledger command h e
   by_verdict m command (Err refusal) e h = h
 
@@ -60,7 +60,7 @@ module _ (P : Ledger → Type 0) (more : (ledger : Ledger) (command : Command) �
 
   pub ledger_keeps : (m : MachineState) → P m.ledger → (event : Event) → P (transition m event).0.ledger
   ledger_keeps m h (Submit command) =
-      elim (is_idle m.writer.phase) as (λ b. P (cond b (submitted m command (verdict_of m.ledger command)) (m, Skipped)).0.ledger)
+      elim (is_idle m.writer.phase) as (λ b. P (cond b (machine_and_note m command (verdict_of m.ledger command)) (m, Skipped)).0.ledger)
       [ true ↦ by_verdict m command (verdict_of m.ledger command) refl h | false ↦ h ]
   ledger_keeps m h Publish =
       elim (is_idle m.writer.phase) as (λ b. P (cond b (published_by m (is_pending m)) (m, Skipped)).0.ledger) [
@@ -87,16 +87,16 @@ journal_within =
     (omega (arith, length-append l.journal (command ∷ [])), h.1))
 
 -- votes stay in range
-in_range_more : (ledger : Ledger) (command : Command) → HasVotesInRange ledger → SetsInRange command → HasVotesInRange (appended ledger command)
+in_range_more : (ledger : Ledger) (command : Command) → HasVotesInRange ledger → SetsInRange command → HasVotesInRange (ledger_with ledger command)
 in_range_more ledger command h c = (h.0, All-push SetsInRange ledger.journal command h.1 c)
 
-in_range_by : (m : MachineState) (command : Command) (v : Result ⊤ Refusal) → HasVotesInRange m.ledger → SetsInRange command → HasVotesInRange (submitted m command v).0.ledger
+in_range_by : (m : MachineState) (command : Command) (v : Result ⊤ Refusal) → HasVotesInRange m.ledger → SetsInRange command → HasVotesInRange (machine_and_note m command v).0.ledger
 in_range_by m command (Ok u) h c = in_range_more m.ledger command h c
 in_range_by m command (Err refusal) h c = h
 
 pub stays_in_range : (m : MachineState) → HasVotesInRange m.ledger → (event : Event) → HandsInRange event → HasVotesInRange (transition m event).0.ledger
 stays_in_range m h (Submit command) c =
-    elim (is_idle m.writer.phase) as (λ b. HasVotesInRange (cond b (submitted m command (verdict_of m.ledger command)) (m, Skipped)).0.ledger)
+    elim (is_idle m.writer.phase) as (λ b. HasVotesInRange (cond b (machine_and_note m command (verdict_of m.ledger command)) (m, Skipped)).0.ledger)
     [ true ↦ in_range_by m command (verdict_of m.ledger command) h c | false ↦ h ]
 stays_in_range m h Publish c =
     elim (is_idle m.writer.phase) as (λ b. HasVotesInRange (cond b (published_by m (is_pending m)) (m, Skipped)).0.ledger) [

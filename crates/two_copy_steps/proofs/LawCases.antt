@@ -10,7 +10,7 @@ use Rattle.two_copy_steps.specs.declared.events.Event.TheVariants.{Submit, Publi
 use Rattle.two_copy_steps.specs.declared.views.Stage.TheVariants.{AtRest, Arrived, Reading}
 use Rattle.two_copy_steps.specs.declared.views.Phase.TheVariants.{Filling}
 use Rattle.two_copy_steps.specs.Lawful.{IsPublishable}
-use Rattle.two_copy_steps.specs.Laws.{AtOnceLaw, BusyLaw, CountLaw, FreshLaw, GrowthLaw, NeverOlderLaw, RangeLaw, RecordsLaw, RepliesLaw, StayLaw, UnderLaw}
+use Rattle.two_copy_steps.specs.Laws.{AtOnceLaw, BusyLaw, StepCountLaw, FreshLaw, GrowthLaw, NeverOlderLaw, RangeLaw, RecordsLaw, RepliesLaw, StayLaw, UnderLaw}
 use Rattle.two_copy_steps.specs.Auxiliary.{Auxiliary, HasLegalRecords, IsLawful, NoneUnder}
 use Rattle.two_copy_steps.specs.Actions.{reader_action, stage_action}
 use Rattle.two_copy_steps.specs.Records.{FrontsNeverFall}
@@ -18,15 +18,15 @@ use Rattle.two_copy_steps.specs.Stages.{steps_taken}
 use Rattle.two_copy_steps.specs.Machines.{IsFew, WantsMemory}
 use Rattle.two_copy_steps.specs.Publications.{IsLeastUnseen, StaySeen}
 use Rattle.two_copy_steps.specs.Runs.{HasCause, IsFault, TellsReplies, auxiliary_after, machine_after}
-use Rattle.two_copy_steps.specs.Transitions.{MachineState, notes, started, transition}
+use Rattle.two_copy_steps.specs.Transitions.{MachineState, notes, machine_at_start, transition}
 use Rattle.two_copy_steps.proofs.WorkedCases.{code, filling_under, hands_three_votes, in_the_way, one_member, votes_in_range}
 
 -- an accepted command can want memory; a refused one, one that comes while a publication is under way, and every other
 -- event can't
-wants_memory : WantsMemory (started one_member 1) (Submit (Open 1))
+wants_memory : WantsMemory (machine_at_start one_member 1) (Submit (Open 1))
 wants_memory = (refl, refl)
 
-refused_wants_none : WantsMemory (started one_member 1) (Submit (Close 1)) → ⊥
+refused_wants_none : WantsMemory (machine_at_start one_member 1) (Submit (Close 1)) → ⊥
 refused_wants_none h = true≢false (sym (accepted h.1))
   where
     accepted : verdict_of one_member (Close 1) ≡ Ok tt → false ≡ true
@@ -40,10 +40,10 @@ others_want_none m = ((λ h. h), (λ h. h), (λ h. h))
 
 -- memory doesn't run out once the only event, a publication, is done
 no_memory_after_all : IsFault one_member 1 (Publish ∷ []) one_member 1 OutOfMemory → ⊥
-no_memory_after_all h = ⊎_elim (λ t. few t.0) (λ t. ⊎_elim (λ e. omega (arith, e)) (λ w. past w.0 w.1) t.2) h.cause
+no_memory_after_all h = ⊎_elim (λ t. bound t.0) (λ t. ⊎_elim (λ e. omega (arith, e)) (λ w. past w.0 w.1) t.2) h.cause
   where
-    few : (IsFew 1 → ⊥) → ⊥
-    few out = out (omega arith, omega arith)
+    bound : (IsFew 1 → ⊥) → ⊥
+    bound out = out (omega arith, omega arith)
 
     past : (event : Event) → slice_get (Publish ∷ []) 1 ≡ Some event → ⊥
     past event e = cc
@@ -70,7 +70,7 @@ ledger : IsLedger one_member
 ledger = record { legal = (refl, omega arith); within = omega arith; small = omega arith }
 
 three_votes_stay_in_range : RangeLaw → IsPublishable one_member.opening (SetVotes code 3 ∷ [])
-three_votes_stay_in_range law = (law (started one_member 1) ledger votes_in_range (Submit (SetVotes code 3)) hands_three_votes).1
+three_votes_stay_in_range law = (law (machine_at_start one_member 1) ledger votes_in_range (Submit (SetVotes code 3)) hands_three_votes).1
 
 -- over the events in which a reader holds up a publication
 records_while_held_up : RecordsLaw → HasLegalRecords (machine_after one_member 1 in_the_way) (auxiliary_after one_member 1 in_the_way)
@@ -97,7 +97,7 @@ one_published = Submit (Open 1) ∷ Publish ∷ replicate 35 Writer
 fresh_used : FreshLaw → 1 ≤ front_of (1 ∷ replicate 31 0 ++ 10 ∷ 1 ∷ [])
 fresh_used law = law one_member 1 ledger one_published (replicate 36 (Reader 1)) 0 _ refl refl
 
-never_older_while_held_up : NeverOlderLaw → FrontsNeverFall (notes (started one_member 1) in_the_way)
+never_older_while_held_up : NeverOlderLaw → FrontsNeverFall (notes (machine_at_start one_member 1) in_the_way)
 never_older_while_held_up law = law one_member 1 ledger in_the_way
 
 -- the publication that the reader blocks, at the 42nd event, names the least reader that is not
@@ -111,7 +111,7 @@ busy_used law a lawful =
     (found.0, found.1, found.2)
 
 -- the load of side is the second step of a reading, and that of a first word adds nothing to the record
-count_used : CountLaw → steps_taken ((stage_action 0 Arrived).after 1) ≡ 2
+count_used : StepCountLaw → steps_taken ((stage_action 0 Arrived).after 1) ≡ 2
 count_used law = (law 0 1 Arrived tt).1
 
 growth_used : GrowthLaw → ((reader_action 0 (record { stage = Reading 0 []; readings = [] })).after 7).readings ≡ []

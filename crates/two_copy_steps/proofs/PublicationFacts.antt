@@ -17,9 +17,9 @@ use Rattle.two_copy_steps.specs.declared.views.Stage.{Stage}
 use Rattle.two_copy_steps.specs.declared.views.Stage.TheVariants.{AtRest, Arrived, Reading, Leaving}
 use Rattle.two_copy_steps.specs.declared.views.Phase.{Phase}
 use Rattle.two_copy_steps.specs.declared.views.Phase.TheVariants.{Idle, Seeing, Filling, Swapping}
-use Rattle.two_copy_steps.specs.Actions.{all_true, first_false, pin, seeing, phase_action}
+use Rattle.two_copy_steps.specs.Actions.{all_true, first_false, pin, writing_with_quiescent, phase_action}
 use Rattle.two_copy_steps.specs.Lawful.{IsPublishable, Fills, pin_of}
-use Rattle.two_copy_steps.specs.Transitions.{MachineState, transition, submitted, published_by, is_pending, is_idle, phase_note, reader_transition, stage_note}
+use Rattle.two_copy_steps.specs.Transitions.{MachineState, transition, machine_and_note, published_by, is_pending, is_idle, phase_note, reader_transition, stage_note}
 use Rattle.two_copy_steps.specs.Auxiliary.{Auxiliary, IsLawful, state_of}
 use Rattle.two_copy_steps.specs.Publications.{IsLeastUnseen, StaySeen, stores_side}
 use Rattle.two_copy_steps.proofs.Lists.{set_here, set_else, inside, there}
@@ -76,7 +76,7 @@ module _ (m : MachineState) (aux : Auxiliary) (l : IsLawful IsPublishable m aux)
 
   looked : (number : ℕ) (b : Bool) → w.phase ≡ Seeing → eqb (get_or m.words (pin (first_false w.seen_out)) 0) 0 ≡ b
       → in_the_way (cond b Moved (Busy (suc (first_false w.seen_out)))) ≡ Some number
-      → InTheWay number (cond b (seeing w (set w.seen_out (first_false w.seen_out) true)) (record w { phase = Idle }))
+      → InTheWay number (cond b (writing_with_quiescent w (set w.seen_out (first_false w.seen_out) true)) (record w { phase = Idle }))
   looked number true is at e = absurd (none-some number e)
   looked number false is at e =
       let some : all_true w.seen_out ≡ false = subst (Fills m.ledger.opening (IsPublishable m.ledger.opening) m.words w) is l.state.writer.fills in (
@@ -94,7 +94,7 @@ module _ (m : MachineState) (aux : Auxiliary) (l : IsLawful IsPublishable m aux)
   by_phase number (Filling k) is e = absurd (none-some number e)
   by_phase number Swapping is e = absurd (none-some number e)
 
-  not_submit : (number : ℕ) (command : Command) (idle : Bool) (v : Result ⊤ Refusal) → in_the_way (cond idle (submitted m command v) (m, Skipped)).1 ≡ Some number → ⊥
+  not_submit : (number : ℕ) (command : Command) (idle : Bool) (v : Result ⊤ Refusal) → in_the_way (cond idle (machine_and_note m command v) (m, Skipped)).1 ≡ Some number → ⊥
   not_submit number command true (Ok u) e = none-some number e
   not_submit number command true (Err refusal) e = none-some number e
   not_submit number command false v e = none-some number e
@@ -127,7 +127,7 @@ set_stays out r q e =
     dite (ℕ_discrete q r) (λ (s : q ≡ r). ap (slice_get (set out r true)) s ∙ set_here out r true (inside out r true (ap (slice_get out) (sym s) ∙ e))) (λ ne. set_else out r q true ne ∙ e)
 
 module _ (m : MachineState) where
-  looked_stays : (b : Bool) → StaySeen m.writer.seen_out (cond b (seeing m.writer (set m.writer.seen_out (first_false m.writer.seen_out) true)) (record m.writer { phase = Idle })).seen_out
+  looked_stays : (b : Bool) → StaySeen m.writer.seen_out (cond b (writing_with_quiescent m.writer (set m.writer.seen_out (first_false m.writer.seen_out) true)) (record m.writer { phase = Idle })).seen_out
   looked_stays true = λ q e. set_stays m.writer.seen_out (first_false m.writer.seen_out) q e
   looked_stays false = λ q e. e
 
@@ -138,7 +138,7 @@ module _ (m : MachineState) where
   phase_stays (Filling k) h = λ q e. e
   phase_stays Swapping h = cc
 
-  submit_stays : (command : Command) (idle : Bool) (v : Result ⊤ Refusal) → StaySeen m.writer.seen_out (cond idle (submitted m command v) (m, Skipped)).0.writer.seen_out
+  submit_stays : (command : Command) (idle : Bool) (v : Result ⊤ Refusal) → StaySeen m.writer.seen_out (cond idle (machine_and_note m command v) (m, Skipped)).0.writer.seen_out
   submit_stays command true (Ok u) = λ q e. e
   submit_stays command true (Err refusal) = λ q e. e
   submit_stays command false v = λ q e. e

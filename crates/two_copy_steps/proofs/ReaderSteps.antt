@@ -16,8 +16,8 @@ use Rattle.two_copy_steps.specs.declared.views.Stage.TheVariants.{AtRest, Arrive
 use Rattle.two_copy_steps.specs.declared.views.Phase.{Phase}
 use Rattle.two_copy_steps.specs.declared.views.Phase.TheVariants.{Idle, Seeing, Filling, Swapping}
 use Rattle.two_copy_steps.specs.declared.table.TheConstants.{COPY_WORDS}
-use Rattle.two_copy_steps.specs.Actions.{place, pin, other, recorded}
-use Rattle.two_copy_steps.specs.Lawful.{State, read_by, Shows, IsReadFrom, HoldsCopy, Stands, ReaderOk, Fills, WriterOk, Lawful}
+use Rattle.two_copy_steps.specs.Actions.{place, pin, other_side, readings_after}
+use Rattle.two_copy_steps.specs.Lawful.{State, read_by, ShowsSheet, IsLoadedFrom, HoldsCopy, Stands, ReaderOk, Fills, WriterOk, Lawful}
 use Rattle.two_copy_steps.proofs.Lists.{at_set, inside}
 use Rattle.two_copy_steps.proofs.Records.{sheet_long, front_of_cut, last_front-push, record-push, record-below}
 
@@ -46,7 +46,7 @@ pin_set r v ws =
     }
 
 -- the words read with one more
-pub read_more : (words ws : List ℕ) (s k : ℕ) → k ≡ get_or words (place s (length ws)) 0 → IsReadFrom words s ws
+pub read_more : (words ws : List ℕ) (s k : ℕ) → k ≡ get_or words (place s (length ws)) 0 → IsLoadedFrom words s ws
     → (i : ℕ) → i < length ws + 1 → get_or (ws ++ k ∷ []) i 0 ≡ get_or words (place s i) 0
 read_more words ws s k is h i l =
     dite (ℕ_discrete i (length ws))
@@ -55,14 +55,14 @@ read_more words ws s k is h i l =
 
 module _ (opening : Opening) (Legal : List Command → Type 0) where
   module _ (r : ℕ) (ws vs : List ℕ) (a : Alike r ws vs) where
-    shows_alike : (s : ℕ) (numbers : List ℕ) → Shows ws s numbers → Shows vs s numbers
+    shows_alike : (s : ℕ) (numbers : List ℕ) → ShowsSheet ws s numbers → ShowsSheet vs s numbers
     shows_alike s numbers h i l = a.low (place s i) (place_low s i l) ∙ h i l
 
     holds_alike : (w : WriterView) (seen : List (List ℕ)) (q s : ℕ) → HoldsCopy opening Legal ws w seen q s → HoldsCopy opening Legal vs w seen q s
     holds_alike w seen q s b =
         record { two = b.two; cut = b.cut; is_cut = b.is_cut; shows = shows_alike s (sheet opening (take b.cut w.state.published)) b.shows; above = b.above; late = b.late }
 
-    read_alike : (s : ℕ) (xs : List ℕ) → length xs ≤ COPY_WORDS → IsReadFrom ws s xs → IsReadFrom vs s xs
+    read_alike : (s : ℕ) (xs : List ℕ) → length xs ≤ COPY_WORDS → IsLoadedFrom ws s xs → IsLoadedFrom vs s xs
     read_alike s xs short h i l = h i l ∙ sym (a.low (place s i) (place_low s i (omega arith)))
 
     stands_alike : (w : WriterView) (seen : List (List ℕ)) (q : ℕ) (st : Stage) → Stands opening Legal ws w seen q st → Stands opening Legal vs w seen q st
@@ -79,8 +79,8 @@ module _ (opening : Opening) (Legal : List Command → Type 0) where
     fills_alike w Seeing h = h
     fills_alike w (Filling k) h =
         let short : k < COPY_WORDS = h.0 in
-        (h.0, (h.1.0, λ i l. a.low (place (other w.state.side) i) (place_low (other w.state.side) i (omega arith)) ∙ h.1.1 i l))
-    fills_alike w Swapping h = (h.0, λ i l. a.low (place (other w.state.side) i) (place_low (other w.state.side) i l) ∙ h.1 i l)
+        (h.0, (h.1.0, λ i l. a.low (place (other_side w.state.side) i) (place_low (other_side w.state.side) i (omega arith)) ∙ h.1.1 i l))
+    fills_alike w Swapping h = (h.0, λ i l. a.low (place (other_side w.state.side) i) (place_low (other_side w.state.side) i l) ∙ h.1 i l)
 
     writer_alike : (w : WriterView) (k : ℕ) → WriterOk opening Legal ws w k → WriterOk opening Legal vs w k
     writer_alike w k o =
@@ -115,27 +115,27 @@ module _ (opening : Opening) (Legal : List Command → Type 0) where
       }
 
   whole : (words : List ℕ) (w : WriterView) (seen : List (List ℕ)) (r s : ℕ) (ws : List ℕ) (b : HoldsCopy opening Legal words w seen r s) → length ws ≡ COPY_WORDS
-      → IsReadFrom words s ws → ws ≡ sheet opening (take b.cut w.state.published)
+      → IsLoadedFrom words s ws → ws ≡ sheet opening (take b.cut w.state.published)
   whole words w seen r s ws b len h =
       let size = sheet_long opening (take b.cut w.state.published) in
       ext_get_or 0 ws (sheet opening (take b.cut w.state.published)) (len ∙ sym size) (λ i l. h i l ∙ b.shows i (omega arith))
 
   abbrev stepped : ℕ → List ℕ → List (List ℕ) → Bool → ReaderView
-  stepped s ws seen b = reader (cond b (Leaving s ws) (Reading s ws)) (recorded (Reading s []) (cond b (Leaving s ws) (Reading s ws)) seen)
+  stepped s ws seen b = reader (cond b (Leaving s ws) (Reading s ws)) (readings_after (Reading s []) (cond b (Leaving s ws) (Reading s ws)) seen)
 
   -- a reader that has loaded these words of the copy that a side names: its pin is 1, and its record is legal
   record HasLoaded (words : List ℕ) (w : WriterView) (seen : List (List ℕ)) (r s : ℕ) (ws : List ℕ) : Type 0 where
     pub holds : HoldsCopy opening Legal words w seen r s
     pub within : holds.cut ≤ length w.state.published
-    pub few : length ws ≤ COPY_WORDS
-    pub read_from : IsReadFrom words s ws
+    pub bound : length ws ≤ COPY_WORDS
+    pub read_from : IsLoadedFrom words s ws
     pub pinned : get_or words (pin r) 0 ≡ 1
     pub record_legal : IsRecordFrom opening w.state.published w.cuts 0 seen
 
   loaded_ok : (words : List ℕ) (w : WriterView) (seen : List (List ℕ)) (r s : ℕ) (ws : List ℕ) → HasLoaded words w seen r s ws → ReaderOk opening Legal words w r (stepped s ws seen (eqb (length ws) COPY_WORDS))
   loaded_ok words w seen r s ws h =
       let b = h.holds in
-      let few = h.few in
+      let bound = h.bound in
       dite (ℕ_discrete (length ws) COPY_WORDS)
       (λ e.
       let is = whole words w seen r s ws b e h.read_from in
@@ -162,7 +162,7 @@ module _ (opening : Opening) (Legal : List Command → Type 0) where
         two = omega arith;
         cut = length w.state.published;
         is_cut = subst (λ (cuts : List ℕ). Contains cuts (length w.state.published)) (sym o.last_cut.1) (Contains-push o.last_cut.0 (length w.state.published));
-        shows = subst (λ (z : ℕ × List Command). Shows m.words z.0 (sheet opening z.1)) (λ i. (sym side i, sym (take-length w.state.published) i)) o.shown;
+        shows = subst (λ (z : ℕ × List Command). ShowsSheet m.words z.0 (sheet opening z.1)) (λ i. (sym side i, sym (take-length w.state.published) i)) o.shown;
         above = record-below opening w.state.published w.cuts 0 seen (length w.state.published) (λ cut h. (o.cuts cut h).0) refl (omega arith) legal;
         late = λ ne. absurd (ne side);
       }
@@ -194,7 +194,7 @@ module _ (opening : Opening) (Legal : List Command → Type 0) where
       (loaded_ok m.words m.writer seen r s (ws ++ x ∷ []) record {
         holds = b;
         within = (l.writer.cuts b.cut b.is_cut).0;
-        few = omega arith;
+        bound = omega arith;
         read_from = λ j g. read_more m.words ws s x refl h.2 j (omega arith);
         pinned = k.pinned;
         record_legal = k.record_legal;

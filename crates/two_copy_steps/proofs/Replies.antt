@@ -9,7 +9,7 @@ use Rattle.council_core.specs.declared.commands.Command.{Command}
 use Rattle.council_core.specs.declared.refusals.Refusal.{Refusal}
 use Rattle.council_core.specs.Rolls.{Opening, sheet}
 use Rattle.council_core.specs.Ledgers.{verdict_of}
-use Rattle.council_core.specs.Sequential.{Sequential, Call, submit, publish, Reply, accepted, refused, published, reading, respond, replies_of, state_after}
+use Rattle.council_core.specs.Sequential.{Sequential, Call, submit, publish, Reply, accepted, refused, published, reading, response_to, replies_of, state_after}
 use Rattle.council_core.specs.Sequential as sequential
 use Rattle.two_copy_steps.specs.declared.events.Event.{Event}
 use Rattle.two_copy_steps.specs.declared.events.Event.TheVariants.{Submit, Publish, Writer, Reader}
@@ -21,11 +21,11 @@ use Rattle.two_copy_steps.specs.declared.views.Stage.TheVariants.{AtRest, Arrive
 use Rattle.two_copy_steps.specs.declared.views.Phase.{Phase}
 use Rattle.two_copy_steps.specs.declared.views.Phase.TheVariants.{Idle, Seeing, Filling, Swapping}
 use Rattle.two_copy_steps.specs.declared.table.TheConstants.{COPY_WORDS}
-use Rattle.two_copy_steps.specs.Actions.{first_false, other, pin, place, begun, seeing, loaded, phase_action}
-use Rattle.two_copy_steps.specs.Lawful.{Shows, HoldsCopy, Stands, Fills}
-use Rattle.two_copy_steps.specs.Transitions.{MachineState, transition, submitted, published_by, is_pending, is_idle, read, reader_transition, phase_note, stage_note}
+use Rattle.two_copy_steps.specs.Actions.{first_false, other_side, pin, place, writing_of_staged, writing_with_quiescent, stage_with_words, phase_action}
+use Rattle.two_copy_steps.specs.Lawful.{ShowsSheet, HoldsCopy, Stands, Fills}
+use Rattle.two_copy_steps.specs.Transitions.{MachineState, transition, machine_and_note, published_by, is_pending, is_idle, after_reader_step, reader_transition, phase_note, stage_note}
 use Rattle.two_copy_steps.specs.Auxiliary.{Auxiliary, record_at, state_of, IsLawful}
-use Rattle.two_copy_steps.specs.Effects.{phase_effect, stage_effect, reader_effect, SequentialRun, replied_at, replied_to, begun_after, sequential_step, Tells, SwapsOnce, Answers}
+use Rattle.two_copy_steps.specs.Effects.{phase_effect, stage_effect, reader_effect, SequentialRun, replied_at, replied_to, begun_after, sequential_step, OutputIsReply, SwapsOnce, AnswersEvent}
 use Rattle.two_copy_steps.proofs.Lists.{at_set}
 use Rattle.two_copy_steps.proofs.Records.{sheet_long}
 use Rattle.two_copy_steps.proofs.ReaderSteps.{Alike, same, pin_set, place_low, read_more}
@@ -40,8 +40,8 @@ sequential_of m = record { ledger = m.ledger; published = length m.writer.publis
 abbrev pub Held : List ℕ → Option Reply → Stage → Type 0
 Held words given AtRest = Unit {0}
 Held words given Arrived = Unit {0}
-Held words given (Reading side loaded) = (numbers : List ℕ) × (given ≡ Some (reading numbers)) × (length numbers ≡ COPY_WORDS) × Shows words side numbers
-Held words given (Leaving side loaded) = given ≡ Some (reading loaded)
+Held words given (Reading side stage_with_words) = (numbers : List ℕ) × (given ≡ Some (reading numbers)) × (length numbers ≡ COPY_WORDS) × ShowsSheet words side numbers
+Held words given (Leaving side stage_with_words) = given ≡ Some (reading stage_with_words)
 
 abbrev pub AllHeld : List ℕ → (ℕ → Option Reply) → List Stage → Type 0
 AllHeld words replied readers = (r : ℕ) (stage : Stage) → slice_get readers r ≡ Some stage → Held words (replied (suc r)) stage
@@ -49,7 +49,7 @@ AllHeld words replied readers = (r : ℕ) (stage : Stage) → slice_get readers 
 pub record Agrees (t : SequentialRun) (m : MachineState) : Type 0 where
   pub register : t.register ≡ sequential_of m
   pub held : AllHeld m.words t.replied m.readers
-  pub begun : is_idle m.writer.phase ≡ false → t.begun ≡ true
+  pub writing_of_staged : is_idle m.writer.phase ≡ false → t.begun ≡ true
 
 abbrev sequential_run : MachineState → (ℕ → Option Reply) → Bool → SequentialRun
 sequential_run m replied b = record { register = sequential_of m; replied = replied; begun = b }
@@ -57,7 +57,7 @@ sequential_run m replied b = record { register = sequential_of m; replied = repl
 -- what is to be shown of an event, by its calls, its note, the machine after it, and what the readers have been replied
 abbrev Goes : MachineState → Bool → List Call → Note → MachineState → (ℕ → Option Reply) → (ℕ → Option Reply) → Type 0
 Goes m b calls note m' replied replied' =
-    Agrees (record { register = state_after (sequential_of m) calls; replied = replied'; begun = begun_after b note }) m' × Tells (replies_of (sequential_of m) calls) replied note
+    Agrees (record { register = state_after (sequential_of m) calls; replied = replied'; begun = begun_after b note }) m' × OutputIsReply (replies_of (sequential_of m) calls) replied note
 
 module _ (Legal : Opening → List Command → Type 0) where
   held_alike : (r : ℕ) (ws vs : List ℕ) → Alike r ws vs → (given : Option Reply) (stage : Stage) → Held ws given stage → Held vs given stage
@@ -69,11 +69,11 @@ module _ (Legal : Opening → List Command → Type 0) where
   -- one reader moves, and the others hold what they held
   all_held : (m : MachineState) (r : ℕ) (stage : Stage) (vs : List ℕ) (replied replied' : ℕ → Option Reply) → AllHeld m.words replied m.readers → Alike r m.words vs
       → ((k : ℕ) → k ≢ suc r → replied' k ≡ replied k) → Held vs (replied' (suc r)) stage → AllHeld vs replied' (set m.readers r stage)
-  all_held m r stage vs replied replied' all alike stays held q other at =
-      ⊎_elim (λ (t : (q ≡ r) × (stage ≡ other)). subst (λ (z : ℕ × Stage). Held vs (replied' (suc z.0)) z.1) (λ i. (sym t.0 i, t.1 i)) held)
-      (λ (t : (q ≢ r) × (slice_get m.readers q ≡ Some other)). let apart = t.0 in
-      subst (λ (z : Option Reply). Held vs z other) (sym (stays (suc q) (λ e. apart (omega arith)))) (held_alike r m.words vs alike (replied (suc q)) other (all q other t.1)))
-      (at_set m.readers r q stage other at)
+  all_held m r stage vs replied replied' all alike stays held q other_side at =
+      ⊎_elim (λ (t : (q ≡ r) × (stage ≡ other_side)). subst (λ (z : ℕ × Stage). Held vs (replied' (suc z.0)) z.1) (λ i. (sym t.0 i, t.1 i)) held)
+      (λ (t : (q ≢ r) × (slice_get m.readers q ≡ Some other_side)). let apart = t.0 in
+      subst (λ (z : Option Reply). Held vs z other_side) (sym (stays (suc q) (λ e. apart (omega arith)))) (held_alike r m.words vs alike (replied (suc q)) other_side (all q other_side t.1)))
+      (at_set m.readers r q stage other_side at)
 
   -- what the sequential register shows is what is published
   is_shown : (m : MachineState) (aux : Auxiliary) → IsLawful Legal m aux → take (length m.writer.published) m.ledger.journal ≡ m.writer.published
@@ -84,17 +84,17 @@ module _ (Legal : Opening → List Command → Type 0) where
       let whole : w.published ++ (b.0 ++ e.0) ≡ m.ledger.journal = sym (append_assoc w.published b.0 e.0) ∙ (ap (λ (c : List Command). c ++ e.0) b.1 ∙ e.1) in
       ap (take (length w.published)) (sym whole) ∙ take-append_seam w.published (b.0 ++ e.0)
 
-  loaded_held : (words : List ℕ) (given : Option Reply) (s : ℕ) (ws numbers : List ℕ) → given ≡ Some (reading numbers) → length numbers ≡ COPY_WORDS → Shows words s numbers
-      → ((i : ℕ) → i < length ws → get_or ws i 0 ≡ get_or words (place s i) 0) → length ws ≤ COPY_WORDS → Held words given (loaded s ws)
-  loaded_held words given s ws numbers is long shows read short =
+  loaded_held : (words : List ℕ) (given : Option Reply) (s : ℕ) (ws numbers : List ℕ) → given ≡ Some (reading numbers) → length numbers ≡ COPY_WORDS → ShowsSheet words s numbers
+      → ((i : ℕ) → i < length ws → get_or ws i 0 ≡ get_or words (place s i) 0) → length ws ≤ COPY_WORDS → Held words given (stage_with_words s ws)
+  loaded_held words given s ws numbers is long shows after_reader_step short =
       let F : Bool → Type 0 = λ b. Held words given (cond b (Leaving s ws) (Reading s ws)) in
       dite (ℕ_discrete (length ws) COPY_WORDS)
-      (λ e. subst F (sym (eq-eqb (length ws) COPY_WORDS e)) (is ∙ ap (λ (x : List ℕ). Some (reading x)) (sym (ext_get_or 0 ws numbers (e ∙ sym long) (λ i l. read i l ∙ shows i (omega arith))))))
+      (λ e. subst F (sym (eq-eqb (length ws) COPY_WORDS e)) (is ∙ ap (λ (x : List ℕ). Some (reading x)) (sym (ext_get_or 0 ws numbers (e ∙ sym long) (λ i l. after_reader_step i l ∙ shows i (omega arith))))))
       (λ ne. subst F (sym (ne_eqb (length ws) COPY_WORDS ne)) (numbers, is, long, shows))
 
   abbrev ReadGoes : MachineState → Bool → (ℕ → Option Reply) → ℕ → Stage → Type 0
   ReadGoes m b replied r stage =
-      Goes m b (stage_effect stage) (stage_note (suc r) stage) (read m r stage) replied (λ k. replied_at (sequential_run m replied b) (suc r) stage k)
+      Goes m b (stage_effect stage) (stage_note (suc r) stage) (after_reader_step m r stage) replied (λ k. replied_at (sequential_run m replied b) (suc r) stage k)
 
   others_none : (number : ℕ) (given : Option Reply) (replied : ℕ → Option Reply) (k : ℕ) → k ≢ number → cond (eqb k number) given (replied k) ≡ replied k
   others_none number given replied k ne = ap (λ (b : Bool). cond b given (replied k)) (ne_eqb k number ne)
@@ -117,7 +117,7 @@ module _ (Legal : Opening → List Command → Type 0) where
       let given : Option Reply = Some (reading new) in
       let replied' : ℕ → Option Reply = λ k. cond (eqb k (suc r)) given (replied k) in
       let here : replied' (suc r) ≡ given = ap (λ (z : Bool). cond z given (replied (suc r))) (eq-eqb (suc r) (suc r) refl) in
-      let shows : Shows words s new = λ i g. ap (λ (z : ℕ). get_or words (place z i) 0) o.side_is ∙ (o.shown i g ∙ ap (λ (z : List Command). get_or (sheet m.ledger.opening z) i 0) (sym (is_shown m aux l))) in
+      let shows : ShowsSheet words s new = λ i g. ap (λ (z : ℕ). get_or words (place z i) 0) o.side_is ∙ (o.shown i g ∙ ap (λ (z : List Command). get_or (sheet m.ledger.opening z) i 0) (sym (is_shown m aux l))) in
       let held : AllHeld words replied' (set m.readers r (Reading s [])) = all_held m r (Reading s []) words replied replied' a.held (same r words) (others_none (suc r) given replied)
       (new, here, sheet_long m.ledger.opening (take (length m.writer.published) m.ledger.journal), shows) in (
         record {
@@ -135,11 +135,11 @@ module _ (Legal : Opening → List Command → Type 0) where
       let short : length ws < COPY_WORDS = h.1 in
       let more : length (ws ++ x ∷ []) ≡ length ws + 1 = length-append ws (x ∷ []) in
       let g = a.held r (Reading s ws) at in
-      let held : AllHeld words replied (set m.readers r (loaded s (ws ++ x ∷ []))) = all_held m r (loaded s (ws ++ x ∷ [])) words replied replied a.held (same r words) (λ k ne. refl)
+      let held : AllHeld words replied (set m.readers r (stage_with_words s (ws ++ x ∷ []))) = all_held m r (stage_with_words s (ws ++ x ∷ [])) words replied replied a.held (same r words) (λ k ne. refl)
       (loaded_held words (replied (suc r)) s (ws ++ x ∷ []) g.0 g.1 g.2 g.3 (λ j lt. read_more words ws s x refl h.2 j (omega arith)) (omega arith)) in (
         record {
           register = refl;
-          held = subst (λ (vs : List ℕ). AllHeld vs replied (set m.readers r (loaded s (ws ++ x ∷ [])))) (sym (set-get_or words i 0)) held;
+          held = subst (λ (vs : List ℕ). AllHeld vs replied (set m.readers r (stage_with_words s (ws ++ x ∷ [])))) (sym (set-get_or words i 0)) held;
           begun = a.begun;
         },
         tt,
@@ -180,17 +180,17 @@ module _ (Legal : Opening → List Command → Type 0) where
   abbrev WriteGoes : MachineState → Bool → (ℕ → Option Reply) → Phase → Type 0
   WriteGoes m b replied phase = Goes m b (phase_effect phase) (phase_note m phase) (wrote m phase) replied replied × SwapsOnce b Writer phase
 
-  looked_published : (w : Writing) (r : ℕ) (b : Bool) → (cond b (seeing w (set w.seen_out r true)) (record w { phase = Idle })).published ≡ w.published
+  looked_published : (w : Writing) (r : ℕ) (b : Bool) → (cond b (writing_with_quiescent w (set w.seen_out r true)) (record w { phase = Idle })).published ≡ w.published
   looked_published w r true = refl
   looked_published w r false = refl
 
   -- where a pin is found at 0 the publication goes on, else it is given up
   looked_begun : (w : Writing) (number : ℕ) (b z : Bool) → b ≡ true
-      → is_idle (cond z (seeing w (set w.seen_out number true)) (record w { phase = Idle })).phase ≡ false → begun_after b (cond z Moved (Busy (suc number))) ≡ true
-  looked_begun w number b true begun busy = begun
-  looked_begun w number b false begun busy = cc
+      → is_idle (cond z (writing_with_quiescent w (set w.seen_out number true)) (record w { phase = Idle })).phase ≡ false → begun_after b (cond z Moved (Busy (suc number))) ≡ true
+  looked_begun w number b true writing_of_staged busy = writing_of_staged
+  looked_begun w number b false writing_of_staged busy = cc
 
-  looked_tells : (replied : ℕ → Option Reply) (number : ℕ) (z : Bool) → Tells [] replied (cond z Moved (Busy number))
+  looked_tells : (replied : ℕ → Option Reply) (number : ℕ) (z : Bool) → OutputIsReply [] replied (cond z Moved (Busy number))
   looked_tells replied number true = tt
   looked_tells replied number false = refl
 
@@ -226,7 +226,7 @@ module _ (Legal : Opening → List Command → Type 0) where
       )
   write_goes m aux l b replied a (Filling k) is =
       let w = m.writer in
-      let place' : ℕ = place (other w.side) k in
+      let place' : ℕ = place (other_side w.side) k in
       let x : ℕ = get_or (sheet m.ledger.opening w.taken) k 0 in
       let o = l.state.writer in
       let f = subst (Fills m.ledger.opening (Legal m.ledger.opening) m.words w) is o.fills in (
@@ -251,8 +251,8 @@ module _ (Legal : Opening → List Command → Type 0) where
         (
           record {
             register = ap (λ (z : ℕ). let s : Sequential = record { ledger = m.ledger; published = z } in s) long;
-            held = all_held_on m aux l (set m.words 0 (other w.side))
-                (λ r s readings holds i lt. get_or-set_other m.words 0 (place s i) (other w.side) 0 (λ z. let g = place_above s i in omega arith))
+            held = all_held_on m aux l (set m.words 0 (other_side w.side))
+                (λ r s readings holds i lt. get_or-set_other m.words 0 (place s i) (other_side w.side) 0 (λ z. let g = place_above s i in omega arith))
                 replied a.held;
             begun = λ e. absurd (true_not_false e);
           },
@@ -289,15 +289,15 @@ module _ (Legal : Opening → List Command → Type 0) where
 
   abbrev SubmitGoes : MachineState → Bool → (ℕ → Option Reply) → Command → Bool → Type 0
   SubmitGoes m b replied command idle =
-      let after = cond idle (submitted m command (verdict_of m.ledger command)) (m, Skipped) in
+      let after = cond idle (machine_and_note m command (verdict_of m.ledger command)) (m, Skipped) in
       Goes m b (cond idle (submit command ∷ []) []) after.1 after.0 replied replied
 
   -- the same by the verdict
   abbrev VerdictGoes : MachineState → Bool → (ℕ → Option Reply) → Command → Result ⊤ Refusal → Type 0
   VerdictGoes m b replied command v =
-      let after = submitted m command v in
-      let replies = sequential.submitted (sequential_of m) command v in
-      Agrees (record { register = replies.0; replied = replied; begun = begun_after b after.1 }) after.0 × Tells (replies.1 ∷ []) replied after.1
+      let after = machine_and_note m command v in
+      let replies = sequential.submit_response (sequential_of m) command v in
+      Agrees (record { register = replies.0; replied = replied; begun = begun_after b after.1 }) after.0 × OutputIsReply (replies.1 ∷ []) replied after.1
 
   verdict_goes : (m : MachineState) (b : Bool) (replied : ℕ → Option Reply) → Agrees (sequential_run m replied b) m → (command : Command) → (v : Result ⊤ Refusal) → VerdictGoes m b replied command v
   verdict_goes m b replied a command (Ok u) = (record { register = refl; held = a.held; begun = a.begun }, refl)
@@ -313,7 +313,7 @@ module _ (Legal : Opening → List Command → Type 0) where
   reader_goes m aux l b replied a r (Some stage) at = read_goes m aux l b replied a r stage at
 
   abbrev EventGoes : SequentialRun → MachineState → Event → Type 0
-  EventGoes t m event = Agrees (sequential_step t m event) (transition m event).0 × Answers t m event
+  EventGoes t m event = Agrees (sequential_step t m event) (transition m event).0 × AnswersEvent t m event
 
   event_goes : (m : MachineState) (aux : Auxiliary) → IsLawful Legal m aux → (b : Bool) (replied : ℕ → Option Reply) → Agrees (sequential_run m replied b) m → (event : Event) → EventGoes (sequential_run m replied b) m event
   event_goes m aux l b replied a (Submit command) = let g = submit_goes m b replied a command (is_idle m.writer.phase) in (g.0, (g.1, tt))

@@ -5,14 +5,14 @@ use native.Mathlib.Decide.{ℕ_discrete}
 use Rattle.two_copy_steps.specs.declared.views.Stage.{Stage}
 use Rattle.two_copy_steps.specs.declared.views.Stage.TheVariants.{AtRest, Arrived, Reading, Leaving}
 use Rattle.two_copy_steps.specs.declared.table.TheConstants.{COPY_WORDS}
-use Rattle.two_copy_steps.specs.Actions.{entered, loaded, stage_action, reader_action}
+use Rattle.two_copy_steps.specs.Actions.{readings_with, stage_with_words, stage_action, reader_action}
 use Rattle.two_copy_steps.specs.Stages.{IsReadable, sheet_read, steps_taken, last_load, last_step}
 
 -- after the last word the reader leaves
-pub loaded_last : (side : ℕ) (words : List ℕ) → length words ≡ COPY_WORDS → loaded side words ≡ Leaving side words
+pub loaded_last : (side : ℕ) (words : List ℕ) → length words ≡ COPY_WORDS → stage_with_words side words ≡ Leaving side words
 loaded_last side words e = ap (λ (b : Bool). cond b (Leaving side words) (Reading side words)) (eq-eqb (length words) COPY_WORDS e)
 
-pub loaded_more : (side : ℕ) (words : List ℕ) → length words ≢ COPY_WORDS → loaded side words ≡ Reading side words
+pub loaded_more : (side : ℕ) (words : List ℕ) → length words ≢ COPY_WORDS → stage_with_words side words ≡ Reading side words
 loaded_more side words ne = ap (λ (b : Bool). cond b (Leaving side words) (Reading side words)) (ne_eqb (length words) COPY_WORDS ne)
 
 -- the steps are counted one by one
@@ -42,7 +42,7 @@ grows_not r found Arrived readings h ne = refl
 grows_not r found (Leaving side words) readings h ne = refl
 grows_not r found (Reading side words) readings h ne =
     let more : length (words ++ found ∷ []) ≡ length words + 1 = length-append words (found ∷ []) in
-    ap (λ (s : Stage). entered s readings) (loaded_more side (words ++ found ∷ []) (λ e. ne (omega arith)))
+    ap (λ (s : Stage). readings_with s readings) (loaded_more side (words ++ found ∷ []) (λ e. ne (omega arith)))
 
 pub grows : (r found : ℕ) (stage : Stage) (readings : List (List ℕ)) → IsReadable stage → steps_taken stage ≡ last_load
     → let w = (reader_action r (record { stage = stage; readings = readings })).after found in (words : List ℕ) × (sheet_read w.stage ≡ Some words) × (w.readings ≡ readings ++ words ∷ [])
@@ -52,4 +52,4 @@ grows r found (Leaving side words) readings h e = absurd (omega arith)
 grows r found (Reading side words) readings h e =
     let more : length (words ++ found ∷ []) ≡ length words + 1 = length-append words (found ∷ []) in
     let full : length (words ++ found ∷ []) ≡ COPY_WORDS = omega arith in
-    (words ++ found ∷ [], ap sheet_read (loaded_last side (words ++ found ∷ []) full), ap (λ (s : Stage). entered s readings) (loaded_last side (words ++ found ∷ []) full))
+    (words ++ found ∷ [], ap sheet_read (loaded_last side (words ++ found ∷ []) full), ap (λ (s : Stage). readings_with s readings) (loaded_last side (words ++ found ∷ []) full))

@@ -12,8 +12,8 @@ use Rattle.two_copy_steps.specs.declared.views.Stage.{Stage}
 use Rattle.two_copy_steps.specs.declared.views.Stage.TheVariants.{AtRest}
 use Rattle.two_copy_steps.specs.declared.table.TheConstants.{COPY_WORDS}
 use Rattle.two_copy_steps.specs.Lawful.{ReaderOk, WriterOk}
-use Rattle.two_copy_steps.specs.Transitions.{started}
-use Rattle.two_copy_steps.specs.Auxiliary.{auxiliary_start, viewed, state_of, IsLawful}
+use Rattle.two_copy_steps.specs.Transitions.{machine_at_start}
+use Rattle.two_copy_steps.specs.Auxiliary.{auxiliary_start, reader_views, state_of, IsLawful}
 use Rattle.two_copy_steps.specs.Effects.{sequential_start}
 use Rattle.two_copy_steps.proofs.Records.{sheet_long}
 use Rattle.two_copy_steps.proofs.Replies.{Agrees, Held}
@@ -46,7 +46,7 @@ module _ (numbers pins : List ℕ) (long : length numbers ≡ COPY_WORDS) where
       get_or_append_left (0 ∷ numbers ++ numbers) pins 0 (place 1 i) (omega (arith, length-append (0 ∷ numbers) numbers))
       ∙ (ap (λ (k : ℕ). get_or (0 ∷ numbers ++ numbers) k 0) (let e : place 1 i ≡ length (0 ∷ numbers) + i = omega arith in e) ∙ get_or-append-add (0 ∷ numbers) numbers i 0)
 
-pub viewed_start : (n : ℕ) → viewed (replicate n AtRest) (replicate n []) ≡ replicate n (view_at AtRest [])
+pub viewed_start : (n : ℕ) → reader_views (replicate n AtRest) (replicate n []) ≡ replicate n (view_at AtRest [])
 viewed_start zero = refl
 viewed_start (suc n) = ap (λ l. view_at AtRest [] ∷ l) (viewed_start n)
 
@@ -69,7 +69,7 @@ module _ (Legal : Opening → List Command → Type 0) (ledger : Ledger) (reader
   abbrev long : length (sheet_of ledger) ≡ COPY_WORDS
   long = sheet_long ledger.opening ledger.journal
 
-  start_writer : WriterOk ledger.opening (Legal ledger.opening) words (state_of (started ledger readers) (auxiliary_start ledger readers)).writer (length (viewed (replicate readers AtRest) (replicate readers [])))
+  start_writer : WriterOk ledger.opening (Legal ledger.opening) words (state_of (machine_at_start ledger readers) (auxiliary_start ledger readers)).writer (length (reader_views (replicate readers AtRest) (replicate readers [])))
   start_writer =
       record {
         two = omega arith;
@@ -85,11 +85,11 @@ module _ (Legal : Opening → List Command → Type 0) (ledger : Ledger) (reader
         fills = tt;
       }
 
-  start_reader : (r : ℕ) (v : ReaderView) → slice_get (viewed (replicate readers AtRest) (replicate readers [])) r ≡ Some v
-      → ReaderOk ledger.opening (Legal ledger.opening) words (state_of (started ledger readers) (auxiliary_start ledger readers)).writer r v
+  start_reader : (r : ℕ) (v : ReaderView) → slice_get (reader_views (replicate readers AtRest) (replicate readers [])) r ≡ Some v
+      → ReaderOk ledger.opening (Legal ledger.opening) words (state_of (machine_at_start ledger readers) (auxiliary_start ledger readers)).writer r v
   start_reader r v e =
       let at = at_replicate readers r (view_at AtRest []) v (sym (ap (λ (l : List ReaderView). slice_get l r) (viewed_start readers)) ∙ e) in
-      subst (ReaderOk ledger.opening (Legal ledger.opening) words (state_of (started ledger readers) (auxiliary_start ledger readers)).writer r) at.0
+      subst (ReaderOk ledger.opening (Legal ledger.opening) words (state_of (machine_at_start ledger readers) (auxiliary_start ledger readers)).writer r) at.0
       record {
         pinned = start_pin (sheet_of ledger) (replicate readers 0) long r ∙ get_or-replicate readers r 0 0 at.1;
         stands = tt;
@@ -97,7 +97,7 @@ module _ (Legal : Opening → List Command → Type 0) (ledger : Ledger) (reader
       }
 
   -- the machine at its start meets the invariant
-  pub start_lawful : IsLawful Legal (started ledger readers) (auxiliary_start ledger readers)
+  pub start_lawful : IsLawful Legal (machine_at_start ledger readers) (auxiliary_start ledger readers)
   start_lawful =
       record {
         state = record {
@@ -111,10 +111,10 @@ module _ (Legal : Opening → List Command → Type 0) (ledger : Ledger) (reader
       }
 
 -- and agrees with the sequential register
-pub start_agrees : (ledger : Ledger) (readers : ℕ) → Agrees (sequential_start ledger) (started ledger readers)
+pub start_agrees : (ledger : Ledger) (readers : ℕ) → Agrees (sequential_start ledger) (machine_at_start ledger readers)
 start_agrees ledger readers =
     record {
       register = refl;
-      held = λ r stage e. subst (λ (s : Stage). Held (started ledger readers).words ((sequential_start ledger).replied (suc r)) s) (at_replicate readers r AtRest stage e).0 tt;
+      held = λ r stage e. subst (λ (s : Stage). Held (machine_at_start ledger readers).words ((sequential_start ledger).replied (suc r)) s) (at_replicate readers r AtRest stage e).0 tt;
       begun = λ busy. absurd (true≢false busy);
     }

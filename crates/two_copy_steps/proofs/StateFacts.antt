@@ -11,7 +11,7 @@ use Rattle.two_copy_steps.specs.declared.views.Stage.{Stage}
 use Rattle.two_copy_steps.specs.declared.views.Stage.TheVariants.{AtRest, Arrived, Reading, Leaving}
 use Rattle.two_copy_steps.specs.declared.views.Phase.{Phase}
 use Rattle.two_copy_steps.specs.declared.views.Phase.TheVariants.{Idle, Seeing, Filling, Swapping}
-use Rattle.two_copy_steps.specs.Actions.{other}
+use Rattle.two_copy_steps.specs.Actions.{other_side}
 use Rattle.two_copy_steps.specs.Lawful.{State, IsPublishable, HoldsCopy, Stands}
 use Rattle.two_copy_steps.specs.Auxiliary.{side_held, side_filled}
 use Rattle.two_copy_steps.specs.Stages.{IsReadable}
@@ -54,7 +54,7 @@ module _ (opening : Opening) (s : State) (l : LawfulFor opening s) where
   holds_held r side readings (Reading t words) h e = subst (HoldsCopy opening (IsPublishable opening) s.words s.writer readings r) (same_Some t side e) h.0
   holds_held r side readings (Leaving t words) h e = subst (HoldsCopy opening (IsPublishable opening) s.words s.writer readings r) (same_Some t side e) h.0
 
-  not_other : (side : ℕ) → side ≡ other side → ⊥
+  not_other : (side : ℕ) → side ≡ other_side side → ⊥
   not_other zero e = omega arith
   not_other (suc t) e = omega arith
 
@@ -64,7 +64,7 @@ module _ (opening : Opening) (s : State) (l : LawfulFor opening s) where
   apart_at Swapping is side r v e at held = none-some side e
   apart_at (Filling k) is side r v e at held =
       let same = no_reader_there opening (IsPublishable opening) s k l is r side v.readings (holds_held r side v.readings v.stage (l.each_reader r v at).stands held) in
-      not_other s.writer.state.side (sym same ∙ sym (same_Some (other s.writer.state.side) side e))
+      not_other s.writer.state.side (sym same ∙ sym (same_Some (other_side s.writer.state.side) side e))
 
   -- no word is stored under a reader
   pub state_apart : IsApart s

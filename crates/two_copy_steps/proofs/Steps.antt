@@ -8,7 +8,7 @@ use Rattle.std.proofs.Math.Seq.{take-length}
 use Rattle.council_core.specs.declared.commands.Command.{Command}
 use Rattle.council_core.specs.declared.refusals.Refusal.{Refusal}
 use Rattle.council_core.specs.Rolls.{sheet}
-use Rattle.council_core.specs.Ledgers.{Ledger, IsLedger, sheet_of, verdict_of, appended}
+use Rattle.council_core.specs.Ledgers.{Ledger, IsLedger, sheet_of, verdict_of, ledger_with}
 use Rattle.council_core.specs.Sheets.{front_of, IsSheet}
 use Rattle.two_copy_steps.specs.declared.events.Event.{Event}
 use Rattle.two_copy_steps.specs.declared.events.Event.TheVariants.{Submit, Publish, Writer, Reader}
@@ -20,9 +20,9 @@ use Rattle.two_copy_steps.specs.declared.views.Stage.TheVariants.{AtRest, Arrive
 use Rattle.two_copy_steps.specs.declared.views.Phase.{Phase}
 use Rattle.two_copy_steps.specs.declared.views.Phase.TheVariants.{Idle, Seeing, Filling, Swapping}
 use Rattle.two_copy_steps.specs.declared.table.TheConstants.{COPY_WORDS, READERS}
-use Rattle.two_copy_steps.specs.Actions.{all_true, first_false, place, seeing, stage_action, phase_action, pin}
+use Rattle.two_copy_steps.specs.Actions.{all_true, first_false, place, writing_with_quiescent, stage_action, phase_action, pin}
 use Rattle.two_copy_steps.specs.Lawful.{IsPublishable, Stands, Fills}
-use Rattle.two_copy_steps.specs.Transitions.{MachineState, transition, handed, started, submitted, published_by, is_pending, is_idle, reader_transition, stage_note}
+use Rattle.two_copy_steps.specs.Transitions.{MachineState, transition, ledger_and_note, machine_at_start, machine_and_note, published_by, is_pending, is_idle, reader_transition, stage_note}
 use Rattle.two_copy_steps.specs.Auxiliary.{Auxiliary, auxiliary_start, auxiliary_step, record_at, state_of, IsLawful}
 use Rattle.two_copy_steps.specs.Machines.{seen_as, IsMachine}
 use Rattle.two_copy_steps.specs.Stages.{IsReadable}
@@ -54,7 +54,7 @@ module _ (L : Ledger) (W : List ℕ) (s n : ℕ) (t : List ℕ) (ph : Phase) (so
   loads i w = ap (λ (words : List ℕ). let m : MachineState = record old { words = words; writer = w } in m) (sym (set-get_or W i 0))
 
   abbrev looked : Bool → Writing
-  looked b = cond b (seeing old.writer (set so (first_false so) true)) (record old.writer { phase = Idle })
+  looked b = cond b (writing_with_quiescent old.writer (set so (first_false so) true)) (record old.writer { phase = Idle })
 
   pub gave_up : ph ≡ Seeing → get_or W (pin (first_false so)) 0 ≢ 0 → seen_as L W s n t Idle so R ≡ (transition old Writer).0
   gave_up e ne =
@@ -94,7 +94,7 @@ module _ (L : Ledger) (W : List ℕ) (s n : ℕ) (t : List ℕ) (ph : Phase) (so
         let some : all_true so ≡ false = subst (Fills L.opening (IsPublishable L.opening) W old.writer) e k.lawful.1.state.writer.fills in
         let below = first_inside so some in
         let flags = k.lawful.1.state.writer.flags in
-        let few = k.few in
+        let bound = k.bound in
         let wide = wide_enough in
         let long = viewed_length R aux.records in
         (below, omega arith, omega arith)
@@ -150,7 +150,7 @@ module _ (L : Ledger) (W : List ℕ) (s n : ℕ) (t : List ℕ) (ph : Phase) (so
           published_within = h.published_within;
           taken_within = h.taken_within;
           sheet_is = h.sheet_is;
-          few = subst (λ (x : ℕ). x ≤ READERS) (sym h.as_many) k.few;
+          bound = subst (λ (x : ℕ). x ≤ READERS) (sym h.as_many) k.bound;
           lawful = (auxiliary_step old aux event, subst (λ (m : MachineState). IsLawful IsPublishable m (auxiliary_step old aux event)) (sym h.machine) h.lawful);
         }
 
@@ -190,11 +190,11 @@ module _ (L : Ledger) (W : List ℕ) (s n : ℕ) (t : List ℕ) (ph : Phase) (so
         }
 
     -- a command is accepted
-    pub submitted_in : (L' : Ledger) (command : Command) → L' ≡ appended L command → seen_as L' W s n t ph so R ≡ (let m : MachineState = record old { ledger = appended L command } in m)
+    pub submitted_in : (L' : Ledger) (command : Command) → L' ≡ ledger_with L command → seen_as L' W s n t ph so R ≡ (let m : MachineState = record old { ledger = ledger_with L command } in m)
     submitted_in L' command e =
         ap (λ (l : Ledger). seen_as l W s n t ph so R) e
         ∙ (λ i. let m : MachineState = record {
-          ledger = appended L command;
+          ledger = ledger_with L command;
           words = W;
           writer = record {
             side = s;
@@ -206,7 +206,7 @@ module _ (L : Ledger) (W : List ℕ) (s n : ℕ) (t : List ℕ) (ph : Phase) (so
           readers = R;
         } in m)
 
-    pub submit_stays : (L' : Ledger) (command : Command) → L' ≡ appended L command → is_idle ph ≡ true → IsMachine L' W s n t ph so R
+    pub submit_stays : (L' : Ledger) (command : Command) → L' ≡ ledger_with L command → is_idle ph ≡ true → IsMachine L' W s n t ph so R
     submit_stays L' command e idle =
         let more = length-append L.journal (command ∷ []) in
         let within = k.published_within in
@@ -216,29 +216,29 @@ module _ (L : Ledger) (W : List ℕ) (s n : ℕ) (t : List ℕ) (ph : Phase) (so
           published_within = omega arith;
           taken_within = omega arith;
           sheet_is = k.sheet_is ∙ ap (sheet L.opening) (sym (take-append-le (front_of t) L.journal (command ∷ []) k.taken_within));
-          few = k.few;
-          lawful = (aux, subst (λ (m : MachineState). IsLawful IsPublishable m aux) (sym (submitted_in (appended L command) command refl)) (accepted_keeps IsPublishable old aux k.lawful.1 command idle));
+          bound = k.bound;
+          lawful = (aux, subst (λ (m : MachineState). IsLawful IsPublishable m aux) (sym (submitted_in (ledger_with L command) command refl)) (accepted_keeps IsPublishable old aux k.lawful.1 command idle));
         }
 
     -- for any verdict
-    pub handed_in : (L' : Ledger) (command : Command) (v : Result ⊤ Refusal) → L' ≡ (handed L command v).0 → seen_as L' W s n t ph so R ≡ (submitted old command v).0
+    pub handed_in : (L' : Ledger) (command : Command) (v : Result ⊤ Refusal) → L' ≡ (ledger_and_note L command v).0 → seen_as L' W s n t ph so R ≡ (machine_and_note old command v).0
     handed_in L' command (Ok u) e = submitted_in L' command e
     handed_in L' command (Err refusal) e = ap (λ (l : Ledger). seen_as l W s n t ph so R) e
 
-    handed_stays : (L' : Ledger) (command : Command) (v : Result ⊤ Refusal) → L' ≡ (handed L command v).0 → is_idle ph ≡ true → IsMachine L' W s n t ph so R
+    handed_stays : (L' : Ledger) (command : Command) (v : Result ⊤ Refusal) → L' ≡ (ledger_and_note L command v).0 → is_idle ph ≡ true → IsMachine L' W s n t ph so R
     handed_stays L' command (Ok u) e idle = submit_stays L' command e idle
     handed_stays L' command (Err refusal) e idle = let F : Ledger → Type 0 = λ l. IsMachine l W s n t ph so R in subst F (sym e) k
 
-    pub handed_machine : (L' : Ledger) (command : Command) (r : Result Note Refusal) → is_idle ph ≡ true → IfOk r (λ note. (L', note) ≡ handed L command (verdict_of L command)) → OnErr r (L' ≡ L)
+    pub handed_machine : (L' : Ledger) (command : Command) (r : Result Note Refusal) → is_idle ph ≡ true → IfOk r (λ note. (L', note) ≡ ledger_and_note L command (verdict_of L command)) → OnErr r (L' ≡ L)
         → IsMachine L' W s n t ph so R
     handed_machine L' command (Ok note) idle told same = handed_stays L' command (verdict_of L command) (ap (λ (x : Ledger × Note). x.0) told) idle
     handed_machine L' command (Err refusal) idle told same = let F : Ledger → Type 0 = λ l. IsMachine l W s n t ph so R in subst F (sym same) k
 
-    pub handed_transition : (L' : Ledger) (command : Command) (r : Result Note Refusal) → is_idle ph ≡ true → IfOk r (λ note. (L', note) ≡ handed L command (verdict_of L command))
+    pub handed_transition : (L' : Ledger) (command : Command) (r : Result Note Refusal) → is_idle ph ≡ true → IfOk r (λ note. (L', note) ≡ ledger_and_note L command (verdict_of L command))
         → IfOk r (λ note. seen_as L' W s n t ph so R ≡ (transition old (Submit command)).0) × IfOk r (λ note. note ≡ (transition old (Submit command)).1)
     handed_transition L' command (Ok note) idle told = (
-      handed_in L' command (verdict_of L command) (ap (λ (x : Ledger × Note). x.0) told) ∙ ap (λ (b : Bool). (cond b (submitted old command (verdict_of L command)) (old, Skipped)).0) (sym idle),
-      ap (λ (x : Ledger × Note). x.1) told ∙ ap (λ (b : Bool). (cond b (submitted old command (verdict_of L command)) (old, Skipped)).1) (sym idle),
+      handed_in L' command (verdict_of L command) (ap (λ (x : Ledger × Note). x.0) told) ∙ ap (λ (b : Bool). (cond b (machine_and_note old command (verdict_of L command)) (old, Skipped)).0) (sym idle),
+      ap (λ (x : Ledger × Note). x.1) told ∙ ap (λ (b : Bool). (cond b (machine_and_note old command (verdict_of L command)) (old, Skipped)).1) (sym idle),
     )
     handed_transition L' command (Err refusal) idle told = (tt, tt)
 
@@ -299,7 +299,7 @@ module _ (L : Ledger) (W : List ℕ) (s n : ℕ) (t : List ℕ) (ph : Phase) (so
         seat_within = let wide = wide_enough in let h = number_is in omega arith
 
         pub seat_few : number - 1 < READERS
-        seat_few = let few = k.few in let h = number_is in omega arith
+        seat_few = let bound = k.bound in let h = number_is in omega arith
 
         pub seat_readable : IsReadable stage
         seat_readable = readable (number - 1) stage found
@@ -316,7 +316,7 @@ module _ (L : Ledger) (W : List ℕ) (s n : ℕ) (t : List ℕ) (ph : Phase) (so
         read_note note e = e ∙ reader_tells number (number - 1) stage number_is found
 
 -- the machine at its start
-pub started_in : (L : Ledger) (readers : ℕ) → seen_as L (0 ∷ sheet_of L ++ sheet_of L ++ replicate readers 0) 0 (length L.journal) (sheet_of L) Idle (replicate readers true) (replicate readers AtRest) ≡ started L readers
+pub started_in : (L : Ledger) (readers : ℕ) → seen_as L (0 ∷ sheet_of L ++ sheet_of L ++ replicate readers 0) 0 (length L.journal) (sheet_of L) Idle (replicate readers true) (replicate readers AtRest) ≡ machine_at_start L readers
 started_in L readers =
     λ i. let m : MachineState = record {
       ledger = L;
@@ -328,7 +328,7 @@ started_in L readers =
 -- the machine at its start: both copies have the register's sheet, all of it is published, and all
 -- readers are quiescent and at rest
 pub record AtStart (ledger : Ledger) (readers : ℕ) (words : List ℕ) (published : ℕ) (taken : List ℕ) (seen_out : List Bool) (stages : List Stage) : Type 0 where
-  pub few : readers ≤ READERS
+  pub bound : readers ≤ READERS
   pub legal : IsPublishable ledger.opening ledger.journal
   pub words_are : words ≡ 0 ∷ sheet_of ledger ++ sheet_of ledger ++ replicate readers 0
   pub published_all : published ≡ length ledger.journal
@@ -337,9 +337,9 @@ pub record AtStart (ledger : Ledger) (readers : ℕ) (words : List ℕ) (publish
   pub all_rest : stages ≡ replicate readers AtRest
 
 pub start_is : (L : Ledger) (readers : ℕ) (W : List ℕ) (n : ℕ) (t : List ℕ) (so : List Bool) (R : List Stage) → AtStart L readers W n t so R
-    → (seen_as L W 0 n t Idle so R ≡ started L readers) × IsMachine L W 0 n t Idle so R
+    → (seen_as L W 0 n t Idle so R ≡ machine_at_start L readers) × IsMachine L W 0 n t Idle so R
 start_is L readers W n t so R h =
-    let is : seen_as L W 0 n t Idle so R ≡ started L readers = (λ i. seen_as L (h.words_are i) 0 (h.published_all i) (h.taken_all i) Idle (h.all_out i) (h.all_rest i)) ∙ started_in L readers in
+    let is : seen_as L W 0 n t Idle so R ≡ machine_at_start L readers = (λ i. seen_as L (h.words_are i) 0 (h.published_all i) (h.taken_all i) Idle (h.all_out i) (h.all_rest i)) ∙ started_in L readers in
     let all : n ≡ length L.journal = h.published_all in
     let front : front_of t ≡ length L.journal = ap front_of h.taken_all in (
       is,
@@ -347,7 +347,7 @@ start_is L readers W n t so R h =
         published_within = omega arith;
         taken_within = omega arith;
         sheet_is = h.taken_all ∙ ap (sheet L.opening) (sym (take-length L.journal) ∙ ap (λ (y : ℕ). take y L.journal) (sym front));
-        few = subst (λ (y : ℕ). y ≤ READERS) (sym (ap (length {A = Stage}) h.all_rest ∙ length-replicate readers AtRest)) h.few;
+        bound = subst (λ (y : ℕ). y ≤ READERS) (sym (ap (length {A = Stage}) h.all_rest ∙ length-replicate readers AtRest)) h.bound;
         lawful = (auxiliary_start L readers, subst (λ (m : MachineState). IsLawful IsPublishable m (auxiliary_start L readers)) (sym is) (start_lawful IsPublishable L readers h.legal));
       },
     )

@@ -20,9 +20,9 @@ use Rattle.two_copy_steps.specs.declared.views.Stage.TheVariants.{AtRest, Arrive
 use Rattle.two_copy_steps.specs.declared.views.Phase.{Phase}
 use Rattle.two_copy_steps.specs.declared.views.Phase.TheVariants.{Idle, Seeing, Filling, Swapping}
 use Rattle.two_copy_steps.specs.declared.table.TheConstants.{COPY_WORDS}
-use Rattle.two_copy_steps.specs.Actions.{recorded, entered, stage_action}
+use Rattle.two_copy_steps.specs.Actions.{readings_after, readings_with, stage_action}
 use Rattle.two_copy_steps.specs.Stages.{about_to_leave}
-use Rattle.two_copy_steps.specs.Transitions.{MachineState, transition, submitted, published_by, is_pending, is_idle, phase_note, reader_transition, stage_note, started, after, notes}
+use Rattle.two_copy_steps.specs.Transitions.{MachineState, transition, machine_and_note, published_by, is_pending, is_idle, phase_note, reader_transition, stage_note, machine_at_start, state_after_events, notes}
 use Rattle.two_copy_steps.specs.Auxiliary.{Auxiliary, auxiliary_start, auxiliary_step, auxiliary_steps, auxiliary_reader_step, record_at, HasLegalRecords}
 use Rattle.two_copy_steps.specs.Records.{told_of, sheets_told, RecordsAreTold, FrontsNeverFall}
 use Rattle.two_copy_steps.proofs.Lists.{at_set, inside, there}
@@ -42,12 +42,12 @@ record_else (y ∷ records) (suc r) (suc q) x ne = record_else records r q x (λ
 
 -- the part that a reader's own step adds, to its record and to the sheets in its outputs
 own_loaded : (side : ℕ) (words : List ℕ) (b : Bool) (readings told : List (List ℕ)) → readings ≡ told ++ []
-    → entered (cond b (Leaving side words) (Reading side words)) readings ≡ (told ++ []) ++ about_to_leave (cond b (Leaving side words) (Reading side words))
+    → readings_with (cond b (Leaving side words) (Reading side words)) readings ≡ (told ++ []) ++ about_to_leave (cond b (Leaving side words) (Reading side words))
 own_loaded side words true readings told e = ap (λ (l : List (List ℕ)). l ++ words ∷ []) e
 own_loaded side words false readings told e = e ∙ sym (append-nil (told ++ []))
 
 own : (r found : ℕ) (stage : Stage) (readings told : List (List ℕ)) → readings ≡ told ++ about_to_leave stage
-    → recorded stage ((stage_action r stage).after found) readings ≡ (told ++ told_of (suc r) (stage_note (suc r) stage)) ++ about_to_leave ((stage_action r stage).after found)
+    → readings_after stage ((stage_action r stage).after found) readings ≡ (told ++ told_of (suc r) (stage_note (suc r) stage)) ++ about_to_leave ((stage_action r stage).after found)
 own r found AtRest readings told e = e ∙ sym (append-nil (told ++ []))
 own r found Arrived readings told e = e ∙ sym (append-nil (told ++ []))
 own r found (Reading side words) readings told e = own_loaded side (words ++ found ∷ []) (eqb (length (words ++ found ∷ [])) COPY_WORDS) readings told e
@@ -71,7 +71,7 @@ After m aux told note = Tells m aux (λ r. told r ++ told_of (suc r) note)
 silent : (m : MachineState) (aux : Auxiliary) (told : ℕ → List (List ℕ)) → Tells m aux told → Tells m aux (λ r. told r ++ [])
 silent m aux told h r stage at = h r stage at ∙ ap (λ (l : List (List ℕ)). l ++ about_to_leave stage) (sym (append-nil (told r)))
 
-after_submit : (m : MachineState) (aux : Auxiliary) (told : ℕ → List (List ℕ)) → Tells m aux told → (command : Command) (v : Result ⊤ Refusal) → let t = submitted m command v in After t.0 aux told t.1
+after_submit : (m : MachineState) (aux : Auxiliary) (told : ℕ → List (List ℕ)) → Tells m aux told → (command : Command) (v : Result ⊤ Refusal) → let t = machine_and_note m command v in After t.0 aux told t.1
 after_submit m aux told h command (Ok u) = silent m aux told h
 after_submit m aux told h command (Err refusal) = silent m aux told h
 
@@ -95,7 +95,7 @@ after_read m aux told h long r None at = silent m aux told h
 after_read m aux told h long r (Some stage) at = λ q later there.
     let d = stage_action r stage in
     let found : ℕ = get_or m.words d.word 0 in
-    let readings : List (List ℕ) = recorded stage (d.after found) (record_at aux.records r) in
+    let readings : List (List ℕ) = readings_after stage (d.after found) (record_at aux.records r) in
     let here : r < length aux.records = let i = inside m.readers r stage at in omega arith in
     ⊎_elim
     (λ (e : (q ≡ r) × (d.after found ≡ later)).
@@ -111,7 +111,7 @@ after_read m aux told h long r (Some stage) at = λ q later there.
 
 after_event : (m : MachineState) (aux : Auxiliary) (told : ℕ → List (List ℕ)) → Tells m aux told → length aux.records ≡ length m.readers → (event : Event) → After (transition m event).0 (auxiliary_step m aux event) told (transition m event).1
 after_event m aux told h long (Submit command) =
-    elim (is_idle m.writer.phase) as (λ b. let t = cond b (submitted m command (verdict_of m.ledger command)) (m, Skipped) in After t.0 aux told t.1) [ true ↦ after_submit m aux told h command (verdict_of m.ledger command) | false ↦ silent m aux told h ]
+    elim (is_idle m.writer.phase) as (λ b. let t = cond b (machine_and_note m command (verdict_of m.ledger command)) (m, Skipped) in After t.0 aux told t.1) [ true ↦ after_submit m aux told h command (verdict_of m.ledger command) | false ↦ silent m aux told h ]
 after_event m aux told h long Publish =
     elim (is_idle m.writer.phase) as (λ b. let t = cond b (published_by m (is_pending m)) (m, Skipped) in After t.0 aux told t.1) [ true ↦ after_publish m aux told h (is_pending m) | false ↦ silent m aux told h ]
 after_event m aux told h long Writer = λ r stage at.
@@ -122,7 +122,7 @@ after_event m aux told h long (Reader (suc r)) = after_read m aux told h long r 
 -- there are as many records as readers
 as_many : (m : MachineState) (aux : Auxiliary) → length aux.records ≡ length m.readers → (event : Event) → length (auxiliary_step m aux event).records ≡ length (transition m event).0.readers
 as_many m aux long (Submit command) =
-    elim (is_idle m.writer.phase) as (λ b. length aux.records ≡ length (cond b (submitted m command (verdict_of m.ledger command)) (m, Skipped)).0.readers) [ true ↦ long | false ↦ long ]
+    elim (is_idle m.writer.phase) as (λ b. length aux.records ≡ length (cond b (machine_and_note m command (verdict_of m.ledger command)) (m, Skipped)).0.readers) [ true ↦ long | false ↦ long ]
 as_many m aux long Publish =
     elim (is_idle m.writer.phase) as (λ b. length aux.records ≡ length (cond b (published_by m (is_pending m)) (m, Skipped)).0.readers) [
       | true ↦ elim (is_pending m) as (λ c. length aux.records ≡ length (published_by m c).0.readers) [ true ↦ long | false ↦ long ]
@@ -135,11 +135,11 @@ as_many m aux long (Reader (suc r)) =
       | None ↦ long
       | Some stage ↦ let d = stage_action r stage in
           let found : ℕ = get_or m.words d.word 0 in
-          length-set aux.records r (recorded stage (d.after found) (record_at aux.records r)) ∙ (long ∙ sym (length-set m.readers r (d.after found)))
+          length-set aux.records r (readings_after stage (d.after found) (record_at aux.records r)) ∙ (long ∙ sym (length-set m.readers r (d.after found)))
     ]
 
 told_all : (events : List Event) (m : MachineState) (aux : Auxiliary) (told : ℕ → List (List ℕ)) → Tells m aux told → length aux.records ≡ length m.readers
-    → Tells (after m events) (auxiliary_steps m aux events) (λ r. told r ++ sheets_told (suc r) (notes m events))
+    → Tells (state_after_events m events) (auxiliary_steps m aux events) (λ r. told r ++ sheets_told (suc r) (notes m events))
 told_all [] m aux told h long = silent m aux told h
 told_all (event ∷ events) m aux told h long = λ r stage at.
     told_all events (transition m event).0 (auxiliary_step m aux event) (λ q. told q ++ told_of (suc q) (transition m event).1) (after_event m aux told h long event) (as_many m aux long event) r stage at
@@ -172,8 +172,8 @@ IsAbsent m number = (r : ℕ) → number ≡ suc r → slice_get m.readers r ≡
 
 absent_after : (m : MachineState) (number : ℕ) → IsAbsent m number → (event : Event) → IsAbsent (transition m event).0 number × (told_of number (transition m event).1 ≡ [])
 absent_after m number h (Submit command) =
-    elim (is_idle m.writer.phase) as (λ b. let t = cond b (submitted m command (verdict_of m.ledger command)) (m, Skipped) in IsAbsent t.0 number × (told_of number t.1 ≡ [])) [
-      | true ↦ elim (verdict_of m.ledger command) as (λ v. let t = submitted m command v in IsAbsent t.0 number × (told_of number t.1 ≡ [])) [ Ok u ↦ (h, refl) | Err refusal ↦ (h, refl) ]
+    elim (is_idle m.writer.phase) as (λ b. let t = cond b (machine_and_note m command (verdict_of m.ledger command)) (m, Skipped) in IsAbsent t.0 number × (told_of number t.1 ≡ [])) [
+      | true ↦ elim (verdict_of m.ledger command) as (λ v. let t = machine_and_note m command v in IsAbsent t.0 number × (told_of number t.1 ≡ [])) [ Ok u ↦ (h, refl) | Err refusal ↦ (h, refl) ]
       | false ↦ (h, refl)
     ]
 absent_after m number h Publish =
@@ -230,7 +230,7 @@ nothing_falls = IsNonDecreasingBy-short front_of [] (omega arith)
 -- there are always as many readers
 same_readers : (m : MachineState) (event : Event) → length (transition m event).0.readers ≡ length m.readers
 same_readers m (Submit command) =
-    elim (is_idle m.writer.phase) as (λ b. length (cond b (submitted m command (verdict_of m.ledger command)) (m, Skipped)).0.readers ≡ length m.readers) [ true ↦ refl | false ↦ refl ]
+    elim (is_idle m.writer.phase) as (λ b. length (cond b (machine_and_note m command (verdict_of m.ledger command)) (m, Skipped)).0.readers ≡ length m.readers) [ true ↦ refl | false ↦ refl ]
 same_readers m Publish =
     elim (is_idle m.writer.phase) as (λ b. length (cond b (published_by m (is_pending m)) (m, Skipped)).0.readers ≡ length m.readers) [
       | true ↦ elim (is_pending m) as (λ c. length (published_by m c).0.readers ≡ length m.readers) [ true ↦ refl | false ↦ refl ]
@@ -244,23 +244,23 @@ same_readers m (Reader (suc r)) =
       | Some stage ↦ let d = stage_action r stage in length-set m.readers r (d.after (get_or m.words d.word 0))
     ]
 
-readers_all : (events : List Event) (m : MachineState) → length (after m events).readers ≡ length m.readers
+readers_all : (events : List Event) (m : MachineState) → length (state_after_events m events).readers ≡ length m.readers
 readers_all [] m = refl
 readers_all (event ∷ events) m = readers_all events (transition m event).0 ∙ same_readers m event
 
 module _ (ledger : Ledger) (readers : ℕ) (events : List Event) where
   abbrev m : MachineState
-  m = after (started ledger readers) events
+  m = state_after_events (machine_at_start ledger readers) events
 
   abbrev aux : Auxiliary
-  aux = auxiliary_steps (started ledger readers) (auxiliary_start ledger readers) events
+  aux = auxiliary_steps (machine_at_start ledger readers) (auxiliary_start ledger readers) events
 
   abbrev told : ℕ → List (List ℕ)
-  told number = sheets_told number (notes (started ledger readers) events)
+  told number = sheets_told number (notes (machine_at_start ledger readers) events)
 
-  pub run_told : RecordsAreTold (after (started ledger readers) events) (auxiliary_steps (started ledger readers) (auxiliary_start ledger readers) events) (notes (started ledger readers) events)
+  pub run_told : RecordsAreTold (state_after_events (machine_at_start ledger readers) events) (auxiliary_steps (machine_at_start ledger readers) (auxiliary_start ledger readers) events) (notes (machine_at_start ledger readers) events)
   run_told =
-      told_all events (started ledger readers) (auxiliary_start ledger readers) (λ r. [])
+      told_all events (machine_at_start ledger readers) (auxiliary_start ledger readers) (λ r. [])
       (λ r stage at. record_at_start readers r ∙ ap about_to_leave (stage_at_start readers r stage at)) (as_many_at_start readers)
 
   from_record : AreRecords m.ledger.opening m.writer.published aux.cuts aux.records → (r : ℕ) (stage : Stage) → slice_get m.readers r ≡ Some stage → IsNonDecreasingBy front_of (told (suc r))
@@ -269,13 +269,13 @@ module _ (ledger : Ledger) (readers : ℕ) (events : List Event) where
       (IsNonDecreasingBy-from_default front_of (record_at aux.records r) []
       (fronts_rise m.ledger.opening m.writer.published aux.cuts 0 (record_at aux.records r) (record_of m.ledger.opening m.writer.published aux.cuts aux.records legal r)))
 
-  never_older_of : AreRecords m.ledger.opening m.writer.published aux.cuts aux.records → (r : ℕ) (o : Option Stage) → slice_get (started ledger readers).readers r ≡ o → IsNonDecreasingBy front_of (told (suc r))
+  never_older_of : AreRecords m.ledger.opening m.writer.published aux.cuts aux.records → (r : ℕ) (o : Option Stage) → slice_get (machine_at_start ledger readers).readers r ≡ o → IsNonDecreasingBy front_of (told (suc r))
   never_older_of legal r (Some stage) at =
-      let later = there m.readers r (subst (λ (n : ℕ). r < n) (sym (readers_all events (started ledger readers))) (inside (started ledger readers).readers r stage at)) in
+      let later = there m.readers r (subst (λ (n : ℕ). r < n) (sym (readers_all events (machine_at_start ledger readers))) (inside (machine_at_start ledger readers).readers r stage at)) in
       from_record legal r later.0 later.1
   never_older_of legal r None at =
-      subst (IsNonDecreasingBy front_of) (sym (absent_all events (started ledger readers) (suc r) (λ q e. ap (slice_get (started ledger readers).readers) (let same : q ≡ r = omega arith in same) ∙ at))) nothing_falls
+      subst (IsNonDecreasingBy front_of) (sym (absent_all events (machine_at_start ledger readers) (suc r) (λ q e. ap (slice_get (machine_at_start ledger readers).readers) (let same : q ≡ r = omega arith in same) ∙ at))) nothing_falls
 
-  pub run_never_older : HasLegalRecords (after (started ledger readers) events) (auxiliary_steps (started ledger readers) (auxiliary_start ledger readers) events) → FrontsNeverFall (notes (started ledger readers) events)
-  run_never_older legal zero = subst (IsNonDecreasingBy front_of) (sym (absent_all events (started ledger readers) zero (λ r e. absurd (omega arith)))) nothing_falls
-  run_never_older legal (suc r) = never_older_of legal.readings r (slice_get (started ledger readers).readers r) refl
+  pub run_never_older : HasLegalRecords (state_after_events (machine_at_start ledger readers) events) (auxiliary_steps (machine_at_start ledger readers) (auxiliary_start ledger readers) events) → FrontsNeverFall (notes (machine_at_start ledger readers) events)
+  run_never_older legal zero = subst (IsNonDecreasingBy front_of) (sym (absent_all events (machine_at_start ledger readers) zero (λ r e. absurd (omega arith)))) nothing_falls
+  run_never_older legal (suc r) = never_older_of legal.readings r (slice_get (machine_at_start ledger readers).readers r) refl

@@ -3,7 +3,7 @@ use Rattle.std.proofs.Common.{◌≡◌, ℕ, suc, ◌<◌, List, length, get_or
 use Rattle.two_copy_steps.specs.declared.events.Event.TheVariants.{Reader}
 use Rattle.two_copy_steps.specs.declared.views.ReaderView.{ReaderView}
 use Rattle.two_copy_steps.specs.declared.views.Stage.{Stage}
-use Rattle.two_copy_steps.specs.Actions.{recorded, stage_action}
+use Rattle.two_copy_steps.specs.Actions.{readings_after, stage_action}
 use Rattle.two_copy_steps.specs.Lawful.{State, read_by}
 use Rattle.two_copy_steps.specs.Transitions.{MachineState, transition, reader_transition}
 use Rattle.two_copy_steps.specs.Auxiliary.{Auxiliary, auxiliary_step, auxiliary_reader_step, record_at, state_of}
@@ -16,7 +16,7 @@ module _ (m : MachineState) (aux : Auxiliary) where
       let d = stage_action r stage in
       let found : ℕ = get_or m.words d.word 0 in
       ap (λ (views : List ReaderView). let s : State = record { words = set m.words d.word (d.becomes found); writer = record { state = m.writer; cuts = aux.cuts }; readers = views } in s)
-      (viewed_set m.readers aux.records r (d.after found) (recorded stage (d.after found) (record_at aux.records r)) here)
+      (viewed_set m.readers aux.records r (d.after found) (readings_after stage (d.after found) (record_at aux.records r)) here)
 
   pub reader_is : length aux.records ≡ length m.readers → (r : ℕ) (stage : Stage) → slice_get m.readers r ≡ Some stage
       → state_of (transition m (Reader (suc r))).0 (auxiliary_step m aux (Reader (suc r))) ≡ read_by (state_of m aux) r (view_at stage (record_at aux.records r))

@@ -5,7 +5,7 @@ use Rattle.std.proofs.lemmas.Option.{none-some, same_Some}
 use Rattle.council_core.specs.declared.commands.Command.{Command}
 use Rattle.council_core.specs.declared.refusals.Refusal.{Refusal}
 use Rattle.council_core.specs.Rolls.{Opening, sheet}
-use Rattle.council_core.specs.Ledgers.{verdict_of, appended}
+use Rattle.council_core.specs.Ledgers.{verdict_of, ledger_with}
 use Rattle.council_core.specs.Sequential.{IsRecordFrom, AreRecords}
 use Rattle.two_copy_steps.specs.declared.events.Event.{Event}
 use Rattle.two_copy_steps.specs.declared.events.Event.TheVariants.{Submit, Publish, Writer, Reader}
@@ -16,10 +16,10 @@ use Rattle.two_copy_steps.specs.declared.views.Stage.{Stage}
 use Rattle.two_copy_steps.specs.declared.views.Stage.TheVariants.{AtRest, Arrived, Reading, Leaving}
 use Rattle.two_copy_steps.specs.declared.views.Phase.{Phase}
 use Rattle.two_copy_steps.specs.declared.views.Phase.TheVariants.{Idle, Seeing, Filling, Swapping}
-use Rattle.two_copy_steps.specs.Actions.{recorded, first_false, other, seeing, stage_action, phase_action, writing_action}
+use Rattle.two_copy_steps.specs.Actions.{readings_after, first_false, other_side, writing_with_quiescent, stage_action, phase_action, writing_action}
 use Rattle.two_copy_steps.specs.Lawful.{State, Lawful, HoldsCopy, Stands}
-use Rattle.two_copy_steps.specs.Transitions.{MachineState, transition, submitted, published_by, is_pending, is_idle, reader_transition}
-use Rattle.two_copy_steps.specs.Auxiliary.{Auxiliary, auxiliary_step, auxiliary_reader_step, record_at, viewed, state_of, IsLawful, NoneUnder, side_held, side_filled}
+use Rattle.two_copy_steps.specs.Transitions.{MachineState, transition, machine_and_note, published_by, is_pending, is_idle, reader_transition}
+use Rattle.two_copy_steps.specs.Auxiliary.{Auxiliary, auxiliary_step, auxiliary_reader_step, record_at, reader_views, state_of, IsLawful, NoneUnder, side_held, side_filled}
 use Rattle.two_copy_steps.proofs.Lists.{inside}
 use Rattle.two_copy_steps.proofs.Records.{records_from_each}
 use Rattle.two_copy_steps.proofs.ReaderSteps.{reader_keeps}
@@ -29,13 +29,13 @@ use Rattle.two_copy_steps.proofs.WriterSteps.{writer_keeps, begin_keeps, no_read
 abbrev pub view_at : Stage → List (List ℕ) → ReaderView
 view_at stage readings = record { stage = stage; readings = readings }
 
-pub viewed_length : (stages : List Stage) (records : List (List (List ℕ))) → length (viewed stages records) ≡ length stages
+pub viewed_length : (stages : List Stage) (records : List (List (List ℕ))) → length (reader_views stages records) ≡ length stages
 viewed_length [] records = refl
 viewed_length (stage ∷ stages) [] = ap suc (viewed_length stages [])
 viewed_length (stage ∷ stages) (x ∷ records) = ap suc (viewed_length stages records)
 
 pub viewed_at : (stages : List Stage) (records : List (List (List ℕ))) (r : ℕ) (stage : Stage) → slice_get stages r ≡ Some stage
-    → slice_get (viewed stages records) r ≡ Some (view_at stage (record_at records r))
+    → slice_get (reader_views stages records) r ≡ Some (view_at stage (record_at records r))
 viewed_at [] records r stage e = absurd (none-some stage e)
 viewed_at (x ∷ stages) [] zero stage e = ap (λ z. Some (view_at z [])) (same_Some x stage e)
 viewed_at (x ∷ stages) [] (suc r) stage e = viewed_at stages [] r stage e
@@ -43,7 +43,7 @@ viewed_at (x ∷ stages) (y ∷ records) zero stage e = ap (λ z. Some (view_at 
 viewed_at (x ∷ stages) (y ∷ records) (suc r) stage e = viewed_at stages records r stage e
 
 pub viewed_set : (stages : List Stage) (records : List (List (List ℕ))) (r : ℕ) (stage : Stage) (readings : List (List ℕ)) → r < length records
-    → viewed (set stages r stage) (set records r readings) ≡ set (viewed stages records) r (view_at stage readings)
+    → reader_views (set stages r stage) (set records r readings) ≡ set (reader_views stages records) r (view_at stage readings)
 viewed_set [] records r stage readings h = refl
 viewed_set (x ∷ stages) [] r stage readings h = absurd (omega arith)
 viewed_set (x ∷ stages) (y ∷ records) zero stage readings h = refl
@@ -60,7 +60,7 @@ record_there [] r readings e = absurd (none-some readings e)
 record_there (x ∷ records) zero readings e = same_Some x readings e
 record_there (x ∷ records) (suc r) readings e = record_there records r readings e
 
-looked_taken : (w : Writing) (r : ℕ) (b : Bool) → let y = cond b (seeing w (set w.seen_out r true)) (record w { phase = Idle }) in (y.published ≡ w.published) × (y.taken ≡ w.taken)
+looked_taken : (w : Writing) (r : ℕ) (b : Bool) → let y = cond b (writing_with_quiescent w (set w.seen_out r true)) (record w { phase = Idle }) in (y.published ≡ w.published) × (y.taken ≡ w.taken)
 looked_taken w r true = (refl, refl)
 looked_taken w r false = (refl, refl)
 
@@ -89,7 +89,7 @@ module _ (Legal : Opening → List Command → Type 0) where
   read_keeps m aux l r (Some stage) at =
       let d = stage_action r stage in
       let found : ℕ = get_or m.words d.word 0 in
-      let readings : List (List ℕ) = recorded stage (d.after found) (record_at aux.records r) in
+      let readings : List (List ℕ) = readings_after stage (d.after found) (record_at aux.records r) in
       let here : r < length aux.records = subst (λ (n : ℕ). r < n) (sym l.each_record) (inside m.readers r stage at) in
       let kept = reader_keeps m.ledger.opening (Legal m.ledger.opening) (state_of m aux) l.state r (view_at stage (record_at aux.records r)) (viewed_at m.readers aux.records r stage at) in
       record {
@@ -133,7 +133,7 @@ module _ (Legal : Opening → List Command → Type 0) where
   true_not_false e = cc
 
   -- the register accepts a command
-  pub accepted_keeps : (m : MachineState) (aux : Auxiliary) → IsLawful Legal m aux → (command : Command) → is_idle m.writer.phase ≡ true → IsLawful Legal (record m { ledger = appended m.ledger command }) aux
+  pub accepted_keeps : (m : MachineState) (aux : Auxiliary) → IsLawful Legal m aux → (command : Command) → is_idle m.writer.phase ≡ true → IsLawful Legal (record m { ledger = ledger_with m.ledger command }) aux
   accepted_keeps m aux l command idle =
       record {
         state = l.state;
@@ -142,13 +142,13 @@ module _ (Legal : Opening → List Command → Type 0) where
         each_record = l.each_record;
       }
 
-  submitted_keeps : (m : MachineState) (aux : Auxiliary) → IsLawful Legal m aux → (command : Command) (v : Result ⊤ Refusal) → is_idle m.writer.phase ≡ true → IsLawful Legal (submitted m command v).0 aux
+  submitted_keeps : (m : MachineState) (aux : Auxiliary) → IsLawful Legal m aux → (command : Command) (v : Result ⊤ Refusal) → is_idle m.writer.phase ≡ true → IsLawful Legal (machine_and_note m command v).0 aux
   submitted_keeps m aux l command (Ok u) idle = accepted_keeps m aux l command idle
   submitted_keeps m aux l command (Err refusal) idle = l
 
   pub submit_keeps : (m : MachineState) (aux : Auxiliary) → IsLawful Legal m aux → (command : Command) → Keeps m aux (Submit command)
   submit_keeps m aux l command =
-      elim (is_idle m.writer.phase) as (λ b. is_idle m.writer.phase ≡ b → IsLawful Legal (cond b (submitted m command (verdict_of m.ledger command)) (m, Skipped)).0 aux)
+      elim (is_idle m.writer.phase) as (λ b. is_idle m.writer.phase ≡ b → IsLawful Legal (cond b (machine_and_note m command (verdict_of m.ledger command)) (m, Skipped)).0 aux)
       [ true ↦ λ idle. submitted_keeps m aux l command (verdict_of m.ledger command) idle | false ↦ λ busy. l ] refl
 
   -- the step of an actor
@@ -180,7 +180,7 @@ module _ (Legal : Opening → List Command → Type 0) where
   holds_held m aux l side r (Reading s words) h e = subst (λ (z : ℕ). HoldsCopy m.ledger.opening (Legal m.ledger.opening) m.words (state_of m aux).writer (record_at aux.records r) r z) (same_Some s side e) h.0
   holds_held m aux l side r (Leaving s words) h e = subst (λ (z : ℕ). HoldsCopy m.ledger.opening (Legal m.ledger.opening) m.words (state_of m aux).writer (record_at aux.records r) r z) (same_Some s side e) h.0
 
-  not_other : (side : ℕ) → side ≢ other side
+  not_other : (side : ℕ) → side ≢ other_side side
   not_other zero e = omega arith
   not_other (suc s) e = omega arith
 
@@ -198,7 +198,7 @@ module _ (Legal : Opening → List Command → Type 0) where
       let ok = l.state.each_reader r (view_at h.stage (record_at aux.records r)) (viewed_at m.readers aux.records r h.stage h.at) in
       let b = holds_held m aux l side r h.stage ok.stands h.held in
       let same : side ≡ m.writer.side = no_reader_there m.ledger.opening (Legal m.ledger.opening) (state_of m aux) k l.state is r side (record_at aux.records r) b in
-      not_other m.writer.side (sym same ∙ sym (same_Some (other m.writer.side) side e))
+      not_other m.writer.side (sym same ∙ sym (same_Some (other_side m.writer.side) side e))
 
   -- no word is stored under a reader
   pub none_under : (m : MachineState) (aux : Auxiliary) → IsLawful Legal m aux → NoneUnder m

@@ -18,12 +18,12 @@ use Rattle.two_copy_steps.specs.Auxiliary.{NoneUnder, side_filled, side_held}
 use Rattle.two_copy_steps.specs.Publications.{stores_side}
 use Rattle.two_copy_steps.specs.Stages.{reading_steps, steps_taken}
 use Rattle.two_copy_steps.specs.States.{HasRecords}
-use Rattle.two_copy_steps.specs.Transitions.{MachineState, started, notes}
+use Rattle.two_copy_steps.specs.Transitions.{MachineState, machine_at_start, notes}
 
 abbrev pub one_member : Ledger
 one_member = record { opening = (65 ∷ 65 ∷ 65 ∷ [], 10) ∷ []; journal = []; limit = 100 }
 
-five_notes : notes (started one_member 1) (Submit (Open 1) ∷ Reader 2 ∷ Writer ∷ Publish ∷ Reader 1 ∷ []) ≡ Accepted 1 ∷ Skipped ∷ Skipped ∷ Began ∷ Moved ∷ []
+five_notes : notes (machine_at_start one_member 1) (Submit (Open 1) ∷ Reader 2 ∷ Writer ∷ Publish ∷ Reader 1 ∷ []) ≡ Accepted 1 ∷ Skipped ∷ Skipped ∷ Began ∷ Moved ∷ []
 five_notes = refl
 
 -- a reader that has arrived holds up the second publication, and reads the sheet before the first
@@ -38,18 +38,18 @@ first_sheet = replicate 32 0 ++ 10 ∷ 0 ∷ []
 abbrev last_sheet : List ℕ
 last_sheet = 11 ∷ replicate 31 0 ++ 10 ∷ 2 ∷ []
 
-way_notes : notes (started one_member 1) in_the_way
+way_notes : notes (machine_at_start one_member 1) in_the_way
     ≡ replicate 2 Moved ++ Accepted 1 ∷ Began ∷ [] ++ replicate 34 Moved ++ Published 1 ∷ Accepted 2 ∷ Began ∷ Busy 1 ∷ [] ++ replicate 34 Moved ++ Read 1 first_sheet ∷ Began ∷ [] ++ replicate 35 Moved ++ Published 2 ∷ []
     ++ replicate 36 Moved ++ Read 1 last_sheet ∷ []
 way_notes = refl
 
 -- six of these 151 events represent a call of the sequential register, in this order
-way_effects : effects (started one_member 1) in_the_way
+way_effects : effects (machine_at_start one_member 1) in_the_way
     ≡ read ∷ submit (Open 1) ∷ publish ∷ submit (Move (65 ∷ 65 ∷ 65 ∷ []) (Some 1)) ∷ publish ∷ read ∷ []
 way_effects = refl
 
 -- a publication with nothing pending is a call, and neither a command nor a publication is while one is under way
-other_effects : (effects (started one_member 1) (Publish ∷ []) ≡ publish ∷ []) × (effects (started one_member 1) (Submit (Open 1) ∷ Publish ∷ Submit (Open 2) ∷ Publish ∷ []) ≡ submit (Open 1) ∷ [])
+other_effects : (effects (machine_at_start one_member 1) (Publish ∷ []) ≡ publish ∷ []) × (effects (machine_at_start one_member 1) (Submit (Open 1) ∷ Publish ∷ Submit (Open 2) ∷ Publish ∷ []) ≡ submit (Open 1) ∷ [])
 other_effects = (refl, refl)
 
 -- at the start no publication has begun, and no reader has been replied anything
@@ -79,7 +79,7 @@ forgotten t = refl
 
 -- no writer may fill the copy that a reader reads, or has read and not left
 abbrev pub filling_under : Stage → MachineState
-filling_under stage = record (started one_member 1) { writer = record (started one_member 1).writer { phase = Filling 0 }; readers = stage ∷ [] }
+filling_under stage = record (machine_at_start one_member 1) { writer = record (machine_at_start one_member 1).writer { phase = Filling 0 }; readers = stage ∷ [] }
 
 under_reading : NoneUnder (filling_under (Reading 1 [])) → ⊥
 under_reading h = h 1 0 (Reading 1 []) refl refl refl
@@ -119,7 +119,7 @@ reader_stores_none = refl
 abbrev with_reading : List ℕ → State
 with_reading words = record {
   words = [];
-  writer = record { state = (started one_member 1).writer; cuts = 0 ∷ [] };
+  writer = record { state = (machine_at_start one_member 1).writer; cuts = 0 ∷ [] };
   readers = record { stage = AtRest; readings = words ∷ [] } ∷ [];
 }
 

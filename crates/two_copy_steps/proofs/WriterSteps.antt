@@ -16,8 +16,8 @@ use Rattle.two_copy_steps.specs.declared.views.Stage.TheVariants.{AtRest, Arrive
 use Rattle.two_copy_steps.specs.declared.views.Phase.{Phase}
 use Rattle.two_copy_steps.specs.declared.views.Phase.TheVariants.{Idle, Seeing, Filling, Swapping}
 use Rattle.two_copy_steps.specs.declared.table.TheConstants.{COPY_WORDS}
-use Rattle.two_copy_steps.specs.Actions.{all_true, first_false, other, cuts_past, place, pin, seeing, begun, filled, swapped, phase_action}
-use Rattle.two_copy_steps.specs.Lawful.{State, written_by, begun_by, pin_of, IsReadFrom, HoldsCopy, Stands, ReaderOk, Stored, Fills, WriterOk, Lawful}
+use Rattle.two_copy_steps.specs.Actions.{all_true, first_false, other_side, cuts_past, place, pin, writing_with_quiescent, writing_of_staged, filled_writing, swapped_writing, phase_action}
+use Rattle.two_copy_steps.specs.Lawful.{State, written_by, begun_by, pin_of, IsLoadedFrom, HoldsCopy, Stands, ReaderOk, Stored, Fills, WriterOk, Lawful}
 use Rattle.two_copy_steps.proofs.Lists.{set_else, inside}
 use Rattle.two_copy_steps.proofs.Records.{record-grows, ascends-push}
 use Rattle.two_copy_steps.proofs.ReaderSteps.{place_low}
@@ -44,7 +44,7 @@ pub place_above : (s i : ℕ) → 0 < place s i
 place_above zero i = omega arith
 place_above (suc _) i = omega arith
 
-pub place_apart : (s i k : ℕ) → s < 2 → i < COPY_WORDS → k < COPY_WORDS → place s i ≢ place (other s) k
+pub place_apart : (s i k : ℕ) → s < 2 → i < COPY_WORDS → k < COPY_WORDS → place s i ≢ place (other_side s) k
 place_apart zero i k h a b e = omega arith
 place_apart (suc zero) i k h a b e = omega arith
 place_apart (suc (suc s)) i k h a b e = absurd (omega arith)
@@ -74,7 +74,7 @@ module _ (opening : Opening) (Legal : List Command → Type 0) where
           late = t.1;
         }
 
-    read_left : (seen : List (List ℕ)) (s : ℕ) (xs : List ℕ) → length xs ≤ COPY_WORDS → get_or words (pin q) 0 ≡ 1 → HoldsCopy opening Legal words w seen q s → IsReadFrom words s xs → IsReadFrom vs s xs
+    read_left : (seen : List (List ℕ)) (s : ℕ) (xs : List ℕ) → length xs ≤ COPY_WORDS → get_or words (pin q) 0 ≡ 1 → HoldsCopy opening Legal words w seen q s → IsLoadedFrom words s xs → IsLoadedFrom vs s xs
     read_left seen s xs short p b h i l = h i l ∙ sym ((k.sides s b.two p b.late).0 i (omega arith))
 
     stands_left : (seen : List (List ℕ)) (st : Stage) → get_or words (pin q) 0 ≡ pin_of st → Stands opening Legal words w seen q st → Stands opening Legal vs w' seen q st
@@ -116,7 +116,7 @@ module _ (opening : Opening) (Legal : List Command → Type 0) where
   pub begin_keeps : (m : State) → Lawful opening Legal m → (list rest : List Command) → Legal list → m.writer.state.taken ++ rest ≡ list → Lawful opening Legal (begun_by m list)
   begin_keeps m l list rest legal longer =
       let w = m.writer.state in
-      let w' : WriterView = Known (begun list w) m.writer.cuts in
+      let w' : WriterView = Known (writing_of_staged list w) m.writer.cuts in
       let o = l.writer in
       moved m.words m.words m.writer w' m.readers l refl record {
         two = o.two;
@@ -133,12 +133,12 @@ module _ (opening : Opening) (Legal : List Command → Type 0) where
 
   -- a pin was loaded
   sees_out : (m : State) → Lawful opening Legal m → (r : ℕ) → get_or m.words (pin r) 0 ≡ 0
-      → Lawful opening Legal (At m.words (Known (seeing m.writer.state (set m.writer.state.seen_out r true)) m.writer.cuts) m.readers)
+      → Lawful opening Legal (At m.words (Known (writing_with_quiescent m.writer.state (set m.writer.state.seen_out r true)) m.writer.cuts) m.readers)
   sees_out m l r found =
       let w = m.writer.state in
       let out : List Bool = set w.seen_out r true in
       let o = l.writer in
-      moved m.words m.words m.writer (Known (seeing w out) m.writer.cuts) m.readers l refl record {
+      moved m.words m.words m.writer (Known (writing_with_quiescent w out) m.writer.cuts) m.readers l refl record {
         two = o.two;
         side_is = o.side_is;
         flags = length-set w.seen_out r true ∙ o.flags;
@@ -169,7 +169,7 @@ module _ (opening : Opening) (Legal : List Command → Type 0) where
       (λ q _. record { pins = refl; cuts = λ f h. (h, refl); sides = λ s two p late. ((λ i _. refl), late) })
 
   abbrev looked : Writing → ℕ → Bool → Writing
-  looked w r b = cond b (seeing w (set w.seen_out r true)) (record w { phase = Idle })
+  looked w r b = cond b (writing_with_quiescent w (set w.seen_out r true)) (record w { phase = Idle })
 
   sees : (m : State) (k : ℕ) → Lawful opening Legal m → (r : ℕ) → get_or m.words (pin r) 0 ≡ k
       → Lawful opening Legal (At m.words (Known (looked m.writer.state r (eqb k 0)) m.writer.cuts) m.readers)
@@ -189,19 +189,19 @@ module _ (opening : Opening) (Legal : List Command → Type 0) where
       (λ ne. subst F (sym (ne_eqb (k + 1) COPY_WORDS ne)) (omega arith, h))
 
   fills : (m : State) (k : ℕ) → Lawful opening Legal m → k < COPY_WORDS → Stored opening Legal m.words m.writer.state k
-      → Lawful opening Legal (At (set m.words (place (other m.writer.state.side) k) (get_or (sheet opening m.writer.state.taken) k 0)) (Known (filled m.writer.state k) m.writer.cuts) m.readers)
+      → Lawful opening Legal (At (set m.words (place (other_side m.writer.state.side) k) (get_or (sheet opening m.writer.state.taken) k 0)) (Known (filled_writing m.writer.state k) m.writer.cuts) m.readers)
   fills m k l short h =
       let w = m.writer.state in
       let o = l.writer in
-      let p : ℕ = place (other w.side) k in
+      let p : ℕ = place (other_side w.side) k in
       let x : ℕ = get_or (sheet opening w.taken) k 0 in
       let vs : List ℕ = set m.words p x in
-      let low : p < pin 0 = place_low (other w.side) k short in
-      let some : 0 < p = place_above (other w.side) k in
+      let low : p < pin 0 = place_low (other_side w.side) k short in
+      let some : 0 < p = place_above (other_side w.side) k in
       let wide = l.wide in
       let kept : (i : ℕ) → i < COPY_WORDS → get_or vs (place w.side i) 0 ≡ get_or m.words (place w.side i) 0 =
       λ i g. get_or-set_other m.words p (place w.side i) x 0 (place_apart w.side i k o.two g short) in
-      moved m.words vs m.writer (Known (filled w k) m.writer.cuts) m.readers l (length-set m.words p x) record {
+      moved m.words vs m.writer (Known (filled_writing w k) m.writer.cuts) m.readers l (length-set m.words p x) record {
         two = o.two;
         side_is = get_or-set_other m.words p 0 x 0 (λ e. omega arith) ∙ o.side_is;
         flags = o.flags;
@@ -214,8 +214,8 @@ module _ (opening : Opening) (Legal : List Command → Type 0) where
         fills = fills_next vs w k short (
           h.0,
           λ i g. dite (ℕ_discrete i k)
-              (λ e. subst (λ (z : ℕ). get_or vs (place (other w.side) z) 0 ≡ get_or (sheet opening w.taken) z 0) (sym e) (get_or-set_same m.words p x 0 (omega arith)))
-              (λ ne. get_or-set_other m.words p (place (other w.side) i) x 0 (place_once (other w.side) i k ne) ∙ h.1 i (omega arith)),
+              (λ e. subst (λ (z : ℕ). get_or vs (place (other_side w.side) z) 0 ≡ get_or (sheet opening w.taken) z 0) (sym e) (get_or-set_same m.words p x 0 (omega arith)))
+              (λ ne. get_or-set_other m.words p (place (other_side w.side) i) x 0 (place_once (other_side w.side) i k ne) ∙ h.1 i (omega arith)),
         );
       } (λ q _. record {
         pins = get_or-set_other m.words p (pin q) x 0 (λ e. omega arith);
@@ -230,12 +230,12 @@ module _ (opening : Opening) (Legal : List Command → Type 0) where
   cut_stays w rest begins f le = ap (take f) (sym begins) ∙ take-append-le f w.published rest le
 
   swaps : (m : State) → Lawful opening Legal m → Stored opening Legal m.words m.writer.state COPY_WORDS
-      → Lawful opening Legal (At (set m.words 0 (other m.writer.state.side)) (Known (swapped m.writer.state) (m.writer.cuts ++ length m.writer.state.taken ∷ [])) m.readers)
+      → Lawful opening Legal (At (set m.words 0 (other_side m.writer.state.side)) (Known (swapped_writing m.writer.state) (m.writer.cuts ++ length m.writer.state.taken ∷ [])) m.readers)
   swaps m l h =
       let w = m.writer.state in
       let cuts : List ℕ = m.writer.cuts in
       let o = l.writer in
-      let t : ℕ = other w.side in
+      let t : ℕ = other_side w.side in
       let vs : List ℕ = set m.words 0 t in
       let wide = l.wide in
       let two = o.two in
@@ -243,7 +243,7 @@ module _ (opening : Opening) (Legal : List Command → Type 0) where
       let last : ℕ = length w.taken in
       let longer : length w.published ≤ last = (let g = ap (length {A = Command}) begins.1 in omega (arith, length-append w.published begins.0)) in
       let kept : (s i : ℕ) → get_or vs (place s i) 0 ≡ get_or m.words (place s i) 0 = λ s i. get_or-set_other m.words 0 (place s i) t 0 (λ e. let g = place_above s i in omega arith) in
-      moved m.words vs m.writer (Known (swapped w) (cuts ++ last ∷ [])) m.readers l (length-set m.words 0 t) record {
+      moved m.words vs m.writer (Known (swapped_writing w) (cuts ++ last ∷ [])) m.readers l (length-set m.words 0 t) record {
         two = omega arith;
         side_is = get_or-set_same m.words 0 t 0 (omega arith);
         flags = length-replicate (length w.seen_out) false ∙ o.flags;

@@ -29,23 +29,23 @@ first_false [] = 0
 first_false (b ∷ bs) = if b then suc (first_false bs) else 0
 
 -- the other side
-abbrev pub other : ℕ → ℕ
-other side = 1 - side
+abbrev pub other_side : ℕ → ℕ
+other_side side = 1 - side
 
 -- once all words are loaded, they are added to the record
-abbrev pub entered : Stage → List (List ℕ) → List (List ℕ)
-entered (Leaving side words) readings = readings ++ words ∷ []
-entered AtRest readings = readings
-entered Arrived readings = readings
-entered (Reading side words) readings = readings
+abbrev pub readings_with : Stage → List (List ℕ) → List (List ℕ)
+readings_with (Leaving side words) readings = readings ++ words ∷ []
+readings_with AtRest readings = readings
+readings_with Arrived readings = readings
+readings_with (Reading side words) readings = readings
 
 -- the record after a step from one stage to another: a reading is added at the load of its last
 -- word
-abbrev pub recorded : Stage → Stage → List (List ℕ) → List (List ℕ)
-recorded (Reading side words) after readings = entered after readings
-recorded AtRest after readings = readings
-recorded Arrived after readings = readings
-recorded (Leaving side words) after readings = readings
+abbrev pub readings_after : Stage → Stage → List (List ℕ) → List (List ℕ)
+readings_after (Reading side words) after readings = readings_with after readings
+readings_after AtRest after readings = readings
+readings_after Arrived after readings = readings
+readings_after (Leaving side words) after readings = readings
 
 -- the cuts after a step from a phase: a cut is added when side is stored
 abbrev pub cuts_past : Phase → List Command → List ℕ → List ℕ
@@ -64,8 +64,8 @@ place (suc _) i = 1 + COPY_WORDS + i
 abbrev pub pin : ℕ → ℕ
 pin r = 1 + COPY_WORDS + COPY_WORDS + r
 
-abbrev pub loaded : ℕ → List ℕ → Stage
-loaded side words = if length words == COPY_WORDS then Leaving side words else Reading side words
+abbrev pub stage_with_words : ℕ → List ℕ → Stage
+stage_with_words side words = if length words == COPY_WORDS then Leaving side words else Reading side words
 
 -- the step at each stage: arrive, load side, load a word, leave
 abbrev pub stage_action : ℕ → Stage → Action Stage
@@ -74,7 +74,7 @@ stage_action r Arrived = record { word = 0; becomes = λ found. found; after = �
 stage_action r (Reading side words) = record {
   word = place side (length words);
   becomes = λ found. found;
-  after = λ found. loaded side (words ++ found ∷ []);
+  after = λ found. stage_with_words side (words ++ found ∷ []);
 }
 stage_action r (Leaving side words) = record { word = pin r; becomes = λ _. 0; after = λ _. AtRest }
 
@@ -85,25 +85,25 @@ reader_action r v =
     record {
       word = d.word;
       becomes = d.becomes;
-      after = λ found. record { stage = d.after found; readings = recorded v.stage (d.after found) v.readings };
+      after = λ found. record { stage = d.after found; readings = readings_after v.stage (d.after found) v.readings };
     }
 
 -- the writer's state once these readers are quiescent; after the last one, filling begins
-abbrev pub seeing : Writing → List Bool → Writing
-seeing w out = record w { phase = if all_true out then Filling 0 else Seeing; seen_out = out }
+abbrev pub writing_with_quiescent : Writing → List Bool → Writing
+writing_with_quiescent w out = record w { phase = if all_true out then Filling 0 else Seeing; seen_out = out }
 
 -- the writer's state when a publication of these commands begins
-abbrev pub begun : List Command → Writing → Writing
-begun commands w = seeing (record w { taken = commands }) w.seen_out
+abbrev pub writing_of_staged : List Command → Writing → Writing
+writing_of_staged commands w = writing_with_quiescent (record w { taken = commands }) w.seen_out
 
-abbrev pub filled : Writing → ℕ → Writing
-filled w k = record w { phase = if k + 1 == COPY_WORDS then Swapping else Filling (k + 1) }
+abbrev pub filled_writing : Writing → ℕ → Writing
+filled_writing w k = record w { phase = if k + 1 == COPY_WORDS then Swapping else Filling (k + 1) }
 
 -- the writer's state after side is stored: the staged commands are published, and no reader is
 -- quiescent
-abbrev pub swapped : Writing → Writing
-swapped w = record {
-  side = other w.side;
+abbrev pub swapped_writing : Writing → Writing
+swapped_writing w = record {
+  side = other_side w.side;
   published = w.taken;
   taken = w.taken;
   phase = Idle;
@@ -119,15 +119,15 @@ module _ (sheet : List Command → List ℕ) where
       record {
         word = pin r;
         becomes = λ found. found;
-        after = λ found. if found == 0 then seeing w (slice_set w.seen_out r true) else record w { phase = Idle };
+        after = λ found. if found == 0 then writing_with_quiescent w (slice_set w.seen_out r true) else record w { phase = Idle };
       }
   phase_action w (Filling k) =
       record {
-        word = place (other w.side) k;
+        word = place (other_side w.side) k;
         becomes = λ _. slice_index (sheet w.taken) k;
-        after = λ _. filled w k;
+        after = λ _. filled_writing w k;
       }
-  phase_action w Swapping = record { word = 0; becomes = λ _. other w.side; after = λ _. swapped w }
+  phase_action w Swapping = record { word = 0; becomes = λ _. other_side w.side; after = λ _. swapped_writing w }
 
   abbrev pub writing_action : Writing → Action Writing
   writing_action w = phase_action w w.phase

@@ -12,7 +12,7 @@ use Rattle.two_copy_steps.specs.declared.views.Stage.{Stage}
 use Rattle.two_copy_steps.specs.declared.views.Phase.{Phase}
 use Rattle.two_copy_steps.specs.declared.views.Phase.TheVariants.{Filling}
 use Rattle.two_copy_steps.specs.declared.views.Stage.TheVariants.{AtRest, Arrived, Reading, Leaving}
-use Rattle.two_copy_steps.specs.Actions.{recorded, cuts_past, stage_action, other}
+use Rattle.two_copy_steps.specs.Actions.{readings_after, cuts_past, stage_action, other_side}
 use Rattle.two_copy_steps.specs.Lawful.{State, Lawful}
 use Rattle.council_core.specs.Sequential.{AreLegalRecords}
 use Rattle.two_copy_steps.specs.Transitions.{MachineState, transition, is_idle}
@@ -35,7 +35,7 @@ auxiliary_reader_step m a r (Some stage) =
     let d = stage_action r stage in
     record a {
       records = slice_set a.records r
-          (recorded stage (d.after (slice_index m.words d.word)) (record_at a.records r));
+          (readings_after stage (d.after (slice_index m.words d.word)) (record_at a.records r));
     }
 
 -- the cuts and the records after an event; `m` is the machine before the event
@@ -52,16 +52,16 @@ auxiliary_steps m a [] = a
 auxiliary_steps m a (event ∷ events) = auxiliary_steps (transition m event).0 (auxiliary_step m a event) events
 
 -- each stage with its record
-abbrev pub viewed : List Stage → List (List (List ℕ)) → List ReaderView
-viewed [] records = []
-viewed (stage ∷ stages) [] = record { stage = stage; readings = [] } ∷ viewed stages []
-viewed (stage ∷ stages) (readings ∷ records) =
-    record { stage = stage; readings = readings } ∷ viewed stages records
+abbrev pub reader_views : List Stage → List (List (List ℕ)) → List ReaderView
+reader_views [] records = []
+reader_views (stage ∷ stages) [] = record { stage = stage; readings = [] } ∷ reader_views stages []
+reader_views (stage ∷ stages) (readings ∷ records) =
+    record { stage = stage; readings = readings } ∷ reader_views stages records
 
 -- the words and all views
 abbrev pub state_of : MachineState → Auxiliary → State
 state_of m a = record
-    { words = m.words; writer = record { state = m.writer; cuts = a.cuts }; readers = viewed m.readers a.records }
+    { words = m.words; writer = record { state = m.writer; cuts = a.cuts }; readers = reader_views m.readers a.records }
 
 -- the invariant of the machine: words and views meet their invariant, and the journal extends the
 -- list last staged, and equals it while a publication is in progress
@@ -85,7 +85,7 @@ side_held (Leaving side words) = Some side
 
 -- the side of the copy into which the writer's next step stores a word, or None
 abbrev pub side_filled : ℕ → Phase → Option ℕ
-side_filled side (Filling k) = Some (other side)
+side_filled side (Filling k) = Some (other_side side)
 side_filled side phase = None
 
 -- no reader holds the copy into which the writer's next step stores a word

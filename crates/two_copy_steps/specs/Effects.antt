@@ -106,30 +106,30 @@ sequential_step t m event =
 
 -- an output that answers a call is the sequential register's reply: to the call that the event
 -- represents, or, for a reading, at that reader's last load of side since it arrived
-abbrev pub Tells : List Reply → (ℕ → Option Reply) → Note → Type 0
-Tells replies replied (Accepted count) = replies ≡ accepted count ∷ []
-Tells replies replied (Refused refusal) = replies ≡ refused refusal ∷ []
-Tells replies replied (Published front) = replies ≡ published front ∷ []
-Tells replies replied (Read number words) = replied number ≡ Some (reading words)
-Tells replies replied Began = replies ≡ []
-Tells replies replied Moved = Unit {0}
-Tells replies replied (Busy number) = replies ≡ []
-Tells replies replied Skipped = replies ≡ []
+abbrev pub OutputIsReply : List Reply → (ℕ → Option Reply) → Note → Type 0
+OutputIsReply replies replied (Accepted count) = replies ≡ accepted count ∷ []
+OutputIsReply replies replied (Refused refusal) = replies ≡ refused refusal ∷ []
+OutputIsReply replies replied (Published front) = replies ≡ published front ∷ []
+OutputIsReply replies replied (Read number words) = replied number ≡ Some (reading words)
+OutputIsReply replies replied Began = replies ≡ []
+OutputIsReply replies replied Moved = Unit {0}
+OutputIsReply replies replied (Busy number) = replies ≡ []
+OutputIsReply replies replied Skipped = replies ≡ []
 
 -- side is stored only after a publication has begun
 abbrev pub SwapsOnce : Bool → Event → Phase → Type 0
 SwapsOnce begun Writer Swapping = begun ≡ true
 SwapsOnce begun event phase = Unit {0}
 
-abbrev pub Answers : SequentialRun → MachineState → Event → Type 0
-Answers t m event = Tells (replies_of t.register (effect m event)) t.replied (transition m event).1
+abbrev pub AnswersEvent : SequentialRun → MachineState → Event → Type 0
+AnswersEvent t m event = OutputIsReply (replies_of t.register (effect m event)) t.replied (transition m event).1
     × SwapsOnce t.begun event m.writer.phase
 
 -- each event of a list meets this
 abbrev pub AllAnswer : SequentialRun → MachineState → List Event → Type 0
 AllAnswer t m [] = Unit {0}
 AllAnswer t m (event ∷ events) =
-    Answers t m event × AllAnswer (sequential_step t m event) (transition m event).0 events
+    AnswersEvent t m event × AllAnswer (sequential_step t m event) (transition m event).0 events
 
 -- the run alongside the machine after a list of events
 abbrev pub sequential_steps : SequentialRun → MachineState → List Event → SequentialRun

@@ -14,7 +14,7 @@ use Rattle.two_copy_steps.specs.declared.views.Stage.TheVariants.{AtRest, Arrive
 use Rattle.two_copy_steps.specs.declared.views.Phase.{Phase}
 use Rattle.two_copy_steps.specs.declared.views.Phase.TheVariants.{Idle, Seeing, Filling, Swapping}
 use Rattle.two_copy_steps.specs.declared.table.TheConstants.{COPY_WORDS}
-use Rattle.two_copy_steps.specs.Actions.{all_true, other, place, pin, reader_action, writer_action, begun}
+use Rattle.two_copy_steps.specs.Actions.{all_true, other_side, place, pin, reader_action, writer_action, writing_of_staged}
 
 pub record State : Type 0 where
   pub words : List ℕ
@@ -42,7 +42,7 @@ written_by opening s =
 
 -- the state after the writer begins to publish these commands; no word changes
 abbrev pub begun_by : State → List Command → State
-begun_by s commands = record s { writer = record s.writer { state = begun commands s.writer.state } }
+begun_by s commands = record s { writer = record s.writer { state = writing_of_staged commands s.writer.state } }
 
 -- the pin at each stage: 0 for a reader at rest, otherwise 1
 abbrev pub pin_of : Stage → ℕ
@@ -61,12 +61,12 @@ abbrev pub ShowsFirst : ℕ → List ℕ → ℕ → List ℕ → Type 0
 ShowsFirst k words side numbers = (i : ℕ) → i < k → slice_index words (place side i) ≡ slice_index numbers i
 
 -- all words of that copy are those of `numbers`
-abbrev pub Shows : List ℕ → ℕ → List ℕ → Type 0
-Shows words side numbers = ShowsFirst COPY_WORDS words side numbers
+abbrev pub ShowsSheet : List ℕ → ℕ → List ℕ → Type 0
+ShowsSheet words side numbers = ShowsFirst COPY_WORDS words side numbers
 
 -- the loaded words are the first words of the copy that a side names
-abbrev pub IsReadFrom : List ℕ → ℕ → List ℕ → Type 0
-IsReadFrom words side loaded =
+abbrev pub IsLoadedFrom : List ℕ → ℕ → List ℕ → Type 0
+IsLoadedFrom words side loaded =
     (i : ℕ) → i < length loaded → slice_index loaded i ≡ slice_index words (place side i)
 
 -- a legal list whose sheet is in range
@@ -82,7 +82,7 @@ module _ (opening : Opening) (Legal : List Command → Type 0) where
     pub two : side < 2
     pub cut : ℕ
     pub is_cut : Contains v.cuts cut
-    pub shows : Shows words side (sheet opening (take cut v.state.published))
+    pub shows : ShowsSheet words side (sheet opening (take cut v.state.published))
     pub above : last_front 0 readings ≤ cut
     pub late : side ≢ v.state.side → slice_get v.state.seen_out r ≡ Some false
 
@@ -90,9 +90,9 @@ module _ (opening : Opening) (Legal : List Command → Type 0) where
   Stands words v readings r AtRest = Unit {0}
   Stands words v readings r Arrived = Unit {0}
   Stands words v readings r (Reading side loaded) = HoldsCopy words v readings r side × (length loaded < COPY_WORDS)
-      × IsReadFrom words side loaded
+      × IsLoadedFrom words side loaded
   Stands words v readings r (Leaving side loaded) =
-      HoldsCopy words v readings r side × (length loaded ≡ COPY_WORDS) × IsReadFrom words side loaded
+      HoldsCopy words v readings r side × (length loaded ≡ COPY_WORDS) × IsLoadedFrom words side loaded
       × ((earlier : List (List ℕ)) × (readings ≡ earlier ++ loaded ∷ []))
 
   pub record ReaderOk (words : List ℕ) (v : WriterView) (r : ℕ) (reader : ReaderView) : Type 0 where
@@ -104,7 +104,7 @@ module _ (opening : Opening) (Legal : List Command → Type 0) where
   -- the sheet of the staged commands
   abbrev pub Stored : List ℕ → Writing → ℕ → Type 0
   Stored words w k =
-      (all_true w.seen_out ≡ true) × ShowsFirst k words (other w.side) (sheet opening w.taken)
+      (all_true w.seen_out ≡ true) × ShowsFirst k words (other_side w.side) (sheet opening w.taken)
 
   abbrev pub Fills : List ℕ → Writing → Phase → Type 0
   Fills words w Idle = Unit {0}
@@ -118,7 +118,7 @@ module _ (opening : Opening) (Legal : List Command → Type 0) where
     pub flags : length v.state.seen_out ≡ readers
     pub legal : Legal v.state.taken
     pub begins : (rest : List Command) × (v.state.published ++ rest ≡ v.state.taken)
-    pub shown : Shows words v.state.side (sheet opening v.state.published)
+    pub shown : ShowsSheet words v.state.side (sheet opening v.state.published)
     pub last_cut : (earlier : List ℕ) × (v.cuts ≡ earlier ++ length v.state.published ∷ [])
     pub cuts : (cut : ℕ) → Contains v.cuts cut
         → (cut ≤ length v.state.published) × Legal (take cut v.state.published)

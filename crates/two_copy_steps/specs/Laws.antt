@@ -15,7 +15,7 @@ use Rattle.two_copy_steps.specs.declared.views.Phase.TheVariants.{Filling}
 use Rattle.two_copy_steps.specs.declared.views.ReaderView.{ReaderView}
 use Rattle.two_copy_steps.specs.Lawful.{State, IsPublishable, read_by, written_by, begun_by}
 use Rattle.two_copy_steps.specs.States.{LawfulFor, HasRecords, IsApart, IsKnown}
-use Rattle.two_copy_steps.specs.Transitions.{MachineState, transition, started, after, notes}
+use Rattle.two_copy_steps.specs.Transitions.{MachineState, transition, machine_at_start, state_after_events, notes}
 use Rattle.two_copy_steps.specs.Auxiliary.{Auxiliary, auxiliary_start, auxiliary_step, record_at, state_of, IsLawful}
 use Rattle.two_copy_steps.specs.Auxiliary.{HasLegalRecords}
 use Rattle.two_copy_steps.specs.Auxiliary.{NoneUnder}
@@ -30,7 +30,7 @@ use Rattle.two_copy_steps.specs.Runs.{machine_after, auxiliary_after, TellsRepli
 -- the start over a legal journal whose sheet is in range meets the invariant
 abbrev pub StartLaw : Type 0
 StartLaw = (ledger : Ledger) (readers : ℕ) → IsPublishable ledger.opening ledger.journal
-    → IsLawful IsPublishable (started ledger readers) (auxiliary_start ledger readers)
+    → IsLawful IsPublishable (machine_at_start ledger readers) (auxiliary_start ledger readers)
 
 -- a reader's step keeps the invariant of words and views
 abbrev pub ReaderLaw : Type 0
@@ -108,8 +108,8 @@ AtOnceLaw = (m : MachineState) → all_true m.writer.seen_out ≡ true → (tran
     → (transition m Publish).0.writer.phase ≡ Filling 0
 
 -- each step advances a reader by one of the steps of a reading
-abbrev pub CountLaw : Type 0
-CountLaw =
+abbrev pub StepCountLaw : Type 0
+StepCountLaw =
     (r found : ℕ) (stage : Stage) → IsReadable stage
     → (steps_taken stage ≤ last_step)
     × (steps_taken ((stage_action r stage).after found)
@@ -170,16 +170,16 @@ RepliesLaw = (ledger : Ledger) (readers : ℕ) → IsLedger ledger → (events :
 
 -- over every list of events each reader's record is the sheets in its outputs, followed by the
 -- words of the reading that it is about to leave
-abbrev pub ToldLaw : Type 0
-ToldLaw =
+abbrev pub OutputsLaw : Type 0
+OutputsLaw =
     (ledger : Ledger) (readers : ℕ) → (events : List Event)
     → RecordsAreTold (machine_after ledger readers events) (auxiliary_after ledger readers events)
-    (notes (started ledger readers) events)
+    (notes (machine_at_start ledger readers) events)
 
 -- over every list of events no output of a reader has an older sheet than one before it
 abbrev pub NeverOlderLaw : Type 0
 NeverOlderLaw = (ledger : Ledger) (readers : ℕ) → IsLedger ledger → (events : List Event)
-    → FrontsNeverFall (notes (started ledger readers) events)
+    → FrontsNeverFall (notes (machine_at_start ledger readers) events)
 
 -- a reader that is at rest after some events later reads nothing older than what was published by
 -- then
@@ -202,9 +202,9 @@ EffectsLaw =
 -- second from the machine with which the first ended
 abbrev pub NotesLaw : Type 0
 NotesLaw = (m : MachineState) (events more : List Event)
-    → notes m (events ++ more) ≡ notes m events ++ notes (after m events) more
+    → notes m (events ++ more) ≡ notes m events ++ notes (state_after_events m events) more
 
 -- the machine after both lists is the machine after the second, from the machine with which the
 -- first ended
 abbrev pub AfterLaw : Type 0
-AfterLaw = (m : MachineState) (events more : List Event) → after m (events ++ more) ≡ after (after m events) more
+AfterLaw = (m : MachineState) (events more : List Event) → state_after_events m (events ++ more) ≡ state_after_events (state_after_events m events) more

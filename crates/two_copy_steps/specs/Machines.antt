@@ -36,7 +36,7 @@ pub record IsMachine (ledger : Ledger) (words : List ℕ) (side published : ℕ)
   pub published_within : published ≤ length ledger.journal
   pub taken_within : front_of taken ≤ length ledger.journal
   pub sheet_is : taken ≡ sheet ledger.opening (take (front_of taken) ledger.journal)
-  pub few : length readers ≤ READERS
+  pub bound : length readers ≤ READERS
   pub lawful : (a : Auxiliary)
       × IsLawful IsPublishable (seen_as ledger words side published taken phase seen_out readers) a
 

@@ -5,7 +5,7 @@ use Rattle.council_core.specs.declared.refusals.Refusal.{Refusal}
 use Rattle.council_core.specs.declared.refusals.Refusal.TheVariants.{OutOfMemory, BadLimit}
 use Rattle.two_copy_steps.specs.declared.events.Event.{Event}
 use Rattle.two_copy_steps.specs.declared.events.Note.{Note}
-use Rattle.two_copy_steps.specs.Transitions.{MachineState, started, after}
+use Rattle.two_copy_steps.specs.Transitions.{MachineState, machine_at_start, state_after_events}
 use Rattle.two_copy_steps.specs.Records.{RecordsAreTold}
 use Rattle.two_copy_steps.specs.Auxiliary.{Auxiliary, auxiliary_start, auxiliary_steps, HasLegalRecords, NoneUnder}
 use Rattle.two_copy_steps.specs.Effects.{sequential_start, AllAnswer}
@@ -14,15 +14,15 @@ use Rattle.two_copy_steps.specs.Machines.{IsFew, WantsMemory}
 -- the machine after a list of events, from the start over a register with `readers` readers;
 -- `auxiliary_after` has the cuts and records
 abbrev pub machine_after : Ledger → ℕ → List Event → MachineState
-machine_after ledger readers events = after (started ledger readers) events
+machine_after ledger readers events = state_after_events (machine_at_start ledger readers) events
 
 abbrev pub auxiliary_after : Ledger → ℕ → List Event → Auxiliary
-auxiliary_after ledger readers events = auxiliary_steps (started ledger readers) (auxiliary_start ledger readers) events
+auxiliary_after ledger readers events = auxiliary_steps (machine_at_start ledger readers) (auxiliary_start ledger readers) events
 
 -- every output that answers a call equals the sequential register's reply at the call's
 -- linearization point
 abbrev pub TellsReplies : Ledger → ℕ → List Event → Type 0
-TellsReplies ledger readers events = AllAnswer (sequential_start ledger) (started ledger readers) events
+TellsReplies ledger readers events = AllAnswer (sequential_start ledger) (machine_at_start ledger readers) events
 
 -- the records are legal before the first event and after every event
 abbrev pub KeepsRecordsLegal : Ledger → ℕ → List Event → Type 0
@@ -43,17 +43,17 @@ KeepsRecordsTold ledger readers events told =
 -- the event at this index can need memory, in a run from this machine
 abbrev pub WantsMemoryFrom : MachineState → List Event → ℕ → Type 0
 WantsMemoryFrom m events place =
-    (event : Event) × (slice_get events place ≡ Some event) × WantsMemory (after m (take place events)) event
+    (event : Event) × (slice_get events place ≡ Some event) × WantsMemory (state_after_events m (take place events)) event
 
 -- memory for the outputs ran out before any event, or the next event can need memory
-abbrev pub LacksMemory : Ledger → ℕ → List Event → ℕ → Type 0
-LacksMemory ledger readers events done = (done ≡ 0) ⊎ WantsMemoryFrom (started ledger readers) events done
+abbrev pub RunsOutOfMemory : Ledger → ℕ → List Event → ℕ → Type 0
+RunsOutOfMemory ledger readers events done = (done ≡ 0) ⊎ WantsMemoryFrom (machine_at_start ledger readers) events done
 
 -- the number of readers is refused before any event; otherwise memory ran out
 abbrev pub HasCause : Ledger → ℕ → List Event → ℕ → Refusal → Type 0
 HasCause ledger readers events done why =
     ((IsFew readers → ⊥) × (why ≡ BadLimit) × (done ≡ 0))
-    ⊎ (IsFew readers × (why ≡ OutOfMemory) × LacksMemory ledger readers events done)
+    ⊎ (IsFew readers × (why ≡ OutOfMemory) × RunsOutOfMemory ledger readers events done)
 
 -- the register is as the first `done` events left it, and there is a cause
 pub record IsFault (ledger : Ledger) (readers : ℕ) (events : List Event) (register : Ledger) (done : ℕ)

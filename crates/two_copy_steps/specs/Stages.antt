@@ -8,7 +8,7 @@ use Rattle.two_copy_steps.specs.declared.stages.Access.TheVariants.{Load, Store}
 use Rattle.two_copy_steps.specs.declared.stages.ReaderPc.{ReaderPc}
 use Rattle.two_copy_steps.specs.declared.stages.ReaderPc.TheVariants as pc
 use Rattle.two_copy_steps.specs.declared.table.TheConstants.{COPY_WORDS}
-use Rattle.two_copy_steps.specs.Actions.{loaded}
+use Rattle.two_copy_steps.specs.Actions.{stage_with_words}
 
 -- the number of steps of a reading before the load of its copy's last word: its pin, side, and all
 -- words except one
@@ -62,12 +62,12 @@ stage_of pc.Leaving side words = Leaving side words
 -- the program counter after word k is loaded
 abbrev pub IsPcPast : ℕ → ReaderPc → Type 0
 IsPcPast k pc = (side : ℕ) (words : List ℕ) → length words ≡ COPY_WORDS
-    → stage_of pc side words ≡ loaded side (take (k + 1) words)
+    → stage_of pc side words ≡ stage_with_words side (take (k + 1) words)
 
 -- the index of the word that is accessed
-abbrev pub accessed : Access → ℕ
-accessed (Load place) = place
-accessed (Store place word) = place
+abbrev pub accessed_place : Access → ℕ
+accessed_place (Load place) = place
+accessed_place (Store place word) = place
 
 -- the number that is left in the word, if `found` was in it
 abbrev pub left_by : Access → ℕ → ℕ

@@ -6,7 +6,7 @@ use Rattle.std.specs.Prelude.{Option, None, Some, Result, Ok, Err, ⊤}
 use Rattle.council_core.specs.declared.commands.Command.{Command}
 use Rattle.council_core.specs.declared.refusals.Refusal.{Refusal}
 use Rattle.council_core.specs.Rolls.{sheet}
-use Rattle.council_core.specs.Ledgers.{Ledger, verdict_of, appended, sheet_of}
+use Rattle.council_core.specs.Ledgers.{Ledger, verdict_of, ledger_with, sheet_of}
 use Rattle.two_copy_steps.specs.declared.events.Event.{Event}
 use Rattle.two_copy_steps.specs.declared.events.Event.TheVariants.{Submit, Publish, Writer, Reader}
 use Rattle.two_copy_steps.specs.declared.events.Note.{Note}
@@ -17,7 +17,7 @@ use Rattle.two_copy_steps.specs.declared.views.Stage.{Stage}
 use Rattle.two_copy_steps.specs.declared.views.Stage.TheVariants.{AtRest, Arrived, Reading, Leaving}
 use Rattle.two_copy_steps.specs.declared.views.Phase.{Phase}
 use Rattle.two_copy_steps.specs.declared.views.Phase.TheVariants.{Idle, Seeing, Filling, Swapping}
-use Rattle.two_copy_steps.specs.Actions.{first_false, pin, stage_action, writing_action, begun}
+use Rattle.two_copy_steps.specs.Actions.{first_false, pin, stage_action, writing_action, writing_of_staged}
 
 -- the register, the words (word 0 is side, then copy 0, copy 1 and a pin for each reader), the
 -- writer's state, and each reader's stage
@@ -34,8 +34,8 @@ is_idle (Filling k) = false
 is_idle Swapping = false
 
 -- both copies have the register's sheet, and all readers are quiescent and at rest
-abbrev pub started : Ledger → ℕ → MachineState
-started ledger readers =
+abbrev pub machine_at_start : Ledger → ℕ → MachineState
+machine_at_start ledger readers =
     record {
       ledger = ledger;
       words = 0 ∷ sheet_of ledger ++ sheet_of ledger ++ replicate readers 0;
@@ -50,16 +50,16 @@ started ledger readers =
     }
 
 -- a command is submitted to the register: the register after its verdict, and the output
-abbrev pub handed : Ledger → Command → Result ⊤ Refusal → Ledger × Note
-handed ledger command (Ok u) = (appended ledger command, Accepted (length ledger.journal + 1))
-handed ledger command (Err refusal) = (ledger, Refused refusal)
+abbrev pub ledger_and_note : Ledger → Command → Result ⊤ Refusal → Ledger × Note
+ledger_and_note ledger command (Ok u) = (ledger_with ledger command, Accepted (length ledger.journal + 1))
+ledger_and_note ledger command (Err refusal) = (ledger, Refused refusal)
 
-abbrev pub submitted : MachineState → Command → Result ⊤ Refusal → MachineState × Note
-submitted m command v = let after = handed m.ledger command v in (record m { ledger = after.0 }, after.1)
+abbrev pub machine_and_note : MachineState → Command → Result ⊤ Refusal → MachineState × Note
+machine_and_note m command v = let after = ledger_and_note m.ledger command v in (record m { ledger = state_after_events.0 }, state_after_events.1)
 
 -- a publication of the whole journal begins, if commands are pending
 abbrev pub published_by : MachineState → Bool → MachineState × Note
-published_by m true = (record m { writer = begun m.ledger.journal m.writer }, Began)
+published_by m true = (record m { writer = writing_of_staged m.ledger.journal m.writer }, Began)
 published_by m false = (m, Published (length m.writer.published))
 
 -- whether the register has accepted more commands than are published
@@ -75,8 +75,8 @@ phase_note m (Filling k) = Moved
 phase_note m Swapping = Published (length m.writer.taken)
 
 -- the machine after the writer takes its step
-abbrev pub written : MachineState → MachineState
-written m =
+abbrev pub after_writer_step : MachineState → MachineState
+after_writer_step m =
     let d = writing_action (sheet m.ledger.opening) m.writer in
     let found = slice_index m.words d.word in
     record m { words = slice_set m.words d.word (d.becomes found); writer = d.after found }
@@ -89,8 +89,8 @@ stage_note number (Reading side words) = Moved
 stage_note number (Leaving side words) = Read number words
 
 -- the machine after the reader at r takes its step
-abbrev pub read : MachineState → ℕ → Stage → MachineState
-read m r stage =
+abbrev pub after_reader_step : MachineState → ℕ → Stage → MachineState
+after_reader_step m r stage =
     let d = stage_action r stage in
     let found = slice_index m.words d.word in
     record m { words = slice_set m.words d.word (d.becomes found); readers = slice_set m.readers r (d.after found) }
@@ -98,21 +98,21 @@ read m r stage =
 -- the transition of the reader at r, if there is one
 abbrev pub reader_transition : MachineState → ℕ → Option Stage → MachineState × Note
 reader_transition m r None = (m, Skipped)
-reader_transition m r (Some stage) = (read m r stage, stage_note (suc r) stage)
+reader_transition m r (Some stage) = (after_reader_step m r stage, stage_note (suc r) stage)
 
 -- the transition at an event: the machine after it, and the output
 abbrev pub transition : MachineState → Event → MachineState × Note
 transition m (Submit command) =
-    if is_idle m.writer.phase then submitted m command (verdict_of m.ledger command) else (m, Skipped)
+    if is_idle m.writer.phase then machine_and_note m command (verdict_of m.ledger command) else (m, Skipped)
 transition m Publish = if is_idle m.writer.phase then published_by m (is_pending m) else (m, Skipped)
-transition m Writer = (written m, phase_note m m.writer.phase)
+transition m Writer = (after_writer_step m, phase_note m m.writer.phase)
 transition m (Reader zero) = (m, Skipped)
 transition m (Reader (suc r)) = reader_transition m r (slice_get m.readers r)
 
 -- the machine after a list of events
-abbrev pub after : MachineState → List Event → MachineState
-after m [] = m
-after m (event ∷ events) = after (transition m event).0 events
+abbrev pub state_after_events : MachineState → List Event → MachineState
+state_after_events m [] = m
+state_after_events m (event ∷ events) = state_after_events (transition m event).0 events
 
 -- the outputs of the events, in order
 abbrev pub notes : MachineState → List Event → List Note

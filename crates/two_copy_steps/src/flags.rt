@@ -27,7 +27,7 @@ impl Flags {
     // For each reader, whether it is quiescent.
     fn as_slice(&self) -> &[bool]
         ensures same { result.now ≡ self.now }
-        ensures few { length result.now ≤ READERS }
+        ensures bound { length result.now ≤ READERS }
     {
         &self.flags[..self.len]
     }
@@ -35,7 +35,7 @@ impl Flags {
     /// The number of readers, at most `READERS`.
     pub fn len(&self) -> usize
         ensures number { result ≡ length self.now }
-        ensures few { result ≤ READERS }
+        ensures bound { result ≤ READERS }
     {
         self.as_slice().len()
     }
@@ -97,7 +97,7 @@ impl Flags {
     /// Marks reader `r`, counted from 0, as quiescent.
     pub fn set(&mut self, r: usize)
         requires within { r < length self.old }
-        requires few { r < READERS }
+        requires bound { r < READERS }
         ensures { self.new ≡ slice_set self.old r true }
     {
         self.flags[r] = true;

@@ -3,9 +3,9 @@
 ghost use Rattle.two_copy_steps.specs.Laws.{StartLaw, ReaderLaw, WriterLaw, BeginLaw, StateRecordsLaw, StateUnderLaw};
 ghost use Rattle.two_copy_steps.specs.Laws.{StateKnownLaw, WriterTransitionLaw, ReaderTransitionLaw};
 ghost use Rattle.two_copy_steps.specs.Laws.{BeginTransitionLaw, IdleTransitionLaw};
-ghost use Rattle.two_copy_steps.specs.Laws.{SubmitTransitionLaw, BusyLaw, StayLaw, AtOnceLaw, CountLaw, GrowthLaw};
+ghost use Rattle.two_copy_steps.specs.Laws.{SubmitTransitionLaw, BusyLaw, StayLaw, AtOnceLaw, StepCountLaw, GrowthLaw};
 ghost use Rattle.two_copy_steps.specs.Laws.{EventLaw};
-ghost use Rattle.two_copy_steps.specs.Laws.{LedgerLaw, RangeLaw, RecordsLaw, UnderLaw, RepliesLaw, FreshLaw, ToldLaw};
+ghost use Rattle.two_copy_steps.specs.Laws.{LedgerLaw, RangeLaw, RecordsLaw, UnderLaw, RepliesLaw, FreshLaw, OutputsLaw};
 ghost use Rattle.two_copy_steps.specs.Laws.{NeverOlderLaw, EffectsLaw, NotesLaw, AfterLaw};
 
 /// The machine meets its invariant at its start.
@@ -51,7 +51,7 @@ pub fn publication_laws()
 /// A reader's stage has a number below that of the steps of a reading, each step advances it by
 /// one, and the record grows only at the load of the last word.
 pub fn reading_laws()
-    ensures count { CountLaw }
+    ensures count { StepCountLaw }
     ensures growth { GrowthLaw }
 {}
 
@@ -79,7 +79,7 @@ pub fn run_laws()
 /// the words of the reading that it is about to leave; and no output of a reader has an older sheet
 /// than one before it.
 pub fn record_laws()
-    ensures told { ToldLaw }
+    ensures told { OutputsLaw }
     ensures never_older { NeverOlderLaw }
 {}
 

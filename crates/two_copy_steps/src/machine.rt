@@ -6,7 +6,7 @@ ghost use Rattle.council_core.specs.declared.refusals.Refusal.TheVariants.{OutOf
 ghost use Rattle.two_copy_steps.specs.declared.events.Event.TheVariants.{Submit, Publish, Writer, Reader};
 ghost use Rattle.two_copy_steps.specs.declared.views.Phase.TheVariants.{Idle, Seeing, Filling, Swapping};
 ghost use Rattle.two_copy_steps.specs.Actions.{all_true};
-ghost use Rattle.two_copy_steps.specs.Transitions.{transition, handed, started, is_idle};
+ghost use Rattle.two_copy_steps.specs.Transitions.{transition, ledger_and_note, machine_at_start, is_idle};
 ghost use Rattle.two_copy_steps.specs.Machines.{IsFew, WantsMemory};
 ghost use Rattle.two_copy_steps.specs.Publications.{seen_out_at};
 
@@ -45,7 +45,7 @@ impl Model for Machine {
 // Submits a command to the register. The output says whether it was accepted.
 fn hand_over(register: &mut Register, command: Command) -> Result<Note, Refusal>
     ensures handed { IfOk result
-        (λ note. (register.new, note) ≡ handed register.old command (verdict_of register.old command)) }
+        (λ note. (register.new, note) ≡ ledger_and_note register.old command (verdict_of register.old command)) }
     ensures unchanged { OnErr result (register.new ≡ register.old) }
     ensures memory { IsOkUnless result OutOfMemory }
     ensures accepted { OnErr result (verdict_of register.old command ≡ Ok tt) }
@@ -67,7 +67,7 @@ impl Machine {
     /// register, unchanged.
     pub fn start(register: Register, readers: u8) -> Result<Machine, (Register, Refusal)>
         ensures in_range { IsOk result ↔ IsFew readers }
-        ensures started { IfOk result (λ m. m ≡ started register readers) }
+        ensures started { IfOk result (λ m. m ≡ machine_at_start register readers) }
         ensures ledger { IfOk result (λ m. IsLedger m.ledger) }
         ensures refused { IfErr result (λ e. (e.0 ≡ register) × (e.1 ≡ BadLimit)) }
     {

@@ -55,7 +55,7 @@ impl ReaderStages {
     // Takes one step of the reader at index `r`, and returns its output.
     pub(crate) fn advance(&mut self, table: &mut Table, r: usize) -> Note
         requires here { r < length self.old }
-        requires few { r < READERS }
+        requires bound { r < READERS }
         requires within { pin r < length table.old }
         requires readable { IsReadable (slice_index_or self.old r AtRest) }
         ensures words { let d = stage_action r (slice_index_or self.old r AtRest)
@@ -71,7 +71,7 @@ impl ReaderStages {
 // Takes one step of the reader at index `r`, which is at this stage, and returns its output.
 fn advance(table: &mut Table, r: usize, stage: &mut ReaderStage) -> Note
     requires within { pin r < length table.old }
-    requires few { r < READERS }
+    requires bound { r < READERS }
     requires readable { IsReadable stage.old }
     ensures words { let d = stage_action r stage.old
         in table.new ≡ slice_set table.old d.word (d.becomes (slice_index table.old d.word)) }

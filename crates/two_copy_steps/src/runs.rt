@@ -1,7 +1,7 @@
 //! Runs of a machine through a list of events.
 ghost use Rattle.std.specs.Prelude.{◌≡◌, ◌≤◌, [], length, take, vec_capacity, IfOk, IfErr, OnOk};
 ghost use Rattle.council_core.specs.declared.refusals.Refusal.TheVariants.{OutOfMemory};
-ghost use Rattle.two_copy_steps.specs.Transitions.{started, after, notes};
+ghost use Rattle.two_copy_steps.specs.Transitions.{machine_at_start, state_after_events, notes};
 ghost use Rattle.two_copy_steps.specs.Machines.{IsFew};
 ghost use Rattle.two_copy_steps.specs.Records.{FrontsNeverFall};
 ghost use Rattle.two_copy_steps.specs.declared.events.Event.{Event};
@@ -94,7 +94,7 @@ pub fn run(
     readers: u8,
     events: &[Event],
 ) -> Result<RunLog, RunFault>
-    ensures notes { IfOk result (λ log. log.notes ≡ notes (started register readers) events.now) }
+    ensures notes { IfOk result (λ log. log.notes ≡ notes (machine_at_start register readers) events.now) }
     ensures machine { IfOk result (λ log. log.machine ≡ machine_after register readers events.now) }
 
     // The guarantees for every list of events.
@@ -151,9 +151,9 @@ fn fault(machine: Machine, done: usize) -> RunFault
 fn take_all(machine: &mut Machine, told: &mut Vec<Note>, events: &[Event]) -> Result<(), usize>
     requires empty { told.old.items ≡ [] }
     requires room { length events.now ≤ vec_capacity told.old }
-    ensures machine { OnOk result (machine.new ≡ after machine.old events.now) }
+    ensures machine { OnOk result (machine.new ≡ state_after_events machine.old events.now) }
     ensures notes { OnOk result (told.new.items ≡ notes machine.old events.now) }
-    ensures left { IfErr result (λ done. machine.new ≡ after machine.old (take done events.now)) }
+    ensures left { IfErr result (λ done. machine.new ≡ state_after_events machine.old (take done events.now)) }
     ensures within { IfErr result (λ done. done ≤ length events.now) }
     ensures wanted { IfErr result (λ done. WantsMemoryFrom machine.old events.now done) }
 {

@@ -2,7 +2,7 @@
 ghost use Rattle.std.specs.Prelude.{◌≡◌, ◌↔◌, ℕ, ◌<◌, ◌≤◌, IsTrue};
 ghost use Rattle.two_copy_steps.specs.declared.views.Stage.TheVariants.{AtRest};
 ghost use Rattle.two_copy_steps.specs.Actions.{pin, stage_action};
-ghost use Rattle.two_copy_steps.specs.Stages.{IsReadable, IsPcPast, accessed, left_by, sheet_read};
+ghost use Rattle.two_copy_steps.specs.Stages.{IsReadable, IsPcPast, accessed_place, left_by, sheet_read};
 
 use crate::table::{COPY_WORDS, READERS, SIDE, pin, place};
 use council_core::Sheet;
@@ -73,10 +73,10 @@ impl ReaderStage {
 
     /// The access of the next step of reader `r`, counted from 0, to its word.
     pub fn access(&self, r: usize) -> Access
-        requires few { r < READERS }
+        requires bound { r < READERS }
         requires readable { IsReadable self.now }
-        ensures word { accessed result ≡ (stage_action r self.now).word }
-        ensures low { accessed result ≤ pin r }
+        ensures word { accessed_place result ≡ (stage_action r self.now).word }
+        ensures low { accessed_place result ≤ pin r }
         ensures becomes { (n : ℕ) → left_by result n ≡ (stage_action r self.now).becomes n }
         ensures after { (n : ℕ)
             → (stage_action r self.now).after (left_by result n)

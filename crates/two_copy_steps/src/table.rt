@@ -8,7 +8,7 @@ ghost use Rattle.std.specs.Prelude.{◌≡◌, ℕ, List, ◌<◌, ◌≤◌, �
 ghost use Rattle.std.specs.Prelude.{take, slice_index, slice_set};
 ghost use Rattle.two_copy_steps.specs.declared.table.TheConstants.{WORDS};
 ghost use Rattle.two_copy_steps.specs.Actions.{pin, place};
-ghost use Rattle.two_copy_steps.specs.Stages.{accessed, left_by};
+ghost use Rattle.two_copy_steps.specs.Stages.{accessed_place, left_by};
 
 use crate::stages::Access;
 use council_core::SHEET_WORDS;
@@ -54,7 +54,7 @@ impl Table {
     /// The table with side 0, this sheet in both copies, and all pins at 0, for at most `READERS`
     /// readers.
     pub fn start(sheet: &[u64; COPY_WORDS], readers: u8) -> Table
-        requires few { readers ≤ READERS }
+        requires bound { readers ≤ READERS }
         ensures words { result ≡ 0 ∷ sheet.now ++ sheet.now ++ replicate readers 0 }
     {
         let mut all = [0; WORDS];
@@ -77,11 +77,11 @@ impl Table {
 
     // Carries out a step's access to its word, and returns the number that is then in it.
     pub(crate) fn touch(&mut self, access: Access) -> u64
-        requires within { accessed access < length self.old }
-        requires low { accessed access < WORDS }
+        requires within { accessed_place access < length self.old }
+        requires low { accessed_place access < WORDS }
         ensures words { self.new
-            ≡ slice_set self.old (accessed access) (left_by access (slice_index self.old (accessed access))) }
-        ensures found { result ≡ left_by access (slice_index self.old (accessed access)) }
+            ≡ slice_set self.old (accessed_place access) (left_by access (slice_index self.old (accessed_place access))) }
+        ensures found { result ≡ left_by access (slice_index self.old (accessed_place access)) }
     {
         match access {
             Access::Load(place) => self.load(place),
@@ -122,7 +122,7 @@ pub fn place(side: u64, k: usize) -> usize
 
 /// The index of the pin of reader `r`, counted from 0 and below `READERS`.
 pub fn pin(r: usize) -> usize
-    requires few { r < READERS }
+    requires bound { r < READERS }
     ensures same { result ≡ pin r }
     ensures low { result < WORDS }
 {

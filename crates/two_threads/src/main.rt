@@ -7,7 +7,7 @@ mod sessions;
 mod work;
 
 use council_core::{ChairId, Command, MemberCode, Refusal, Votes};
-use faults::Fault;
+use faults::SessionFault;
 use power_index::Indices;
 use sessions::{Session, hold};
 use std::alloc::Global;
@@ -68,7 +68,7 @@ fn tell_indices(rt: &(impl Print + Alloc), indices: &Indices) -> io::Result<()> 
 }
 
 // Holds a session and returns its result, or the error that ended it early.
-fn held<R: Threads + Wait + Sync>(rt: &R, alloc: Global) -> Result<Session, Fault> {
+fn held<R: Threads + Wait + Sync>(rt: &R, alloc: Global) -> Result<Session, SessionFault> {
     let members = members()?;
     let commands = commands(&members)?;
     hold(rt, alloc, &members, &commands)

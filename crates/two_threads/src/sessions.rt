@@ -2,8 +2,10 @@
 ghost use Rattle.std.specs.Prelude.{◌≡◌, ◌∷◌, [], length, IfOk};
 ghost use Rattle.two_threads.specs.Sessions.{IsNew, IsRecord, IsSession};
 
-use crate::faults::Fault;
-use crate::work::{Answer, Asked, Written, ask_often, ask_once, read_often, write_all};
+use crate::faults::SessionFault;
+use crate::work::{
+    AskedReader, SessionAnswer, WrittenSession, ask_often, ask_once, read_often, write_all,
+};
 use board_share::{Analyst, Reader, Writer, audit, start};
 use council_core::{Command, MAX_COMMANDS, MemberCode, Register, Sheet, Votes};
 use std::alloc::Global;
@@ -17,7 +19,7 @@ pub(crate) struct Session {
     pub(crate) journal: Vec<Command>,
     pub(crate) cuts: Vec<u32>,
     pub(crate) readings: Vec<Vec<Sheet>>,
-    pub(crate) answer: Answer,
+    pub(crate) answer: SessionAnswer,
 }
 
 // The writer, the readers and the analyst of a board.
@@ -34,7 +36,7 @@ struct Seats {
 struct Brought {
     first: Vec<Sheet>,
     second: Vec<Sheet>,
-    asked: Asked,
+    asked: AskedReader,
 }
 
 // The readers of a board of three.
@@ -55,7 +57,7 @@ fn three(mut readers: Vec<Reader>) -> (Reader, Reader, Reader)
 }
 
 // A board over these members: a writer, two readers and an analyst, none of which has read.
-fn seat(alloc: Global, members: &[(MemberCode, Votes)]) -> Result<Seats, Fault>
+fn seat(alloc: Global, members: &[(MemberCode, Votes)]) -> Result<Seats, SessionFault>
     ensures writer { IfOk result (λ s. s.writer.ledger.journal ≡ []) }
     ensures new { IfOk result (λ s. IsNew s.first × IsNew s.second × IsNew s.analyst.reader) }
     ensures first { IfOk result (λ s. s.first.opening ≡ members.now) }
@@ -65,7 +67,7 @@ fn seat(alloc: Global, members: &[(MemberCode, Votes)]) -> Result<Seats, Fault>
     let register = Register::start(alloc, members, MAX_COMMANDS)?;
     let (writer, readers) = match start(alloc, register, 3) {
         Ok(board) => board,
-        Err((_, why)) => return Err(Fault::Refused(why)),
+        Err((_, why)) => return Err(SessionFault::Refused(why)),
     };
     let (first, second, third) = three(readers);
     match Analyst::new(alloc, third) {
@@ -75,7 +77,7 @@ fn seat(alloc: Global, members: &[(MemberCode, Votes)]) -> Result<Seats, Fault>
             second,
             analyst,
         }),
-        Err((_, why)) => Err(Fault::Refused(why)),
+        Err((_, why)) => Err(SessionFault::Refused(why)),
     }
 }
 
@@ -85,17 +87,17 @@ fn ask_beside<R: Threads + Sync>(
     alloc: Global,
     second: Reader,
     analyst: Analyst,
-) -> Result<(Vec<Sheet>, Asked), Fault>
+) -> Result<(Vec<Sheet>, AskedReader), SessionFault>
     requires new { IsNew second × IsNew analyst.reader }
     ensures second { IfOk result (λ r. IsRecord second.opening r.0.items) }
     ensures asked { IfOk result (λ r. IsRecord analyst.reader.opening r.1.sheets.items) }
     ensures opening { IfOk result (λ r. r.1.analyst.reader.opening ≡ analyst.reader.opening) }
 {
-    let read = move || -> Result<Vec<Sheet>, Fault>
+    let read = move || -> Result<Vec<Sheet>, SessionFault>
         requires { IsNew second }
         ensures { IfOk result (λ sheets. IsRecord second.opening sheets.items) }
     { read_often(alloc, second) };
-    let ask = move || -> Result<Asked, Fault>
+    let ask = move || -> Result<AskedReader, SessionFault>
         requires { IsNew analyst.reader }
         ensures opening { IfOk result (λ a. a.analyst.reader.opening ≡ analyst.reader.opening) }
         ensures record { IfOk result (λ a. IsRecord analyst.reader.opening a.sheets.items) }
@@ -111,18 +113,18 @@ fn read_beside<R: Threads + Sync>(
     first: Reader,
     second: Reader,
     analyst: Analyst,
-) -> Result<Brought, Fault>
+) -> Result<Brought, SessionFault>
     requires new { IsNew first × IsNew second × IsNew analyst.reader }
     ensures first { IfOk result (λ b. IsRecord first.opening b.first.items) }
     ensures second { IfOk result (λ b. IsRecord second.opening b.second.items) }
     ensures asked { IfOk result (λ b. IsRecord analyst.reader.opening b.asked.sheets.items) }
     ensures opening { IfOk result (λ b. b.asked.analyst.reader.opening ≡ analyst.reader.opening) }
 {
-    let read = move || -> Result<Vec<Sheet>, Fault>
+    let read = move || -> Result<Vec<Sheet>, SessionFault>
         requires { IsNew first }
         ensures { IfOk result (λ sheets. IsRecord first.opening sheets.items) }
     { read_often(alloc, first) };
-    let others = move || -> Result<(Vec<Sheet>, Asked), Fault>
+    let others = move || -> Result<(Vec<Sheet>, AskedReader), SessionFault>
         requires { IsNew second × IsNew analyst.reader }
         ensures second { IfOk result (λ r. IsRecord second.opening r.0.items) }
         ensures asked { IfOk result (λ r. IsRecord analyst.reader.opening r.1.sheets.items) }
@@ -143,7 +145,7 @@ fn run_all<R: Threads + Wait + Sync>(
     alloc: Global,
     seats: Seats,
     commands: &[Command],
-) -> Result<(Written, Brought), Fault>
+) -> Result<(WrittenSession, Brought), SessionFault>
     requires writer { seats.writer.ledger.journal ≡ [] }
     requires new { IsNew seats.first × IsNew seats.second × IsNew seats.analyst.reader }
     ensures journal { IfOk result (λ r. r.0.journal.items ≡ commands.now) }
@@ -158,11 +160,11 @@ fn run_all<R: Threads + Wait + Sync>(
         second,
         analyst,
     } = seats;
-    let write = move || -> Result<Written, Fault>
+    let write = move || -> Result<WrittenSession, SessionFault>
         requires { writer.ledger.journal ≡ [] }
         ensures { IfOk result (λ w. w.journal.items ≡ commands.entry.now) }
     { write_all(rt, alloc, writer, commands) };
-    let read = move || -> Result<Brought, Fault>
+    let read = move || -> Result<Brought, SessionFault>
         requires { IsNew first × IsNew second × IsNew analyst.reader }
         ensures first { IfOk result (λ b. IsRecord first.opening b.first.items) }
         ensures second { IfOk result (λ b. IsRecord second.opening b.second.items) }
@@ -187,19 +189,19 @@ pub(crate) fn hold<R: Threads + Wait + Sync>(
     alloc: Global,
     members: &[(MemberCode, Votes)],
     commands: &[Command],
-) -> Result<Session, Fault>
+) -> Result<Session, SessionFault>
     ensures session { IfOk result (λ s. IsSession members.now s) }
     ensures journal { IfOk result (λ s. s.journal.items ≡ commands.now) }
 {
     let seats = seat(alloc, members)?;
     let (written, brought) = run_all(rt, alloc, seats, commands)?;
-    let Written { journal, cuts } = written;
+    let WrittenSession { journal, cuts } = written;
     let Brought {
         first,
         second,
         asked,
     } = brought;
-    let Asked {
+    let AskedReader {
         mut analyst,
         sheets,
     } = asked;

@@ -5,7 +5,7 @@ ghost use Rattle.power_index.specs.Indices.{AreIndices};
 ghost use Rattle.board_share.specs.Readers.{IsLegalSheet};
 ghost use Rattle.two_threads.specs.Sessions.{IsNew, IsRecord};
 
-use crate::faults::Fault;
+use crate::faults::SessionFault;
 use board_share::{Analyst, Reader, Writer};
 use council_core::{Command, Sheet};
 use majority_rule::Majority;
@@ -19,21 +19,21 @@ pub(crate) const READINGS: u32 = 100;
 // The result of the writer's thread: the accepted commands, and the number returned by each
 // publication.
 #[derive(Drop)]
-pub(crate) struct Written {
+pub(crate) struct WrittenSession {
     pub(crate) journal: Vec<Command>,
     pub(crate) cuts: Vec<u32>,
 }
 
 // The result of the analyst's thread: the analyst, and the sheets that it read.
 #[derive(Drop)]
-pub(crate) struct Asked {
+pub(crate) struct AskedReader {
     pub(crate) analyst: Analyst,
     pub(crate) sheets: Vec<Sheet>,
 }
 
 // A sheet and its indices.
 #[derive(Drop)]
-pub(crate) struct Answer {
+pub(crate) struct SessionAnswer {
     pub(crate) sheet: Sheet,
     pub(crate) indices: Indices,
 }
@@ -44,7 +44,7 @@ pub(crate) fn write_all<R: Wait>(
     alloc: Global,
     mut writer: Writer,
     commands: &[Command],
-) -> Result<Written, Fault>
+) -> Result<WrittenSession, SessionFault>
     requires new { writer.ledger.journal ≡ [] }
     ensures journal { IfOk result (λ w. w.journal.items ≡ commands.now) }
 {
@@ -55,12 +55,12 @@ pub(crate) fn write_all<R: Wait>(
     }
     let mut journal = Vec::new(alloc);
     journal.extend_from_slice(writer.journal())?;
-    Ok(Written { journal, cuts })
+    Ok(WrittenSession { journal, cuts })
 }
 
 // Reads `READINGS` times. The sheets are the record of a legal register, and their fronts never
 // decrease.
-pub(crate) fn read_often(alloc: Global, mut reader: Reader) -> Result<Vec<Sheet>, Fault>
+pub(crate) fn read_often(alloc: Global, mut reader: Reader) -> Result<Vec<Sheet>, SessionFault>
     requires new { IsNew reader }
     ensures record { IfOk result (λ sheets. IsRecord reader.opening sheets.items) }
     ensures count { IfOk result (λ sheets. vec_len sheets ≡ READINGS) }
@@ -73,7 +73,7 @@ pub(crate) fn read_often(alloc: Global, mut reader: Reader) -> Result<Vec<Sheet>
 }
 
 // Asks `READINGS` times and keeps the sheets, which are such a record, too.
-pub(crate) fn ask_often(alloc: Global, mut analyst: Analyst) -> Result<Asked, Fault>
+pub(crate) fn ask_often(alloc: Global, mut analyst: Analyst) -> Result<AskedReader, SessionFault>
     requires new { IsNew analyst.reader }
     ensures opening { IfOk result (λ a. a.analyst.reader.opening ≡ analyst.reader.opening) }
     ensures record { IfOk result (λ a. IsRecord analyst.reader.opening a.sheets.items) }
@@ -84,16 +84,16 @@ pub(crate) fn ask_often(alloc: Global, mut analyst: Analyst) -> Result<Asked, Fa
         let _indices = analyst.ask(Majority::EightyFive);
         sheets.push(analyst.sheet())?;
     }
-    Ok(Asked { analyst, sheets })
+    Ok(AskedReader { analyst, sheets })
 }
 
 // Asks once, and returns the indices of the sheet of a legal register.
-pub(crate) fn ask_once(analyst: &mut Analyst) -> Answer
+pub(crate) fn ask_once(analyst: &mut Analyst) -> SessionAnswer
     ensures legal { IsLegalSheet analyst.old.reader.opening result.sheet }
     ensures exact { AreIndices EightyFive result.sheet result.indices }
 {
     let indices = analyst.ask(Majority::EightyFive);
-    Answer {
+    SessionAnswer {
         sheet: analyst.sheet(),
         indices,
     }

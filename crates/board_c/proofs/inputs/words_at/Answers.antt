@@ -1,11 +1,11 @@
 use Rattle.std.proofs.Common.{◌≡◌, refl, ◌+◌, ◌-◌, ◌<◌, [], ◌∷◌, ◌++◌, ℕ, List, map, length, replicate, get_or, ◌∙◌, arith}
 use Rattle.std.proofs.lemmas.List.{get_or-map, get_or_append_left, get_or_default, length-map}
-use Rattle.board_c.specs.Counts.{words_of}
+use Rattle.board_c.specs.Counts.{words_of_weights}
 use Rattle.board_c.proofs.RowLemmas.{first_left, next_image}
 use Rattle.board_c.proofs.inputs.words_at.Goals as goal
 
 -- the word of a chair that is open by its weight
-word_at : (weights : List ℕ) (total at : ℕ) → at < length weights → get_or (words_of weights total) at 0 ≡ get_or weights at 0 + 1
+word_at : (weights : List ℕ) (total at : ℕ) → at < length weights → get_or (words_of_weights weights total) at 0 ≡ get_or weights at 0 + 1
 word_at weights total at inside =
     let words = map (λ w. w + 1) weights in
     let back = replicate (32 - length weights) 0 ++ total ∷ 0 ∷ [] in

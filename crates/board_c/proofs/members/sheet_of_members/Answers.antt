@@ -1,6 +1,6 @@
 use Rattle.std.proofs.Common.{sym, subst}
 use Rattle.std.specs.Prelude.{Result, Ok, Err, IsOk, IfErr}
-use Rattle.board_c.specs.Counts.{IsWhole}
+use Rattle.board_c.specs.Counts.{IsSheetInRange}
 use Rattle.board_c.proofs.RollWords.{whole}
 use Rattle.board_c.proofs.members.sheet_of_members.Goals as goal
 
@@ -11,4 +11,4 @@ no_error (Err why) P ok = absurd (cc)
 pub returns-clause-refused : goal.returns-clause-refused
 returns-clause-refused c =
     no_error c.sheet_of.result _
-    (c.sheet_of.ensures.in_range.1 (subst IsWhole (sym c.in_ok-words.ensures.same) (whole c.args.members.now c.args.mask c.in_ok-words.ensures.board)))
+    (c.sheet_of.ensures.in_range.1 (subst IsSheetInRange (sym c.in_ok-words.ensures.same) (whole c.args.members.now c.args.mask c.in_ok-words.ensures.board)))

@@ -1,5 +1,5 @@
 use Rattle.std.proofs.Common.{arith}
-use Rattle.council_core.specs.Rolls.{counted}
+use Rattle.council_core.specs.Rolls.{effective_votes}
 use Rattle.board_c.specs.declared.members.BoardMember.{BoardMember}
 use Rattle.board_c.specs.Members.{standing_of}
 use Rattle.std.proofs.lemmas.List.Sums.{sum_by_more}
@@ -8,7 +8,7 @@ use Rattle.board_c.proofs.members.total_of.Goals as goal
 
 pub loop-place-preserved : goal.loop-place-preserved
 loop-place-preserved c = record {
-  total = omega (arith, c.loop-place.invariant.total, c.counted_votes-votes.ensures, sum_by_more (λ (m : BoardMember). counted (standing_of m)) c.args.members.now c.loop-place.place no_member c.loop-place-test.true);
+  total = omega (arith, c.loop-place.invariant.total, c.counted_votes-votes.ensures, sum_by_more (λ (m : BoardMember). effective_votes (standing_of m)) c.args.members.now c.loop-place.place no_member c.loop-place-test.true);
   high = omega (arith, c.if-votes-total.false);
   seated = seated_more c.args.members.now c.loop-place.place c.loop-place-test.true c.loop-place.invariant.seated c.if-members-place.false;
 }

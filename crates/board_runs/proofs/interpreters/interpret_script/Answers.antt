@@ -7,7 +7,7 @@ use Rattle.board_runs.proofs.RecordFacts.{script-ends, script-goes, step-goes, s
 use Rattle.board_runs.proofs.interpreters.interpret_script.Goals as goal
 
 pub records-init : goal.records-init
-records-init g c = record { so_far = played-none _ _; on = (refl, omega arith); numbers = c.requires.numbers }
+records-init g c = record { so_far = played-none _ _; continues = (refl, omega arith); numbers = c.requires.numbers }
 
 pub returns-then-not-branch-clause-wrote : goal.returns-then-not-branch-clause-wrote
 returns-then-not-branch-clause-wrote g c =
@@ -37,7 +37,7 @@ records-preserved g c =
     c.in_ok-carry_out.ensures.wrote c.in_ok-carry_out.ensures.state in
     record {
       so_far = played-on c.args.out.now.held c.records.out.held c.carry_out.new.out.held _ _ _ (left-as _ _ _ _ _ so_far goes) more;
-      on = (c.in_ok-carry_out.ensures.on.0 ∙ c.records.invariant.on.0, omega (arith, c.records.invariant.on.1, c.in_ok-carry_out.ensures.on.1));
+      continues = (c.in_ok-carry_out.ensures.continues.0 ∙ c.records.invariant.continues.0, omega (arith, c.records.invariant.continues.1, c.in_ok-carry_out.ensures.continues.1));
       numbers = let fewer = ap length next in omega arith;
     }
 

@@ -9,7 +9,7 @@ abbrev pub invariant-records : goal.invariant-records
 invariant-records g l = record {
   so_far : PlayedTo l.fn.out.held l.out.held
       (script_run (g.I.Interpreter.step l.fn.limits) l.fn.interpreter l.fn.first l.fn.script) (script_run (g.I.Interpreter.step l.limits) l.interpreter l.number l.script);
-  on : GoesOn l.fn.out l.out;
+  continues : GoesOn l.fn.out l.out;
   numbers : l.number + length l.script < 2 ^ 32;
 }
 

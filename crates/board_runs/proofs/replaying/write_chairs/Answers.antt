@@ -26,5 +26,5 @@ loop-row-preserved g c =
     } in
     record {
       so_far = rows-more chair_line _ _ _ c.args.rows.now c.loop-row.row-index row c.loop-row.invariant.so_far c.in_ok-write_line.ensures.written;
-      on = (c.in_ok-write_line.ensures.on.0 ∙ c.loop-row.invariant.on.0, omega (arith, c.loop-row.invariant.on.1, c.in_ok-write_line.ensures.on.1));
+      continues = (c.in_ok-write_line.ensures.continues.0 ∙ c.loop-row.invariant.continues.0, omega (arith, c.loop-row.invariant.continues.1, c.in_ok-write_line.ensures.continues.1));
     }

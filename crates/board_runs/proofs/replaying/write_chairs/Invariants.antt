@@ -9,5 +9,5 @@ use Rattle.board_runs.proofs.replaying.write_chairs.Given as goal
 abbrev pub invariant-loop-row : goal.invariant-loop-row
 invariant-loop-row g l = record {
   so_far : Appends l.fn.out.held l.out.held (text_of (map chair_line (take l.row-index l.rows)));
-  on : GoesOn l.fn.out l.out;
+  continues : GoesOn l.fn.out l.out;
 }

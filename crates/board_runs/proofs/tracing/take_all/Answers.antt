@@ -18,5 +18,5 @@ loop-turn-preserved g c =
           so_far.0 _ so_far.1 so_far.2 tt c.take.new.machine c.in_ok-take.ensures.wrote c.in_ok-take.ensures.state;
       state = c.loop-turn.invariant.state
           ∙ after-left c.loop-turn.machine c.args.event.now c.args.count c.loop-turn._turn c.loop-turn-test.true c.take.new.machine c.in_ok-take.ensures.state;
-      on = (c.in_ok-take.ensures.on.0 ∙ c.loop-turn.invariant.on.0, omega (arith, c.loop-turn.invariant.on.1, c.in_ok-take.ensures.on.1));
+      continues = (c.in_ok-take.ensures.continues.0 ∙ c.loop-turn.invariant.continues.0, omega (arith, c.loop-turn.invariant.continues.1, c.in_ok-take.ensures.continues.1));
     }

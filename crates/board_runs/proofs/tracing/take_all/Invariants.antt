@@ -1,10 +1,10 @@
 use Rattle.std.proofs.Common.{◌≡◌, ◌-◌, ◌++◌, List, replicate}
 use Rattle.std.specs.Io.KnownBytes.{Appends}
-use Rattle.two_copy_steps.specs.Transitions.{after}
+use Rattle.two_copy_steps.specs.Transitions.{state_after_events}
 use Rattle.board_text.specs.Lines.{Line}
 use Rattle.board_text.specs.Sinks.{GoesOn}
 use Rattle.board_text.specs.Text.{text_of}
-use Rattle.board_runs.specs.Traces.{told}
+use Rattle.board_runs.specs.Traces.{output_lines}
 use Rattle.board_runs.proofs.tracing.take_all.Given as goal
 
 -- the lines so far, and then those of the events that are left, are the lines of all
@@ -12,7 +12,7 @@ abbrev pub invariant-loop-turn : goal.invariant-loop-turn
 invariant-loop-turn g l = record {
   so_far : (done : List Line)
       × Appends l.fn.out.held l.out.held (text_of done)
-      × (told l.fn.machine (replicate l.count l.event) ≡ done ++ told l.machine (replicate (l.count - l._turn) l.event));
-  state : after l.fn.machine (replicate l.count l.event) ≡ after l.machine (replicate (l.count - l._turn) l.event);
-  on : GoesOn l.fn.out l.out;
+      × (output_lines l.fn.machine (replicate l.count l.event) ≡ done ++ output_lines l.machine (replicate (l.count - l._turn) l.event));
+  state : state_after_events l.fn.machine (replicate l.count l.event) ≡ state_after_events l.machine (replicate (l.count - l._turn) l.event);
+  continues : GoesOn l.fn.out l.out;
 }

@@ -1,6 +1,6 @@
 use Rattle.std.proofs.Common.{◌≡◌, ◌+◌, ◌∷◌, [], length, sym, ap, ◌∙◌, arith}
 use Rattle.csv.specs.Records.{fields_of}
-use Rattle.board_serve.specs.Parts.{parts_of, shares_of, size_of}
+use Rattle.board_serve.specs.Parts.{parts_of, shares_of, record_count}
 use Rattle.board_serve.proofs.PartFacts.{parts-end, parts-more, parts-refused, served-of-two, size-request}
 use Rattle.board_serve.proofs.parts.read_parts.Goals as goal
 
@@ -12,7 +12,7 @@ returns-then-not-branch-clause-split c =
 pub returns-in-Err-clause-fault : goal.returns-in-Err-clause-fault
 returns-in-Err-clause-fault c =
     let next : c.records.script ≡ fields_of c.next.new.row ∷ c.next.new.self = rw c.if-not-branch.false at c.in_ok-next.ensures.taken in
-    rw c.told.ensures.same (c.records.invariant.same ∙ parts-refused c.args.limits (shares_of c.records.parts) c.records.number c.records.script _ _ next c.in-Err.why (sym c.in-Err.ensures.same))
+    rw c.of_fault.ensures.same (c.records.invariant.same ∙ parts-refused c.args.limits (shares_of c.records.parts) c.records.number c.records.script _ _ next c.in-Err.why (sym c.in-Err.ensures.same))
 
 pub records-preserved : goal.records-preserved
 records-preserved c =
@@ -23,7 +23,7 @@ records-preserved c =
     record {
       same = c.records.invariant.same ∙ parts-more c.args.limits (shares_of c.records.parts) c.records.number c.records.script _ _ next c.in-Ok.request (sym c.in-Ok.ensures.same)
           ∙ ap (λ s. parts_of c.args.limits s (c.records.number + 1) c.next.new.self) (sym added);
-      few = omega (arith, ap size_of added, one, c.records.invariant.few);
+      bound = omega (arith, ap record_count added, one, c.records.invariant.bound);
       numbers = omega (arith, fewer, c.records.invariant.numbers);
     }
 

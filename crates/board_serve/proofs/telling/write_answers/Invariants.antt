@@ -10,5 +10,5 @@ use Rattle.board_serve.proofs.telling.write_answers.Given as goal
 abbrev pub invariant-loop-answer : goal.invariant-loop-answer
 invariant-loop-answer g l = record {
   so_far : Appends l.fn.out.held l.out.held (text_of (map (λ a. reply_line (reply_of a)) (take l.answer-index l.answers)));
-  on : GoesOn l.fn.out l.out;
+  continues : GoesOn l.fn.out l.out;
 }

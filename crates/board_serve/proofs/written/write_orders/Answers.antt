@@ -18,5 +18,5 @@ loop-order-preserved g c =
       answers_fit = omega (arith, done.answers_fit, c.add.ensures.answers_count);
       cuts_fit = omega (arith, done.cuts_fit, c.add.ensures.cuts_count);
       room = search rules;
-      few = omega (arith, done.few, c.in_ok-answer.ensures.counted);
+      bound = omega (arith, done.bound, c.in_ok-answer.ensures.counted);
     }

@@ -9,5 +9,5 @@ invariant-loop-order g l = record {
   answers_fit : vec_len l.written.answers ≤ l.order-index;
   cuts_fit : vec_len l.written.cuts ≤ l.order-index;
   room : HasRoomToWrite l.written (length l.orders);
-  few : l.publications ≤ l.order-index;
+  bound : l.publications ≤ l.order-index;
 }

@@ -1,6 +1,6 @@
 use Rattle.std.proofs.Common.{◌∙◌, refl, sym, ap, arith}
 use Rattle.std.proofs.lemmas.List.{take_more_set, length-take-le}
-use Rattle.two_copy_steps.specs.Actions.{place, loaded}
+use Rattle.two_copy_steps.specs.Actions.{place, stage_with_words}
 use Rattle.board_share.proofs.ReaderSeats.{loads, left}
 use Rattle.board_share.proofs.reader_steps.load_word.Goals as goal
 
@@ -14,4 +14,4 @@ load-requires c =
 pub returns : goal.returns
 returns c =
     left _ _ _ _ _ _ c.requires.reader _ _
-    record { same = c.load.ensures.0; next = c.load.ensures.2; stage_is = ap (loaded c.args.side) (take_more_set c.args.words.now c.args.k c.load.result (omega arith)) }
+    record { same = c.load.ensures.0; next = c.load.ensures.2; stage_is = ap (stage_with_words c.args.side) (take_more_set c.args.words.now c.args.k c.load.result (omega arith)) }

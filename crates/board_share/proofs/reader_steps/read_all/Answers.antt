@@ -1,7 +1,7 @@
 use Rattle.std.proofs.Common.{◌≡◌, ◌∙◌, ℕ, take, refl, sym, ap, subst, arith}
 use Rattle.two_copy_steps.specs.declared.views.Stage.{Stage}
 use Rattle.two_copy_steps.specs.declared.views.Stage.TheVariants.{AtRest, Leaving}
-use Rattle.two_copy_steps.specs.Actions.{loaded}
+use Rattle.two_copy_steps.specs.Actions.{stage_with_words}
 use Rattle.two_copy_steps.specs.declared.table.TheConstants.{COPY_WORDS}
 use Rattle.board_share.specs.Readers.{HasRead, IsReader, reader_at}
 use Rattle.board_share.proofs.ReaderSeats.{loaded_all}
@@ -14,7 +14,7 @@ leave-requires c =
     let side = c.load_side-side.result in
     let all : c.loop-k.k ≡ COPY_WORDS = let end = c.loop-k.auto.k-end in let past = c.loop-k-test.false in omega arith in
     subst (λ (st : Stage). IsReader c.args.board.now.shared.table_id c.loop-k.seat.table_id c.loop-k.seat.me (reader_at c.args.board.now.shared.table_id c.loop-k.seat.me.0 c.args.r st))
-    (ap (λ (n : ℕ). loaded side (take n c.loop-k.words)) all ∙ loaded_all side c.loop-k.words i.long)
+    (ap (λ (n : ℕ). stage_with_words side (take n c.loop-k.words)) all ∙ loaded_all side c.loop-k.words i.long)
     i.reading.seat_is
 
 pub loop-k-init : goal.loop-k-init
@@ -31,5 +31,5 @@ returns c =
     let start = reader_at board c.args.seat.now.me.0 c.args.r AtRest in
     let all : c.loop-k.k ≡ COPY_WORDS = let end = c.loop-k.auto.k-end in let past = c.loop-k-test.false in omega arith in
     let way : HasReadPart board start c.loop-k.seat.table_id c.loop-k.seat.me (Leaving side c.loop-k.words) = subst (HasReadPart board start c.loop-k.seat.table_id c.loop-k.seat.me)
-    (ap (λ (n : ℕ). loaded side (take n c.loop-k.words)) all ∙ loaded_all side c.loop-k.words i.long) i.reading in
+    (ap (λ (n : ℕ). stage_with_words side (take n c.loop-k.words)) all ∙ loaded_all side c.loop-k.words i.long) i.reading in
     record { read = subst (HasRead board start c.leave.new.seat.table_id c.leave.new.seat.me) (sym c.of_words.ensures) (has_read _ _ _ _ _ _ _ _ refl way c.leave.ensures) }

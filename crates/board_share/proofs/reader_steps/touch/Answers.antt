@@ -1,7 +1,7 @@
 use Rattle.std.proofs.Common.{ap, arith}
 use Rattle.two_copy_steps.specs.declared.views.ReaderView.{ReaderView}
 use Rattle.two_copy_steps.specs.declared.views.Stage.{Stage}
-use Rattle.two_copy_steps.specs.Actions.{recorded}
+use Rattle.two_copy_steps.specs.Actions.{readings_after}
 use Rattle.board_share.specs.Readers.{known_by, reader_at}
 use Rattle.board_share.proofs.ReaderSeats.{loads, stores}
 use Rattle.board_share.proofs.reader_steps.touch.Goals as goal
@@ -22,5 +22,5 @@ store-requires c =
       h.same,
       omega arith,
       stores _ _ _ _ _ h _ _ _ _ c.in-Store.ensures.word (λ n. c.in-Store.ensures.becomes n)
-          (λ n. ap (λ (s : Stage). let v : ReaderView = record { stage = s; readings = recorded c.args.stage.now s readings } in v) (c.in-Store.ensures.after n)),
+          (λ n. ap (λ (s : Stage). let v : ReaderView = record { stage = s; readings = readings_after c.args.stage.now s readings } in v) (c.in-Store.ensures.after n)),
     )

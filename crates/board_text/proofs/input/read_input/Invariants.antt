@@ -1,6 +1,6 @@
 use Rattle.std.proofs.Common.{◌≡◌, ◌≤◌, ◌+◌, length}
 use Rattle.board_text.specs.Inputs.{WastesAtMost}
-use Rattle.told_streams.specs.Tapes.{WasGiven}
+use Rattle.recording_io.specs.Tapes.{WasGiven}
 use Rattle.board_text.proofs.input.read_input.Given as goal
 
 -- what was read was given, and each turn so far asked for one read, which gave a byte or was an

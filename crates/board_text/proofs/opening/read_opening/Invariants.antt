@@ -6,7 +6,7 @@ use Rattle.board_text.proofs.opening.read_opening.Given as goal
 abbrev pub invariant-records : goal.invariant-records
 invariant-records l = record {
   same : opening_of [] 2 l.fn.script ≡ opening_of l.members.items l.number l.script;
-  few : length l.members.items ≤ 256;
+  bound : length l.members.items ≤ 256;
   numbers : l.number + length l.script ≤ 2 + length l.fn.script;
   short : length l.fn.script < 2 ^ 31;
 }

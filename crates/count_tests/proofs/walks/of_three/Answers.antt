@@ -11,10 +11,10 @@ pub rebuild-requires-2-clause-distinct : goal.rebuild-requires-2-clause-distinct
 unfolding IsDistinct
 rebuild-requires-2-clause-distinct c = search rules
 
-pub swings-requires-clause-few : goal.swings-requires-clause-few
-swings-requires-clause-few c =
+pub swings-requires-clause-bound : goal.swings-requires-clause-bound
+swings-requires-clause-bound c =
     let meet = three_meet 51 0 _ _ c.rebuild.ensures.subsets c.rebuild-2.ensures.subsets in
-    omega (arith, c.count-counts.ensures.winning, meet.few)
+    omega (arith, c.count-counts.ensures.winning, meet.bound)
 
 pub swings-requires-clause-within : goal.swings-requires-clause-within
 swings-requires-clause-within c = λ place h.

@@ -2,7 +2,7 @@ use Rattle.std.proofs.Common.{◌≡◌, ◌-◌, ◌<◌, [], ◌∷◌, ◌∙
 use Rattle.std.proofs.lemmas.List.{drop_all, length-set}
 use Rattle.half_sums.specs.Entries.{first_entries}
 use Rattle.half_sums.proofs.Columns.{first_one, length_first}
-use Rattle.half_sums.proofs.SubsetFacts.{AreSubsets-none, AreSubsets-more, IsHalf-one, IsHalf-more, few, room_left, small_left, drop_back, distinct_left, slot_bit}
+use Rattle.half_sums.proofs.SubsetFacts.{AreSubsets-none, AreSubsets-more, IsHalf-one, IsHalf-more, chairs_within_slots, room_left, small_left, drop_back, distinct_left, slot_bit}
 use Rattle.half_sums.proofs.MaskLemmas.{slot_free, bit_free}
 use Rattle.half_sums.proofs.Mirrors.{IsMirror-one}
 use Rattle.half_sums.proofs.ordered.list_subsets.Goals as goal
@@ -15,15 +15,15 @@ loop-at-init c =
       subsets = rw (one, none) AreSubsets-none;
       half = rw one IsHalf-one;
       mirror = rw one IsMirror-one;
-      few = omega arith;
+      bound = omega arith;
       sums_room = length-set c.args.sums.now 0 0 ∙ c.requires.sums_room;
       masks_room = length-set c.args.masks.now 0 0 ∙ c.requires.masks_room;
     }
 
-pub double-requires-clause-few : goal.double-requires-clause-few
-double-requires-clause-few c =
+pub double-requires-clause-bound : goal.double-requires-clause-bound
+double-requires-clause-bound c =
     let inv = c.loop-at.invariant in
-    omega (arith, room_left c.args.chairs.now c.loop-at.at _ inv.subsets (few _ c.requires.slots c.requires.distinct) (omega arith) (omega arith), length_first c.loop-at.count c.loop-at.sums c.loop-at.masks (omega (arith, inv.few, inv.sums_room)) (omega (arith, inv.few, inv.masks_room)))
+    omega (arith, room_left c.args.chairs.now c.loop-at.at _ inv.subsets (chairs_within_slots _ c.requires.slots c.requires.distinct) (omega arith) (omega arith), length_first c.loop-at.count c.loop-at.sums c.loop-at.masks (omega (arith, inv.bound, inv.sums_room)) (omega (arith, inv.bound, inv.masks_room)))
 
 pub double-requires-clause-free : goal.double-requires-clause-free
 double-requires-clause-free c =
@@ -43,13 +43,13 @@ loop-at-preserved c =
     let slot = c.requires.slots (at - 1) (0, 0) within in
     let bit_is = slot_bit chair.0 slot in
     let small = small_left chairs at _ inv.subsets c.requires.small (omega arith) (omega arith) in
-    let room = room_left chairs at _ inv.subsets (few _ c.requires.slots c.requires.distinct) (omega arith) (omega arith) in
+    let room = room_left chairs at _ inv.subsets (chairs_within_slots _ c.requires.slots c.requires.distinct) (omega arith) (omega arith) in
     record {
       subsets = rw (drop_back chairs at (omega arith) (omega arith))
           (AreSubsets-more _ _ _ _ _ inv.subsets bit_is c.double.ensures.each_once c.double.ensures.ascending);
       half = IsHalf-more _ _ _ _ inv.half (omega arith) room small c.double.ensures.each_once c.double.ensures.ascending;
       mirror = c.double.ensures.mirror;
-      few = omega (arith, room, length_first c.loop-at.count c.loop-at.sums c.loop-at.masks (omega (arith, inv.few, inv.sums_room)) (omega (arith, inv.few, inv.masks_room)));
+      bound = omega (arith, room, length_first c.loop-at.count c.loop-at.sums c.loop-at.masks (omega (arith, inv.bound, inv.sums_room)) (omega (arith, inv.bound, inv.masks_room)));
       sums_room = c.double.ensures.sums_room;
       masks_room = c.double.ensures.masks_room;
     }

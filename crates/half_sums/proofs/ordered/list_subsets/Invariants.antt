@@ -9,7 +9,7 @@ invariant-loop-at l = record {
   subsets : AreSubsets (drop l.at l.chairs) (first_entries l.count l.sums l.masks);
   half : IsHalf (first_entries l.count l.sums l.masks);
   mirror : IsMirror (first_entries l.count l.sums l.masks);
-  few : l.count ≤ ROOM;
+  bound : l.count ≤ ROOM;
   sums_room : length l.sums ≡ ROOM;
   masks_room : length l.masks ≡ ROOM;
 }

@@ -9,5 +9,5 @@ loop-slot-preserved c =
     let items : c.push.new.self.items ≡ c.loop-slot.chairs.items ++ (c.loop-slot.slot, w) ∷ [] = cc in
     record {
       chairs = items ∙ ap (λ l. l ++ (c.loop-slot.slot, w) ∷ []) c.loop-slot.invariant.chairs ∙ sym (slotted_more c.args.weights.now c.loop-slot.slot (omega arith));
-      few = omega (arith, ap length items, length-append c.loop-slot.chairs.items ((c.loop-slot.slot, w) ∷ []));
+      bound = omega (arith, ap length items, length-append c.loop-slot.chairs.items ((c.loop-slot.slot, w) ∷ []));
     }

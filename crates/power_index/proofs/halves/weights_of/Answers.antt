@@ -15,5 +15,5 @@ loop-i-preserved c =
           ∙ ap (λ l. l ++ w ∷ []) c.loop-i.invariant.weights
           ∙ ap (λ l. map weight (take i chairs) ++ (get_or l i d).1 ∷ []) c.deref.ensures.0
           ∙ sym (ap (map weight) (take_more chairs i d (omega arith)) ∙ map-append weight (take i chairs) (get_or chairs i d ∷ []));
-      few = omega (arith, ap length c.push.ensures.items, length-append c.loop-i.weights.items (w ∷ []));
+      bound = omega (arith, ap length c.push.ensures.items, length-append c.loop-i.weights.items (w ∷ []));
     }

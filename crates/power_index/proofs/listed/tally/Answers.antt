@@ -8,7 +8,7 @@ pub swings-seated-requires : goal.swings-seated-requires
 swings-seated-requires c =
     let counts : AreCounts c.args.quota c.args.least_size c.args.sheet.now c.count_lists-counts.result.winning (λ place. get_or c.count_lists-counts.result.with_chair place 0) =
     are_counts c.args.quota c.args.least_size c.args.sheet.now _ _ _ _ c.requires.halves c.count_lists-counts.ensures.winning c.count_lists-counts.ensures.with_chair in
-    record { few = counts.few; within = counts.within; half = counts.half }
+    record { bound = counts.bound; within = counts.within; half = counts.half }
 
 pub returns-clause-counts : goal.returns-clause-counts
 returns-clause-counts c =

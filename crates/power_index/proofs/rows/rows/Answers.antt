@@ -45,5 +45,5 @@ loop-i-preserved c =
           ∙ ap (λ l. map g (take i l) ++ g chair ∷ []) all
           ∙ sym (ap (map g) (take_more board i d inside) ∙ map-append g (take i board) (chair ∷ []))
           ∙ ap (λ l. map g (take (i + 1) l)) (sym all);
-      few = omega (arith, ap length c.push.ensures.items, length-append c.loop-i.rows.items (c.row.result ∷ []));
+      bound = omega (arith, ap length c.push.ensures.items, length-append c.loop-i.rows.items (c.row.result ∷ []));
     }

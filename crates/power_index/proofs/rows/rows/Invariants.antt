@@ -7,5 +7,5 @@ use Rattle.power_index.proofs.rows.rows.Given as goal
 abbrev pub invariant-loop-i : goal.invariant-loop-i
 invariant-loop-i l = record {
   rows : l.rows.items ≡ rows_among (rule_of l.tally.majority l.sheet) (open_chairs l.sheet) (take l.i l.chairs.items);
-  few : length l.rows.items ≤ l.i;
+  bound : length l.rows.items ≤ l.i;
 }

@@ -8,11 +8,11 @@ use Rattle.swing_walk.proofs.pairs.count_lists.Goals as goal
 
 pub by_slot-requires-clause-room : goal.by_slot-requires-clause-room
 by_slot-requires-clause-room c =
-    omega (arith, c.new-lefts.ensures.total, c.credit_pairs-winning.ensures.lefts.total, pairs_whole (is_enough c.args.quota c.args.least_size) c.args.left.now c.args.right.now c.requires.left.few c.requires.right.few)
+    omega (arith, c.new-lefts.ensures.total, c.credit_pairs-winning.ensures.lefts.total, pairs_whole (is_enough c.args.quota c.args.least_size) c.args.left.now c.args.right.now c.requires.left.bound c.requires.right.bound)
 
 pub by_slot-requires-2-clause-room : goal.by_slot-requires-2-clause-room
 by_slot-requires-2-clause-room c =
-    omega (arith, c.new-rights.ensures.total, c.credit_pairs-winning.ensures.rights.total, pairs_whole (is_enough c.args.quota c.args.least_size) c.args.left.now c.args.right.now c.requires.left.few c.requires.right.few)
+    omega (arith, c.new-rights.ensures.total, c.credit_pairs-winning.ensures.rights.total, pairs_whole (is_enough c.args.quota c.args.least_size) c.args.left.now c.args.right.now c.requires.left.bound c.requires.right.bound)
 
 pub returns-clause-with_chair : goal.returns-clause-with_chair
 returns-clause-with_chair c = λ place h.

@@ -8,11 +8,11 @@ use Rattle.swing_walk.proofs.walking.pass_next.Goals as goal
 
 pub add_to-requires-clause-left_room : goal.add_to-requires-clause-left_room
 add_to-requires-clause-left_room g c =
-    omega (arith, c.pass-partners.ensures.partners, partners_room c.args.asked.least_size c.args.next.high.mask c.args.next.low.mask c.args.next.falls c.args.places.up c.args.places.rest c.args.rising.now c.args.falling.now c.requires.rising.few c.requires.falling.few, c.requires.stands.credited.rising_total, pairs_room (is_enough c.args.asked.quota c.args.asked.least_size) c.args.rising.now c.args.falling.now c.args.places.up c.requires.rising.few c.requires.falling.few)
+    omega (arith, c.pass-partners.ensures.partners, partners_room c.args.asked.least_size c.args.next.high.mask c.args.next.low.mask c.args.next.falls c.args.places.up c.args.places.rest c.args.rising.now c.args.falling.now c.requires.rising.bound c.requires.falling.bound, c.requires.stands.credited.rising_total, pairs_room (is_enough c.args.asked.quota c.args.asked.least_size) c.args.rising.now c.args.falling.now c.args.places.up c.requires.rising.bound c.requires.falling.bound)
 
 pub add_to-requires-clause-right_room : goal.add_to-requires-clause-right_room
 add_to-requires-clause-right_room g c =
-    omega (arith, c.pass-partners.ensures.partners, partners_room c.args.asked.least_size c.args.next.high.mask c.args.next.low.mask c.args.next.falls c.args.places.up c.args.places.rest c.args.rising.now c.args.falling.now c.requires.rising.few c.requires.falling.few, c.requires.stands.credited.falling_total, back_room (is_enough c.args.asked.quota c.args.asked.least_size) c.args.rising.now c.args.falling.now c.args.places.rest c.requires.rising.few c.requires.falling.few)
+    omega (arith, c.pass-partners.ensures.partners, partners_room c.args.asked.least_size c.args.next.high.mask c.args.next.low.mask c.args.next.falls c.args.places.up c.args.places.rest c.args.rising.now c.args.falling.now c.requires.rising.bound c.requires.falling.bound, c.requires.stands.credited.falling_total, back_room (is_enough c.args.asked.quota c.args.asked.least_size) c.args.rising.now c.args.falling.now c.args.places.rest c.requires.rising.bound c.requires.falling.bound)
 
 pub after-requires-clause-some : goal.after-requires-clause-some
 after-requires-clause-some g c = one_left c.args.asked.quota c.args.next.falls c.args.next.low c.args.next.high c.args.places.up c.args.places.rest c.args.rising.now c.args.falling.now c.requires.next

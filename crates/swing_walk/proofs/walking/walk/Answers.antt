@@ -6,25 +6,25 @@ use Rattle.swing_walk.proofs.LargePairs.{turned_pairs, turned_marks}
 use Rattle.swing_walk.proofs.walking.walk.Goals as goal
 
 pub join-requires-clause-room : goal.join-requires-clause-room
-join-requires-clause-room g c = omega (arith, c.walk_from_both_ends.ensures.lefts.totals, pairs_whole (is_enough c.args.asked.quota c.args.asked.least_size) c.args.left.now c.args.right.now c.requires.left.few c.requires.right.few)
+join-requires-clause-room g c = omega (arith, c.walk_from_both_ends.ensures.lefts.totals, pairs_whole (is_enough c.args.asked.quota c.args.asked.least_size) c.args.left.now c.args.right.now c.requires.left.bound c.requires.right.bound)
 
 pub join-requires-2-clause-room : goal.join-requires-2-clause-room
-join-requires-2-clause-room g c = omega (arith, c.join.ensures.total, c.walk_from_both_ends.ensures.lefts.totals, pairs_whole (is_enough c.args.asked.quota c.args.asked.least_size) c.args.left.now c.args.right.now c.requires.left.few c.requires.right.few)
+join-requires-2-clause-room g c = omega (arith, c.join.ensures.total, c.walk_from_both_ends.ensures.lefts.totals, pairs_whole (is_enough c.args.asked.quota c.args.asked.least_size) c.args.left.now c.args.right.now c.requires.left.bound c.requires.right.bound)
 
 pub join-requires-3-clause-room : goal.join-requires-3-clause-room
-join-requires-3-clause-room g c = omega (arith, c.walk_from_both_ends.ensures.rights.totals, pairs_whole (is_enough c.args.asked.quota c.args.asked.least_size) c.args.right.now c.args.left.now c.requires.right.few c.requires.left.few)
+join-requires-3-clause-room g c = omega (arith, c.walk_from_both_ends.ensures.rights.totals, pairs_whole (is_enough c.args.asked.quota c.args.asked.least_size) c.args.right.now c.args.left.now c.requires.right.bound c.requires.left.bound)
 
 pub join-requires-4-clause-room : goal.join-requires-4-clause-room
-join-requires-4-clause-room g c = omega (arith, c.join-3.ensures.total, c.walk_from_both_ends.ensures.rights.totals, pairs_whole (is_enough c.args.asked.quota c.args.asked.least_size) c.args.right.now c.args.left.now c.requires.right.few c.requires.left.few)
+join-requires-4-clause-room g c = omega (arith, c.join-3.ensures.total, c.walk_from_both_ends.ensures.rights.totals, pairs_whole (is_enough c.args.asked.quota c.args.asked.least_size) c.args.right.now c.args.left.now c.requires.right.bound c.requires.left.bound)
 
 pub total-requires : goal.total-requires
-total-requires g c = record { room = omega (arith, c.walk_from_both_ends.ensures.lefts.totals, pairs_whole (is_enough c.args.asked.quota c.args.asked.least_size) c.args.left.now c.args.right.now c.requires.left.few c.requires.right.few) }
+total-requires g c = record { room = omega (arith, c.walk_from_both_ends.ensures.lefts.totals, pairs_whole (is_enough c.args.asked.quota c.args.asked.least_size) c.args.left.now c.args.right.now c.requires.left.bound c.requires.right.bound) }
 
 pub total-requires-2 : goal.total-requires-2
-total-requires-2 g c = record { room = omega (arith, c.walk_from_both_ends.ensures.lefts.totals, pairs_whole (is_enough c.args.asked.quota c.args.asked.least_size) c.args.left.now c.args.right.now c.requires.left.few c.requires.right.few) }
+total-requires-2 g c = record { room = omega (arith, c.walk_from_both_ends.ensures.lefts.totals, pairs_whole (is_enough c.args.asked.quota c.args.asked.least_size) c.args.left.now c.args.right.now c.requires.left.bound c.requires.right.bound) }
 
 pub overflow_add-result : goal.overflow_add-result
-overflow_add-result g c = Fits-of_lt (omega (arith, c.total.ensures.total, c.total-2.ensures.total, c.walk_from_both_ends.ensures.lefts.totals, pairs_whole (is_enough c.args.asked.quota c.args.asked.least_size) c.args.left.now c.args.right.now c.requires.left.few c.requires.right.few))
+overflow_add-result g c = Fits-of_lt (omega (arith, c.total.ensures.total, c.total-2.ensures.total, c.walk_from_both_ends.ensures.lefts.totals, pairs_whole (is_enough c.args.asked.quota c.args.asked.least_size) c.args.left.now c.args.right.now c.requires.left.bound c.requires.right.bound))
 
 pub returns-clause-rights : goal.returns-clause-rights
 returns-clause-rights g c = record {

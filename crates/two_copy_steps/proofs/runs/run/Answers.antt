@@ -2,7 +2,7 @@ use Rattle.std.proofs.Common.{◌≡◌, ℕ, ◌≤◌, length, take, ap, sym, 
 use Rattle.council_core.specs.Ledgers.{IsLedger}
 use Rattle.two_copy_steps.specs.Records.{FrontsNeverFall}
 use Rattle.two_copy_steps.specs.Runs.{KeepsRecordsTold, WantsMemoryFrom}
-use Rattle.two_copy_steps.specs.Transitions.{MachineState, started, after, notes}
+use Rattle.two_copy_steps.specs.Transitions.{MachineState, machine_at_start, state_after_events, notes}
 use Rattle.two_copy_steps.proofs.EventLists.{ledger_records, run_answers, run_apart}
 use Rattle.two_copy_steps.proofs.ToldRecords.{run_told, run_never_older}
 use Rattle.two_copy_steps.proofs.runs.run.Goals as goal
@@ -11,14 +11,14 @@ use Rattle.two_copy_steps.proofs.runs.run.Goals as goal
 given : (c : goal.In-Ok-take_all) → IsLedger c.args.register
 given c = subst (λ (m : MachineState). IsLedger m.ledger) c.in-Ok.ensures.started c.in-Ok.ensures.ledger
 
-told_is : (c : goal.In-Ok-take_all) → c.take_all.new.told.items ≡ notes (started c.args.register c.args.readers) c.args.events.now
+told_is : (c : goal.In-Ok-take_all) → c.take_all.new.told.items ≡ notes (machine_at_start c.args.register c.args.readers) c.args.events.now
 told_is c = c.in-Ok-take_all.ensures.notes ∙ ap (λ (m : MachineState). notes m c.args.events.now) c.in-Ok.ensures.started
 
 pub returns-in-Ok-take_all-clause-notes : goal.returns-in-Ok-take_all-clause-notes
 returns-in-Ok-take_all-clause-notes c = told_is c
 
 pub returns-in-Ok-take_all-clause-machine : goal.returns-in-Ok-take_all-clause-machine
-returns-in-Ok-take_all-clause-machine c = c.in-Ok-take_all.ensures.machine ∙ ap (λ (m : MachineState). after m c.args.events.now) c.in-Ok.ensures.started
+returns-in-Ok-take_all-clause-machine c = c.in-Ok-take_all.ensures.machine ∙ ap (λ (m : MachineState). state_after_events m c.args.events.now) c.in-Ok.ensures.started
 
 pub returns-in-Ok-take_all-clause-replies : goal.returns-in-Ok-take_all-clause-replies
 returns-in-Ok-take_all-clause-replies c = run_answers c.args.register c.args.readers (given c).legal.0 c.args.events.now
@@ -44,12 +44,12 @@ returns-in-Err-take_all-clause-fault c =
     record {
       within = subst (λ (n : ℕ). n ≤ length c.args.events.now) (sym done) c.in-Err-take_all.ensures.within;
       left = c.fault-in-Err-take_all.ensures.register
-          ∙ (ap (λ (m : MachineState). m.ledger) (c.in-Err-take_all.ensures.left ∙ ap (λ (m : MachineState). after m (take c.in-Err-take_all.done c.args.events.now)) c.in-Ok.ensures.started)
-          ∙ ap (λ (n : ℕ). (after (started c.args.register c.args.readers) (take n c.args.events.now)).ledger) (sym done));
+          ∙ (ap (λ (m : MachineState). m.ledger) (c.in-Err-take_all.ensures.left ∙ ap (λ (m : MachineState). state_after_events m (take c.in-Err-take_all.done c.args.events.now)) c.in-Ok.ensures.started)
+          ∙ ap (λ (n : ℕ). (state_after_events (machine_at_start c.args.register c.args.readers) (take n c.args.events.now)).ledger) (sym done));
       cause = inr (
         c.in-Ok.ensures.in_range.0 refl,
         c.fault-in-Err-take_all.ensures.why,
-        inr (subst (WantsMemoryFrom (started c.args.register c.args.readers) c.args.events.now) (sym done)
+        inr (subst (WantsMemoryFrom (machine_at_start c.args.register c.args.readers) c.args.events.now) (sym done)
             (subst (λ (m : MachineState). WantsMemoryFrom m c.args.events.now c.in-Err-take_all.done) c.in-Ok.ensures.started c.in-Err-take_all.ensures.wanted)),
       );
     }

@@ -1,8 +1,8 @@
 use Rattle.std.proofs.Common.{◌≡◌, ◌≤◌, length, take, vec_len, vec_capacity}
-use Rattle.two_copy_steps.specs.Transitions.{after, notes}
+use Rattle.two_copy_steps.specs.Transitions.{state_after_events, notes}
 use Rattle.two_copy_steps.proofs.runs.take_all.Given as goal
 
 abbrev pub invariant-loop-done : goal.invariant-loop-done
 invariant-loop-done l =
-    (l.machine ≡ after l.fn.machine (take l.done l.events)) × (l.told.items ≡ notes l.fn.machine (take l.done l.events))
+    (l.machine ≡ state_after_events l.fn.machine (take l.done l.events)) × (l.told.items ≡ notes l.fn.machine (take l.done l.events))
     × (length l.events ≤ vec_capacity l.told) × (vec_len l.told ≡ l.done)

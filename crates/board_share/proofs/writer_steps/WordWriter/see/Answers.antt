@@ -9,7 +9,7 @@ use Rattle.board_share.proofs.writer_steps.WordWriter.see.Goals as goal
 pub pin-requires : goal.pin-requires
 pin-requires g c =
     let low = (least _ _ _ _ _ _ _ _ c.self.invariant _ (least_of _ _ _ _ _ _ _ _ c.self.invariant _ (c.requires.least ∙ ap (λ (d : WriterSeen). first_false (known_at d).state.seen_out) (sym c.self.view_is))) (ap (λ (d : WriterSeen). all_true (known_at d).state.seen_out) c.self.view_is ∙ c.requires.some)).0 in
-    let few = c.self.invariant.few in
+    let bound = c.self.invariant.bound in
     omega arith
 
 pub load-found-requires-clause-may : goal.load-found-requires-clause-may
@@ -23,10 +23,10 @@ load-found-requires-clause-becomes g c = becomes _ _ _ _ _ _ _ _ c.self.invarian
 pub set-requires-clause-within : goal.set-requires-clause-within
 set-requires-clause-within g c = (least _ _ _ _ _ _ _ _ c.self.invariant _ (least_of _ _ _ _ _ _ _ _ c.self.invariant _ (c.requires.least ∙ ap (λ (d : WriterSeen). first_false (known_at d).state.seen_out) (sym c.self.view_is))) (ap (λ (d : WriterSeen). all_true (known_at d).state.seen_out) c.self.view_is ∙ c.requires.some)).0
 
-pub set-requires-clause-few : goal.set-requires-clause-few
-set-requires-clause-few g c =
+pub set-requires-clause-bound : goal.set-requires-clause-bound
+set-requires-clause-bound g c =
     let low = (least _ _ _ _ _ _ _ _ c.self.invariant _ (least_of _ _ _ _ _ _ _ _ c.self.invariant _ (c.requires.least ∙ ap (λ (d : WriterSeen). first_false (known_at d).state.seen_out) (sym c.self.view_is))) (ap (λ (d : WriterSeen). all_true (known_at d).state.seen_out) c.self.view_is ∙ c.requires.some)).0 in
-    let few = c.self.invariant.few in
+    let bound = c.self.invariant.bound in
     omega arith
 
 pub invariant_of-self : goal.invariant_of-self

@@ -1,5 +1,5 @@
 use Rattle.std.proofs.Common.{◌-◌, ◌∙◌, refl, sym, ap, arith}
-use Rattle.two_copy_steps.specs.Actions.{other}
+use Rattle.two_copy_steps.specs.Actions.{other_side}
 use Rattle.two_copy_steps.specs.declared.views.Phase.TheVariants.{Swapping}
 use Rattle.board_share.specs.Writers.{WriterSeen, known_at}
 use Rattle.board_share.proofs.WriterSeats.{may, becomes, alike, wrote, published_all, matches_fields}
@@ -12,7 +12,7 @@ store-requires-clause-may g c =
 
 pub store-requires-clause-becomes : goal.store-requires-clause-becomes
 store-requires-clause-becomes g c =
-    becomes _ _ _ _ _ _ _ _ c.self.invariant _ Swapping (λ n. 1 - c.self.inside.side) (c.requires.list ∙ ap (λ (d : WriterSeen). d.due) (sym c.self.view_is)) (ap (λ (d : WriterSeen). (known_at d).state.phase) c.self.view_is ∙ c.requires.phase) (λ n. ap other (sym (matches_fields _ _ _ _ _ _ _ _ c.self.invariant).side_is))
+    becomes _ _ _ _ _ _ _ _ c.self.invariant _ Swapping (λ n. 1 - c.self.inside.side) (c.requires.list ∙ ap (λ (d : WriterSeen). d.due) (sym c.self.view_is)) (ap (λ (d : WriterSeen). (known_at d).state.phase) c.self.view_is ∙ c.requires.phase) (λ n. ap other_side (sym (matches_fields _ _ _ _ _ _ _ _ c.self.invariant).side_is))
 
 pub store-requires-clause-alike : goal.store-requires-clause-alike
 store-requires-clause-alike g c = alike _ _ _ _ _ _ _ _ c.self.invariant _ Swapping _ (c.requires.list ∙ ap (λ (d : WriterSeen). d.due) (sym c.self.view_is)) (ap (λ (d : WriterSeen). (known_at d).state.phase) c.self.view_is ∙ c.requires.phase) (λ n. refl)

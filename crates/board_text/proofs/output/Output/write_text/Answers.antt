@@ -21,8 +21,8 @@ loop-turn-preserved g c =
     record {
       front = appends-on _ _ _ c.loop-turn.at c.in_ok-at.field-0 c.args.text.now c.loop-turn.invariant.front c.in_ok-at.ensures.taken.1;
       within = omega (arith, took, length-drop c.loop-turn.at c.args.text.now, c.loop-turn.invariant.within);
-      few = c.in_ok-at.ensures.few;
-      on = (c.in_ok-at.ensures.on.0 ∙ c.loop-turn.invariant.on.0, omega (arith, c.loop-turn.invariant.on.1, c.in_ok-at.ensures.on.1));
+      bound = c.in_ok-at.ensures.bound;
+      continues = (c.in_ok-at.ensures.continues.0 ∙ c.loop-turn.invariant.continues.0, omega (arith, c.loop-turn.invariant.continues.1, c.in_ok-at.ensures.continues.1));
       turns = omega (arith, c.loop-turn.invariant.turns, c.in_ok-at.ensures.turn);
       asked = omega (arith, c.loop-turn.invariant.asked, c.in_ok-at.ensures.once);
       vain = omega (arith, c.loop-turn.invariant.vain, c.in_ok-at.ensures.vain);

@@ -9,8 +9,8 @@ abbrev pub invariant-loop-turn : goal.invariant-loop-turn
 invariant-loop-turn g l = record {
   front : Appends l.fn.self.held l.self.held (take l.at l.text);
   within : l.at ≤ length l.text;
-  few : l.self.interrupted ≤ 1000;
-  on : GoesOn l.fn.self l.self;
+  bound : l.self.interrupted ≤ 1000;
+  continues : GoesOn l.fn.self l.self;
   turns : l._turn + l.fn.self.interrupted ≤ l.at + l.self.interrupted;
   asked : l.self.asks ≡ l.fn.self.asks + l._turn;
   vain : l.self.vain + l.fn.self.interrupted ≡ l.fn.self.vain + l.self.interrupted;

@@ -1,7 +1,7 @@
 use Rattle.std.proofs.Common.{rules, ◌≡◌, ◌+◌, ◌≤◌, ◌^◌, List, [], ◌∷◌, ◌++◌, Ok, sym, subst, ap, ◌∙◌, arith}
 use Rattle.council_core.specs.Ledgers.{Ledger, room_of}
 use Rattle.council_core.specs.Registers.{sits_as}
-use Rattle.council_core.specs.Rolls.{fresh, counted, votes_in}
+use Rattle.council_core.specs.Rolls.{new_standing, effective_votes, votes_in}
 use Rattle.council_core.specs.declared.commands.Command.{Command}
 use Rattle.council_core.proofs.MirrorLemmas.{Kept, kept_of, exchange}
 use Rattle.council_core.proofs.RegisterLemmas.{Accepts, planned_as, IsKept-open, IsKept-close, IsKept-change, IsKept-admit, IsKept-withdraw, word_holds, count_holds, total_holds, seated_small, total_small, counted_small, word_fits, count_fits, total_fits}
@@ -51,7 +51,7 @@ enter-requires-in-Enter-clause-counts_fit c =
 pub enter-requires-in-Enter-clause-total_fits : goal.enter-requires-in-Enter-clause-total_fits
 enter-requires-in-Enter-clause-total_fits c =
     let m = c.self.invariant.mirrors in
-    omega (arith, m.same_total, total_small _ (kept_of c.self.inside) m, counted_small (fresh c.in-Enter.votes) c.fresh.ensures.small, ap counted c.fresh.ensures.same)
+    omega (arith, m.same_total, total_small _ (kept_of c.self.inside) m, counted_small (new_standing c.in-Enter.votes) c.fresh.ensures.small, ap effective_votes c.fresh.ensures.same)
 
 pub invariant_of-self-2 : goal.invariant_of-self-2
 invariant_of-self-2 c =
@@ -94,7 +94,7 @@ invariant_of-self-2 c =
           (record {
             words = λ k h. w.enter-in-Enter.ensures.words k h ∙ ap (λ s. _ + votes_in (k + 1) s) as_fresh;
             counts = λ k h. w.enter-in-Enter.ensures.counts k h ∙ ap (λ s. _ + sits_as (k + 1) s) as_fresh;
-            total = w.enter-in-Enter.ensures.total ∙ ap (λ s. _ + counted s) as_fresh;
+            total = w.enter-in-Enter.ensures.total ∙ ap (λ s. _ + effective_votes s) as_fresh;
             high = w.fresh.ensures.small;
           })
           w.in_ok-enter_new-in-Enter.ensures.ok)

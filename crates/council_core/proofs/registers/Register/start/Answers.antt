@@ -10,7 +10,7 @@ invariant_of-result c =
     let begun : Kept = record { entries = c.in_ok-entered.entered.entries; totals = c.start.result } in
     let start : IsStart c.args.members.now c.args.journal_limit begun = record {
       made = c.in_ok-entered.ensures.ok;
-      few = omega arith;
+      bound = omega arith;
       apart = search rules;
       small = omega arith;
       words = c.start.ensures.words;

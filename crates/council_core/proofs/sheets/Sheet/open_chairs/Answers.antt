@@ -16,12 +16,12 @@ loop-place-preserved c =
           let items : c.match-weight.chairs.items ≡ c.loop-place.chairs.items ++ chair ∷ [] = cc in
           record {
             chairs = items ∙ ap (λ l. l ++ chair ∷ []) c.loop-place.invariant.chairs ∙ sym (listed_more words i (Some w.in-Some.weight) (sym w.in-Some.is ∙ shown));
-            few = omega (arith, ap length items, length-append c.loop-place.chairs.items (chair ∷ []));
+            bound = omega (arith, ap length items, length-append c.loop-place.chairs.items (chair ∷ []));
           })
       | in_default w ↦ (
           let items : c.match-weight.chairs.items ≡ c.loop-place.chairs.items = cc in
           record {
             chairs = items ∙ c.loop-place.invariant.chairs ∙ sym (listed_more words i None (sym w.in_default.is ∙ shown) ∙ append-nil _);
-            few = omega (arith, ap length items);
+            bound = omega (arith, ap length items);
           })
     ]

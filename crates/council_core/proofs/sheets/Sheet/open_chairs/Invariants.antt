@@ -5,5 +5,5 @@ use Rattle.council_core.proofs.sheets.Sheet.open_chairs.Given as goal
 abbrev pub invariant-loop-place : goal.invariant-loop-place
 invariant-loop-place l = record {
   chairs : l.chairs.items ≡ open_from 1 (take l.place l.self);
-  few : length l.chairs.items ≤ l.place;
+  bound : length l.chairs.items ≤ l.place;
 }

@@ -5,14 +5,14 @@ use Rattle.swing_walk.proofs.partners.BySizePartners.pass.Goals as goal
 
 pub overflow_sub-left-2 : goal.overflow_sub-left-2
 overflow_sub-left-2 c =
-    let few : c.lacking-lane.result ≤ SIZES = omega (arith, c.lacking-lane.ensures.lacking) in
-    let read = reads c.args.self.now c.lacking-lane.result c.args._places.up c.args._places.rest c.args.rising.now c.args._falling.now c.requires.counted few c.requires.few c.requires.rest in
+    let bound : c.lacking-lane.result ≤ SIZES = omega (arith, c.lacking-lane.ensures.lacking) in
+    let read = reads c.args.self.now c.lacking-lane.result c.args._places.up c.args._places.rest c.args.rising.now c.args._falling.now c.requires.counted bound c.requires.bound c.requires.rest in
     omega (arith, read.room, c.from.ensures, c.len.ensures.count)
 
 pub returns-clause-partners : goal.returns-clause-partners
 returns-clause-partners c =
-    let few : c.lacking-lane.result ≤ SIZES = omega (arith, c.lacking-lane.ensures.lacking) in
-    let read = reads c.args.self.now c.lacking-lane.result c.args._places.up c.args._places.rest c.args.rising.now c.args._falling.now c.requires.counted few c.requires.few c.requires.rest in
+    let bound : c.lacking-lane.result ≤ SIZES = omega (arith, c.lacking-lane.ensures.lacking) in
+    let read = reads c.args.self.now c.lacking-lane.result c.args._places.up c.args._places.rest c.args.rising.now c.args._falling.now c.requires.counted bound c.requires.bound c.requires.rest in
     c.either.ensures.chosen
     ∙ partners-read c.args.self.now c.args.asked.least_size c.args.next.high.mask c.args.next.low.mask c.lacking-lane.result c.args._places.up c.args._places.rest c.args.rising.now c.args._falling.now c.args.next.falls _ _ read (rw c.mask-mask.ensures.mask at c.lacking-lane.ensures.lacking) c.requires.rising.slots c.requires.falling.slots (omega (arith, c.from.ensures, c.len.ensures.count)) c.from-gone.ensures
 

@@ -1,0 +1,92 @@
+//! A reader that wraps any reader, such as a process's standard input, and records what it returned
+//! in ghost state.
+ghost use Rattle.std.specs.Prelude.{◌≡◌, false, []};
+ghost use Rattle.std.specs.Io.{ReadsAtMost};
+ghost use Rattle.std.specs.Io.KnownBytes.{ReadConsumes};
+ghost use Rattle.recording_io.specs.Tapes.{Gives};
+
+use crate::tape::Tape;
+use std::io;
+use std::io::{ErrorKind, Read};
+use std::marker::Model;
+
+/// A reader that owns another reader and records the bytes that its reads returned.
+///
+/// The record is ghost state: contracts can refer to it, and it takes no room in the running
+/// program.
+#[derive(Drop)]
+pub struct RecordingReader<R: Read + Drop> {
+    from: R,
+    tape: Tape,
+    // counts one call for each interruption
+    interruptions: Tape,
+}
+
+impl<R: Read + Drop> Model for RecordingReader<R> {
+    ghost use Rattle.recording_io.specs.Tapes.{Giving};
+
+    ghost Value = { Giving };
+
+    ghost view = { λ g. record {
+      left = R.remaining g.from;
+      gave = g.tape.bytes;
+      ended = g.tape.ended;
+      asks = g.tape.asks;
+      vain = g.tape.vain;
+      interruptions = g.interruptions.asks;
+    } };
+}
+
+impl<R: Read + Drop> RecordingReader<R> {
+    /// A reader over `from` with an empty record.
+    ///
+    /// ```rust
+    /// let mut input = RecordingReader::new(rt.stdin());
+    /// let mut piece = [0u8; 16];
+    /// let count = input.read(&mut piece);
+    /// ```
+    pub fn new(from: R) -> RecordingReader<R>
+        ensures left { result.left ≡ R.remaining from }
+        ensures gave { result.gave ≡ [] }
+        ensures ended { result.ended ≡ false }
+        ensures asks { (result.asks ≡ 0) × (result.vain ≡ 0) }
+        ensures interruptions { result.interruptions ≡ 0 }
+    {
+        RecordingReader {
+            from,
+            tape: Tape::new(),
+            interruptions: Tape::new(),
+        }
+    }
+}
+
+impl<R: Read + Drop> Read for RecordingReader<R> {
+    ghost remaining = { λ g. g.left };
+
+    /// Reads once from the reader below, into `buf`, and returns the result of that read. `Ok(0)`
+    /// with room in `buf` means that the input has ended.
+    ///
+    /// # Errors
+    ///
+    /// Every error is the error of the reader below. No byte is recorded, and an error of the kind
+    /// `ErrorKind::Interrupted` counts as an interruption.
+    fn read(&mut self, buf: &mut [u8]) -> io::Result<usize>
+        ensures bound { ReadsAtMost result buf.new }
+        ensures bytes { ReadConsumes self.old.left self.new.left result buf.new }
+        ensures gave { Gives self.old self.new result buf.new }
+    {
+        match self.from.read(buf) {
+            Ok(count) => {
+                self.tape.note(buf, count);
+                Ok(count)
+            }
+            Err(e) => {
+                self.tape.note(&[], 0);
+                if e.kind() == ErrorKind::Interrupted {
+                    self.interruptions.note(&[], 0);
+                }
+                Err(e)
+            }
+        }
+    }
+}
