@@ -7,7 +7,7 @@ from pathlib import Path
 
 TOP = Path(__file__).resolve().parent.parent
 
-HEADER = re.compile(r"^( *)(pub )?(?:\(crate\) )?(?:extern \"C\" )?fn (\w+)", re.MULTILINE)
+HEADER = re.compile(r"^( *)(pub )?(?:pub\(\w+\) )?(?:extern \"C\" )?fn (\w+)", re.MULTILINE)
 OWNER = re.compile(r"^impl(?:<[^{]*?>)? (?:(\w+)(?:<.*>)? for )?(\w+)[^{]*\{$|^pub trait (\w+)[^{]*\{$", re.MULTILINE)
 CLAUSE = re.compile(r"\b(requires|ensures)(\*?)(?: (\w+))? \{")
 
