@@ -9,7 +9,7 @@ use Rattle.board_text.specs.Requests.{Row, call_of, request_of}
 use Rattle.board_text.specs.declared.bounds.Limits.{Limits}
 use Rattle.board_text.specs.declared.requests.Request.{Request}
 use Rattle.board_runs.specs.Scripts.{Turn, interpreted_run}
-use Rattle.board_text.specs.Text.{Run, unpublished, is_served}
+use Rattle.board_text.specs.Text.{Run, unpublished_register, is_served}
 
 -- a request is a call of the sequential register, and its lines print the reply
 abbrev pub reply : Limits → Sequential → Request → Turn Sequential
@@ -26,7 +26,7 @@ replay_step lim s row = reply_to lim s (request_of row)
 
 -- a replay's start, which doesn't depend on the limits: nothing is published
 abbrev pub replay_start : Limits → Ledger → Sequential
-replay_start lim ledger = unpublished ledger
+replay_start lim ledger = unpublished_register ledger
 
 -- the text that `replay` writes for these bytes and how it ends, if memory is available and the
 -- devices work

@@ -15,7 +15,7 @@ use Rattle.board_text.specs.Replies.{reply_of}
 use Rattle.board_serve.specs.Outcomes.{IsBrought, IsOutcome, IsServed, omegas_by}
 use Rattle.board_serve.specs.Parts.{call_of_order}
 use Rattle.board_serve.specs.Plans.{Planned, calls_of, told_by}
-use Rattle.board_text.specs.Text.{unpublished}
+use Rattle.board_text.specs.Text.{unpublished_register}
 use Rattle.board_serve.specs.Work.{IsRising, cuts_of, omegas, register_of}
 use Rattle.board_serve.specs.Jobs.{AreDone, AreRead, HasAsked, HasWritten}
 use Rattle.board_serve.specs.declared.jobs.Jobs.{Jobs}
@@ -28,7 +28,7 @@ use Rattle.board_serve.proofs.CutFacts.{cuts-in_order}
 use Rattle.board_serve.proofs.WorkFacts.{opening-kept}
 
 -- a new writer of a register with no command is the register with none published
-pub new-register : (writer : Publisher) (ledger : Ledger) → writer ≡ new_publisher writer.table ledger 2 → ledger.journal ≡ [] → register_of writer ≡ unpublished ledger
+pub new-register : (writer : Publisher) (ledger : Ledger) → writer ≡ new_publisher writer.table ledger 2 → ledger.journal ≡ [] → register_of writer ≡ unpublished_register ledger
 new-register writer ledger new none = ap register_of new ∙ ap (λ (n : ℕ). let s : Sequential = record { ledger = ledger; published = n } in s) (ap length none)
 
 -- the reader is of this opening, and has read nothing

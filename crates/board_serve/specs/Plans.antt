@@ -7,7 +7,7 @@ use Rattle.council_core.specs.Sequential.{Call, Reply, Sequential, replies_of}
 use Rattle.board_text.specs.Lines.{Line, reply_line}
 use Rattle.board_text.specs.Output.{Fails}
 use Rattle.board_serve.specs.Parts.{Shares, call_of_order, no_parts, parts_of, shares_of, record_count}
-use Rattle.board_text.specs.Text.{Begun, begun_of, unpublished}
+use Rattle.board_text.specs.Text.{Begun, begun_of, unpublished_register}
 use Rattle.board_text.specs.declared.bounds.Limits.{Limits}
 use Rattle.board_text.specs.declared.faults.Fault.{Fault}
 use Rattle.board_serve.specs.declared.plans.Plan.{Plan}
@@ -19,7 +19,7 @@ abbrev pub Planned : Type 0
 Planned = Sequential × Shares
 
 abbrev pub plan_shown : Plan → Planned
-plan_shown p = (unpublished p.begun.register, shares_of p.parts)
+plan_shown p = (unpublished_register p.begun.register, shares_of p.parts)
 
 -- a register with these members can start with the largest journal limit; they are the members of
 -- the plan's register, whose journal is empty; and the records can be counted in 32 bits
@@ -40,7 +40,7 @@ planned_with s (Ok p) = Ok (s, p)
 -- all records of the script are looked at before any is carried out
 abbrev pub plan_from : Limits → Result Begun Fault → Result Planned Fault
 plan_from lim (Err f) = Err f
-plan_from lim (Ok b) = planned_with (unpublished b.0) (parts_of lim no_parts b.1 b.2)
+plan_from lim (Ok b) = planned_with (unpublished_register b.0) (parts_of lim no_parts b.1 b.2)
 
 -- the plan of these bytes, or their fault
 abbrev pub plan_of : ℕ → List ℕ → Result Planned Fault

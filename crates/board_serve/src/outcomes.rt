@@ -1,7 +1,7 @@
 //! Runs all threads and combines their results.
 ghost use Rattle.std.specs.Prelude.{◌≡◌, ◌<◌, ◌^◌, [], IfOk, IfErr};
 ghost use Rattle.board_serve.specs.Outcomes.{IsBrought, IsOutcome};
-ghost use Rattle.board_text.specs.Text.{unpublished};
+ghost use Rattle.board_text.specs.Text.{unpublished_register};
 ghost use Rattle.board_serve.specs.Parts.{shares_of, record_count};
 ghost use Rattle.board_serve.specs.Work.{IsHeldUp};
 
@@ -64,7 +64,7 @@ pub(crate) fn carry_out<G: Gate, R: Threads + Wait + Sync>(
 ) -> Result<Outcome, Stop>
     requires none { register.journal ≡ [] }
     requires bound { record_count (shares_of parts) < 2 ^ 32 }
-    ensures done { IfOk result (IsOutcome (unpublished register, shares_of parts)) }
+    ensures done { IfOk result (IsOutcome (unpublished_register register, shares_of parts)) }
     ensures causes { IfErr result IsHeldUp }
 {
     let jobs = seat_all(alloc, register, parts)?;

@@ -109,8 +109,8 @@ begun_of lim bytes =
     else Err (fault_at BadLimit 0)
 
 -- the sequential register at the start of a replay: no command is published
-abbrev pub unpublished : Ledger → Sequential
-unpublished ledger = record { ledger = ledger; published = 0 }
+abbrev pub unpublished_register : Ledger → Sequential
+unpublished_register ledger = record { ledger = ledger; published = 0 }
 
 abbrev pub end_lines : Option Fault → List Line
 end_lines None = []
