@@ -18,7 +18,7 @@ use Rattle.board_text.specs.declared.requests.Request.TheVariants as ask
 -- the writer's orders, and by reader the majorities of its readings
 pub record Shares : Type 0 where
   pub writer : List Order
-  pub request_in_range : List (List Majority)
+  pub asked : List (List Majority)
 
 -- no records yet, for a writer and two readers
 abbrev pub no_parts : Shares

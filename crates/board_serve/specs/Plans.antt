@@ -11,8 +11,10 @@ use Rattle.board_text.specs.Text.{Begun, begun_of, unpublished_register}
 use Rattle.board_text.specs.declared.bounds.Limits.{Limits}
 use Rattle.board_text.specs.declared.faults.Fault.{Fault}
 use Rattle.board_serve.specs.declared.plans.Plan.{Plan}
+use Rattle.board_serve.specs.declared.parts.TheConstants.{SERVED_READERS}
 use Rattle.board_text.specs.declared.stops.Stop.{Stop}
 use Rattle.board_text.specs.Lines.{reader_line}
+use Rattle.council_core.specs.declared.limits.TheConstants.{MAX_COMMANDS}
 
 -- the register at its start, and the script's records divided among the writer and the readers
 abbrev pub Planned : Type 0
@@ -24,14 +26,14 @@ plan_shown p = (unpublished_register p.begun.register, shares_of p.parts)
 -- a register with these members can start with the largest journal limit; they are the members of
 -- the plan's register, whose journal is empty; and the records can be counted in 32 bits
 pub record IsSound (p : Plan) : Type 0 where
-  pub starts : start_verdict p.begun.members.items 1000000 ≡ Ok tt
+  pub starts : start_verdict p.begun.members.items MAX_COMMANDS ≡ Ok tt
   pub members : p.begun.register.opening ≡ p.begun.members.items
   pub none : p.begun.register.journal ≡ []
   pub bound : record_count (shares_of p.parts) < 2 ^ 32
 
 -- limits of two readers and a journal of at most `journal` commands
 abbrev pub two_readers : ℕ → Limits
-two_readers journal = record { readers = 2; journal = journal }
+two_readers journal = record { readers = SERVED_READERS; journal = journal }
 
 abbrev pub planned_with : Sequential → Result Shares Fault → Result Planned Fault
 planned_with s (Err f) = Err f

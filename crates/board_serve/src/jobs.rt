@@ -5,7 +5,7 @@ ghost use Rattle.board_serve.specs.Jobs.{CanAsk, CanWrite};
 ghost use Rattle.board_text.specs.declared.stops.Stop.TheVariants as stop;
 
 use crate::orders::Order;
-use crate::parts::READERS;
+use crate::parts::SERVED_READERS;
 use crate::readings::Readings;
 use crate::written::Written;
 use board_share::{Analyst, Reader, Writer};
@@ -35,7 +35,7 @@ pub(crate) struct ReaderJob {
 #[derive(Drop)]
 pub(crate) struct Jobs {
     pub(crate) writer: WriterJob,
-    pub(crate) readers: [ReaderJob; READERS],
+    pub(crate) readers: [ReaderJob; SERVED_READERS],
 }
 
 impl WriterJob {

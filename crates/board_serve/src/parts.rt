@@ -14,13 +14,13 @@ use majority_rule::Majority;
 use std::alloc::{AllocError, Global};
 
 // The number of readers of a run.
-pub(crate) const READERS: usize = 2;
+pub(crate) const SERVED_READERS: usize = 2;
 
 // The records of a script, divided: the writer's, and each reader's, each in order.
 #[derive(Drop)]
 pub(crate) struct Parts {
     pub(crate) writer: Vec<Order>,
-    pub(crate) asked: [Vec<Majority>; READERS],
+    pub(crate) asked: [Vec<Majority>; SERVED_READERS],
 }
 
 impl Parts {
@@ -60,7 +60,7 @@ impl Parts {
     }
 
     // The number of readings of each reader.
-    pub(crate) fn counts(&self) -> [u64; READERS]
+    pub(crate) fn counts(&self) -> [u64; SERVED_READERS]
         ensures same { result ≡ map length (shares_of self.now).asked }
     {
         let [first, second] = &self.asked;
@@ -90,7 +90,7 @@ pub(crate) fn read_parts(
     limits: Limits,
     first: u32,
 ) -> Result<Parts, Stop>
-    requires two { limits.readers ≡ READERS }
+    requires two { limits.readers ≡ SERVED_READERS }
     requires numbers { first + length script.old < 2 ^ 32 }
     ensures split { IfOk result (λ p. parts_of limits no_parts first script.old ≡ Ok (shares_of p)) }
     ensures fault { IfErr result (λ e. Fails e (parts_of limits no_parts first script.old)) }

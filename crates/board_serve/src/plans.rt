@@ -8,7 +8,7 @@ ghost use Rattle.board_text.specs.Output.{Fails};
 ghost use Rattle.board_serve.specs.Plans.{Finds, IsSound, plan_from, plan_of, plan_shown, two_readers};
 ghost use Rattle.board_text.specs.Text.{run_begun_with, fault_at, in_range, opened_of};
 
-use crate::parts::{Parts, READERS, read_parts};
+use crate::parts::{Parts, SERVED_READERS, read_parts};
 use board_text::{
     INPUT_LIMIT, INTERRUPTIONS, Limits, READS, RunStart, Script, Stop, begin, read_within,
 };
@@ -26,7 +26,7 @@ pub(crate) struct Plan {
 
 // Reads all records of a text.
 fn plan_text(alloc: Global, text: &[u8], limits: Limits) -> Result<Plan, Stop>
-    requires two { limits.readers ≡ READERS }
+    requires two { limits.readers ≡ SERVED_READERS }
     requires short { length text.now ≤ INPUT_LIMIT }
     ensures planned { IfOk result
         (λ p. plan_from limits (run_begun_with limits (opened_of (records default_config (strip_bom text.now))))
@@ -58,7 +58,7 @@ pub(crate) fn read_plan<R: Read + Drop>(
     ensures sound { IfOk result IsSound }
 {
     let limits = Limits {
-        readers: READERS as u8,
+        readers: SERVED_READERS as u8,
         journal: journal_limit,
     };
     let text = read_within(alloc, input, limits)?;

@@ -10,7 +10,7 @@ ghost use Rattle.board_serve.specs.Serving.{WritesOutcome};
 ghost use Rattle.board_text.specs.Text.{printed_run};
 ghost use Rattle.board_text.specs.declared.stops.Stop.TheVariants as stop;
 
-use crate::parts::READERS;
+use crate::parts::SERVED_READERS;
 use board_text::{Answer, Output, Stop, line_of_answer, line_of_audit, line_of_count};
 use council_core::Refusal;
 use std::io::Write;
@@ -40,7 +40,7 @@ fn write_count<W: Write>(out: &mut Output<'_, W>, reader: u64, count: u64) -> Re
 fn write_work<W: Write>(
     out: &mut Output<'_, W>,
     answers: &[Answer],
-    counts: [u64; READERS],
+    counts: [u64; SERVED_READERS],
 ) -> Result<(), Stop>
     ensures wrote { Plays out.old.held out.new.held result
         (printed_run (lines_of_work (map reply_of answers.now) counts)) }
@@ -57,7 +57,7 @@ fn write_work<W: Write>(
 pub(crate) fn tell<W: Write>(
     out: &mut Output<'_, W>,
     answers: &[Answer],
-    counts: [u64; READERS],
+    counts: [u64; SERVED_READERS],
     legal: bool,
 ) -> Result<(), Stop>
     ensures wrote { WritesOutcome out.old.held out.new.held legal result

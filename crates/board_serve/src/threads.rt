@@ -6,7 +6,7 @@ ghost use Rattle.board_text.specs.declared.stops.Stop.TheVariants as stop;
 
 use crate::gates::Gate;
 use crate::jobs::{Jobs, ReaderJob, WriterJob};
-use crate::parts::READERS;
+use crate::parts::SERVED_READERS;
 use crate::readings::ask_all;
 use crate::written::write_all;
 use board_text::Stop;
@@ -98,7 +98,7 @@ fn all_done(
 }
 
 // The jobs of the two readers.
-pub(crate) fn apart(readers: [ReaderJob; READERS]) -> (ReaderJob, ReaderJob)
+pub(crate) fn apart(readers: [ReaderJob; SERVED_READERS]) -> (ReaderJob, ReaderJob)
     ensures both { readers ≡ result.0 ∷ result.1 ∷ [] }
 {
     let [first, second] = readers;

@@ -9,11 +9,12 @@ use Rattle.board_text.specs.Text.{is_reader}
 use Rattle.board_text.specs.Words.{pair_of, number_within}
 use Rattle.board_text.specs.declared.bounds.Limits.{Limits}
 use Rattle.board_text.specs.declared.schedules.Act.{Act}
+use Rattle.board_text.specs.declared.schedules.TheConstants.{MAX_STEPS}
 use Rattle.board_text.specs.declared.schedules.Act.TheVariants as act
 
--- a number of steps: from 1 to 1,000
+-- a number of steps: from 1 to MAX_STEPS
 abbrev pub count_of : List ℕ → Option ℕ
-count_of field = option_and_then (number_within 1 1000) (number_of_digits field)
+count_of field = option_and_then (number_within 1 MAX_STEPS) (number_of_digits field)
 
 -- `submit` followed by the fields of a command record
 abbrev pub submission_of : List ℕ → Row → Option Act

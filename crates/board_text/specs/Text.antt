@@ -7,7 +7,7 @@ use Rattle.council_core.specs.Ledgers.{Ledger, start_verdict}
 use Rattle.council_core.specs.Refusals.{code_of}
 use Rattle.council_core.specs.Rolls.{Opening}
 use Rattle.council_core.specs.Sequential.{Sequential}
-use Rattle.council_core.specs.declared.limits.TheConstants.{MAX_COMMANDS}
+use Rattle.council_core.specs.declared.limits.TheConstants.{MAX_COMMANDS, MAX_MEMBERS}
 use Rattle.council_core.specs.declared.refusals.Refusal.{Refusal}
 use Rattle.council_core.specs.declared.refusals.Refusal.TheVariants.{BadHeader, BadLimit, BadRecord}
 use Rattle.council_core.specs.declared.refusals.Refusal.TheVariants.{NoScript, TooLong, TooManyMembers}
@@ -18,6 +18,7 @@ use Rattle.board_text.specs.declared.bounds.Limits.{Limits}
 use Rattle.board_text.specs.declared.faults.Fault.{Fault}
 use Rattle.board_text.specs.declared.requests.Request.{Request}
 use Rattle.board_text.specs.declared.requests.Request.TheVariants as ask
+use Rattle.board_text.specs.declared.input.TheConstants.{INPUT_LIMIT}
 
 -- the lines of a run, each without its line end, and the fault that ended it, if any
 pub record Run : Type 0 where
@@ -71,7 +72,7 @@ unfoldable pub opening_of : Opening → ℕ → List Row → Result Opened Fault
 opening_of members k [] = Err (fault_at NoScript 0)
 opening_of members k (r ∷ rs) =
     if is_mark r then Ok (members, k + 1, rs)
-    else if length members == 256 then Err (fault_at TooManyMembers 0)
+    else if length members == MAX_MEMBERS then Err (fault_at TooManyMembers 0)
     else member_then k (member_of r) (λ m. opening_of (members ++ m ∷ []) (k + 1) rs)
 
 -- a register with these members and an empty journal
@@ -104,7 +105,7 @@ in_range lim =
 unfoldable pub begun_of : Limits → List ℕ → Result Begun Fault
 begun_of lim bytes =
     if in_range lim
-    then if nat_le (length bytes) 4194304 then run_begun_with lim (opened_of (records default_config (strip_bom bytes)))
+    then if nat_le (length bytes) INPUT_LIMIT then run_begun_with lim (opened_of (records default_config (strip_bom bytes)))
     else Err (fault_at TooLong 0)
     else Err (fault_at BadLimit 0)
 

@@ -7,6 +7,7 @@ use Rattle.council_core.specs.Codes.{is_code}
 use Rattle.majority_rule.specs.declared.majorities.Majority.{Majority}
 use Rattle.majority_rule.specs.declared.majorities.Majority.TheVariants.{Half, Seventy, EightyFive, Quorum}
 use Rattle.board_text.specs.Numbers.{number_of_digits}
+use Rattle.council_core.specs.declared.limits.TheConstants.{CHAIRS, MAX_VOTES}
 
 -- a number, if it lies between two others
 abbrev pub number_within : ℕ → ℕ → ℕ → Option ℕ
@@ -14,11 +15,11 @@ number_within low high n = if nat_le low n && nat_le n high then Some n else Non
 
 -- a chair: a number from 1 to 32
 abbrev pub chair_of : List ℕ → Option ℕ
-chair_of field = option_and_then (number_within 1 32) (number_of_digits field)
+chair_of field = option_and_then (number_within 1 CHAIRS) (number_of_digits field)
 
 -- a member's votes: a number of at most 2^40
 abbrev pub votes_of : List ℕ → Option ℕ
-votes_of field = option_and_then (number_within 0 (2 ^ 40)) (number_of_digits field)
+votes_of field = option_and_then (number_within 0 MAX_VOTES) (number_of_digits field)
 
 -- a member's code: three ASCII capitals
 abbrev pub code_of_member : List ℕ → Option (List ℕ)

@@ -33,6 +33,6 @@ pub use lines::{
 pub use output::{Output, say};
 pub use replies::Answer;
 pub use requests::{Request, is_served, request_in};
-pub use schedules::{Act, act_in, is_scheduled};
+pub use schedules::{Act, MAX_STEPS, act_in, is_scheduled};
 pub use script::Script;
 pub use stops::Stop;

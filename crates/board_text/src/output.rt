@@ -23,6 +23,7 @@ pub struct Output<'a, W: Write> {
 impl<'a, W: Write> Model for Output<'a, W> {
     ghost use Rattle.std.specs.Prelude.{◌≤◌};
     ghost use Rattle.board_text.specs.Sinks.{Sink};
+    ghost use Rattle.board_text.specs.declared.input.TheConstants.{INTERRUPTIONS};
 
     ghost Value = { Sink };
 
@@ -34,7 +35,7 @@ impl<'a, W: Write> Model for Output<'a, W> {
       vain = o.out.vain;
     } };
 
-    ghost invariant = { λ o. (o.interrupted ≤ 1000) × (o.interrupted ≤ o.out.interruptions) };
+    ghost invariant = { λ o. (o.interrupted ≤ INTERRUPTIONS) × (o.interrupted ≤ o.out.interruptions) };
 }
 
 impl<'a, W: Write> Output<'a, W> {

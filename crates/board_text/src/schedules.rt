@@ -13,6 +13,9 @@ use crate::requests::{command_of_one, command_of_two};
 use council_core::Command;
 use csv::ByteRecord;
 
+/// The most steps that one record of a schedule asks for.
+pub const MAX_STEPS: u64 = 1000;
+
 /// A request of one record of a schedule.
 #[derive(Clone, Copy)]
 pub enum Act {
@@ -20,19 +23,19 @@ pub enum Act {
     Submit(Command),
     /// Begin a publication.
     Publish,
-    /// Take this number of steps of the writer, from 1 to 1,000.
+    /// Take this number of steps of the writer, from 1 to `MAX_STEPS`.
     Writer(u32),
     /// Take steps of a reader: its number, not yet checked against the limits, and the number of
-    /// steps, from 1 to 1,000.
+    /// steps, from 1 to `MAX_STEPS`.
     Reader(u64, u32),
 }
 
-// A number of steps, from 1 to 1,000.
+// A number of steps, from 1 to `MAX_STEPS`.
 fn count_in(field: &[u8]) -> Option<u32>
     ensures { result ≡ count_of field.now }
 {
     let number = number_of_field(field)?;
-    if number == 0 || 1000 < number {
+    if number == 0 || MAX_STEPS < number {
         return None;
     }
     Some(number as u32)

@@ -51,4 +51,4 @@ zero_entry = record { sum = 0; mask = 0 }
 
 -- worked example: chairs of 50, 49 and 1 votes
 abbrev pub three_chairs : List (ℕ × ℕ)
-three = (0, 50) ∷ (1, 49) ∷ (2, 1) ∷ []
+three_chairs = (0, 50) ∷ (1, 49) ∷ (2, 1) ∷ []

@@ -29,14 +29,14 @@ pub record At (quota up rest : ℕ) (rising falling : List Entry) : Type 0 where
 -- the next rising entry is passed
 pub record Rises (quota least up rest : ℕ) (rising falling : List Entry) : Type 0 where
   pub between : IsBetween quota (up + 1) rest rising falling
-  pub tally_total : pairs_where (is_enough quota least) (take (up + 1) rising) falling ≡ pairs_where (is_enough quota least) (take up rising) falling + partners_of least (entry_at rising up).mask (drop rest falling)
+  pub total : pairs_where (is_enough quota least) (take (up + 1) rising) falling ≡ pairs_where (is_enough quota least) (take up rising) falling + partners_of least (entry_at rising up).mask (drop rest falling)
   pub marks : (slot : ℕ) → pairs_where (λ a b. is_enough quota least a b && has_slot slot a) (take (up + 1) rising) falling
       ≡ pairs_where (λ a b. is_enough quota least a b && has_slot slot a) (take up rising) falling + bit_at (entry_at rising up).mask slot * partners_of least (entry_at rising up).mask (drop rest falling)
 
 -- the next falling entry is passed
 pub record Falls (quota least up rest : ℕ) (rising falling : List Entry) : Type 0 where
   pub between : IsBetween quota up (rest - 1) rising falling
-  pub tally_total : pairs_where (is_enough quota least) (drop (rest - 1) falling) rising ≡ pairs_where (is_enough quota least) (drop rest falling) rising + partners_of least (entry_at falling (rest - 1)).mask (drop up rising)
+  pub total : pairs_where (is_enough quota least) (drop (rest - 1) falling) rising ≡ pairs_where (is_enough quota least) (drop rest falling) rising + partners_of least (entry_at falling (rest - 1)).mask (drop up rising)
   pub marks : (slot : ℕ) → pairs_where (λ a b. is_enough quota least a b && has_slot slot a) (drop (rest - 1) falling) rising
       ≡ pairs_where (λ a b. is_enough quota least a b && has_slot slot a) (drop rest falling) rising + bit_at (entry_at falling (rest - 1)).mask slot * partners_of least (entry_at falling (rest - 1)).mask (drop up rising)
 

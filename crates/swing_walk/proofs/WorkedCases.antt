@@ -32,7 +32,7 @@ none_distinct = search rules
 -- the counts of two halves of chairs of one vote
 pub ones_meet : (quota least_size : ℕ) (left right : List Entry) → AreSubsets equal_chairs left → AreSubsets equal_chairs right → CountsMeet quota least_size equal_chairs equal_chairs left right
 ones_meet quota least_size left right are_left are_right =
-    let half : AreHalf ones = record { slots = ones_slots; distinct = ones_distinct } in
+    let half : AreHalf equal_chairs = record { slots = ones_slots; distinct = ones_distinct } in
     two_halves_law quota least_size equal_chairs equal_chairs left right half half are_left are_right
 
 -- the counts of three chairs and an empty half

@@ -44,7 +44,7 @@ three_large = (refl, refl, refl, refl)
 
 -- worked example: sixteen chairs of one vote each
 abbrev pub equal_chairs : List Chair
-ones = (0, 1) ∷ (1, 1) ∷ (2, 1) ∷ (3, 1) ∷ (4, 1) ∷ (5, 1) ∷ (6, 1) ∷ (7, 1)
+equal_chairs = (0, 1) ∷ (1, 1) ∷ (2, 1) ∷ (3, 1) ∷ (4, 1) ∷ (5, 1) ∷ (6, 1) ∷ (7, 1)
     ∷ (8, 1) ∷ (9, 1) ∷ (10, 1) ∷ (11, 1) ∷ (12, 1) ∷ (13, 1) ∷ (14, 1) ∷ (15, 1) ∷ []
 
 -- the chairs of two halves, by place: 0 to 15 on the left, 16 to 31 on the right

@@ -33,16 +33,16 @@ IsEven t = sum_by (λ n. n) t.high ≡ sum_by (λ n. n) t.low
 -- a tally has gained 1 for each pair that passes a test, at the mask of its left entry
 pub record CreditsLefts (test : Entry → Entry → Bool) (left right : List Entry) (old new : MaskTally) : Type 0 where
   pub even : IsEven new
-  pub tally_total : tally_total new ≡ tally_total old + pairs_where test left right
-  pub slot_amount : (slot : ℕ)
+  pub total : tally_total new ≡ tally_total old + pairs_where test left right
+  pub marked : (slot : ℕ)
       → slot_amount slot new ≡ slot_amount slot old + pairs_where (λ l r. test l r && has_slot slot l) left right
 
 -- a tally has gained 1 for each pair that passes a test, at the mask of its right entry
 pub record CreditsRights (test : Entry → Entry → Bool) (left right : List Entry) (old new : MaskTally)
     : Type 0 where
   pub even : IsEven new
-  pub tally_total : tally_total new ≡ tally_total old + pairs_where test left right
-  pub slot_amount : (slot : ℕ)
+  pub total : tally_total new ≡ tally_total old + pairs_where test left right
+  pub marked : (slot : ℕ)
       → slot_amount slot new ≡ slot_amount slot old + pairs_where (λ l r. test l r && has_slot slot r) left right
 
 -- two tallies together have exactly 1 for each pair that passes a test, at the mask of its first

@@ -49,7 +49,7 @@ AllHeld words replied readers = (r : ℕ) (stage : Stage) → slice_get readers 
 pub record Agrees (t : SequentialRun) (m : MachineState) : Type 0 where
   pub register : t.register ≡ sequential_of m
   pub held : AllHeld m.words t.replied m.readers
-  pub writing_of_staged : is_idle m.writer.phase ≡ false → t.begun ≡ true
+  pub begun : is_idle m.writer.phase ≡ false → t.begun ≡ true
 
 abbrev sequential_run : MachineState → (ℕ → Option Reply) → Bool → SequentialRun
 sequential_run m replied b = record { register = sequential_of m; replied = replied; begun = b }

@@ -10,4 +10,4 @@ loop-i-init c = (refl, refl, (λ k h. absurd (omega arith)), (λ k h. absurd (om
 pub returns : goal.returns
 returns c =
     let v = c.loop-i.invariant in
-    record { words = filled_in c.loop-i.all c.args.sheet.now c.args.readers v.0 c.of_fault-sheet c.requires.bound v.1 (λ k h. v.2 k (omega arith)) (λ k h. v.3 k (omega arith)) v.4 }
+    record { words = filled_in c.loop-i.all c.args.sheet.now c.args.readers v.0 c.told-sheet c.requires.bound v.1 (λ k h. v.2 k (omega arith)) (λ k h. v.3 k (omega arith)) v.4 }
