@@ -66,10 +66,10 @@ unfolding begun_of
 no_reader bytes = refl
 
 -- then the status is not 0
-abbrev told_well : Written
-told_well = written_streams (Some []) (Some (codes "fault,0,BadLimit" ++ 10 ∷ [])) (Some []) (Some [])
+abbrev reported_well : Written
+reported_well = written_streams (Some []) (Some (codes "fault,0,BadLimit" ++ 10 ∷ [])) (Some []) (Some [])
 
-stopped_run_exits_well : (bytes : List ℕ) → CallExits (Replay 0 1) bytes 0 told_well → ⊥
+stopped_run_exits_well : (bytes : List ℕ) → CallExits (Replay 0 1) bytes 0 reported_well → ⊥
 unfolding begun_of
 stopped_run_exits_well bytes (inl well) = let e = well.1.0 in cc e
 stopped_run_exits_well bytes (inr (inl fault)) = let e = fault.0 in cc e
@@ -79,8 +79,8 @@ stopped_run_exits_well bytes (inr (inr lacks)) = let e = lacks.status_is in cc e
 abbrev another_name : List ℕ
 another_name = codes "board: BadHeader" ++ 10 ∷ []
 
-abbrev told_another : Written
-told_another = written_streams (Some []) (Some (codes "fault,0,BadLimit" ++ 10 ∷ [])) (Some []) (Some another_name)
+abbrev reported_another : Written
+reported_another = written_streams (Some []) (Some (codes "fault,0,BadLimit" ++ 10 ∷ [])) (Some []) (Some another_name)
 
 begins : (x text : List ℕ) → AppendsFront (Some []) (Some x) text → (rest : List ℕ) × (text ≡ x ++ rest)
 begins x text (front, whole, new) = (whole.0, whole.1 ∙ ap (λ l. l ++ whole.0) (sym new))
@@ -104,7 +104,7 @@ not_of_a_read h = absurd (omega (arith, at 7 (begins another_name _ h).1))
 not_of_a_write : IsSaid (fault_at WriteFault 0) → ⊥
 not_of_a_write h = absurd (omega (arith, at 7 (begins another_name _ h).1))
 
-another_fault_named : (bytes : List ℕ) → CallExits (Replay 0 1) bytes 1 told_another → ⊥
+another_fault_named : (bytes : List ℕ) → CallExits (Replay 0 1) bytes 1 reported_another → ⊥
 unfolding begun_of
 another_fault_named bytes (inl well) = let e = well.0 in cc e
 another_fault_named bytes (inr (inl (one, (f, inl (end, new), said)))) =

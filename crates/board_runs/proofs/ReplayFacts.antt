@@ -16,7 +16,7 @@ use Rattle.board_text.specs.declared.stops.Stop.{Stop}
 use Rattle.board_text.specs.declared.stops.Stop.TheVariants as stop
 use Rattle.board_text.proofs.PlayFacts.{appends-same, front-before, front-none, text-after}
 use Rattle.board_text.proofs.BeginningFacts.{begun-records}
-use Rattle.board_text.proofs.PlayFacts.{FaultTold, front-then, line-then}
+use Rattle.board_text.proofs.PlayFacts.{FaultReported, front-then, line-then}
 
 nothing-written : (a : Option (List ℕ)) (lines : List Line) → AppendsLines a a lines
 nothing-written a lines = ([], front-none lines, Appends-nil a)
@@ -63,12 +63,12 @@ broken-ends a b c f g run broken p (inl e) =
 broken-ends a b c f g run broken p (inr e) =
     inr (inr (e.0, (text_of (p.0 ++ fault_line f ∷ []), inr (f, broken, (p.0, p.1, refl)), front-then a b c p.0 (fault_line f) p.2 e.1)))
 
-told-ends : (a b c : Option (List ℕ)) (f g : Fault) (run : Run) → run.end ≡ Some f → Appends a b (text_of run.lines) → Ends b c f g → Replays a c (Err g) run
-told-ends a b c f g run told p (inl e) =
-    let same : output run ≡ text_of (run.lines ++ fault_line f ∷ []) = ap (λ x. text_of (run.lines ++ end_lines x)) told in
-    rw e.0 (inl (told, appends-same a c _ _ (sym same) (line-then a b c run.lines (fault_line f) p e.1)))
-told-ends a b c f g run told p (inr e) =
-    let same : output run ≡ text_of (run.lines ++ fault_line f ∷ []) = ap (λ x. text_of (run.lines ++ end_lines x)) told in
+reported-ends : (a b c : Option (List ℕ)) (f g : Fault) (run : Run) → run.end ≡ Some f → Appends a b (text_of run.lines) → Ends b c f g → Replays a c (Err g) run
+reported-ends a b c f g run reported p (inl e) =
+    let same : output run ≡ text_of (run.lines ++ fault_line f ∷ []) = ap (λ x. text_of (run.lines ++ end_lines x)) reported in
+    rw e.0 (inl (reported, appends-same a c _ _ (sym same) (line-then a b c run.lines (fault_line f) p e.1)))
+reported-ends a b c f g run reported p (inr e) =
+    let same : output run ≡ text_of (run.lines ++ fault_line f ∷ []) = ap (λ x. text_of (run.lines ++ end_lines x)) reported in
     let P : List ℕ → Type 0 = λ t. AppendsFront a c t in
     inr (inr (e.0, (output run, inl refl, subst P (sym same) (front-then a b c run.lines (fault_line f) p e.1))))
 
@@ -77,12 +77,12 @@ ended-run : (a b c : Option (List ℕ)) (s : Stop) (f g : Fault) (run : Run) →
 ended-run a b c stop.OutOfMemory f g run p e q = let same : f ≡ fault_at why.OutOfMemory 0 = cc in broken-ends a b c f g run (inl same) p q
 ended-run a b c stop.ReadFault f g run p e q = let same : f ≡ fault_at why.ReadFault 0 = cc in broken-ends a b c f g run (inr same) p q
 ended-run a b c stop.WriteFault f g run p e q = cc e
-ended-run a b c (stop.Input h) f g run p e q = told-ends a b c f g run (p.0 ∙ e) p.1 q
+ended-run a b c (stop.Input h) f g run p e q = reported-ends a b c f g run (p.0 ∙ e) p.1 q
 
 -- the same of an input
-pub replayed : (from to : Giving) (a b c : Option (List ℕ)) (s : Stop) (g : Fault) (run : List ℕ → Run) → OfInput from to (λ bytes. Plays a b (Err s) (run bytes)) → FaultTold b c s g
+pub replayed : (from to : Giving) (a b c : Option (List ℕ)) (s : Stop) (g : Fault) (run : List ℕ → Run) → OfInput from to (λ bytes. Plays a b (Err s) (run bytes)) → FaultReported b c s g
     → OfInput from to (λ bytes. Replays a c (Err g) (run bytes))
-replayed from to a b c s g run p told = λ bytes is. ended-run a b c s told.fault g (run bytes) (p bytes is) told.stopped_by told.ends
+replayed from to a b c s g run p reported = λ bytes is. ended-run a b c s reported.fault g (run bytes) (p bytes is) reported.stopped_by reported.ends
 
 cut-by : (a b : Option (List ℕ)) (s : Stop) (run : Run) → fault_of s ≡ None → StopsIn a b s run → Replays a b (Err (fault_at why.WriteFault 0)) run
 cut-by a b stop.OutOfMemory run e p = cc e

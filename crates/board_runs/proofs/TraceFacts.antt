@@ -16,25 +16,25 @@ events-left n i e within = let same : n - i ≡ suc (n - (i + 1)) = omega (arith
 
 module _ (m : MachineState) (e : Event) (n i : ℕ) (within : i < n) where
   -- the lines of an event, and then those of the events after it
-  told-left : output_lines m (replicate (n - i) e) ≡ note_lines (transition m e).1 ++ output_lines (transition m e).0 (replicate (n - (i + 1)) e)
-  told-left = ap (λ es. output_lines m es) (events-left n i e within)
+  reported-left : output_lines m (replicate (n - i) e) ≡ note_lines (transition m e).1 ++ output_lines (transition m e).0 (replicate (n - (i + 1)) e)
+  reported-left = ap (λ es. output_lines m es) (events-left n i e within)
 
   pub after-left : (x : MachineState) → x ≡ (transition m e).0 → state_after_events m (replicate (n - i) e) ≡ state_after_events x (replicate (n - (i + 1)) e)
   after-left x same = ap (λ es. state_after_events m es) (events-left n i e within) ∙ ap (λ y. state_after_events y (replicate (n - (i + 1)) e)) (sym same)
 
   module _ (a b c : Option (List ℕ)) (done whole : List Line) (so_far : Appends a b (text_of done)) (parts : whole ≡ done ++ output_lines m (replicate (n - i) e)) where
-    pub told-goes : (u : Unit {0}) (x : MachineState) → Plays b c (Ok u) (printed_run (note_lines (transition m e).1)) → x ≡ (transition m e).0
+    pub reported-goes : (u : Unit {0}) (x : MachineState) → Plays b c (Ok u) (printed_run (note_lines (transition m e).1)) → x ≡ (transition m e).0
         → (more : List Line) × Appends a c (text_of more) × (whole ≡ more ++ output_lines x (replicate (n - (i + 1)) e))
-    told-goes u x p same = (
+    reported-goes u x p same = (
       done ++ note_lines (transition m e).1,
       lines-then a b c done (note_lines (transition m e).1) so_far p.1,
-      parts ∙ ap (λ ls. done ++ ls) told-left ∙ sym (append_assoc done (note_lines (transition m e).1) _)
+      parts ∙ ap (λ ls. done ++ ls) reported-left ∙ sym (append_assoc done (note_lines (transition m e).1) _)
           ∙ ap (λ y. (done ++ note_lines (transition m e).1) ++ output_lines y (replicate (n - (i + 1)) e)) (sym same),
     )
 
-    pub told-stops : (s d : Stop) → d ≡ s → Plays b c (Err s) (printed_run (note_lines (transition m e).1)) → Plays a c (Err d) (printed_run whole)
-    told-stops s d same p =
+    pub reported-stops : (s d : Stop) → d ≡ s → Plays b c (Err s) (printed_run (note_lines (transition m e).1)) → Plays a c (Err d) (printed_run whole)
+    reported-stops s d same p =
         let rest = output_lines (transition m e).0 (replicate (n - (i + 1)) e) in
         let interpreted : PlayedTo a b (printed_run whole) (printed_run (note_lines (transition m e).1 ++ rest)) =
-        record { lines = done; written = so_far; goes_on = ap printed_run (parts ∙ ap (λ ls. done ++ ls) told-left) } in
+        record { lines = done; written = so_far; goes_on = ap printed_run (parts ∙ ap (λ ls. done ++ ls) reported-left) } in
         plays-passed a c s d (printed_run whole) same (plays-whole a b c (Err s) _ _ interpreted (plays-more b c s (note_lines (transition m e).1) (printed_run rest) p))

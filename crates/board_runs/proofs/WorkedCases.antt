@@ -7,7 +7,7 @@ use Rattle.board_text.specs.Lines.{Line, fault_line}
 use Rattle.board_text.specs.Output.{IsBroken, IsFrontOf}
 use Rattle.board_text.specs.Text.{Run, fault_at, printed_run, stopped_run, text_of}
 use Rattle.board_text.specs.declared.faults.Fault.{Fault}
-use Rattle.board_runs.specs.Ended.{BreaksOff, CutsOff, EndsAsTold, IsBrokenOff, IsOutputOf, Replays}
+use Rattle.board_runs.specs.Ended.{BreaksOff, CutsOff, EndsAsReported, IsBrokenOff, IsOutputOf, Replays}
 
 -- a run of one line
 abbrev one_line : Run
@@ -44,15 +44,15 @@ line_left_out : Replays (Some []) (Some []) (Ok tt) one_line → ⊥
 line_left_out h = let e = h.1 in cc e
 
 -- a fault of the input is the run's own, and its line is written
-fault_of_a_good_run : (old new : Option (List ℕ)) → EndsAsTold old new bad_record one_line → ⊥
+fault_of_a_good_run : (old new : Option (List ℕ)) → EndsAsReported old new bad_record one_line → ⊥
 fault_of_a_good_run old new h = let e = h.0 in cc e
 
-fault_of_another_record : (old new : Option (List ℕ)) → EndsAsTold old new (fault_at BadRecord 6) (stopped_run bad_record) → ⊥
+fault_of_another_record : (old new : Option (List ℕ)) → EndsAsReported old new (fault_at BadRecord 6) (stopped_run bad_record) → ⊥
 fault_of_another_record old new h =
     let same : bad_record ≡ fault_at BadRecord 6 = let e = h.0 in cc e in
     absurd (omega (arith, place same))
 
-fault_without_its_line : EndsAsTold (Some []) (Some []) bad_record (stopped_run bad_record) → ⊥
+fault_without_its_line : EndsAsReported (Some []) (Some []) bad_record (stopped_run bad_record) → ⊥
 unfolding digits
 fault_without_its_line h = let e = h.1 in cc e
 
@@ -116,11 +116,11 @@ no_text_with_seven text rest (inl e) s = cc (e, s)
 no_text_with_seven text rest (inr (f, broken, off)) s = let e = sym (broken_off_as f text off) ∙ s in cc e
 
 cuts_off_to_seven : CutsOff (Some []) (Some seven) (fault_at WriteFault 0) (printed_run []) → ⊥
-cuts_off_to_seven (told, (text, written, (front, whole, new))) =
+cuts_off_to_seven (reported, (text, written, (front, whole, new))) =
     no_text_with_seven text whole.0 written (begins_with_seven text front whole.0 whole.1 new)
 
 replays_to_seven : Replays (Some []) (Some seven) (Err (fault_at WriteFault 0)) (printed_run []) → ⊥
-replays_to_seven (inl told) = let e = told.0 in cc e
+replays_to_seven (inl reported) = let e = reported.0 in cc e
 replays_to_seven (inr (inl broken)) = broken_by_a_write broken.0
 replays_to_seven (inr (inr cut)) = cuts_off_to_seven cut
 

@@ -28,10 +28,10 @@ CutsOff old new f run = (f ≡ fault_at why.WriteFault 0)
     × ((text : List ℕ) × IsOutputOf run text × AppendsFront old new text)
 
 -- a fault of the input: the whole text of the run
-abbrev pub EndsAsTold : Option (List ℕ) → Option (List ℕ) → Fault → Run → Type 0
-EndsAsTold old new f run = (run.end ≡ Some f) × Appends old new (output run)
+abbrev pub EndsAsReported : Option (List ℕ) → Option (List ℕ) → Fault → Run → Type 0
+EndsAsReported old new f run = (run.end ≡ Some f) × Appends old new (output run)
 
 -- the text that `replay` wrote and its result
 abbrev pub Replays : Option (List ℕ) → Option (List ℕ) → Result (Unit {0}) Fault → Run → Type 0
 Replays old new (Ok _) run = (run.end ≡ None) × Appends old new (output run)
-Replays old new (Err f) run = EndsAsTold old new f run ⊎ BreaksOff old new f run ⊎ CutsOff old new f run
+Replays old new (Err f) run = EndsAsReported old new f run ⊎ BreaksOff old new f run ⊎ CutsOff old new f run

@@ -14,7 +14,7 @@ use Rattle.board_share.specs.Writers.{Publisher}
 use Rattle.board_text.specs.Replies.{reply_of}
 use Rattle.board_serve.specs.Outcomes.{IsBrought, IsOutcome, IsServed, omegas_by}
 use Rattle.board_serve.specs.Parts.{call_of_order}
-use Rattle.board_serve.specs.Plans.{Planned, calls_of, told_by}
+use Rattle.board_serve.specs.Plans.{Planned, calls_of, reported_by}
 use Rattle.board_text.specs.Text.{unpublished_register}
 use Rattle.board_serve.specs.Work.{IsRising, cuts_of, omegas, register_of}
 use Rattle.board_serve.specs.Jobs.{AreDone, AreRead, HasAsked, HasWritten}
@@ -89,16 +89,16 @@ module _ (p : Planned) (o : Outcome) (done : Jobs) (b : IsBrought done o) where
       let calls : List Call = map call_of_order jobs.writer.orders.items in
       let written = ran.written in
       let asked : calls ≡ calls_of p = ap (map call_of_order) same in
-      let told : replies_of (register_of jobs.writer.writer) calls ≡ told_by p = ap (λ (s : Sequential). replies_of s calls) start ∙ ap (replies_of p.0) asked in
+      let reported : replies_of (register_of jobs.writer.writer) calls ≡ reported_by p = ap (λ (s : Sequential). replies_of s calls) start ∙ ap (replies_of p.0) asked in
       let state : register_of done.writer.writer ≡ state_after p.0 (calls_of p) = written.register ∙ ap (λ (s : Sequential). state_after s calls) start ∙ ap (state_after p.0) asked in
       let opening : done.writer.writer.ledger.opening ≡ p.0.ledger.opening = ap (λ (s : Sequential). s.ledger.opening) state ∙ opening-kept p.0 (calls_of p) in
       let read = subst (λ (asked : List (List Majority)). AreReadings p.0.ledger.opening asked done.readers) asks (all-read p.0.ledger.opening jobs.readers done.readers new ran.read) in
       record {
-        answers = ap (map reply_of) b.answers ∙ written.answers ∙ told;
+        answers = ap (map reply_of) b.answers ∙ written.answers ∙ reported;
         served = record {
           journal = b.journal ∙ ap (λ (s : Sequential). s.ledger.journal) state;
           legal_journal = subst (λ (l : Opening). IsLegal l o.served.journal.items) opening b.legal;
-          cuts = b.cuts ∙ written.cuts ∙ ap cuts_of told;
+          cuts = b.cuts ∙ written.cuts ∙ ap cuts_of reported;
           counts = rw b.readings read.counts;
           legal = rw b.readings read.legal;
           rising = rw b.readings read.rising;
@@ -109,7 +109,7 @@ module _ (p : Planned) (o : Outcome) (done : Jobs) (b : IsBrought done o) where
 -- what the publications answered are cuts of the journal, with 0 before them
 pub served-cuts : (p : Planned) (s : Served) → IsServed p s → AreCuts s.journal.items (0 ∷ s.cuts.items)
 served-cuts p s served =
-    let told : List ℕ = cuts_of (told_by p) in
-    let P : List Command → Type 0 = λ journal. AreCuts journal (0 ∷ told) in
+    let reported : List ℕ = cuts_of (reported_by p) in
+    let P : List Command → Type 0 = λ journal. AreCuts journal (0 ∷ reported) in
     let Q : List ℕ → Type 0 = λ cuts. AreCuts s.journal.items (0 ∷ cuts) in
     subst Q (sym served.cuts) (subst P (sym served.journal) (cuts-in_order p.0 (calls_of p)))

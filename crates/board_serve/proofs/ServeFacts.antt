@@ -18,7 +18,7 @@ use Rattle.board_serve.specs.declared.served.Served.{Served}
 use Rattle.board_text.specs.declared.stops.Stop.{Stop}
 use Rattle.board_text.specs.declared.stops.Stop.TheVariants as stop
 use Rattle.board_text.proofs.PlayFacts.{front-before, plays-after, plays-more, text-after}
-use Rattle.board_text.proofs.PlayFacts.{FaultTold, front-then, line-then}
+use Rattle.board_text.proofs.PlayFacts.{FaultReported, front-then, line-then}
 
 -- the line of an answer is that of the reply
 pub mapped : (answers : List Answer) → map (λ a. reply_line (reply_of a)) answers ≡ map reply_line (map reply_of answers)
@@ -51,14 +51,14 @@ module _ (a b : Option (List ℕ)) (answers : List Answer) (n m : ℕ) where
       (plays-after b c z (reader_line 1 n ∷ []) r (printed_run (reader_line 2 m ∷ [])) q.1 s))
 
 -- the lines of the work were cut
-pub tells-cut : (a b : Option (List ℕ)) (legal : Bool) (e d : Stop) (ls : List Line) → d ≡ e → e ≡ stop.WriteFault → Plays a b (Err e) (printed_run ls) → WritesOutcome a b legal (Err d) ls
-tells-cut a b legal stop.WriteFault d ls same only p =
+pub reports-cut : (a b : Option (List ℕ)) (legal : Bool) (e d : Stop) (ls : List Line) → d ≡ e → e ≡ stop.WriteFault → Plays a b (Err e) (printed_run ls) → WritesOutcome a b legal (Err d) ls
+reports-cut a b legal stop.WriteFault d ls same only p =
     let P : Stop → Type 0 = λ s. WritesOutcome a b legal (Err s) ls in
     let Q : List ℕ → Type 0 = λ t. IsFrontOf p.0 t in
     subst P (sym same) (p.0, subst Q (sym (text-after ls (audit_line ∷ []))) (front-before p.0 (text_of ls) (text_of (audit_line ∷ [])) p.1), p.2)
-tells-cut a b legal stop.OutOfMemory d ls same only p = cc only
-tells-cut a b legal stop.ReadFault d ls same only p = cc only
-tells-cut a b legal (stop.Input f) d ls same only p = cc only
+reports-cut a b legal stop.OutOfMemory d ls same only p = cc only
+reports-cut a b legal stop.ReadFault d ls same only p = cc only
+reports-cut a b legal (stop.Input f) d ls same only p = cc only
 
 -- the line of an audit that found the records legal
 pub record AuditLine (legal : Bool) : Type 0 where
@@ -67,13 +67,13 @@ pub record AuditLine (legal : Bool) : Type 0 where
   pub spelled : line ≡ audit_line
 
 -- the audit's line was written, or cut
-pub tells-audit : (a b c : Option (List ℕ)) (legal : Bool) (u : Unit {0}) (r : Result (Unit {0}) Stop) (ls : List Line) (audit : AuditLine legal) → Plays a b (Ok u) (printed_run ls) → Writes b c r (line_text audit.line)
+pub reports-audit : (a b c : Option (List ℕ)) (legal : Bool) (u : Unit {0}) (r : Result (Unit {0}) Stop) (ls : List Line) (audit : AuditLine legal) → Plays a b (Ok u) (printed_run ls) → Writes b c r (line_text audit.line)
     → WritesOutcome a c legal r ls
-tells-audit a b c legal u (Ok v) ls audit p w = (audit.found_legal, line-then a b c ls audit_line p.1 (subst (λ (x : Line). Appends b c (line_text x)) audit.spelled w))
-tells-audit a b c legal u (Err stop.WriteFault) ls audit p w = front-then a b c ls audit_line p.1 (subst (λ (x : Line). AppendsFront b c (line_text x)) audit.spelled w.1)
-tells-audit a b c legal u (Err stop.OutOfMemory) ls audit p w = cc w.0
-tells-audit a b c legal u (Err stop.ReadFault) ls audit p w = cc w.0
-tells-audit a b c legal u (Err (stop.Input f)) ls audit p w = cc w.0
+reports-audit a b c legal u (Ok v) ls audit p w = (audit.found_legal, line-then a b c ls audit_line p.1 (subst (λ (x : Line). Appends b c (line_text x)) audit.spelled w))
+reports-audit a b c legal u (Err stop.WriteFault) ls audit p w = front-then a b c ls audit_line p.1 (subst (λ (x : Line). AppendsFront b c (line_text x)) audit.spelled w.1)
+reports-audit a b c legal u (Err stop.OutOfMemory) ls audit p w = cc w.0
+reports-audit a b c legal u (Err stop.ReadFault) ls audit p w = cc w.0
+reports-audit a b c legal u (Err (stop.Input f)) ls audit p w = cc w.0
 
 -- out of memory, or a failed read, before anything is written
 broken-after : (spec : Result Planned Fault) (f : Fault) → IsBroken f → EndsAfter spec [] f
@@ -93,19 +93,19 @@ held-serve a e p (inl memory) = rw memory ([], inl (refl, inl (inl refl)), Appen
 held-serve a e p (inr closed) = rw closed ([], inl (refl, inr refl), Appends-nil a)
 
 -- the lines of the work, and what the audit found, were written, or stopped
-told-serve : (a b : Option (List ℕ)) (legal : Bool) (e : Stop) (p : Planned) → (legal ≡ false → Differs p) → WritesOutcome a b legal (Err e) (work_lines p) → ServesTo a b (Err e) (Ok p)
-told-serve a b legal stop.OutOfMemory p differs t = absurd t
-told-serve a b legal stop.ReadFault p differs t = absurd t
-told-serve a b legal stop.WriteFault p differs t = (text_of (work_lines p ++ audit_line ∷ []), inl (p, refl, refl), t)
-told-serve a b legal (stop.Input f) p differs t = (work_lines p, inr (refl, t.1, differs t.0), t.2)
+reported-serve : (a b : Option (List ℕ)) (legal : Bool) (e : Stop) (p : Planned) → (legal ≡ false → Differs p) → WritesOutcome a b legal (Err e) (work_lines p) → ServesTo a b (Err e) (Ok p)
+reported-serve a b legal stop.OutOfMemory p differs t = absurd t
+reported-serve a b legal stop.ReadFault p differs t = absurd t
+reported-serve a b legal stop.WriteFault p differs t = (text_of (work_lines p ++ audit_line ∷ []), inl (p, refl, refl), t)
+reported-serve a b legal (stop.Input f) p differs t = (work_lines p, inr (refl, t.1, differs t.0), t.2)
 
 ended : (a b c : Option (List ℕ)) (f g : Fault) (spec : Result Planned Fault) → StopsServe a b (Some f) spec → Ends b c f g → Serves a c (Err g) spec
 ended a b c f g spec p (inl h) = rw h.0 (inl (p.0, p.1, line-then a b c p.0 (fault_line f) p.2 h.1))
 ended a b c f g spec p (inr h) = inr (h.0, (text_of (p.0 ++ fault_line f ∷ []), inr (p.0, f, p.1, refl), front-then a b c p.0 (fault_line f) p.2 h.1))
 
 -- the line of the fault, after what was written
-pub ended-serve : (a b c : Option (List ℕ)) (s : Stop) (g : Fault) (spec : Result Planned Fault) → StopsServe a b (fault_of s) spec → FaultTold b c s g → Serves a c (Err g) spec
-ended-serve a b c s g spec p told = ended a b c told.fault g spec (subst (λ (x : Option Fault). StopsServe a b x spec) told.stopped_by p) told.ends
+pub ended-serve : (a b c : Option (List ℕ)) (s : Stop) (g : Fault) (spec : Result Planned Fault) → StopsServe a b (fault_of s) spec → FaultReported b c s g → Serves a c (Err g) spec
+ended-serve a b c s g spec p reported = ended a b c reported.fault g spec (subst (λ (x : Option Fault). StopsServe a b x spec) reported.stopped_by p) reported.ends
 
 pub cut-serve : (a b : Option (List ℕ)) (s : Stop) (g : Fault) (spec : Result Planned Fault) → StopsServe a b (fault_of s) spec → fault_of s ≡ None → g ≡ fault_at why.WriteFault 0 → Serves a b (Err g) spec
 cut-serve a b s g spec p e w = inr (w, subst (λ (x : Option Fault). StopsServe a b x spec) e p)
@@ -133,12 +133,12 @@ pub record WorkAudited (p : Planned) (s : Served) (legal : Bool) : Type 0 where
   pub differs : legal ≡ false → ServedLegalRecords p s → ⊥
 
 -- the lines of the work were stopped, and so was the text of the run
-pub told-input : (a b : Option (List ℕ)) (legal : Bool) (e : Stop) (s : Served) (spec : Result Planned Fault) (ls : List Line) (asked : WorkAsked spec ls)
+pub reported-input : (a b : Option (List ℕ)) (legal : Bool) (e : Stop) (s : Served) (spec : Result Planned Fault) (ls : List Line) (asked : WorkAsked spec ls)
     → WorkAudited asked.plan s legal → WritesOutcome a b legal (Err e) ls → ServesTo a b (Err e) spec
-told-input a b legal e s spec ls asked done t =
+reported-input a b legal e s spec ls asked done t =
     let P : List Line → Type 0 = λ l. WritesOutcome a b legal (Err e) l in
     let Q : Result Planned Fault → Type 0 = λ r. ServesTo a b (Err e) r in
-    subst Q (sym asked.found) (told-serve a b legal e asked.plan (λ no. (s, done.served, done.differs no)) (subst P asked.spelled t))
+    subst Q (sym asked.found) (reported-serve a b legal e asked.plan (λ no. (s, done.served, done.differs no)) (subst P asked.spelled t))
 
 -- all was written
 pub whole-input : (a b : Option (List ℕ)) (legal : Bool) (u : Unit {0}) (s : Served) (spec : Result Planned Fault) (ls : List Line) (asked : WorkAsked spec ls)

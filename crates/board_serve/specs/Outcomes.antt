@@ -5,7 +5,7 @@ use Rattle.council_core.specs.Sequential.{AreLegalRecords, state_after}
 use Rattle.majority_rule.specs.declared.majorities.Majority.{Majority}
 use Rattle.board_share.specs.Readers.{IsLegalSheet}
 use Rattle.board_text.specs.Replies.{reply_of}
-use Rattle.board_serve.specs.Plans.{Planned, calls_of, told_by}
+use Rattle.board_serve.specs.Plans.{Planned, calls_of, reported_by}
 use Rattle.board_serve.specs.Work.{IsRising, cuts_of, omegas}
 use Rattle.board_serve.specs.declared.jobs.Jobs.{Jobs}
 use Rattle.board_serve.specs.declared.outcomes.Outcome.{Outcome}
@@ -40,7 +40,7 @@ omegas_by (ms ∷ mss) (words ∷ sheets) = omegas ms words ∷ omegas_by mss sh
 pub record IsServed (p : Planned) (s : Served) : Type 0 where
   pub journal : s.journal.items ≡ (state_after p.0 (calls_of p)).ledger.journal
   pub legal_journal : IsLegal p.0.ledger.opening s.journal.items
-  pub cuts : s.cuts.items ≡ cuts_of (told_by p)
+  pub cuts : s.cuts.items ≡ cuts_of (reported_by p)
   pub counts : map length (sheets_of s) ≡ map length p.1.asked
   pub legal : All (λ sheets. All (IsLegalSheet p.0.ledger.opening) sheets) (sheets_of s)
   pub rising : All (IsRising 0) (sheets_of s)
@@ -48,7 +48,7 @@ pub record IsServed (p : Planned) (s : Served) : Type 0 where
 
 -- IsServed holds, and the answers are the sequential register's replies
 pub record IsOutcome (p : Planned) (o : Outcome) : Type 0 where
-  pub answers : map reply_of o.answers.items ≡ told_by p
+  pub answers : map reply_of o.answers.items ≡ reported_by p
   pub served : IsServed p o.served
 
 -- the journal, the cuts, with the start's cut 0 before them, and the readings are legal records

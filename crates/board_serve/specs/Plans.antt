@@ -67,9 +67,9 @@ abbrev pub calls_of : Planned → List Call
 calls_of p = map call_of_order p.1.writer
 
 -- the sequential register's replies to the writer's records
-abbrev pub told_by : Planned → List Reply
-told_by p = replies_of p.0 (calls_of p)
+abbrev pub reported_by : Planned → List Reply
+reported_by p = replies_of p.0 (calls_of p)
 
 -- the lines written before the result of the audit
 abbrev pub work_lines : Planned → List Line
-work_lines p = lines_of_work (told_by p) (map length p.1.asked)
+work_lines p = lines_of_work (reported_by p) (map length p.1.asked)

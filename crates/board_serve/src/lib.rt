@@ -9,10 +9,10 @@ mod outcomes;
 mod parts;
 mod plans;
 mod readings;
+mod reporting;
 mod seats;
 mod served;
 mod serving;
-mod telling;
 mod threads;
 mod written;
 

@@ -15,8 +15,8 @@ use crate::audits::are_legal;
 use crate::gates::Gate;
 use crate::outcomes::{Outcome, carry_out};
 use crate::plans::{Plan, read_plan};
+use crate::reporting::report;
 use crate::served::Served;
-use crate::telling::tell;
 use board_text::{Fault, INTERRUPTIONS, Output, READS, RunStart, Stop, end_with};
 use council_core::Refusal;
 use recording_io::RecordingReader;
@@ -70,7 +70,7 @@ fn serve_to<G: Gate, T: Threads + Wait + Sync, R: Read + Drop, W: Write>(
     let plan = read_plan(alloc, input, journal_limit)?;
     let counts = plan.parts.counts();
     let (outcome, legal) = perform(rt, alloc, gate, plan)?;
-    tell(out, outcome.answers.as_slice(), counts, legal)?;
+    report(out, outcome.answers.as_slice(), counts, legal)?;
     Ok(outcome.served)
 }
 

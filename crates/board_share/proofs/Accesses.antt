@@ -7,20 +7,20 @@ use Rattle.two_copy_steps.specs.Actions.{Action}
 -- the table's step, its word, what that word becomes, and what the step returns to the seat, both
 -- by the number found there
 pub record SeatAccess : Type 0 where
-  pub taken : Step Unit
+  pub staged : Step Unit
   pub word : ℕ
   pub becomes : ℕ → ℕ
-  pub told : ℕ → ℕ
+  pub reported : ℕ → ℕ
 
 -- a load returns the number that it found, and a store the number that it stored
 abbrev pub load_of : ℕ → ℕ → SeatAccess
-load_of slots i = record { taken = step slots i 0 0 maybe.none; word = i; becomes = λ n. n; told = λ n. n }
+load_of slots i = record { staged = step slots i 0 0 maybe.none; word = i; becomes = λ n. n; reported = λ n. n }
 
 abbrev pub store_of : ℕ → ℕ → ℕ → SeatAccess
-store_of slots i x = record { taken = step slots i x 0 maybe.none; word = i; becomes = λ _. x; told = λ _. x }
+store_of slots i x = record { staged = step slots i x 0 maybe.none; word = i; becomes = λ _. x; reported = λ _. x }
 
 -- an access does what an action does: its word becomes the same, and the number returned leads to
 -- the same view as the number found
 pub record Does {V : Type 0} (action : Action V) (access : SeatAccess) : Type 0 where
   pub becomes : (n : ℕ) → access.becomes n ≡ action.becomes n
-  pub leads : (n : ℕ) → action.after (access.told n) ≡ action.after n
+  pub leads : (n : ℕ) → action.after (access.reported n) ≡ action.after n

@@ -47,7 +47,7 @@ module _ (table seat : TableId) (me : Me Unit View) (l : Ledger) (copy k : ℕ) 
 
   pub word_becomes : (x : ℕ) → x ≡ get_or (sheet_of l) k 0 → (n : ℕ) → x ≡ (next_action None me).becomes n
   word_becomes x e n =
-      e ∙ (λ i. get_or (sheet (sym h.opening i) (sym h.taken i)) k 0) ∙ ap (λ (d : Action WriterView). d.becomes n) (sym action_is)
+      e ∙ (λ i. get_or (sheet (sym h.opening i) (sym h.staged i)) k 0) ∙ ap (λ (d : Action WriterView). d.becomes n) (sym action_is)
 
   pub same_after : (x n : ℕ) → (next_action None me).after x ≡ (next_action None me).after n
   same_after x n = subst (λ (d : Action WriterView). d.after x ≡ d.after n) (sym action_is) refl
@@ -79,7 +79,7 @@ module _ (table : TableId) (l : Ledger) (copy : ℕ) where
         bare = h.bare;
         next = refl;
         opening = h.opening;
-        taken = h.taken;
+        staged = h.staged;
         copy_is = h.copy_is;
         knows = subst (λ (m : Me Unit View). KnowsAfter me'.0.history (writer_or m.0.writer).1) to.next to.knows;
       }

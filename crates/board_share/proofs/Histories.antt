@@ -26,7 +26,7 @@ use Rattle.two_copy_steps.proofs.Journals.{IsAccepted}
 use Rattle.two_copy_steps.proofs.TransitionFacts.{reader_is}
 use Rattle.two_copy_steps.proofs.TransitionSteps.{view_at}
 use Rattle.board_share.specs.declared.views.History.{History}
-use Rattle.board_share.specs.Histories.{machine_of, known_after, last_note, last_told, history_with}
+use Rattle.board_share.specs.Histories.{machine_of, known_after, last_note, last_reported, history_with}
 
 -- the cuts and records after one list of events and then another
 pub auxiliary_append : (events more : List Event) (m : MachineState) (p : Auxiliary) → auxiliary_steps m p (events ++ more) ≡ auxiliary_steps (state_after_events m events) (auxiliary_steps m p events) more
@@ -76,13 +76,13 @@ known_longer h events =
     (λ i. state_of (machine_longer h events i) (auxiliary_append h.events events (machine_at_start h.begun.register h.begun.readers) (auxiliary_start h.begun.register h.begun.readers) i))
 
 -- the last of some notes
-last_pushed : (told : List Note) (note : Note) → last_note (told ++ note ∷ []) ≡ Some note
+last_pushed : (reported : List Note) (note : Note) → last_note (reported ++ note ∷ []) ≡ Some note
 last_pushed [] note = refl
 last_pushed (x ∷ []) note = refl
-last_pushed (x ∷ y ∷ told) note = last_pushed (y ∷ told) note
+last_pushed (x ∷ y ∷ reported) note = last_pushed (y ∷ reported) note
 
-pub told_last : (h : History) (events : List Event) (event : Event) → last_told (history_with h (events ++ event ∷ [])) ≡ Some (transition (state_after_events (machine_of h) events) event).1
-told_last h events event =
+pub reported_last : (h : History) (events : List Event) (event : Event) → last_reported (history_with h (events ++ event ∷ [])) ≡ Some (transition (state_after_events (machine_of h) events) event).1
+reported_last h events event =
     let m = machine_at_start h.begun.register h.begun.readers in
     ap (λ (l : List Event). last_note (notes m l)) (sym (append_assoc h.events events (event ∷ [])))
     ∙ (ap last_note (notes_append (h.events ++ events) (event ∷ []) m)
@@ -115,8 +115,8 @@ module _ (h : History) (r : ℕ) (v : ReaderView) (there : slice_get (known_afte
       ∙ (reader_is (machine_of h) (auxiliary_of h) (even_of h) r v.stage found_there.0
       ∙ ap (λ (readings : List (List ℕ)). read_by (known_after h) r (view_at v.stage readings)) found_there.1)
 
-  pub reader_told : last_told (history_with h (Reader (suc r) ∷ [])) ≡ Some (stage_note (suc r) v.stage)
-  reader_told = told_last h [] (Reader (suc r)) ∙ ap (λ (o : Option Stage). Some (reader_transition (machine_of h) r o).1) found_there.0
+  pub reader_reported : last_reported (history_with h (Reader (suc r) ∷ [])) ≡ Some (stage_note (suc r) v.stage)
+  reader_reported = reported_last h [] (Reader (suc r)) ∙ ap (λ (o : Option Stage). Some (reader_transition (machine_of h) r o).1) found_there.0
 
   pub reader_register : (machine_of (history_with h (Reader (suc r) ∷ []))).ledger ≡ (machine_of h).ledger
   reader_register =

@@ -2,7 +2,7 @@
 use Rattle.std.proofs.Common.{◌≡◌}
 use Rattle.atomic_table.specs.Table as table
 use Rattle.council_core.specs.Ledgers.{IsLedger}
-use Rattle.two_copy_steps.specs.Runs.{TellsReplies}
+use Rattle.two_copy_steps.specs.Runs.{ReportsReplies}
 use Rattle.two_copy_steps.specs.States.{HasRecords, IsApart}
 use Rattle.board_share.specs.declared.views.View.{View}
 use Rattle.board_share.specs.declared.views.Beginning.{Beginning}
@@ -20,5 +20,5 @@ module _ (holds : Beginning → table.State Unit View → Type 0) (begun : Begin
   apart_on_this_board : ApartLaw holds → (h : History) × (h.begun ≡ begun) × IsApart (known_after h)
   apart_on_this_board law = let found = law begun s held in (found.0, found.1, found.3)
 
-  replies_on_this_board : SharedRepliesLaw holds → IsLedger begun.register → (h : History) × (h.begun ≡ begun) × TellsReplies begun.register begun.readers h.events
+  replies_on_this_board : SharedRepliesLaw holds → IsLedger begun.register → (h : History) × (h.begun ≡ begun) × ReportsReplies begun.register begun.readers h.events
   replies_on_this_board law ledger = let found = law begun s ledger held in (found.0, found.1, found.3)

@@ -13,7 +13,7 @@ use Rattle.two_copy_steps.specs.declared.views.Phase.TheVariants.{Idle, Seeing, 
 use Rattle.two_copy_steps.specs.Actions.{all_true, filled_writing, first_false, writing_with_quiescent}
 use Rattle.two_copy_steps.specs.Publications.{StaySeen}
 use Rattle.board_share.specs.declared.views.History.{History}
-use Rattle.board_share.specs.Histories.{Adds, is_writers, last_told}
+use Rattle.board_share.specs.Histories.{Adds, is_writers, last_reported}
 use Rattle.board_share.specs.Steps.{begin_events, step_note}
 use Rattle.board_share.specs.Writers.{WriterSeen, known_at, WroteSteps, Wrote, Underway, Filled, IsFilling, IsIdle, IsSeeing, unseen_count}
 use Rattle.board_share.proofs.Prefixes.{adds_then}
@@ -51,10 +51,10 @@ pub knows_after : (d d' : WriterSeen) (found : ℕ) (p : Phase) → Wrote d d' f
 knows_after d d' found p w e = w.knows ∙ ap (λ (q : Phase). (action_in d.ledger.opening (known_at d) q).after found) e
 
 pub way_on : (a b c : WriterSeen) → Underway a b → Underway b c → Underway a c
-way_on a b c x y = record { table = y.table ∙ x.table; ledger = y.ledger ∙ x.ledger; side = y.side ∙ x.side; published = y.published ∙ x.published; taken = y.taken ∙ x.taken; cuts = y.cuts ∙ x.cuts }
+way_on a b c x y = record { table = y.table ∙ x.table; ledger = y.ledger ∙ x.ledger; side = y.side ∙ x.side; published = y.published ∙ x.published; staged = y.staged ∙ x.staged; cuts = y.cuts ∙ x.cuts }
 
 -- a step that leaves side, lists and cuts
-way : (d d' : WriterSeen) (found : ℕ) (v : WriterView) → Wrote d d' found → known_at d' ≡ v → v.state.side ≡ (known_at d).state.side → v.state.published ≡ (known_at d).state.published → v.state.taken ≡ (known_at d).state.taken
+way : (d d' : WriterSeen) (found : ℕ) (v : WriterView) → Wrote d d' found → known_at d' ≡ v → v.state.side ≡ (known_at d).state.side → v.state.published ≡ (known_at d).state.published → v.state.staged ≡ (known_at d).state.staged
     → v.cuts ≡ (known_at d).cuts → Underway d d'
 way d d' found v w e a b c k =
     record {
@@ -62,7 +62,7 @@ way d d' found v w e a b c k =
       ledger = w.ledger;
       side = ap (λ (x : WriterView). x.state.side) e ∙ a;
       published = ap (λ (x : WriterView). x.state.published) e ∙ b;
-      taken = ap (λ (x : WriterView). x.state.taken) e ∙ c;
+      staged = ap (λ (x : WriterView). x.state.staged) e ∙ c;
       cuts = ap (λ (x : WriterView). x.cuts) e ∙ k;
     }
 
@@ -87,7 +87,7 @@ module _ (d d' : WriterSeen) (found : ℕ) (w : Wrote d d' found) (e : (known_at
   pub out_seeing : out ≡ true → IsSeeing d → IsSeeing d'
   out_seeing h s =
       record {
-        taken = (out_way h).taken ∙ (s.taken ∙ ap (λ l. l.journal) (sym w.ledger));
+        staged = (out_way h).staged ∙ (s.staged ∙ ap (λ l. l.journal) (sym w.ledger));
         phase = ap (λ (x : WriterView). x.state.phase) (look_at true h) ∙ ap (λ (o : List Bool). cond (all_true o) (Filling 0) Seeing) (sym (out_is h));
       }
 
@@ -143,7 +143,7 @@ filled_first d d' found w f =
       way = on;
       seen = ap (λ (x : WriterView). x.state.seen_out) e;
       due = w.due;
-      stored = record { taken = on.taken ∙ (f.taken ∙ ap (λ l. l.journal) (sym w.ledger)); phase = ap (λ (x : WriterView). x.state.phase) e };
+      stored = record { staged = on.staged ∙ (f.staged ∙ ap (λ l. l.journal) (sym w.ledger)); phase = ap (λ (x : WriterView). x.state.phase) e };
       steps = wrote_one d d' found w;
     }
 
@@ -169,6 +169,6 @@ none_unseen (true ∷ bs) e = none_unseen bs e
 none_unseen (false ∷ bs) e = absurd cc
 
 -- the blocking reader is reported
-pub told_busy : (d d' : WriterSeen) (found : ℕ) (out : Bool) → Wrote d d' found → (known_at d).state.phase ≡ Seeing → out ≡ eqb found 0 → out ≡ false → last_told d'.history ≡ Some (Busy (suc (first_false (known_at d).state.seen_out)))
-told_busy d d' found out w e is was_in =
-    w.told ∙ (ap (λ (p : Phase). Some (step_note (known_at d).state p found)) e ∙ ap (λ (b : Bool). Some (let n : Note = cond b Moved (Busy (suc (first_false (known_at d).state.seen_out))) in n)) (sym is ∙ was_in))
+pub reported_busy : (d d' : WriterSeen) (found : ℕ) (out : Bool) → Wrote d d' found → (known_at d).state.phase ≡ Seeing → out ≡ eqb found 0 → out ≡ false → last_reported d'.history ≡ Some (Busy (suc (first_false (known_at d).state.seen_out)))
+reported_busy d d' found out w e is was_in =
+    w.reported ∙ (ap (λ (p : Phase). Some (step_note (known_at d).state p found)) e ∙ ap (λ (b : Bool). Some (let n : Note = cond b Moved (Busy (suc (first_false (known_at d).state.seen_out))) in n)) (sym is ∙ was_in))

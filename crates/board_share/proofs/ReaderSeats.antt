@@ -64,7 +64,7 @@ left table seat seat' me me' p h found stage moved =
       opening_is = ap (λ (x : Part). x.0) s;
       took = record { found = found; knows = know };
       steps = record { adds = t.3.adds; knows = t.3.knows ∙ ap (λ (v : ReaderView). Some v) (sym know) };
-      told = t.3.told;
+      reported = t.3.reported;
     }
 
 -- a reader that has loaded all words leaves next

@@ -18,7 +18,7 @@ pub record RuleHoldsByState (begun : Beginning) (s : table.State Unit View) : Ty
   pub prefixes : (id : ℕ) (v : View) → get_elem? s.views id ≡ some v → KnowsPrefix v history
   pub state : State
   pub reached : state ≡ known_after history
-  pub register : (machine_of history).ledger ≡ record begun.register { journal = state.writer.state.taken }
+  pub register : (machine_of history).ledger ≡ record begun.register { journal = state.writer.state.staged }
   pub words : s.words ≡ state.words
   pub lawful : LawfulFor begun.register.opening state
   pub count : length state.readers ≡ begun.readers
@@ -35,7 +35,7 @@ module _ (begun : Beginning) (s : table.State Unit View) where
         prefixes = k.after.prefixes;
         state = m;
         reached = refl;
-        register = k.register.register ∙ ap (λ (b : Beginning). record b.register { journal = m.writer.state.taken }) k.begun_is;
+        register = k.register.register ∙ ap (λ (b : Beginning). record b.register { journal = m.writer.state.staged }) k.begun_is;
         words = k.after.words;
         lawful = k.lawful;
         count = k.count;
@@ -60,7 +60,7 @@ module _ (begun : Beginning) (s : table.State Unit View) where
         };
         register = record {
           writer = refl;
-          register = k.register ∙ (ap (λ (x : State). record begun.register { journal = x.writer.state.taken }) e ∙ ap (λ (x : Beginning). record x.register { journal = m.writer.state.taken }) b);
+          register = k.register ∙ (ap (λ (x : State). record begun.register { journal = x.writer.state.staged }) e ∙ ap (λ (x : Beginning). record x.register { journal = m.writer.state.staged }) b);
         };
         lawful = subst (LawfulFor begun.register.opening) e k.lawful;
         count = ap (λ (x : State). length x.readers) (sym e) ∙ k.count;

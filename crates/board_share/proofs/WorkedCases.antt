@@ -11,7 +11,7 @@ use Rattle.two_copy_steps.specs.declared.events.Note.TheVariants.{Busy, Publishe
 use Rattle.two_copy_steps.specs.declared.views.Stage.TheVariants.{AtRest, Arrived}
 use Rattle.board_share.specs.declared.views.Beginning.{Beginning}
 use Rattle.board_share.specs.declared.views.History.{History}
-use Rattle.board_share.specs.Histories.{Adds, first_history, is_writers, last_told, history_with}
+use Rattle.board_share.specs.Histories.{Adds, first_history, is_writers, last_reported, history_with}
 use Rattle.board_share.specs.Readers.{HasLegalRecord, IsLegalSheet, ReaderSeen, TookStep, last_front_of, new_reader}
 use Rattle.board_share.specs.Writers.{look_count, publication, publication_steps}
 
@@ -53,15 +53,15 @@ looks_at_two = refl
 abbrev after_events : List Event → History
 after_events events = history_with (first_history begun) events
 
-pub tells_published : last_told (after_events (Submit (Open 1) ∷ Publish ∷ [] ++ replicate 35 Writer)) ≡ Some (Published 1)
-tells_published = refl
+pub reports_published : last_reported (after_events (Submit (Open 1) ∷ Publish ∷ [] ++ replicate 35 Writer)) ≡ Some (Published 1)
+reports_published = refl
 
-pub tells_the_reader : last_told (after_events (replicate 37 (Reader 1))) ≡ Some (Read 1 none_done)
-tells_the_reader = refl
+pub reports_the_reader : last_reported (after_events (replicate 37 (Reader 1))) ≡ Some (Read 1 none_done)
+reports_the_reader = refl
 
 -- after the second step of the reader a second publication is abandoned
-pub tells_busy : last_told (after_events (Submit (Open 1) ∷ Publish ∷ [] ++ replicate 35 Writer ++ Reader 1 ∷ Submit (Move (65 ∷ 65 ∷ 65 ∷ []) (Some 1)) ∷ Publish ∷ Writer ∷ [])) ≡ Some (Busy 1)
-tells_busy = refl
+pub reports_busy : last_reported (after_events (Submit (Open 1) ∷ Publish ∷ [] ++ replicate 35 Writer ++ Reader 1 ∷ Submit (Move (65 ∷ 65 ∷ 65 ∷ []) (Some 1)) ∷ Publish ∷ Writer ∷ [])) ≡ Some (Busy 1)
+reports_busy = refl
 
 -- an event of the writer can't be added and not counted
 pub uncounted : Adds is_writers [] (first_history begun) (after_events (Writer ∷ [])) → ⊥

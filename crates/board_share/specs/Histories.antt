@@ -25,11 +25,11 @@ known_after h = state_of (machine_of h) (auxiliary_after h.begun.register h.begu
 -- after a history, the machine's writer has this view, and its register holds the staged commands
 pub record KnowsAfter (h : History) (v : WriterView) : Type 0 where
   pub writer : (known_after h).writer ≡ v
-  pub register : (machine_of h).ledger ≡ record h.begun.register { journal = v.state.taken }
+  pub register : (machine_of h).ledger ≡ record h.begun.register { journal = v.state.staged }
 
 -- the outputs of the events, in order
-abbrev pub told_in : History → List Note
-told_in h = notes (machine_at_start h.begun.register h.begun.readers) h.events
+abbrev pub reported_in : History → List Note
+reported_in h = notes (machine_at_start h.begun.register h.begun.readers) h.events
 
 -- the last of these outputs
 abbrev pub last_note : List Note → Option Note
@@ -38,8 +38,8 @@ last_note (note ∷ []) = Some note
 last_note (note ∷ more ∷ rest) = last_note (more ∷ rest)
 
 -- the output of the last event
-abbrev pub last_told : History → Option Note
-last_told h = last_note (told_in h)
+abbrev pub last_reported : History → Option Note
+last_reported h = last_note (reported_in h)
 
 -- the history at the start, with no events
 abbrev pub first_history : Beginning → History
@@ -73,4 +73,4 @@ pub record Adds (is_own : Event → Bool) (own : List Event) (before after : His
 -- the submit events at the start of a publication: the commands of the journal after those already
 -- staged
 abbrev pub handed_over : List Command → List Command → List Event
-handed_over taken journal = map Submit (drop (length taken) journal)
+handed_over staged journal = map Submit (drop (length staged) journal)

@@ -21,7 +21,7 @@ use Rattle.two_copy_steps.specs.declared.table.TheConstants.{READERS}
 use Rattle.board_share.specs.declared.views.View.{View}
 use Rattle.board_share.specs.declared.views.Beginning.{Beginning}
 use Rattle.board_share.specs.declared.views.History.{History}
-use Rattle.board_share.specs.Histories.{Adds, first_history, is_readers, known_after, last_told}
+use Rattle.board_share.specs.Histories.{Adds, first_history, is_readers, known_after, last_reported}
 use Rattle.board_share.specs.Seats.{Part, seat_of_reader}
 use Rattle.board_share.specs.Rule.{first_reader}
 use Rattle.board_share.specs.Steps.{bare_seat}
@@ -68,8 +68,8 @@ pub record TookSteps (steps : ℕ) (before after : ReaderSeen) : Type 0 where
   pub knows : slice_get (known_after after.history).readers after.index ≡ Some (known_by after)
 
 -- the last output in the reader's history is that it ended a reading with these words
-abbrev pub WasTold : ReaderSeen → List ℕ → Type 0
-WasTold p words = last_told p.history ≡ Some (Read (number_of p) words)
+abbrev pub WasReported : ReaderSeen → List ℕ → Type 0
+WasReported p words = last_reported p.history ≡ Some (Read (number_of p) words)
 
 -- the last of these readings, if any
 abbrev pub last_read : List (List ℕ) → Option (List ℕ)
@@ -129,7 +129,7 @@ pub record Stepped (table : TableId) (p : ReaderSeen) (seat : TableId) (me : Me 
   pub opening_is : (reader_at table me.0 p.index stage).opening ≡ p.opening
   pub took : TookStep p (reader_at table me.0 p.index stage)
   pub steps : TookSteps 1 p (reader_at table me.0 p.index stage)
-  pub told : last_told me.0.history ≡ Some (stage_note (number_of p) p.stage)
+  pub reported : last_reported me.0.history ≡ Some (stage_note (number_of p) p.stage)
 
 -- after a whole reading the seat is that of the same reader at the same stage, and its record has
 -- one more sheet
@@ -139,4 +139,4 @@ pub record HasRead (table : TableId) (p : ReaderSeen) (seat : TableId) (me : Me 
   pub opening_is : (reader_at table me.0 p.index p.stage).opening ≡ p.opening
   pub reading_is : (reader_at table me.0 p.index p.stage).readings ≡ p.readings ++ words ∷ []
   pub steps : TookSteps reading_steps p (reader_at table me.0 p.index p.stage)
-  pub told : WasTold (reader_at table me.0 p.index p.stage) words
+  pub reported : WasReported (reader_at table me.0 p.index p.stage) words

@@ -18,7 +18,7 @@ use Rattle.two_copy_steps.specs.States.{IsKnown}
 use Rattle.two_copy_steps.specs.Transitions.{stage_note}
 use Rattle.board_share.specs.declared.views.View.{View}
 use Rattle.board_share.specs.declared.views.History.{History}
-use Rattle.board_share.specs.Histories.{Adds, KnowsAfter, handed_over, is_readers, is_writers, known_after, last_told}
+use Rattle.board_share.specs.Histories.{Adds, KnowsAfter, handed_over, is_readers, is_writers, known_after, last_reported}
 use Rattle.board_share.specs.Seats.{seat_of_reader}
 
 -- the seat with this view and no slot
@@ -29,7 +29,7 @@ bare_seat v = (v, [])
 pub record ReaderActed (r : ℕ) (before after : History) (v w : ReaderView) : Type 0 where
   pub adds : Adds (is_readers (suc r)) (Reader (suc r) ∷ []) before after
   pub knows : slice_get (known_after after).readers r ≡ Some w
-  pub told : last_told after ≡ Some (stage_note (suc r) v.stage)
+  pub reported : last_reported after ≡ Some (stage_note (suc r) v.stage)
 
 -- the seat's reader took its step, which left this number in its word
 abbrev pub IsStepOn : Me Unit View → ℕ → Me Unit View → Type 0
@@ -54,14 +54,14 @@ with_writer v opening w h = record v { writer = Some (opening, w); history = h }
 -- begins
 abbrev pub begin_events : Option (List Command) → WriterView → List Event
 begin_events None v = []
-begin_events (Some list) v = handed_over v.state.taken list ++ Publish ∷ []
+begin_events (Some list) v = handed_over v.state.staged list ++ Publish ∷ []
 
 -- the output of a step of the writer that found this number
 abbrev pub step_note : Writing → Phase → ℕ → Note
 step_note w Idle found = Skipped
 step_note w Seeing found = if found == 0 then Moved else Busy (suc (first_false w.seen_out))
 step_note w (Filling k) found = Moved
-step_note w Swapping found = Published (length w.taken)
+step_note w Swapping found = Published (length w.staged)
 
 -- a step of the writer was added, after the start of a publication if there was one, with its
 -- output and with the writer's view after it
@@ -69,7 +69,7 @@ pub record WriterActed (list : Option (List Command)) (found : ℕ) (before afte
     : Type 0 where
   pub adds : Adds is_writers (begin_events list v ++ Writer ∷ []) before after
   pub knows : KnowsAfter after w
-  pub told : last_told after ≡ Some (step_note (writer_begun_with list v).state (writer_begun_with list v).state.phase found)
+  pub reported : last_reported after ≡ Some (step_note (writer_begun_with list v).state (writer_begun_with list v).state.phase found)
 
 -- the writer took its step, and began to publish these commands before it, if any
 abbrev pub write_then : Option (List Command) → Step Unit → Me Unit View → ℕ → Me Unit View → Type 0

@@ -18,7 +18,7 @@ use Rattle.two_copy_steps.specs.Publications.{StaySeen}
 use Rattle.two_copy_steps.specs.declared.table.TheConstants.{COPY_WORDS, READERS}
 use Rattle.board_share.specs.declared.views.View.{View}
 use Rattle.board_share.specs.declared.views.History.{History}
-use Rattle.board_share.specs.Histories.{Adds, KnowsAfter, handed_over, is_writers, known_after, last_told, machine_of}
+use Rattle.board_share.specs.Histories.{Adds, KnowsAfter, handed_over, is_writers, known_after, last_reported, machine_of}
 use Rattle.board_share.specs.Steps.{WriterActed, begin_events, writer_begun_with, step_note, with_writer}
 
 -- the state of a `WordWriter`, step by step: the table of shared words, the register, the view of
@@ -48,7 +48,7 @@ abbrev pub writer_or : Option (Opening × WriterView) → Opening × WriterView
 writer_or (Some x) = x
 writer_or None = (
   [],
-  record { state = record { side = 0; published = []; taken = []; phase = Idle; seen_out = [] }; cuts = [] },
+  record { state = record { side = 0; published = []; staged = []; phase = Idle; seen_out = [] }; cuts = [] },
 )
 
 abbrev pub held_by : View → WriterView
@@ -67,7 +67,7 @@ pub record MayPublish (h : History) (opening : Opening) (v : WriterView) (list :
   pub idle : v.state.phase ≡ Idle
   pub publishable : IsPublishable opening list
   pub within : length list ≤ h.begun.register.limit
-  pub extends : (rest : List Command) × (v.state.taken ++ rest ≡ list)
+  pub extends : (rest : List Command) × (v.state.staged ++ rest ≡ list)
   pub more : length v.state.published < length list
 
 -- a publication of these commands, if any, may begin
@@ -92,7 +92,7 @@ pub record IsWriter (table seat : TableId) (me : Me Unit View) (d : WriterSeen) 
   pub side_is : d.held.state.side ≡ side
   pub out_is : d.held.state.seen_out ≡ seen_out
   pub published_is : published ≡ length d.held.state.published
-  pub taken_begins : IsPrefix d.held.state.taken d.ledger.journal
+  pub staged_begins : IsPrefix d.held.state.staged d.ledger.journal
   pub published_begins : IsPrefix d.held.state.published d.ledger.journal
   pub may_begin : MayBegin d.history d.ledger.opening d.held d.due
   pub ledger_is : d.ledger ≡ record d.history.begun.register { journal = d.ledger.journal }
@@ -102,7 +102,7 @@ pub record IsWriter (table seat : TableId) (me : Me Unit View) (d : WriterSeen) 
 pub record Wrote (before after : WriterSeen) (found : ℕ) : Type 0 where
   pub table : after.table ≡ before.table
   pub adds : Adds is_writers (begin_events before.due before.held ++ Writer ∷ []) before.history after.history
-  pub told : last_told after.history ≡ Some (step_note (known_at before).state (known_at before).state.phase found)
+  pub reported : last_reported after.history ≡ Some (step_note (known_at before).state (known_at before).state.phase found)
   pub ledger : after.ledger ≡ before.ledger
   pub due : after.due ≡ None
   pub knows : known_at after ≡ (writer_action (sheet before.ledger.opening) (known_at before)).after found
@@ -147,7 +147,7 @@ pub record MayFill (table seat : TableId) (me : Me Unit View) (ledger : Ledger) 
   pub bare : me.1 ≡ []
   pub next : me ≡ at_word me k me.0.history
   pub opening : (writer_or me.0.writer).0 ≡ ledger.opening
-  pub taken : (writer_or me.0.writer).1.state.taken ≡ ledger.journal
+  pub staged : (writer_or me.0.writer).1.state.staged ≡ ledger.journal
   pub copy_is : copy ≡ other_side (writer_or me.0.writer).1.state.side
   pub knows : KnowsAfter me.0.history (writer_or me.0.writer).1
 
@@ -171,7 +171,7 @@ pub record Underway (before after : WriterSeen) : Type 0 where
   pub ledger : after.ledger ≡ before.ledger
   pub side : (known_at after).state.side ≡ (known_at before).state.side
   pub published : (known_at after).state.published ≡ (known_at before).state.published
-  pub taken : (known_at after).state.taken ≡ (known_at before).state.taken
+  pub staged : (known_at after).state.staged ≡ (known_at before).state.staged
   pub cuts : (known_at after).cuts ≡ (known_at before).cuts
 
 -- no publication is in progress
@@ -181,12 +181,12 @@ pub record IsIdle (d : WriterSeen) : Type 0 where
 
 -- all commands are staged, and the writer looks for readers that are not quiescent
 pub record IsSeeing (d : WriterSeen) : Type 0 where
-  pub taken : (known_at d).state.taken ≡ d.ledger.journal
+  pub staged : (known_at d).state.staged ≡ d.ledger.journal
   pub phase : (known_at d).state.phase ≡ (if all_true (known_at d).state.seen_out then Filling 0 else Seeing)
 
 -- all commands are staged, and word k of their sheet is the next to be stored
 pub record IsFilling (d : WriterSeen) (k : ℕ) : Type 0 where
-  pub taken : (known_at d).state.taken ≡ d.ledger.journal
+  pub staged : (known_at d).state.staged ≡ d.ledger.journal
   pub phase : (known_at d).state.phase ≡ (if k == COPY_WORDS then Swapping else Filling k)
 
 -- in a publication the words from `from` up to, but not including, `to` were stored
@@ -265,7 +265,7 @@ pub record GaveUp (before after : WriterSeen) (reader : ℕ) : Type 0 where
   pub idle : IsIdle after
   pub stay : StaySeen (seen_out_of before) (seen_out_of after)
   pub named : (reader ≡ suc (first_false (seen_out_of after))) × (all_true (seen_out_of after) ≡ false)
-  pub told : last_told after.history ≡ Some (Busy reader)
+  pub reported : last_reported after.history ≡ Some (Busy reader)
   pub machine : KnowsAfter after.history after.held
 
 -- one publication was completed after this number of abandoned attempts

@@ -4,7 +4,7 @@ ghost use Rattle.council_core.specs.Sheets.{front_of};
 ghost use Rattle.council_core.specs.declared.refusals.Refusal.TheVariants.{OutOfMemory};
 ghost use Rattle.two_copy_steps.specs.declared.views.Stage.TheVariants.{AtRest};
 ghost use Rattle.power_index.specs.Indices.{AreIndices, indices_of};
-ghost use Rattle.board_share.specs.Readers.{HasLegalRecord, IsLegalSheet, TookSteps, WasTold, last_front_of, last_of};
+ghost use Rattle.board_share.specs.Readers.{HasLegalRecord, IsLegalSheet, TookSteps, WasReported, last_front_of, last_of};
 ghost use Rattle.board_share.specs.Readers.{number_of};
 ghost use Rattle.two_copy_steps.specs.Stages.{reading_steps};
 
@@ -80,7 +80,7 @@ impl Analyst {
 
         // The events that the call added to the board's history, and the output of the last one.
         ensures steps { TookSteps reading_steps self.old.reader self.new.reader }
-        ensures told { WasTold self.new.reader self.new.sheet }
+        ensures reported { WasReported self.new.reader self.new.sheet }
     {
         let reading = self.reader.read();
         let _halves = self.evaluator.set(&reading.sheet);

@@ -3,7 +3,7 @@ ghost use Rattle.std.specs.Prelude.{◌≡◌, ◌<◌, ◌∷◌, ◌++◌, [],
 ghost use Rattle.std.specs.Prelude.{OnOk, IfOk, OnErr, IfErr, IsOk};
 ghost use Rattle.two_copy_steps.specs.declared.events.Note.TheVariants.{Published};
 ghost use Rattle.two_copy_steps.specs.Actions.{all_true};
-ghost use Rattle.board_share.specs.Histories.{KnowsAfter, last_told};
+ghost use Rattle.board_share.specs.Histories.{KnowsAfter, last_reported};
 ghost use Rattle.board_share.specs.Writers.{AddsTry, GaveUp, IsFilling, IsIdle, IsSeeing, Underway, WroteSteps};
 ghost use Rattle.board_share.specs.Writers.{known_at, look_count, publication_steps, seen_out_of, unseen_count};
 
@@ -31,13 +31,13 @@ pub(crate) fn publish_all(words: &mut WordWriter) -> Result<u32, Busy>
         ((known_at words.new).cuts ≡ (known_at words.old).cuts ++ length words.old.ledger.journal ∷ []) }
     ensures nobody { OnOk result (seen_out_of words.new ≡ replicate (length (seen_out_of words.old)) false) }
     ensures steps { OnOk result (AddsTry (publication_steps (seen_out_of words.old)) words.old words.new) }
-    ensures told { IfOk result (λ n. last_told words.new.history ≡ Some (Published n)) }
+    ensures reported { IfOk result (λ n. last_reported words.new.history ≡ Some (Published n)) }
 
     // A reader blocks the publication.
     ensures unchanged { OnErr result
         (((known_at words.new).state.published ≡ (known_at words.old).state.published)
         × ((known_at words.new).cuts ≡ (known_at words.old).cuts)) }
-    ensures in_the_way { IfErr result (λ b. GaveUp words.old words.new b.reader) }
+    ensures blocking { IfErr result (λ b. GaveUp words.old words.new b.reader) }
     ensures gave_up { OnErr result
         (AddsTry (look_count (seen_out_of words.old) (seen_out_of words.new)) words.old words.new) }
 {
@@ -58,7 +58,7 @@ fn see_all(words: &mut WordWriter) -> Result<(), Busy>
     ensures sure { all_true (seen_out_of words.old) ≡ true → IsOk result }
     ensures out { OnOk result (IsFilling words.new 0) }
     ensures looked { OnOk result (WroteSteps (unseen_count (seen_out_of words.old)) words.old words.new) }
-    ensures in_the_way { IfErr result (λ b. GaveUp words.old words.new b.reader) }
+    ensures blocking { IfErr result (λ b. GaveUp words.old words.new b.reader) }
     ensures gave_up { OnErr result
         (WroteSteps (look_count (seen_out_of words.old) (seen_out_of words.new)) words.old words.new) }
 {

@@ -7,7 +7,7 @@ ghost use Rattle.council_core.specs.Sheets.{front_of};
 ghost use Rattle.two_copy_steps.specs.Stages.{last_step, reading_steps, sheet_read, steps_taken};
 ghost use Rattle.two_copy_steps.specs.declared.views.Stage.TheVariants.{AtRest};
 ghost use Rattle.board_share.specs.Readers.{HasLegalRecord, IsLegalSheet, IsReader, TookStep, last_front_of, last_of};
-ghost use Rattle.board_share.specs.Readers.{TookSteps, WasTold, number_of, reader_at};
+ghost use Rattle.board_share.specs.Readers.{TookSteps, WasReported, number_of, reader_at};
 
 use crate::reader_steps::{advance, read_all};
 use crate::readings::Reading;
@@ -89,7 +89,7 @@ impl Reader {
 
         // The event that the step added to the board's history, and its output.
         ensures steps { TookSteps 1 self.old self.new }
-        ensures told { IfSome result (λ x. WasTold self.new x.sheet) }
+        ensures reported { IfSome result (λ x. WasReported self.new x.sheet) }
     {
         advance(&self.board, &mut self.seat, self.index, &mut self.stage)
     }
@@ -120,7 +120,7 @@ impl Reader {
 
         // The events that the call added to the board's history, and the output of the last one.
         ensures steps { TookSteps reading_steps self.old self.new }
-        ensures told { WasTold self.new result.sheet }
+        ensures reported { WasReported self.new result.sheet }
     {
         self.stage.give_up();
         read_all(&self.board, &mut self.seat, self.index)

@@ -9,7 +9,7 @@ ghost use Rattle.council_core.specs.declared.refusals.Refusal.TheVariants.{OutOf
 ghost use Rattle.two_copy_steps.specs.declared.events.Note.TheVariants.{Busy as BusyAt, Published};
 ghost use Rattle.two_copy_steps.specs.Actions.{all_true, first_false};
 ghost use Rattle.two_copy_steps.specs.Publications.{StaySeen, seen_out_at};
-ghost use Rattle.board_share.specs.Histories.{last_told};
+ghost use Rattle.board_share.specs.Histories.{last_reported};
 ghost use Rattle.board_share.specs.Writers.{IsPrefix, IsIdle, TookTries, TookTry, cuts_after, has_pending, look_count};
 ghost use Rattle.board_share.specs.Writers.{publication_steps, publisher_of, seen_out_after};
 
@@ -113,9 +113,9 @@ impl Writer {
         ensures steps { has_pending self.old ≡ true
             → OnOk result (TookTry (publication_steps self.old.seen_out) self.old self.new) }
         ensures gave_up { OnErr result (TookTry (look_count self.old.seen_out self.new.seen_out) self.old self.new) }
-        ensures told { has_pending self.old ≡ true
-            → IfOk result (λ n. last_told self.new.history ≡ Some (Published n)) }
-        ensures in_the_way { IfErr result (λ b. last_told self.new.history ≡ Some (BusyAt b.reader)) }
+        ensures reported { has_pending self.old ≡ true
+            → IfOk result (λ n. last_reported self.new.history ≡ Some (Published n)) }
+        ensures blocking { IfErr result (λ b. last_reported self.new.history ≡ Some (BusyAt b.reader)) }
     {
         if self.words.register().accepted() <= self.words.published() {
             return Ok(self.words.published());
@@ -137,7 +137,7 @@ impl Writer {
 
         // The events that the call added to the board's history, and the output of the last one.
         ensures steps { has_pending self.old ≡ true → (tries : ℕ) × TookTries tries self.old self.new }
-        ensures told { has_pending self.old ≡ true → last_told self.new.history ≡ Some (Published result) }
+        ensures reported { has_pending self.old ≡ true → last_reported self.new.history ≡ Some (Published result) }
     {
         for _ in rt.forever() {
             if let Ok(front) = self.try_publish() {

@@ -49,11 +49,11 @@ fn replays_three_chairs(rt: HostRuntime) -> Result<(), Fail> {
 // Catches a WriteFault in place of BadLimit though no write failed, which the contract allows.
 #[test]
 fn refuses_limits_out_of_range(rt: HostRuntime) -> Result<(), Fail> {
-    let (alloc, told) = (rt.alloc(), "fault,0,BadLimit\n");
+    let (alloc, reported) = (rt.alloc(), "fault,0,BadLimit\n");
     let bad = Some(Fault { code: 13, place: 0 });
     for (readers, journal) in [(0u8, 1u32), (READERS as u8 + 1, 1), (1, 0), (1, 1_000_001)] {
         let limits = Limits { readers, journal };
-        assert!(rt; writes(&rt, alloc, Call::Replay, limits, INPUT, told, bad));
+        assert!(rt; writes(&rt, alloc, Call::Replay, limits, INPUT, reported, bad));
     }
     Ok(())
 }
@@ -110,10 +110,10 @@ fn a_trace_stops_at_a_bad_record(rt: HostRuntime) -> Result<(), Fail> {
         ("writer,1001\n", 17, "skipped\nfault,4,BadRecord\n"),
         ("open,1\n", 17, "skipped\nfault,4,BadRecord\n"),
     ];
-    for (bad, code, told) in rows {
+    for (bad, code, reported) in rows {
         let text = with_record(rt.alloc(), bad)?;
         let fault = Some(Fault { code, place: 4 });
-        assert!(rt; writes(&rt, rt.alloc(), Call::Trace, LIMITS, &text, told, fault));
+        assert!(rt; writes(&rt, rt.alloc(), Call::Trace, LIMITS, &text, reported, fault));
     }
     Ok(())
 }

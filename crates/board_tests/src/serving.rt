@@ -193,7 +193,7 @@ fn serves_faults_alone(rt: HostRuntime) -> Result<(), Fail> {
 
 // Catches a closed gate that is passed over: no contract says that the gates are passed.
 #[test]
-fn a_closed_gate_is_told(rt: HostRuntime) -> Result<(), Fail> {
+fn a_closed_gate_is_reported(rt: HostRuntime) -> Result<(), Fail> {
     let text = "member,votes\nAAA,10\nscript\npublish\n";
     let (out, code, _) = run(&rt, rt.alloc(), &ClosedGate, text, 1000);
     assert_eq!(rt; code, 27);

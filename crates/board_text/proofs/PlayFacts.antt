@@ -177,7 +177,7 @@ front-then a b c ls l p q =
     (text_of ls ++ q.0, subst P (sym whole) (front-after (text_of ls) q.0 (line_text l) q.1), Appends-trans a b c _ _ p q.2)
 
 -- what stopped a run has a fault, and its line was written, or cut
-pub record FaultTold (b c : Option (List ℕ)) (s : Stop) (g : Fault) : Type 0 where
+pub record FaultReported (b c : Option (List ℕ)) (s : Stop) (g : Fault) : Type 0 where
   pub fault : Fault
   pub stopped_by : fault_of s ≡ Some fault
   pub ends : Ends b c fault g

@@ -8,7 +8,7 @@ use Rattle.board_text.specs.Text.{fault_at}
 use Rattle.board_text.specs.declared.faults.Fault.{Fault}
 use Rattle.board_text.specs.declared.stops.Stop.{Stop}
 use Rattle.board_text.specs.declared.stops.Stop.TheVariants as stop
-use Rattle.board_text.proofs.PlayFacts.{FaultTold}
+use Rattle.board_text.proofs.PlayFacts.{FaultReported}
 
 some : {f g : Fault} → Some f ≡ Some g → f ≡ g
 some e = cc e
@@ -66,5 +66,5 @@ module _ (from to : Giving) where
       retries-ended (stop.Input h) f g is (inl same) p = inl p
 
       -- a run that ended in the line of its fault, or where that could not be written
-      pub retries-told : (a b : Option (List ℕ)) (e : Stop) (g : Fault) → FaultTold a b e g → RetriesAtMost {A = A} count from to (Err e) → RunRetriesAtMost {A = B} count from to (Err g)
-      retries-told a b e g told p = retries-ended e told.fault g told.stopped_by (answered a b told.fault g told.ends) p
+      pub retries-reported : (a b : Option (List ℕ)) (e : Stop) (g : Fault) → FaultReported a b e g → RetriesAtMost {A = A} count from to (Err e) → RunRetriesAtMost {A = B} count from to (Err g)
+      retries-reported a b e g reported p = retries-ended e reported.fault g reported.stopped_by (answered a b reported.fault g reported.ends) p

@@ -162,8 +162,8 @@ place e = ap (λ (f : Fault). f.place) e
 abbrev fails : Fault → Result (Unit {0}) Fault
 fails f = Err f
 
-told : {f g : Fault} → fails f ≡ fails g → f ≡ g
-told e = cc e
+reported : {f g : Fault} → fails f ≡ fails g → f ≡ g
+reported e = cc e
 
 -- the same of whole runs
 run_retried_thrice : RunRetriesAtMost {A = Unit {0}} 2 (reader 0 0) (reader 4 3) (Ok tt) → ⊥
@@ -185,12 +185,12 @@ record_of_a_device (inr e) = absurd (omega (arith, place e))
 
 -- limits out of range are answered as BadLimit
 another_limit : IsBadLimit {A = Unit {0}} (Err (fault_at BadHeader 0)) → ⊥
-another_limit (inl e) = absurd (omega (arith, code (told e)))
-another_limit (inr e) = absurd (omega (arith, code (told e)))
+another_limit (inl e) = absurd (omega (arith, code (reported e)))
+another_limit (inr e) = absurd (omega (arith, code (reported e)))
 
 limit_of_a_record : IsBadLimit {A = Unit {0}} (Err (fault_at BadLimit 1)) → ⊥
-limit_of_a_record (inl e) = absurd (omega (arith, place (told e)))
-limit_of_a_record (inr e) = absurd (omega (arith, place (told e)))
+limit_of_a_record (inl e) = absurd (omega (arith, place (reported e)))
+limit_of_a_record (inr e) = absurd (omega (arith, place (reported e)))
 
 limit_taken : IsBadLimit {A = Unit {0}} (Ok tt) → ⊥
 limit_taken (inl e) = cc e
@@ -213,8 +213,8 @@ broken_at_a_record (inr e) = absurd (omega (arith, place e))
 input_not_written : Fails {A = Unit {0}} stop.WriteFault (Ok tt) → ⊥
 input_not_written h = h
 
-another_fault_told : Fails {A = Unit {0}} (stop.Input (fault_at BadRecord 2)) (Err (fault_at BadRecord 3)) → ⊥
-another_fault_told e = absurd (omega (arith, place (told e)))
+another_fault_reported : Fails {A = Unit {0}} (stop.Input (fault_at BadRecord 2)) (Err (fault_at BadRecord 3)) → ⊥
+another_fault_reported e = absurd (omega (arith, place (reported e)))
 
 start_reads_nothing : (lim : Limits) (members : Opening) → Starts lim members (Err stop.ReadFault) → ⊥
 start_reads_nothing lim members h = h

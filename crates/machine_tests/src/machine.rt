@@ -80,7 +80,7 @@ fn schedule(alloc: Global) -> Result<Vec<Event>, Fail> {
 
 /// Runs the events on one member's register and one reader. Returns the number of outputs, the
 /// number of published commands at the end, and the lines of the outputs.
-fn told_at_once(alloc: Global, events: &[Event]) -> Result<(usize, u32, Vec<Line>), Refusal> {
+fn reported_at_once(alloc: Global, events: &[Event]) -> Result<(usize, u32, Vec<Line>), Refusal> {
     match run(alloc, one_member(alloc)?, 1, events) {
         Ok(log) => {
             let notes = log.notes.as_slice();
@@ -97,7 +97,7 @@ fn told_at_once(alloc: Global, events: &[Event]) -> Result<(usize, u32, Vec<Line
 #[test]
 fn reader_in_the_way(rt: HostRuntime) -> Result<(), Fail> {
     let events = schedule(rt.alloc())?;
-    let (notes, published, told) = told_at_once(rt.alloc(), &events)?;
+    let (notes, published, reported) = reported_at_once(rt.alloc(), &events)?;
     assert_eq!(rt; (notes, published), (151, 2));
     let want = [
         Line::Accepted(1),
@@ -111,7 +111,7 @@ fn reader_in_the_way(rt: HostRuntime) -> Result<(), Fail> {
         Line::Published(2),
         Line::Sheet(1, 2, 10, 10),
     ];
-    assert_eq!(rt; told.as_slice(), want.as_slice());
+    assert_eq!(rt; reported.as_slice(), want.as_slice());
     Ok(())
 }
 
@@ -135,7 +135,11 @@ const FIVE_LINES: [Option<Line>; 5] = [
 ];
 
 /// Whether the outputs of one run of the events have these lines.
-fn tell_at_once(alloc: Global, events: &[Event], lines: &[Option<Line>]) -> Result<bool, Refusal> {
+fn report_at_once(
+    alloc: Global,
+    events: &[Event],
+    lines: &[Option<Line>],
+) -> Result<bool, Refusal> {
     match run(alloc, one_member(alloc)?, 1, events) {
         Ok(log) => {
             let notes = log.notes.as_slice();
@@ -155,7 +159,7 @@ fn are_lines(notes: &[Note], lines: &[Option<Line>]) -> bool {
 }
 
 /// Whether the outputs of the events, one step at a time, have these lines.
-fn tell_each(
+fn report_each(
     machine: &mut Machine,
     events: &[Event],
     lines: &[Option<Line>],
@@ -187,28 +191,28 @@ fn with_machine<T: Drop, F: FnOnce(&mut Machine) -> Result<T, Refusal>>(
 
 /// Whether the outputs of the events, one step at a time, have these lines, and the numbers of
 /// accepted and of published commands after them.
-fn told_each(
+fn reported_each(
     machine: &mut Machine,
     events: &[Event],
     lines: &[Option<Line>],
 ) -> Result<(bool, u32, u32), Refusal> {
-    let told = tell_each(machine, events, lines)?;
-    Ok((told, machine.register().accepted(), machine.published()))
+    let reported = report_each(machine, events, lines)?;
+    Ok((reported, machine.register().accepted(), machine.published()))
 }
 
 #[test]
 fn five_events_at_once(rt: HostRuntime) -> Result<(), Fail> {
-    assert!(rt; tell_at_once(rt.alloc(), &five_events()?, &FIVE_LINES)?);
+    assert!(rt; report_at_once(rt.alloc(), &five_events()?, &FIVE_LINES)?);
     Ok(())
 }
 
 #[test]
 fn five_events_one_by_one(rt: HostRuntime) -> Result<(), Fail> {
     let events = five_events()?;
-    let told = with_machine(rt.alloc(), 1, |machine| {
-        told_each(machine, &events, &FIVE_LINES)
+    let reported = with_machine(rt.alloc(), 1, |machine| {
+        reported_each(machine, &events, &FIVE_LINES)
     })?;
-    assert_eq!(rt; told, (true, 1, 0));
+    assert_eq!(rt; reported, (true, 1, 0));
     Ok(())
 }
 
@@ -245,9 +249,13 @@ fn refused_commands_want_no_memory(rt: HostRuntime) -> Result<(), Fail> {
         Some(Line::Accepted(1)),
         Some(Line::Refused(Refusal::ChairOpen)),
     ];
-    assert!(rt; tell_at_once(rt.alloc(), &events, &lines)?);
-    let told = with_machine(rt.alloc(), 1, |machine| told_each(machine, &events, &lines))?;
-    assert_eq!(rt; told, (true, 1, 0));
+    assert!(rt; report_at_once(rt.alloc(), &events, &lines)?);
+    let reported = with_machine(
+        rt.alloc(),
+        1,
+        |machine| reported_each(machine, &events, &lines),
+    )?;
+    assert_eq!(rt; reported, (true, 1, 0));
     Ok(())
 }
 
@@ -261,7 +269,7 @@ fn notes_of_first(alloc: Global, events: &[Event], count: usize) -> Result<Vec<N
 }
 
 /// Whether the outputs of the first `count` events are the first `count` of these outputs.
-fn first_tell(
+fn first_report(
     alloc: Global,
     events: &[Event],
     count: usize,
@@ -276,7 +284,7 @@ fn first_tell(
 fn are_cut_anywhere(alloc: Global, events: &[Event]) -> Result<bool, Refusal> {
     let whole = notes_of_first(alloc, events, events.len())?;
     for count in 0..events.len() {
-        if !first_tell(alloc, events, count, &whole)? {
+        if !first_report(alloc, events, count, &whole)? {
             return Ok(false);
         }
     }

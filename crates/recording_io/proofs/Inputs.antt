@@ -9,26 +9,26 @@ use Rattle.recording_io.specs.Tapes.{Giving, HasEnded, IsInput, WasGiven, given_
 since : (from to : Giving) (given : List ℕ) → WasGiven from to given → given_since from to ≡ given
 since from to given w = ap (drop (length from.gave)) w.gave ∙ drop-append_seam from.gave given
 
-told-begins : (a b : Option (List ℕ)) (given bytes : List ℕ) → Consumes a b given → a ≡ Some bytes → (rest : List ℕ) × (bytes ≡ given ++ rest)
-told-begins None b given bytes c e = cc e
-told-begins (Some xs) None given bytes c e = absurd c
-told-begins (Some xs) (Some ys) given bytes c e = let same : xs ≡ bytes = cc in (ys, sym same ∙ c)
+reported-begins : (a b : Option (List ℕ)) (given bytes : List ℕ) → Consumes a b given → a ≡ Some bytes → (rest : List ℕ) × (bytes ≡ given ++ rest)
+reported-begins None b given bytes c e = cc e
+reported-begins (Some xs) None given bytes c e = absurd c
+reported-begins (Some xs) (Some ys) given bytes c e = let same : xs ≡ bytes = cc in (ys, sym same ∙ c)
 
 -- an input begins with what was given
 pub input-begins : (from to : Giving) (given bytes : List ℕ) → WasGiven from to given → IsInput from to bytes → (rest : List ℕ) × (bytes ≡ given ++ rest)
-input-begins from to given bytes w (inl told) = told-begins from.left to.left given bytes w.left told
+input-begins from to given bytes w (inl reported) = reported-begins from.left to.left given bytes w.left reported
 input-begins from to given bytes w (inr more) = (more.0, more.1 ∙ ap (λ l. l ++ more.0) (since from to given w))
 
-told-whole : (a b : Option (List ℕ)) (given bytes : List ℕ) → Consumes a b given → IsAtEnd b → a ≡ Some bytes → given ≡ bytes
-told-whole None b given bytes c end e = cc e
-told-whole (Some xs) None given bytes c end e = absurd c
-told-whole (Some xs) (Some ys) given bytes c end e =
+reported-whole : (a b : Option (List ℕ)) (given bytes : List ℕ) → Consumes a b given → IsAtEnd b → a ≡ Some bytes → given ≡ bytes
+reported-whole None b given bytes c end e = cc e
+reported-whole (Some xs) None given bytes c end e = absurd c
+reported-whole (Some xs) (Some ys) given bytes c end e =
     let same : xs ≡ bytes = cc in
     sym (append-nil given) ∙ ap (λ l. given ++ l) (sym end) ∙ sym c ∙ same
 
 -- where the reader said that this is all, what was given is the input
 pub input-whole : (from to : Giving) (given bytes : List ℕ) → WasGiven from to given → HasEnded to → IsInput from to bytes → given ≡ bytes
-input-whole from to given bytes w end (inl told) = told-whole from.left to.left given bytes w.left end.1 told
+input-whole from to given bytes w end (inl reported) = reported-whole from.left to.left given bytes w.left end.1 reported
 input-whole from to given bytes w end (inr more) =
     sym (append-nil given) ∙ ap (λ l. given ++ l) (sym (more.2 end.0)) ∙ ap (λ l. l ++ more.0) (sym (since from to given w)) ∙ sym more.1
 
@@ -45,5 +45,5 @@ pub given-is_input : GivenIsInput
 given-is_input from to = inr ([], sym (append-nil (given_since from to)), λ ended. refl)
 
 pub are-all : AreAll
-are-all from to bytes none ended (inl told) = cc (none, told)
+are-all from to bytes none ended (inl reported) = cc (none, reported)
 are-all from to bytes none ended (inr more) = more.1 ∙ ap (λ l. given_since from to ++ l) (more.2 ended) ∙ append-nil (given_since from to)

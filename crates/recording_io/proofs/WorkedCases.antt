@@ -100,12 +100,12 @@ goes_on : IsInput (giving [] false 0) (giving one false 1) two
 goes_on = inr (8 ∷ [], refl, λ ended. cc ended)
 
 begins_otherwise : IsInput (giving [] false 0) (giving one false 1) (8 ∷ []) → ⊥
-begins_otherwise (inl told) = cc told
+begins_otherwise (inl reported) = cc reported
 begins_otherwise (inr more) = let e = more.1 in cc e
 
 -- a reader whose contents are known has them as its input
-told : IsInput (record (giving [] false 0) { left = Some two }) (giving one false 1) two
-told = inl refl
+reported : IsInput (record (giving [] false 0) { left = Some two }) (giving one false 1) two
+reported = inl refl
 
 -- what holds of all inputs holds of one that goes on
 not_of_all : OfInput (giving [] false 0) (giving one false 1) (λ bytes. bytes ≡ one) → ⊥

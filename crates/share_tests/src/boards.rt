@@ -75,7 +75,7 @@ fn first_of(readers: &mut [Reader]) -> Result<&mut Reader, Refusal> {
 }
 
 // Removes and returns the last of a board's readers.
-fn taken(readers: &mut Vec<Reader>) -> Result<Reader, Refusal> {
+fn staged(readers: &mut Vec<Reader>) -> Result<Reader, Refusal> {
     readers.pop().ok_or(Refusal::BadReader)
 }
 
@@ -256,7 +256,7 @@ fn runs_on_one_thread<R: Wait + Abort>(
         [Some(1), Some(2)]
     );
     let answers = open_and_move(rt, writer, first_of(readers)?)?;
-    let asked = ask_half(alloc, taken(readers)?)?;
+    let asked = ask_half(alloc, staged(readers)?)?;
     let more = goes_on(rt, writer);
     assert_eq!(rt;
         answers,
@@ -524,10 +524,10 @@ fn beside_a_stopped_reader(
     count: u32,
     is_dropped: bool,
 ) -> Result<([Tried; 2], [Option<u32>; 2], u64), Refusal> {
-    let mut second = taken(readers)?;
+    let mut second = staged(readers)?;
     let _none = steps(first_of(readers)?, count);
     if is_dropped {
-        drop(taken(readers)?);
+        drop(staged(readers)?);
     }
     let tried = open_two(writer)?;
     let at_once = read_front(&mut second);
@@ -560,7 +560,7 @@ fn past_a_dropped_reader(
     count: u32,
 ) -> Result<([Tried; 4], u32, usize), Refusal> {
     let _none = steps(first_of(readers)?, count);
-    drop(taken(readers)?);
+    drop(staged(readers)?);
     let [one, two] = open_two(writer)?;
     let tried = [one, two, try_now(writer), try_now(writer)];
     Ok((tried, writer.published(), writer.journal().len()))
@@ -600,7 +600,7 @@ fn publish_and_go(alloc: Global) -> Result<(Tried, Vec<Reader>), Refusal> {
 
 // What the first reader reads, then the second, then the first again.
 fn read_in_turn(readers: &mut Vec<Reader>) -> Result<[Option<u32>; 3], Refusal> {
-    let mut second = taken(readers)?;
+    let mut second = staged(readers)?;
     let first = first_of(readers)?;
     Ok([
         read_front(first),
@@ -652,7 +652,7 @@ fn two_commands_without_memory(
 ) -> Result<[u64; 5], Refusal> {
     submit_open(writer, 1)?;
     submit_move(writer)?;
-    let second = taken(readers)?;
+    let second = staged(readers)?;
     let first = first_of(readers)?;
     let answers = with_analyst(alloc, second, |analyst| {
         answers_without_memory(alloc, writer, first, analyst)

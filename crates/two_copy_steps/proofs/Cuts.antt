@@ -52,13 +52,13 @@ rises_on (y ∷ z ∷ xs) l x h e above = at (rises_on (z ∷ xs) l x from_next 
 pub record HasCuts (w : Writing) (cuts : List ℕ) : Type 0 where
   pub ascending : IsStrictlyIncreasing cuts
   pub last : last_or None cuts ≡ Some (length w.published)
-  pub longer : is_idle w.phase ≡ false → length w.published < length w.taken
+  pub longer : is_idle w.phase ≡ false → length w.published < length w.staged
 
 -- a step of the writer
-cuts_stepped : (opening : Opening) (w : Writing) (p : Phase) (found : ℕ) (cuts : List ℕ) → w.phase ≡ p → HasCuts w cuts → HasCuts ((phase_action (sheet opening) w p).after found) (cuts_past p w.taken cuts)
+cuts_stepped : (opening : Opening) (w : Writing) (p : Phase) (found : ℕ) (cuts : List ℕ) → w.phase ≡ p → HasCuts w cuts → HasCuts ((phase_action (sheet opening) w p).after found) (cuts_past p w.staged cuts)
 cuts_stepped opening w Idle found cuts e h = h
 cuts_stepped opening w Seeing found cuts e h =
-    let more : length w.published < length w.taken = h.longer (ap is_idle e) in
+    let more : length w.published < length w.staged = h.longer (ap is_idle e) in
     elim (eqb found 0) as (λ b. HasCuts (cond b (writing_with_quiescent w (set w.seen_out (first_false w.seen_out) true)) (record w { phase = Idle })) cuts) [
       | true ↦ record { ascending = h.ascending; last = h.last; longer = λ _. more }
       | false ↦ record { ascending = h.ascending; last = h.last; longer = λ busy. absurd (true≢false busy) }
@@ -66,8 +66,8 @@ cuts_stepped opening w Seeing found cuts e h =
 cuts_stepped opening w (Filling k) found cuts e h = record { ascending = h.ascending; last = h.last; longer = λ _. h.longer (ap is_idle e) }
 cuts_stepped opening w Swapping found cuts e h =
     record {
-      ascending = rises_on cuts (length w.published) (length w.taken) h.ascending h.last (h.longer (ap is_idle e));
-      last = last_behind None cuts (length w.taken);
+      ascending = rises_on cuts (length w.published) (length w.staged) h.ascending h.last (h.longer (ap is_idle e));
+      last = last_behind None cuts (length w.staged);
       longer = λ busy. absurd (true≢false busy);
     }
 

@@ -67,7 +67,7 @@ legal_records m aux l bound =
     let extends = ap (length {A = Command}) l.extends.1 in
     let last : Contains aux.cuts (length w.published) = subst (λ (cuts : List ℕ). Contains cuts (length w.published)) (sym o.last_cut.1) (Contains-push o.last_cut.0 (length w.published)) in
     record {
-      legal = (subst (IsAccepted m.ledger.opening) (take-length w.published) (o.cuts (length w.published) last).1, omega (arith, length-append w.published o.begins.0, length-append w.taken l.extends.0));
+      legal = (subst (IsAccepted m.ledger.opening) (take-length w.published) (o.cuts (length w.published) last).1, omega (arith, length-append w.published o.begins.0, length-append w.staged l.extends.0));
       in_order = (o.ascending, λ k d h. (o.cuts _ (Contains-get_or aux.cuts k d h)).0);
       readings = records_are IsAccepted m aux l;
     }

@@ -66,7 +66,7 @@ shown_front m aux l =
     let begins = ap (length {A = Command}) l.state.writer.begins.1 in
     let extends = ap (length {A = Command}) l.extends.1 in
     let kept = length-take (length m.writer.published) m.ledger.journal in
-    omega (arith, length-append m.writer.published l.state.writer.begins.0, length-append m.writer.taken l.extends.0)
+    omega (arith, length-append m.writer.published l.state.writer.begins.0, length-append m.writer.staged l.extends.0)
 
 module _ (low r : ℕ) (t : SequentialRun) (m : MachineState) (aux : Auxiliary) (h : Together t m aux) (f : Fresh low r t m) where
   -- the reader's own step
@@ -119,7 +119,7 @@ module _ (low r : ℕ) (t : SequentialRun) (m : MachineState) (aux : Auxiliary) 
 
   -- what it then reads
   reads_fresh : (words : List ℕ) → (transition m (Reader (suc r))).1 ≡ Read (suc r) words → low ≤ front_of words
-  reads_fresh words told = by_stage (slice_get m.readers r) refl told
+  reads_fresh words reported = by_stage (slice_get m.readers r) refl reported
     where
       same_sheet : (x y : List ℕ) → Some (reading x) ≡ Some (reading y) → x ≡ y
       same_sheet x y e = cc
@@ -141,20 +141,20 @@ module _ (low r : ℕ) (t : SequentialRun) (m : MachineState) (aux : Auxiliary) 
 -- for any later events
 fresh_read : (low r : ℕ) (more : List Event) (t : SequentialRun) (m : MachineState) (aux : Auxiliary) → Together t m aux → Fresh low r t m → (words : List ℕ) → (transition (state_after_events m more) (Reader (suc r))).1 ≡ Read (suc r) words
     → low ≤ front_of words
-fresh_read low r [] t m aux h f words told = reads_fresh low r t m aux h f words told
-fresh_read low r (event ∷ more) t m aux h f words told =
-    fresh_read low r more (sequential_step t m event) (transition m event).0 (auxiliary_step m aux event) (together_on t m aux h event) (stays_fresh low r t m aux h f event) words told
+fresh_read low r [] t m aux h f words reported = reads_fresh low r t m aux h f words reported
+fresh_read low r (event ∷ more) t m aux h f words reported =
+    fresh_read low r more (sequential_step t m event) (transition m event).0 (auxiliary_step m aux event) (together_on t m aux h event) (stays_fresh low r t m aux h f event) words reported
 
 module _ (ledger : Ledger) (readers : ℕ) (accepted : IsAccepted ledger.opening ledger.journal) where
   -- a reader at rest after some events reads, after any later events, nothing older than what is
   -- published by then
   pub run_fresh : (events more : List Event) (r : ℕ) (words : List ℕ) → slice_get (state_after_events (machine_at_start ledger readers) events).readers r ≡ Some AtRest
       → (transition (state_after_events (machine_at_start ledger readers) (events ++ more)) (Reader (suc r))).1 ≡ Read (suc r) words → length (state_after_events (machine_at_start ledger readers) events).writer.published ≤ front_of words
-  run_fresh events more r words rest told =
+  run_fresh events more r words rest reported =
       let start : MachineState = machine_at_start ledger readers in
       let m : MachineState = state_after_events start events in
       let t = together_after events (sequential_start ledger) start (auxiliary_start ledger readers) (start_together ledger readers accepted) in
       let low : ℕ = length m.writer.published in
       fresh_read low r more t.0 m (auxiliary_steps start (auxiliary_start ledger readers) events) t.1
       (le_refl low, λ stage at. subst (FreshAt low (t.0.replied (suc r))) (same_Some AtRest stage (sym rest ∙ at)) tt)
-      words (ap (λ (x : MachineState). (transition x (Reader (suc r))).1) (sym (after_append events more start)) ∙ told)
+      words (ap (λ (x : MachineState). (transition x (Reader (suc r))).1) (sym (after_append events more start)) ∙ reported)

@@ -12,7 +12,7 @@ use Rattle.two_copy_steps.specs.declared.events.Event.{Event}
 use Rattle.two_copy_steps.specs.declared.events.Event.TheVariants.{Submit, Publish, Writer, Reader}
 use Rattle.two_copy_steps.specs.declared.events.Note.TheVariants.{Skipped}
 use Rattle.two_copy_steps.specs.declared.views.Stage.{Stage}
-use Rattle.two_copy_steps.specs.Laws.{HandsInRange, HasVotesInRange}
+use Rattle.two_copy_steps.specs.Laws.{SubmitsInRange, HasVotesInRange}
 use Rattle.two_copy_steps.specs.Transitions.{MachineState, transition, machine_and_note, published_by, is_pending, is_idle, reader_transition}
 
 -- each command is accepted in its turn
@@ -94,7 +94,7 @@ in_range_by : (m : MachineState) (command : Command) (v : Result ⊤ Refusal) �
 in_range_by m command (Ok u) h c = in_range_more m.ledger command h c
 in_range_by m command (Err refusal) h c = h
 
-pub stays_in_range : (m : MachineState) → HasVotesInRange m.ledger → (event : Event) → HandsInRange event → HasVotesInRange (transition m event).0.ledger
+pub stays_in_range : (m : MachineState) → HasVotesInRange m.ledger → (event : Event) → SubmitsInRange event → HasVotesInRange (transition m event).0.ledger
 stays_in_range m h (Submit command) c =
     elim (is_idle m.writer.phase) as (λ b. HasVotesInRange (cond b (machine_and_note m command (verdict_of m.ledger command)) (m, Skipped)).0.ledger)
     [ true ↦ in_range_by m command (verdict_of m.ledger command) h c | false ↦ h ]

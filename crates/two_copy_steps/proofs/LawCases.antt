@@ -17,9 +17,9 @@ use Rattle.two_copy_steps.specs.Records.{FrontsNeverFall}
 use Rattle.two_copy_steps.specs.Stages.{steps_taken}
 use Rattle.two_copy_steps.specs.Machines.{IsFew, WantsMemory}
 use Rattle.two_copy_steps.specs.Publications.{IsLeastUnseen, StaySeen}
-use Rattle.two_copy_steps.specs.Runs.{HasCause, IsFault, TellsReplies, auxiliary_after, machine_after}
+use Rattle.two_copy_steps.specs.Runs.{HasCause, IsFault, ReportsReplies, auxiliary_after, machine_after}
 use Rattle.two_copy_steps.specs.Transitions.{MachineState, notes, machine_at_start, transition}
-use Rattle.two_copy_steps.proofs.WorkedCases.{code, filling_under, hands_three_votes, in_the_way, one_member, votes_in_range}
+use Rattle.two_copy_steps.proofs.WorkedCases.{code, filling_under, hands_three_votes, blocking, one_member, votes_in_range}
 
 -- an accepted command can want memory; a refused one, one that comes while a publication is under way, and every other
 -- event can't
@@ -73,14 +73,14 @@ three_votes_stay_in_range : RangeLaw → IsPublishable one_member.opening (SetVo
 three_votes_stay_in_range law = (law (machine_at_start one_member 1) ledger votes_in_range (Submit (SetVotes code 3)) hands_three_votes).1
 
 -- over the events in which a reader holds up a publication
-records_while_held_up : RecordsLaw → HasLegalRecords (machine_after one_member 1 in_the_way) (auxiliary_after one_member 1 in_the_way)
-records_while_held_up law = law one_member 1 ledger in_the_way
+records_while_held_up : RecordsLaw → HasLegalRecords (machine_after one_member 1 blocking) (auxiliary_after one_member 1 blocking)
+records_while_held_up law = law one_member 1 ledger blocking
 
-apart_while_held_up : UnderLaw → NoneUnder (machine_after one_member 1 in_the_way)
-apart_while_held_up law = law one_member 1 ledger in_the_way
+apart_while_held_up : UnderLaw → NoneUnder (machine_after one_member 1 blocking)
+apart_while_held_up law = law one_member 1 ledger blocking
 
-replies_while_held_up : RepliesLaw → TellsReplies one_member 1 in_the_way
-replies_while_held_up law = law one_member 1 ledger in_the_way
+replies_while_held_up : RepliesLaw → ReportsReplies one_member 1 blocking
+replies_while_held_up law = law one_member 1 ledger blocking
 
 -- a step that stores a word does not change which readers are quiescent, and if all are, a
 -- publication fills at once
@@ -97,13 +97,13 @@ one_published = Submit (Open 1) ∷ Publish ∷ replicate 35 Writer
 fresh_used : FreshLaw → 1 ≤ front_of (1 ∷ replicate 31 0 ++ 10 ∷ 1 ∷ [])
 fresh_used law = law one_member 1 ledger one_published (replicate 36 (Reader 1)) 0 _ refl refl
 
-never_older_while_held_up : NeverOlderLaw → FrontsNeverFall (notes (machine_at_start one_member 1) in_the_way)
-never_older_while_held_up law = law one_member 1 ledger in_the_way
+never_older_while_held_up : NeverOlderLaw → FrontsNeverFall (notes (machine_at_start one_member 1) blocking)
+never_older_while_held_up law = law one_member 1 ledger blocking
 
 -- the publication that the reader blocks, at the 42nd event, names the least reader that is not
 -- quiescent
 abbrev held_up : MachineState
-held_up = machine_after one_member 1 (take 41 in_the_way)
+held_up = machine_after one_member 1 (take 41 blocking)
 
 busy_used : BusyLaw → (a : Auxiliary) → IsLawful IsPublishable held_up a → (r : ℕ) × (1 ≡ suc r) × IsLeastUnseen held_up.writer.seen_out r
 busy_used law a lawful =

@@ -16,6 +16,6 @@ pub mod Fresh
 pub mod EffectLists
 pub mod StateFacts
 pub mod StageFacts
-pub mod ToldRecords
+pub mod ReportedRecords
 pub mod TransitionFacts
 pub mod PublicationFacts

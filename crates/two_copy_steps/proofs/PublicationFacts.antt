@@ -37,15 +37,15 @@ first_is_least (true ∷ out) e =
     before g (suc q) h = g q (omega arith)
 
 -- the reader that an output names as blocking, if any
-abbrev in_the_way : Note → Option ℕ
-in_the_way (Busy number) = Some number
-in_the_way (Accepted count) = None
-in_the_way (Refused refusal) = None
-in_the_way Began = None
-in_the_way Moved = None
-in_the_way (Published front) = None
-in_the_way (Read number words) = None
-in_the_way Skipped = None
+abbrev blocking : Note → Option ℕ
+blocking (Busy number) = Some number
+blocking (Accepted count) = None
+blocking (Refused refusal) = None
+blocking Began = None
+blocking Moved = None
+blocking (Published front) = None
+blocking (Read number words) = None
+blocking Skipped = None
 
 false_not_true : false ≡ true → ⊥
 false_not_true h = cc
@@ -75,7 +75,7 @@ module _ (m : MachineState) (aux : Auxiliary) (l : IsLawful IsPublishable m aux)
       pinned_one v.0.stage (get_or m.words (pin (first_false w.seen_out)) 0) (l.state.each_reader (first_false w.seen_out) v.0 v.1).pinned ne
 
   looked : (number : ℕ) (b : Bool) → w.phase ≡ Seeing → eqb (get_or m.words (pin (first_false w.seen_out)) 0) 0 ≡ b
-      → in_the_way (cond b Moved (Busy (suc (first_false w.seen_out)))) ≡ Some number
+      → blocking (cond b Moved (Busy (suc (first_false w.seen_out)))) ≡ Some number
       → InTheWay number (cond b (writing_with_quiescent w (set w.seen_out (first_false w.seen_out) true)) (record w { phase = Idle }))
   looked number true is at e = absurd (none-some number e)
   looked number false is at e =
@@ -87,39 +87,39 @@ module _ (m : MachineState) (aux : Auxiliary) (l : IsLawful IsPublishable m aux)
         refl,
       )
 
-  by_phase : (number : ℕ) (phase : Phase) → w.phase ≡ phase → in_the_way (phase_note m phase) ≡ Some number
+  by_phase : (number : ℕ) (phase : Phase) → w.phase ≡ phase → blocking (phase_note m phase) ≡ Some number
       → InTheWay number ((phase_action (sheet m.ledger.opening) w phase).after (get_or m.words (phase_action (sheet m.ledger.opening) w phase).word 0))
   by_phase number Idle is e = absurd (none-some number e)
   by_phase number Seeing is e = looked number (eqb (get_or m.words (pin (first_false w.seen_out)) 0) 0) is refl e
   by_phase number (Filling k) is e = absurd (none-some number e)
   by_phase number Swapping is e = absurd (none-some number e)
 
-  not_submit : (number : ℕ) (command : Command) (idle : Bool) (v : Result ⊤ Refusal) → in_the_way (cond idle (machine_and_note m command v) (m, Skipped)).1 ≡ Some number → ⊥
+  not_submit : (number : ℕ) (command : Command) (idle : Bool) (v : Result ⊤ Refusal) → blocking (cond idle (machine_and_note m command v) (m, Skipped)).1 ≡ Some number → ⊥
   not_submit number command true (Ok u) e = none-some number e
   not_submit number command true (Err refusal) e = none-some number e
   not_submit number command false v e = none-some number e
 
-  not_publish : (number : ℕ) (idle pending : Bool) → in_the_way (cond idle (published_by m pending) (m, Skipped)).1 ≡ Some number → ⊥
+  not_publish : (number : ℕ) (idle pending : Bool) → blocking (cond idle (published_by m pending) (m, Skipped)).1 ≡ Some number → ⊥
   not_publish number true true e = none-some number e
   not_publish number true false e = none-some number e
   not_publish number false pending e = none-some number e
 
-  not_stage : (number r : ℕ) (stage : Stage) → in_the_way (stage_note r stage) ≡ Some number → ⊥
+  not_stage : (number r : ℕ) (stage : Stage) → blocking (stage_note r stage) ≡ Some number → ⊥
   not_stage number r AtRest e = none-some number e
   not_stage number r Arrived e = none-some number e
   not_stage number r (Reading side words) e = none-some number e
   not_stage number r (Leaving side words) e = none-some number e
 
-  not_reader : (number r : ℕ) (o : Option Stage) → in_the_way (reader_transition m r o).1 ≡ Some number → ⊥
+  not_reader : (number r : ℕ) (o : Option Stage) → blocking (reader_transition m r o).1 ≡ Some number → ⊥
   not_reader number r None e = none-some number e
   not_reader number r (Some stage) e = not_stage number (suc r) stage e
 
   pub busy_is : (event : Event) (number : ℕ) → (transition m event).1 ≡ Busy number → InTheWay number (transition m event).0.writer
-  busy_is (Submit command) number e = absurd (not_submit number command (is_idle w.phase) (verdict_of m.ledger command) (ap in_the_way e))
-  busy_is Publish number e = absurd (not_publish number (is_idle w.phase) (is_pending m) (ap in_the_way e))
-  busy_is Writer number e = by_phase number w.phase refl (ap in_the_way e)
-  busy_is (Reader zero) number e = absurd (none-some number (ap in_the_way e))
-  busy_is (Reader (suc r)) number e = absurd (not_reader number r (slice_get m.readers r) (ap in_the_way e))
+  busy_is (Submit command) number e = absurd (not_submit number command (is_idle w.phase) (verdict_of m.ledger command) (ap blocking e))
+  busy_is Publish number e = absurd (not_publish number (is_idle w.phase) (is_pending m) (ap blocking e))
+  busy_is Writer number e = by_phase number w.phase refl (ap blocking e)
+  busy_is (Reader zero) number e = absurd (none-some number (ap blocking e))
+  busy_is (Reader (suc r)) number e = absurd (not_reader number r (slice_get m.readers r) (ap blocking e))
 
 -- quiescent readers stay quiescent
 set_stays : (out : List Bool) (r q : ℕ) → slice_get out q ≡ Some true → slice_get (set out r true) q ≡ Some true

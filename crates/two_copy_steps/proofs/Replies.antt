@@ -190,9 +190,9 @@ module _ (Legal : Opening → List Command → Type 0) where
   looked_begun w number b true writing_of_staged busy = writing_of_staged
   looked_begun w number b false writing_of_staged busy = cc
 
-  looked_tells : (replied : ℕ → Option Reply) (number : ℕ) (z : Bool) → OutputIsReply [] replied (cond z Moved (Busy number))
-  looked_tells replied number true = tt
-  looked_tells replied number false = refl
+  looked_reports : (replied : ℕ → Option Reply) (number : ℕ) (z : Bool) → OutputIsReply [] replied (cond z Moved (Busy number))
+  looked_reports replied number true = tt
+  looked_reports replied number false = refl
 
   true_not_false : true ≡ false → ⊥
   true_not_false e = cc
@@ -220,14 +220,14 @@ module _ (Legal : Opening → List Command → Type 0) where
             held = subst (λ (vs : List ℕ). AllHeld vs replied m.readers) (sym (set-get_or m.words (pin r) 0)) a.held;
             begun = looked_begun w r b (eqb k 0) (a.begun (ap is_idle is));
           },
-          looked_tells replied (suc r) (eqb k 0),
+          looked_reports replied (suc r) (eqb k 0),
         ),
         tt,
       )
   write_goes m aux l b replied a (Filling k) is =
       let w = m.writer in
       let place' : ℕ = place (other_side w.side) k in
-      let x : ℕ = get_or (sheet m.ledger.opening w.taken) k 0 in
+      let x : ℕ = get_or (sheet m.ledger.opening w.staged) k 0 in
       let o = l.state.writer in
       let f = subst (Fills m.ledger.opening (Legal m.ledger.opening) m.words w) is o.fills in (
         (
@@ -247,7 +247,7 @@ module _ (Legal : Opening → List Command → Type 0) where
   write_goes m aux l b replied a Swapping is =
       let w = m.writer in
       let whole = l.whole (ap is_idle is) in
-      let long : length m.ledger.journal ≡ length w.taken = ap (length {A = Command}) (sym whole) in (
+      let long : length m.ledger.journal ≡ length w.staged = ap (length {A = Command}) (sym whole) in (
         (
           record {
             register = ap (λ (z : ℕ). let s : Sequential = record { ledger = m.ledger; published = z } in s) long;
@@ -271,7 +271,7 @@ module _ (Legal : Opening → List Command → Type 0) where
       let b = ap (length {A = Command}) l.state.writer.begins.1 in
       let e = ap (length {A = Command}) l.extends.1 in
       let ge = ltb-false (length m.writer.published) (length m.ledger.journal) none in
-      omega (arith, length-append m.writer.published l.state.writer.begins.0, length-append m.writer.taken l.extends.0)
+      omega (arith, length-append m.writer.published l.state.writer.begins.0, length-append m.writer.staged l.extends.0)
 
   publish_goes : (m : MachineState) (aux : Auxiliary) → IsLawful Legal m aux → (b : Bool) (replied : ℕ → Option Reply) → Agrees (sequential_run m replied b) m
       → (idle pending : Bool) → is_idle m.writer.phase ≡ idle → is_pending m ≡ pending → PublishGoes m b replied idle pending

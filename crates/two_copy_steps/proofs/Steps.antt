@@ -78,8 +78,8 @@ module _ (L : Ledger) (W : List ℕ) (s n : ℕ) (t : List ℕ) (ph : Phase) (so
   reader_reads number r stage W' R' e at h =
       (λ i. seen_as L (h.0 i) s n t ph so (h.1 i)) ∙ (ap (λ (o : Option Stage). (reader_transition old r o).0) (sym at) ∙ ap (λ (k : ℕ). (transition old (Reader k)).0) (sym e))
 
-  pub reader_tells : (number r : ℕ) (stage : Stage) → number ≡ suc r → slice_get R r ≡ Some stage → stage_note (suc r) stage ≡ (transition old (Reader number)).1
-  reader_tells number r stage e at = ap (λ (o : Option Stage). (reader_transition old r o).1) (sym at) ∙ ap (λ (k : ℕ). (transition old (Reader k)).1) (sym e)
+  pub reader_reports : (number r : ℕ) (stage : Stage) → number ≡ suc r → slice_get R r ≡ Some stage → stage_note (suc r) stage ≡ (transition old (Reader number)).1
+  reader_reports number r stage e at = ap (λ (o : Option Stage). (reader_transition old r o).1) (sym at) ∙ ap (λ (k : ℕ). (transition old (Reader k)).1) (sym e)
 
   module _ (k : IsMachine L W s n t ph so R) where
     abbrev aux : Auxiliary
@@ -131,16 +131,16 @@ module _ (L : Ledger) (W : List ℕ) (s n : ℕ) (t : List ℕ) (ph : Phase) (so
     pub begun_in : is_idle ph ≡ true → n < length L.journal → seen_as L W s n (sheet_of L) (cond (all_true so) (Filling 0) Seeing) so R ≡ (transition old Publish).0
     begun_in idle pending =
         let is : is_pending old ≡ true = ap (λ (x : ℕ). nat_lt x (length L.journal)) published_long ∙ lt-ltb n (length L.journal) pending in
-        ap (λ (commands : List Command). let m : MachineState = record old { writer = record { side = s; published = take n L.journal; taken = commands; phase = cond (all_true so) (Filling 0) Seeing; seen_out = so } } in m) (take-length L.journal)
+        ap (λ (commands : List Command). let m : MachineState = record old { writer = record { side = s; published = take n L.journal; staged = commands; phase = cond (all_true so) (Filling 0) Seeing; seen_out = so } } in m) (take-length L.journal)
         ∙ (ap (λ (b : Bool). (published_by old b).0) (sym is) ∙ ap (λ (b : Bool). (cond b (published_by old (is_pending old)) (old, Skipped)).0) (sym idle))
 
     -- the invariant after an event: of the machine then, with the same number of readers, and the
     -- staged sheet is that of some commands of the journal
-    record KeptAfter (event : Event) (words : List ℕ) (side published : ℕ) (taken : List ℕ) (phase : Phase) (seen_out : List Bool) (readers : List Stage) : Type 0 where
-      pub machine : seen_as L words side published taken phase seen_out readers ≡ (transition old event).0
+    record KeptAfter (event : Event) (words : List ℕ) (side published : ℕ) (staged : List ℕ) (phase : Phase) (seen_out : List Bool) (readers : List Stage) : Type 0 where
+      pub machine : seen_as L words side published staged phase seen_out readers ≡ (transition old event).0
       pub published_within : published ≤ length L.journal
-      pub taken_within : front_of taken ≤ length L.journal
-      pub sheet_is : taken ≡ sheet L.opening (take (front_of taken) L.journal)
+      pub staged_within : front_of staged ≤ length L.journal
+      pub sheet_is : staged ≡ sheet L.opening (take (front_of staged) L.journal)
       pub as_many : length readers ≡ length R
       pub lawful : IsLawful IsPublishable (transition old event).0 (auxiliary_step old aux event)
 
@@ -148,7 +148,7 @@ module _ (L : Ledger) (W : List ℕ) (s n : ℕ) (t : List ℕ) (ph : Phase) (so
     stays event W' s' n' t' ph' so' R' h =
         record {
           published_within = h.published_within;
-          taken_within = h.taken_within;
+          staged_within = h.staged_within;
           sheet_is = h.sheet_is;
           bound = subst (λ (x : ℕ). x ≤ READERS) (sym h.as_many) k.bound;
           lawful = (auxiliary_step old aux event, subst (λ (m : MachineState). IsLawful IsPublishable m (auxiliary_step old aux event)) (sym h.machine) h.lawful);
@@ -160,7 +160,7 @@ module _ (L : Ledger) (W : List ℕ) (s n : ℕ) (t : List ℕ) (ph : Phase) (so
         stays Writer W' s' n' t ph' so' R record {
           machine = is;
           published_within = within;
-          taken_within = k.taken_within;
+          staged_within = k.staged_within;
           sheet_is = k.sheet_is;
           as_many = refl;
           lawful = written_keeps IsPublishable old aux k.lawful.1;
@@ -171,7 +171,7 @@ module _ (L : Ledger) (W : List ℕ) (s n : ℕ) (t : List ℕ) (ph : Phase) (so
         stays (Reader number) W' s n t ph so R' record {
           machine = is;
           published_within = k.published_within;
-          taken_within = k.taken_within;
+          staged_within = k.staged_within;
           sheet_is = k.sheet_is;
           as_many = long;
           lawful = step_keeps IsPublishable old aux k.lawful.1 number;
@@ -183,7 +183,7 @@ module _ (L : Ledger) (W : List ℕ) (s n : ℕ) (t : List ℕ) (ph : Phase) (so
         stays Publish W s n t' ph' so R record {
           machine = is;
           published_within = k.published_within;
-          taken_within = omega arith;
+          staged_within = omega arith;
           sheet_is = e ∙ ap (sheet L.opening) (sym (take-length L.journal) ∙ ap (λ (x : ℕ). take x L.journal) (sym front));
           as_many = refl;
           lawful = publish_keeps IsPublishable old aux k.lawful.1 legal;
@@ -199,7 +199,7 @@ module _ (L : Ledger) (W : List ℕ) (s n : ℕ) (t : List ℕ) (ph : Phase) (so
           writer = record {
             side = s;
             published = take-append-le n L.journal (command ∷ []) k.published_within i;
-            taken = take-append-le (front_of t) L.journal (command ∷ []) k.taken_within i;
+            staged = take-append-le (front_of t) L.journal (command ∷ []) k.staged_within i;
             phase = ph;
             seen_out = so;
           };
@@ -210,12 +210,12 @@ module _ (L : Ledger) (W : List ℕ) (s n : ℕ) (t : List ℕ) (ph : Phase) (so
     submit_stays L' command e idle =
         let more = length-append L.journal (command ∷ []) in
         let within = k.published_within in
-        let taken = k.taken_within in
+        let staged = k.staged_within in
         let F : Ledger → Type 0 = λ l. IsMachine l W s n t ph so R in
         subst F (sym e) record {
           published_within = omega arith;
-          taken_within = omega arith;
-          sheet_is = k.sheet_is ∙ ap (sheet L.opening) (sym (take-append-le (front_of t) L.journal (command ∷ []) k.taken_within));
+          staged_within = omega arith;
+          sheet_is = k.sheet_is ∙ ap (sheet L.opening) (sym (take-append-le (front_of t) L.journal (command ∷ []) k.staged_within));
           bound = k.bound;
           lawful = (aux, subst (λ (m : MachineState). IsLawful IsPublishable m aux) (sym (submitted_in (ledger_with L command) command refl)) (accepted_keeps IsPublishable old aux k.lawful.1 command idle));
         }
@@ -231,16 +231,16 @@ module _ (L : Ledger) (W : List ℕ) (s n : ℕ) (t : List ℕ) (ph : Phase) (so
 
     pub handed_machine : (L' : Ledger) (command : Command) (r : Result Note Refusal) → is_idle ph ≡ true → IfOk r (λ note. (L', note) ≡ ledger_and_note L command (verdict_of L command)) → OnErr r (L' ≡ L)
         → IsMachine L' W s n t ph so R
-    handed_machine L' command (Ok note) idle told same = handed_stays L' command (verdict_of L command) (ap (λ (x : Ledger × Note). x.0) told) idle
-    handed_machine L' command (Err refusal) idle told same = let F : Ledger → Type 0 = λ l. IsMachine l W s n t ph so R in subst F (sym same) k
+    handed_machine L' command (Ok note) idle reported same = handed_stays L' command (verdict_of L command) (ap (λ (x : Ledger × Note). x.0) reported) idle
+    handed_machine L' command (Err refusal) idle reported same = let F : Ledger → Type 0 = λ l. IsMachine l W s n t ph so R in subst F (sym same) k
 
     pub handed_transition : (L' : Ledger) (command : Command) (r : Result Note Refusal) → is_idle ph ≡ true → IfOk r (λ note. (L', note) ≡ ledger_and_note L command (verdict_of L command))
         → IfOk r (λ note. seen_as L' W s n t ph so R ≡ (transition old (Submit command)).0) × IfOk r (λ note. note ≡ (transition old (Submit command)).1)
-    handed_transition L' command (Ok note) idle told = (
-      handed_in L' command (verdict_of L command) (ap (λ (x : Ledger × Note). x.0) told) ∙ ap (λ (b : Bool). (cond b (machine_and_note old command (verdict_of L command)) (old, Skipped)).0) (sym idle),
-      ap (λ (x : Ledger × Note). x.1) told ∙ ap (λ (b : Bool). (cond b (machine_and_note old command (verdict_of L command)) (old, Skipped)).1) (sym idle),
+    handed_transition L' command (Ok note) idle reported = (
+      handed_in L' command (verdict_of L command) (ap (λ (x : Ledger × Note). x.0) reported) ∙ ap (λ (b : Bool). (cond b (machine_and_note old command (verdict_of L command)) (old, Skipped)).0) (sym idle),
+      ap (λ (x : Ledger × Note). x.1) reported ∙ ap (λ (b : Bool). (cond b (machine_and_note old command (verdict_of L command)) (old, Skipped)).1) (sym idle),
     )
-    handed_transition L' command (Err refusal) idle told = (tt, tt)
+    handed_transition L' command (Err refusal) idle reported = (tt, tt)
 
     -- the same steps, as the code takes them
     module _ (now : MachineState) (is : old ≡ now) where
@@ -273,7 +273,7 @@ module _ (L : Ledger) (W : List ℕ) (s n : ℕ) (t : List ℕ) (ph : Phase) (so
 
       pub swap_machine : (W' : List ℕ) (n' : ℕ) (so' : List Bool) → now.writer.phase ≡ Swapping → W' ≡ set W 0 (1 - s) → n' ≡ front_of t → so' ≡ replicate (length so) false
           → IsMachine L W' (1 - s) n' t Idle so' R
-      swap_machine W' n' so' e stored front out = writer_stays W' (1 - s) n' Idle so' (swapped_at W' n' so' e stored front out) (let within = k.taken_within in omega arith)
+      swap_machine W' n' so' e stored front out = writer_stays W' (1 - s) n' Idle so' (swapped_at W' n' so' e stored front out) (let within = k.staged_within in omega arith)
 
       pub skipped_at : (number : ℕ) → (number ≡ 0) ⊎ (length R < number) → (transition now (Reader number)) ≡ (now, Skipped)
       skipped_at number none = subst (λ (m : MachineState). (transition m (Reader number)) ≡ (m, Skipped)) is (no_reader number none)
@@ -313,7 +313,7 @@ module _ (L : Ledger) (W : List ℕ) (s n : ℕ) (t : List ℕ) (ph : Phase) (so
           read_machine = reader_stays number W' R' read_at (ap (length {A = Stage}) stages ∙ length-set R (number - 1) _)
 
         pub read_note : (note : Note) → note ≡ stage_note (suc (number - 1)) stage → note ≡ (transition old (Reader number)).1
-        read_note note e = e ∙ reader_tells number (number - 1) stage number_is found
+        read_note note e = e ∙ reader_reports number (number - 1) stage number_is found
 
 -- the machine at its start
 pub started_in : (L : Ledger) (readers : ℕ) → seen_as L (0 ∷ sheet_of L ++ sheet_of L ++ replicate readers 0) 0 (length L.journal) (sheet_of L) Idle (replicate readers true) (replicate readers AtRest) ≡ machine_at_start L readers
@@ -321,32 +321,32 @@ started_in L readers =
     λ i. let m : MachineState = record {
       ledger = L;
       words = 0 ∷ sheet_of L ++ sheet_of L ++ replicate readers 0;
-      writer = record { side = 0; published = take-length L.journal i; taken = take-length L.journal i; phase = Idle; seen_out = replicate readers true };
+      writer = record { side = 0; published = take-length L.journal i; staged = take-length L.journal i; phase = Idle; seen_out = replicate readers true };
       readers = replicate readers AtRest;
     } in m
 
 -- the machine at its start: both copies have the register's sheet, all of it is published, and all
 -- readers are quiescent and at rest
-pub record AtStart (ledger : Ledger) (readers : ℕ) (words : List ℕ) (published : ℕ) (taken : List ℕ) (seen_out : List Bool) (stages : List Stage) : Type 0 where
+pub record AtStart (ledger : Ledger) (readers : ℕ) (words : List ℕ) (published : ℕ) (staged : List ℕ) (seen_out : List Bool) (stages : List Stage) : Type 0 where
   pub bound : readers ≤ READERS
   pub legal : IsPublishable ledger.opening ledger.journal
   pub words_are : words ≡ 0 ∷ sheet_of ledger ++ sheet_of ledger ++ replicate readers 0
   pub published_all : published ≡ length ledger.journal
-  pub taken_all : taken ≡ sheet_of ledger
+  pub staged_all : staged ≡ sheet_of ledger
   pub all_out : seen_out ≡ replicate readers true
   pub all_rest : stages ≡ replicate readers AtRest
 
 pub start_is : (L : Ledger) (readers : ℕ) (W : List ℕ) (n : ℕ) (t : List ℕ) (so : List Bool) (R : List Stage) → AtStart L readers W n t so R
     → (seen_as L W 0 n t Idle so R ≡ machine_at_start L readers) × IsMachine L W 0 n t Idle so R
 start_is L readers W n t so R h =
-    let is : seen_as L W 0 n t Idle so R ≡ machine_at_start L readers = (λ i. seen_as L (h.words_are i) 0 (h.published_all i) (h.taken_all i) Idle (h.all_out i) (h.all_rest i)) ∙ started_in L readers in
+    let is : seen_as L W 0 n t Idle so R ≡ machine_at_start L readers = (λ i. seen_as L (h.words_are i) 0 (h.published_all i) (h.staged_all i) Idle (h.all_out i) (h.all_rest i)) ∙ started_in L readers in
     let all : n ≡ length L.journal = h.published_all in
-    let front : front_of t ≡ length L.journal = ap front_of h.taken_all in (
+    let front : front_of t ≡ length L.journal = ap front_of h.staged_all in (
       is,
       record {
         published_within = omega arith;
-        taken_within = omega arith;
-        sheet_is = h.taken_all ∙ ap (sheet L.opening) (sym (take-length L.journal) ∙ ap (λ (y : ℕ). take y L.journal) (sym front));
+        staged_within = omega arith;
+        sheet_is = h.staged_all ∙ ap (sheet L.opening) (sym (take-length L.journal) ∙ ap (λ (y : ℕ). take y L.journal) (sym front));
         bound = subst (λ (y : ℕ). y ≤ READERS) (sym (ap (length {A = Stage}) h.all_rest ∙ length-replicate readers AtRest)) h.bound;
         lawful = (auxiliary_start L readers, subst (λ (m : MachineState). IsLawful IsPublishable m (auxiliary_start L readers)) (sym is) (start_lawful IsPublishable L readers h.legal));
       },

@@ -60,21 +60,21 @@ record_there [] r readings e = absurd (none-some readings e)
 record_there (x ∷ records) zero readings e = same_Some x readings e
 record_there (x ∷ records) (suc r) readings e = record_there records r readings e
 
-looked_taken : (w : Writing) (r : ℕ) (b : Bool) → let y = cond b (writing_with_quiescent w (set w.seen_out r true)) (record w { phase = Idle }) in (y.published ≡ w.published) × (y.taken ≡ w.taken)
+looked_taken : (w : Writing) (r : ℕ) (b : Bool) → let y = cond b (writing_with_quiescent w (set w.seen_out r true)) (record w { phase = Idle }) in (y.published ≡ w.published) × (y.staged ≡ w.staged)
 looked_taken w r true = (refl, refl)
 looked_taken w r false = (refl, refl)
 
 -- a step of the writer keeps the staged list
-pub taken_kept : (opening : Opening) (w : Writing) (p : Phase) (found : ℕ) → ((phase_action (sheet opening) w p).after found).taken ≡ w.taken
-taken_kept opening w Idle found = refl
-taken_kept opening w Seeing found = (looked_taken w (first_false w.seen_out) (eqb found 0)).1
-taken_kept opening w (Filling k) found = refl
-taken_kept opening w Swapping found = refl
+pub staged_kept : (opening : Opening) (w : Writing) (p : Phase) (found : ℕ) → ((phase_action (sheet opening) w p).after found).staged ≡ w.staged
+staged_kept opening w Idle found = refl
+staged_kept opening w Seeing found = (looked_taken w (first_false w.seen_out) (eqb found 0)).1
+staged_kept opening w (Filling k) found = refl
+staged_kept opening w Swapping found = refl
 
-still_whole : (opening : Opening) (w : Writing) (p : Phase) (found : ℕ) (journal : List Command) → w.phase ≡ p → (is_idle w.phase ≡ false → w.taken ≡ journal)
-    → is_idle ((phase_action (sheet opening) w p).after found).phase ≡ false → ((phase_action (sheet opening) w p).after found).taken ≡ journal
+still_whole : (opening : Opening) (w : Writing) (p : Phase) (found : ℕ) (journal : List Command) → w.phase ≡ p → (is_idle w.phase ≡ false → w.staged ≡ journal)
+    → is_idle ((phase_action (sheet opening) w p).after found).phase ≡ false → ((phase_action (sheet opening) w p).after found).staged ≡ journal
 still_whole opening w Idle found journal e h = h
-still_whole opening w Seeing found journal e h = λ _. taken_kept opening w Seeing found ∙ h (ap is_idle e)
+still_whole opening w Seeing found journal e h = λ _. staged_kept opening w Seeing found ∙ h (ap is_idle e)
 still_whole opening w (Filling k) found journal e h = λ _. h (ap is_idle e)
 still_whole opening w Swapping found journal e h = λ _. h (ap is_idle e)
 
@@ -109,7 +109,7 @@ module _ (Legal : Opening → List Command → Type 0) where
       let found : ℕ = get_or m.words (writing_action (sheet opening) w).word 0 in
       record {
         state = writer_keeps opening (Legal opening) (state_of m aux) l.state;
-        extends = (l.extends.0, ap (λ (commands : List Command). commands ++ l.extends.0) (taken_kept opening w w.phase found) ∙ l.extends.1);
+        extends = (l.extends.0, ap (λ (commands : List Command). commands ++ l.extends.0) (staged_kept opening w w.phase found) ∙ l.extends.1);
         whole = still_whole opening w w.phase found m.ledger.journal refl l.whole;
         each_record = l.each_record;
       }
@@ -137,7 +137,7 @@ module _ (Legal : Opening → List Command → Type 0) where
   accepted_keeps m aux l command idle =
       record {
         state = l.state;
-        extends = (l.extends.0 ++ command ∷ [], sym (append_assoc m.writer.taken l.extends.0 (command ∷ [])) ∙ ap (λ (commands : List Command). commands ++ command ∷ []) l.extends.1);
+        extends = (l.extends.0 ++ command ∷ [], sym (append_assoc m.writer.staged l.extends.0 (command ∷ [])) ∙ ap (λ (commands : List Command). commands ++ command ∷ []) l.extends.1);
         whole = λ busy. absurd (true_not_false (sym idle ∙ busy));
         each_record = l.each_record;
       }

@@ -13,7 +13,7 @@ use Rattle.council_core.specs.Sequential.{submit, publish, read}
 use Rattle.council_core.specs.declared.refusals.Refusal.TheVariants.{ChairOpen}
 use Rattle.two_copy_steps.specs.Effects.{SequentialRun, begun_after, effects, replied_at, sequential_start}
 use Rattle.two_copy_steps.specs.Lawful.{State}
-use Rattle.two_copy_steps.specs.Laws.{HandsInRange, HasVotesInRange}
+use Rattle.two_copy_steps.specs.Laws.{SubmitsInRange, HasVotesInRange}
 use Rattle.two_copy_steps.specs.Auxiliary.{NoneUnder, side_filled, side_held}
 use Rattle.two_copy_steps.specs.Publications.{stores_side}
 use Rattle.two_copy_steps.specs.Stages.{reading_steps, steps_taken}
@@ -27,8 +27,8 @@ five_notes : notes (machine_at_start one_member 1) (Submit (Open 1) ∷ Reader 2
 five_notes = refl
 
 -- a reader that has arrived holds up the second publication, and reads the sheet before the first
-abbrev pub in_the_way : List Event
-in_the_way =
+abbrev pub blocking : List Event
+blocking =
     replicate 2 (Reader 1) ++ Submit (Open 1) ∷ Publish ∷ [] ++ replicate 35 Writer ++ Submit (Move (65 ∷ 65 ∷ 65 ∷ []) (Some 1)) ∷ Publish ∷ Writer ∷ [] ++ replicate 35 (Reader 1) ++ Publish ∷ [] ++ replicate 36 Writer
     ++ replicate 37 (Reader 1)
 
@@ -38,13 +38,13 @@ first_sheet = replicate 32 0 ++ 10 ∷ 0 ∷ []
 abbrev last_sheet : List ℕ
 last_sheet = 11 ∷ replicate 31 0 ++ 10 ∷ 2 ∷ []
 
-way_notes : notes (machine_at_start one_member 1) in_the_way
+way_notes : notes (machine_at_start one_member 1) blocking
     ≡ replicate 2 Moved ++ Accepted 1 ∷ Began ∷ [] ++ replicate 34 Moved ++ Published 1 ∷ Accepted 2 ∷ Began ∷ Busy 1 ∷ [] ++ replicate 34 Moved ++ Read 1 first_sheet ∷ Began ∷ [] ++ replicate 35 Moved ++ Published 2 ∷ []
     ++ replicate 36 Moved ++ Read 1 last_sheet ∷ []
 way_notes = refl
 
 -- six of these 151 events represent a call of the sequential register, in this order
-way_effects : effects (machine_at_start one_member 1) in_the_way
+way_effects : effects (machine_at_start one_member 1) blocking
     ≡ read ∷ submit (Open 1) ∷ publish ∷ submit (Move (65 ∷ 65 ∷ 65 ∷ []) (Some 1)) ∷ publish ∷ read ∷ []
 way_effects = refl
 
@@ -136,10 +136,10 @@ code = 65 ∷ 65 ∷ 65 ∷ []
 pub votes_in_range : HasVotesInRange one_member
 votes_in_range = search rules
 
-pub hands_three_votes : HandsInRange (Submit (SetVotes code 3))
+pub hands_three_votes : SubmitsInRange (Submit (SetVotes code 3))
 hands_three_votes = search rules
 
-hands_too_many : HandsInRange (Submit (SetVotes code (2 ^ 41))) → ⊥
+hands_too_many : SubmitsInRange (Submit (SetVotes code (2 ^ 41))) → ⊥
 hands_too_many h = omega (arith, h)
 
 -- the limits by number, which definitions name

@@ -113,7 +113,7 @@ module _ (opening : Opening) (Legal : List Command → Type 0) where
   fills_tested words w out false e = e
 
   -- the writer begins to publish a longer list
-  pub begin_keeps : (m : State) → Lawful opening Legal m → (list rest : List Command) → Legal list → m.writer.state.taken ++ rest ≡ list → Lawful opening Legal (begun_by m list)
+  pub begin_keeps : (m : State) → Lawful opening Legal m → (list rest : List Command) → Legal list → m.writer.state.staged ++ rest ≡ list → Lawful opening Legal (begun_by m list)
   begin_keeps m l list rest legal longer =
       let w = m.writer.state in
       let w' : WriterView = Known (writing_of_staged list w) m.writer.cuts in
@@ -128,7 +128,7 @@ module _ (opening : Opening) (Legal : List Command → Type 0) where
         last_cut = o.last_cut;
         cuts = o.cuts;
         ascending = o.ascending;
-        fills = fills_tested m.words (record w { taken = list }) w.seen_out (all_true w.seen_out) refl;
+        fills = fills_tested m.words (record w { staged = list }) w.seen_out (all_true w.seen_out) refl;
       } (λ q _. record { pins = refl; cuts = λ f h. (h, refl); sides = λ s two p late. ((λ i _. refl), late) })
 
   -- a pin was loaded
@@ -189,12 +189,12 @@ module _ (opening : Opening) (Legal : List Command → Type 0) where
       (λ ne. subst F (sym (ne_eqb (k + 1) COPY_WORDS ne)) (omega arith, h))
 
   fills : (m : State) (k : ℕ) → Lawful opening Legal m → k < COPY_WORDS → Stored opening Legal m.words m.writer.state k
-      → Lawful opening Legal (At (set m.words (place (other_side m.writer.state.side) k) (get_or (sheet opening m.writer.state.taken) k 0)) (Known (filled_writing m.writer.state k) m.writer.cuts) m.readers)
+      → Lawful opening Legal (At (set m.words (place (other_side m.writer.state.side) k) (get_or (sheet opening m.writer.state.staged) k 0)) (Known (filled_writing m.writer.state k) m.writer.cuts) m.readers)
   fills m k l short h =
       let w = m.writer.state in
       let o = l.writer in
       let p : ℕ = place (other_side w.side) k in
-      let x : ℕ = get_or (sheet opening w.taken) k 0 in
+      let x : ℕ = get_or (sheet opening w.staged) k 0 in
       let vs : List ℕ = set m.words p x in
       let low : p < pin 0 = place_low (other_side w.side) k short in
       let some : 0 < p = place_above (other_side w.side) k in
@@ -214,7 +214,7 @@ module _ (opening : Opening) (Legal : List Command → Type 0) where
         fills = fills_next vs w k short (
           h.0,
           λ i g. dite (ℕ_discrete i k)
-              (λ e. subst (λ (z : ℕ). get_or vs (place (other_side w.side) z) 0 ≡ get_or (sheet opening w.taken) z 0) (sym e) (get_or-set_same m.words p x 0 (omega arith)))
+              (λ e. subst (λ (z : ℕ). get_or vs (place (other_side w.side) z) 0 ≡ get_or (sheet opening w.staged) z 0) (sym e) (get_or-set_same m.words p x 0 (omega arith)))
               (λ ne. get_or-set_other m.words p (place (other_side w.side) i) x 0 (place_once (other_side w.side) i k ne) ∙ h.1 i (omega arith)),
         );
       } (λ q _. record {
@@ -226,11 +226,11 @@ module _ (opening : Opening) (Legal : List Command → Type 0) where
       })
 
   -- a cut of the published list is one of the longer staged list
-  cut_stays : (w : Writing) (rest : List Command) → w.published ++ rest ≡ w.taken → (f : ℕ) → f ≤ length w.published → take f w.taken ≡ take f w.published
+  cut_stays : (w : Writing) (rest : List Command) → w.published ++ rest ≡ w.staged → (f : ℕ) → f ≤ length w.published → take f w.staged ≡ take f w.published
   cut_stays w rest begins f le = ap (take f) (sym begins) ∙ take-append-le f w.published rest le
 
   swaps : (m : State) → Lawful opening Legal m → Stored opening Legal m.words m.writer.state COPY_WORDS
-      → Lawful opening Legal (At (set m.words 0 (other_side m.writer.state.side)) (Known (swapped_writing m.writer.state) (m.writer.cuts ++ length m.writer.state.taken ∷ [])) m.readers)
+      → Lawful opening Legal (At (set m.words 0 (other_side m.writer.state.side)) (Known (swapped_writing m.writer.state) (m.writer.cuts ++ length m.writer.state.staged ∷ [])) m.readers)
   swaps m l h =
       let w = m.writer.state in
       let cuts : List ℕ = m.writer.cuts in
@@ -240,7 +240,7 @@ module _ (opening : Opening) (Legal : List Command → Type 0) where
       let wide = l.wide in
       let two = o.two in
       let begins = o.begins in
-      let last : ℕ = length w.taken in
+      let last : ℕ = length w.staged in
       let longer : length w.published ≤ last = (let g = ap (length {A = Command}) begins.1 in omega (arith, length-append w.published begins.0)) in
       let kept : (s i : ℕ) → get_or vs (place s i) 0 ≡ get_or m.words (place s i) 0 = λ s i. get_or-set_other m.words 0 (place s i) t 0 (λ e. let g = place_above s i in omega arith) in
       moved m.words vs m.writer (Known (swapped_writing w) (cuts ++ last ∷ [])) m.readers l (length-set m.words 0 t) record {
@@ -248,12 +248,12 @@ module _ (opening : Opening) (Legal : List Command → Type 0) where
         side_is = get_or-set_same m.words 0 t 0 (omega arith);
         flags = length-replicate (length w.seen_out) false ∙ o.flags;
         legal = o.legal;
-        begins = ([], append-nil w.taken);
+        begins = ([], append-nil w.staged);
         shown = λ i g. kept t i ∙ h.1 i g;
         last_cut = (cuts, refl);
         cuts = λ f e. ⊎_elim
             (λ (c : Contains cuts f). let old = o.cuts f c in (le_trans old.0 longer, subst Legal (sym (cut_stays w begins.0 begins.1 f old.0)) old.1))
-            (λ (c : last ≡ f). (omega arith, subst Legal (sym (take-length w.taken) ∙ ap (λ (z : ℕ). take z w.taken) c) o.legal))
+            (λ (c : last ≡ f). (omega arith, subst Legal (sym (take-length w.staged) ∙ ap (λ (z : ℕ). take z w.staged) c) o.legal))
             (Contains-push_cases cuts last f e);
         ascending = ascends-push cuts last o.ascending (λ c e. le_trans (o.cuts c e).0 longer);
         fills = tt;
@@ -267,7 +267,7 @@ module _ (opening : Opening) (Legal : List Command → Type 0) where
   wrote m p =
       let d = phase_action (sheet opening) m.writer.state p in
       let found = get_or m.words d.word 0 in
-      At (set m.words d.word (d.becomes found)) (Known (d.after found) (cuts_past p m.writer.state.taken m.writer.cuts)) m.readers
+      At (set m.words d.word (d.becomes found)) (Known (d.after found) (cuts_past p m.writer.state.staged m.writer.cuts)) m.readers
 
   writes : (m : State) (p : Phase) → Lawful opening Legal m → Fills opening Legal m.words m.writer.state p → Lawful opening Legal (wrote m p)
   writes m Idle l h = subst (λ (vs : List ℕ). Lawful opening Legal (At vs m.writer m.readers)) (sym (set-get_or m.words 0 0)) l

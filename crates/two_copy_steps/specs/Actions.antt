@@ -49,10 +49,10 @@ readings_after (Leaving side words) after readings = readings
 
 -- the cuts after a step from a phase: a cut is added when side is stored
 abbrev pub cuts_past : Phase → List Command → List ℕ → List ℕ
-cuts_past Swapping taken cuts = cuts ++ length taken ∷ []
-cuts_past Idle taken cuts = cuts
-cuts_past Seeing taken cuts = cuts
-cuts_past (Filling k) taken cuts = cuts
+cuts_past Swapping staged cuts = cuts ++ length staged ∷ []
+cuts_past Idle staged cuts = cuts
+cuts_past Seeing staged cuts = cuts
+cuts_past (Filling k) staged cuts = cuts
 
 -- the index of word i of the copy that a side names: word 0 is side, the two copies follow, and
 -- then a pin for each reader
@@ -94,7 +94,7 @@ writing_with_quiescent w out = record w { phase = if all_true out then Filling 0
 
 -- the writer's state when a publication of these commands begins
 abbrev pub writing_of_staged : List Command → Writing → Writing
-writing_of_staged commands w = writing_with_quiescent (record w { taken = commands }) w.seen_out
+writing_of_staged commands w = writing_with_quiescent (record w { staged = commands }) w.seen_out
 
 abbrev pub filled_writing : Writing → ℕ → Writing
 filled_writing w k = record w { phase = if k + 1 == COPY_WORDS then Swapping else Filling (k + 1) }
@@ -104,8 +104,8 @@ filled_writing w k = record w { phase = if k + 1 == COPY_WORDS then Swapping els
 abbrev pub swapped_writing : Writing → Writing
 swapped_writing w = record {
   side = other_side w.side;
-  published = w.taken;
-  taken = w.taken;
+  published = w.staged;
+  staged = w.staged;
   phase = Idle;
   seen_out = replicate (length w.seen_out) false;
 }
@@ -124,7 +124,7 @@ module _ (sheet : List Command → List ℕ) where
   phase_action w (Filling k) =
       record {
         word = place (other_side w.side) k;
-        becomes = λ _. slice_index (sheet w.taken) k;
+        becomes = λ _. slice_index (sheet w.staged) k;
         after = λ _. filled_writing w k;
       }
   phase_action w Swapping = record { word = 0; becomes = λ _. other_side w.side; after = λ _. swapped_writing w }
@@ -139,5 +139,5 @@ module _ (sheet : List Command → List ℕ) where
       record {
         word = d.word;
         becomes = d.becomes;
-        after = λ found. record { state = d.after found; cuts = cuts_past v.state.phase v.state.taken v.cuts };
+        after = λ found. record { state = d.after found; cuts = cuts_past v.state.phase v.state.staged v.cuts };
       }

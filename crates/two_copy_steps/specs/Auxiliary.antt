@@ -42,7 +42,7 @@ auxiliary_reader_step m a r (Some stage) =
 abbrev pub auxiliary_step : MachineState → Auxiliary → Event → Auxiliary
 auxiliary_step m a (Submit command) = a
 auxiliary_step m a Publish = a
-auxiliary_step m a Writer = record a { cuts = cuts_past m.writer.phase m.writer.taken a.cuts }
+auxiliary_step m a Writer = record a { cuts = cuts_past m.writer.phase m.writer.staged a.cuts }
 auxiliary_step m a (Reader zero) = a
 auxiliary_step m a (Reader (suc r)) = auxiliary_reader_step m a r (slice_get m.readers r)
 
@@ -67,8 +67,8 @@ state_of m a = record
 -- list last staged, and equals it while a publication is in progress
 pub record IsLawful (Legal : Opening → List Command → Type 0) (m : MachineState) (a : Auxiliary) : Type 0 where
   pub state : Lawful m.ledger.opening (Legal m.ledger.opening) (state_of m a)
-  pub extends : (rest : List Command) × (m.writer.taken ++ rest ≡ m.ledger.journal)
-  pub whole : is_idle m.writer.phase ≡ false → m.writer.taken ≡ m.ledger.journal
+  pub extends : (rest : List Command) × (m.writer.staged ++ rest ≡ m.ledger.journal)
+  pub whole : is_idle m.writer.phase ≡ false → m.writer.staged ≡ m.ledger.journal
   pub each_record : length a.records ≡ length m.readers
 
 -- the published list is legal, the cuts are in order, and the records hold sheets of cuts whose

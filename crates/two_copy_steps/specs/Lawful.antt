@@ -104,7 +104,7 @@ module _ (opening : Opening) (Legal : List Command → Type 0) where
   -- the sheet of the staged commands
   abbrev pub Stored : List ℕ → Writing → ℕ → Type 0
   Stored words w k =
-      (all_true w.seen_out ≡ true) × ShowsFirst k words (other_side w.side) (sheet opening w.taken)
+      (all_true w.seen_out ≡ true) × ShowsFirst k words (other_side w.side) (sheet opening w.staged)
 
   abbrev pub Fills : List ℕ → Writing → Phase → Type 0
   Fills words w Idle = Unit {0}
@@ -116,8 +116,8 @@ module _ (opening : Opening) (Legal : List Command → Type 0) where
     pub two : v.state.side < 2
     pub side_is : slice_index words 0 ≡ v.state.side
     pub flags : length v.state.seen_out ≡ readers
-    pub legal : Legal v.state.taken
-    pub begins : (rest : List Command) × (v.state.published ++ rest ≡ v.state.taken)
+    pub legal : Legal v.state.staged
+    pub begins : (rest : List Command) × (v.state.published ++ rest ≡ v.state.staged)
     pub shown : ShowsSheet words v.state.side (sheet opening v.state.published)
     pub last_cut : (earlier : List ℕ) × (v.cuts ≡ earlier ++ length v.state.published ∷ [])
     pub cuts : (cut : ℕ) → Contains v.cuts cut

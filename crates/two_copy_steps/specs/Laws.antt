@@ -22,10 +22,10 @@ use Rattle.two_copy_steps.specs.Auxiliary.{NoneUnder}
 use Rattle.two_copy_steps.specs.Actions.{all_true, pin, stage_action, reader_action}
 use Rattle.two_copy_steps.specs.Stages.{steps_taken, last_load, last_step, sheet_read, IsReadable}
 use Rattle.two_copy_steps.specs.Publications.{IsLeastUnseen, StaySeen, stores_side}
-use Rattle.two_copy_steps.specs.Records.{RecordsAreTold, FrontsNeverFall}
+use Rattle.two_copy_steps.specs.Records.{RecordsAreReported, FrontsNeverFall}
 use Rattle.council_core.specs.Sequential.{replies_of, state_after}
 use Rattle.two_copy_steps.specs.Effects.{SequentialRun, effects, sequential_steps, sequential_replies}
-use Rattle.two_copy_steps.specs.Runs.{machine_after, auxiliary_after, TellsReplies}
+use Rattle.two_copy_steps.specs.Runs.{machine_after, auxiliary_after, ReportsReplies}
 
 -- the start over a legal journal whose sheet is in range meets the invariant
 abbrev pub StartLaw : Type 0
@@ -45,7 +45,7 @@ WriterLaw = (opening : Opening) (s : State) → LawfulFor opening s → LawfulFo
 -- extends the one last staged and whose sheet is in range
 abbrev pub BeginLaw : Type 0
 BeginLaw = (opening : Opening) (s : State) → LawfulFor opening s → (commands rest : List Command)
-    → IsPublishable opening commands → s.writer.state.taken ++ rest ≡ commands
+    → IsPublishable opening commands → s.writer.state.staged ++ rest ≡ commands
     → LawfulFor opening (begun_by s commands)
 
 -- in every state that meets the invariant the records are legal
@@ -139,16 +139,16 @@ abbrev pub HasVotesInRange : Ledger → Type 0
 HasVotesInRange ledger = IsOpening ledger.opening × All SetsInRange ledger.journal
 
 -- an event that submits a command submits one whose votes are in range
-abbrev pub HandsInRange : Event → Type 0
-HandsInRange (Submit command) = SetsInRange command
-HandsInRange Publish = Unit {0}
-HandsInRange Writer = Unit {0}
-HandsInRange (Reader number) = Unit {0}
+abbrev pub SubmitsInRange : Event → Type 0
+SubmitsInRange (Submit command) = SetsInRange command
+SubmitsInRange Publish = Unit {0}
+SubmitsInRange Writer = Unit {0}
+SubmitsInRange (Reader number) = Unit {0}
 
 -- each such event keeps the votes in range, and the journal publishable
 abbrev pub RangeLaw : Type 0
 RangeLaw = (m : MachineState) → IsLedger m.ledger → HasVotesInRange m.ledger → (event : Event)
-    → HandsInRange event → HasVotesInRange (transition m event).0.ledger
+    → SubmitsInRange event → HasVotesInRange (transition m event).0.ledger
     × IsPublishable (transition m event).0.ledger.opening (transition m event).0.ledger.journal
 
 -- over every list of events the records are legal
@@ -166,14 +166,14 @@ UnderLaw = (ledger : Ledger) (readers : ℕ) → IsLedger ledger → (events : L
 -- at the call's linearization point
 abbrev pub RepliesLaw : Type 0
 RepliesLaw = (ledger : Ledger) (readers : ℕ) → IsLedger ledger → (events : List Event)
-    → TellsReplies ledger readers events
+    → ReportsReplies ledger readers events
 
 -- over every list of events each reader's record is the sheets in its outputs, followed by the
 -- words of the reading that it is about to leave
 abbrev pub OutputsLaw : Type 0
 OutputsLaw =
     (ledger : Ledger) (readers : ℕ) → (events : List Event)
-    → RecordsAreTold (machine_after ledger readers events) (auxiliary_after ledger readers events)
+    → RecordsAreReported (machine_after ledger readers events) (auxiliary_after ledger readers events)
     (notes (machine_at_start ledger readers) events)
 
 -- over every list of events no output of a reader has an older sheet than one before it

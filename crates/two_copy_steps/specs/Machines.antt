@@ -16,14 +16,14 @@ use Rattle.two_copy_steps.specs.Auxiliary.{Auxiliary, IsLawful}
 -- staged ones
 abbrev pub seen_as : Ledger → List ℕ → ℕ → ℕ → List ℕ → Phase → List Bool → List Stage
     → MachineState
-seen_as ledger words side published taken phase seen_out readers =
+seen_as ledger words side published staged phase seen_out readers =
     record {
       ledger = ledger;
       words = words;
       writer = record {
         side = side;
         published = take published ledger.journal;
-        taken = take (front_of taken) ledger.journal;
+        staged = take (front_of staged) ledger.journal;
         phase = phase;
         seen_out = seen_out;
       };
@@ -31,14 +31,14 @@ seen_as ledger words side published taken phase seen_out readers =
     }
 
 -- the fields meet the invariant, for some cuts and records
-pub record IsMachine (ledger : Ledger) (words : List ℕ) (side published : ℕ) (taken : List ℕ) (phase : Phase)
+pub record IsMachine (ledger : Ledger) (words : List ℕ) (side published : ℕ) (staged : List ℕ) (phase : Phase)
     (seen_out : List Bool) (readers : List Stage) : Type 0 where
   pub published_within : published ≤ length ledger.journal
-  pub taken_within : front_of taken ≤ length ledger.journal
-  pub sheet_is : taken ≡ sheet ledger.opening (take (front_of taken) ledger.journal)
+  pub staged_within : front_of staged ≤ length ledger.journal
+  pub sheet_is : staged ≡ sheet ledger.opening (take (front_of staged) ledger.journal)
   pub bound : length readers ≤ READERS
   pub lawful : (a : Auxiliary)
-      × IsLawful IsPublishable (seen_as ledger words side published taken phase seen_out readers) a
+      × IsLawful IsPublishable (seen_as ledger words side published staged phase seen_out readers) a
 
 -- from one to READERS readers
 abbrev pub IsFew : ℕ → Type 0

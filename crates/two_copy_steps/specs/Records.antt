@@ -12,28 +12,28 @@ use Rattle.two_copy_steps.specs.Auxiliary.{Auxiliary, record_at}
 use Rattle.two_copy_steps.specs.Stages.{about_to_leave}
 
 -- the sheet in this output if it is of the reader with this number, or none
-abbrev pub told_of : ℕ → Note → List (List ℕ)
-told_of number (Read reader words) = if reader == number then words ∷ [] else []
-told_of number (Accepted count) = []
-told_of number (Refused refusal) = []
-told_of number Began = []
-told_of number Moved = []
-told_of number (Published front) = []
-told_of number (Busy reader) = []
-told_of number Skipped = []
+abbrev pub reported_of : ℕ → Note → List (List ℕ)
+reported_of number (Read reader words) = if reader == number then words ∷ [] else []
+reported_of number (Accepted count) = []
+reported_of number (Refused refusal) = []
+reported_of number Began = []
+reported_of number Moved = []
+reported_of number (Published front) = []
+reported_of number (Busy reader) = []
+reported_of number Skipped = []
 
 -- the sheets in these outputs of the reader with this number, in order
-abbrev pub sheets_told : ℕ → List Note → List (List ℕ)
-sheets_told number [] = []
-sheets_told number (note ∷ rest) = told_of number note ++ sheets_told number rest
+abbrev pub sheets_reported : ℕ → List Note → List (List ℕ)
+sheets_reported number [] = []
+sheets_reported number (note ∷ rest) = reported_of number note ++ sheets_reported number rest
 
 -- each reader's record is the sheets in its outputs, in order, followed by the words of the reading
 -- that it is about to leave
-abbrev pub RecordsAreTold : MachineState → Auxiliary → List Note → Type 0
-RecordsAreTold m a told =
+abbrev pub RecordsAreReported : MachineState → Auxiliary → List Note → Type 0
+RecordsAreReported m a reported =
     (r : ℕ) (stage : Stage) → slice_get m.readers r ≡ Some stage
-    → record_at a.records r ≡ sheets_told (suc r) told ++ about_to_leave stage
+    → record_at a.records r ≡ sheets_reported (suc r) reported ++ about_to_leave stage
 
 -- in the outputs of one reader the fronts never fall
 abbrev pub FrontsNeverFall : List Note → Type 0
-FrontsNeverFall told = (number : ℕ) → IsNonDecreasingBy front_of (sheets_told number told)
+FrontsNeverFall reported = (number : ℕ) → IsNonDecreasingBy front_of (sheets_reported number reported)

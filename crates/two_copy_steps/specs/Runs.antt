@@ -6,7 +6,7 @@ use Rattle.council_core.specs.declared.refusals.Refusal.TheVariants.{OutOfMemory
 use Rattle.two_copy_steps.specs.declared.events.Event.{Event}
 use Rattle.two_copy_steps.specs.declared.events.Note.{Note}
 use Rattle.two_copy_steps.specs.Transitions.{MachineState, machine_at_start, state_after_events}
-use Rattle.two_copy_steps.specs.Records.{RecordsAreTold}
+use Rattle.two_copy_steps.specs.Records.{RecordsAreReported}
 use Rattle.two_copy_steps.specs.Auxiliary.{Auxiliary, auxiliary_start, auxiliary_steps, HasLegalRecords, NoneUnder}
 use Rattle.two_copy_steps.specs.Effects.{sequential_start, AllAnswer}
 use Rattle.two_copy_steps.specs.Machines.{IsFew, WantsMemory}
@@ -21,8 +21,8 @@ auxiliary_after ledger readers events = auxiliary_steps (machine_at_start ledger
 
 -- every output that answers a call equals the sequential register's reply at the call's
 -- linearization point
-abbrev pub TellsReplies : Ledger → ℕ → List Event → Type 0
-TellsReplies ledger readers events = AllAnswer (sequential_start ledger) (machine_at_start ledger readers) events
+abbrev pub ReportsReplies : Ledger → ℕ → List Event → Type 0
+ReportsReplies ledger readers events = AllAnswer (sequential_start ledger) (machine_at_start ledger readers) events
 
 -- the records are legal before the first event and after every event
 abbrev pub KeepsRecordsLegal : Ledger → ℕ → List Event → Type 0
@@ -36,9 +36,9 @@ StoresUnderNobody ledger readers events = (k : ℕ) → NoneUnder (machine_after
 
 -- each reader's record is the sheets in its outputs, followed by the words that it is about to
 -- leave
-abbrev pub KeepsRecordsTold : Ledger → ℕ → List Event → List Note → Type 0
-KeepsRecordsTold ledger readers events told =
-    RecordsAreTold (machine_after ledger readers events) (auxiliary_after ledger readers events) told
+abbrev pub KeepsRecordsReported : Ledger → ℕ → List Event → List Note → Type 0
+KeepsRecordsReported ledger readers events reported =
+    RecordsAreReported (machine_after ledger readers events) (auxiliary_after ledger readers events) reported
 
 -- the event at this index can need memory, in a run from this machine
 abbrev pub WantsMemoryFrom : MachineState → List Event → ℕ → Type 0

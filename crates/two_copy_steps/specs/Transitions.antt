@@ -42,7 +42,7 @@ machine_at_start ledger readers =
       writer = record {
         side = 0;
         published = ledger.journal;
-        taken = ledger.journal;
+        staged = ledger.journal;
         phase = Idle;
         seen_out = replicate readers true;
       };
@@ -72,7 +72,7 @@ phase_note m Idle = Skipped
 phase_note m Seeing = let r = first_false m.writer.seen_out
     in if slice_index m.words (pin r) == 0 then Moved else Busy (suc r)
 phase_note m (Filling k) = Moved
-phase_note m Swapping = Published (length m.writer.taken)
+phase_note m Swapping = Published (length m.writer.staged)
 
 -- the machine after the writer takes its step
 abbrev pub after_writer_step : MachineState → MachineState

@@ -79,7 +79,7 @@ pub fn run_laws()
 /// the words of the reading that it is about to leave; and no output of a reader has an older sheet
 /// than one before it.
 pub fn record_laws()
-    ensures told { OutputsLaw }
+    ensures reported { OutputsLaw }
     ensures never_older { NeverOlderLaw }
 {}
 

@@ -25,7 +25,7 @@ pub struct Machine {
     table: Table,
     side: u64,
     published: u32,
-    taken: Sheet,
+    staged: Sheet,
     phase: Phase,
     seen_out: Flags,
     stages: ReaderStages,
@@ -37,9 +37,9 @@ impl Model for Machine {
 
     ghost Value = { MachineState };
 
-    ghost view = { λ m. seen_as m.register m.table m.side m.published m.taken m.phase m.seen_out m.stages };
+    ghost view = { λ m. seen_as m.register m.table m.side m.published m.staged m.phase m.seen_out m.stages };
 
-    ghost invariant = { λ m. IsMachine m.register m.table m.side m.published m.taken m.phase m.seen_out m.stages };
+    ghost invariant = { λ m. IsMachine m.register m.table m.side m.published m.staged m.phase m.seen_out m.stages };
 }
 
 // Submits a command to the register. The output says whether it was accepted.
@@ -79,7 +79,7 @@ impl Machine {
             table: Table::start(&sheet.words(), readers),
             side: 0,
             published: register.accepted(),
-            taken: sheet,
+            staged: sheet,
             phase: Phase::Idle,
             seen_out: Flags::start(readers),
             stages: ReaderStages::start(readers),
@@ -173,7 +173,7 @@ impl Machine {
         if self.register.accepted() <= self.published {
             return Note::Published(self.published);
         }
-        self.taken = self.register.sheet();
+        self.staged = self.register.sheet();
         self.phase = phase_after(&self.seen_out);
         Note::Began
     }
@@ -213,7 +213,7 @@ impl Machine {
         ensures machine { self.new ≡ (transition self.old Writer).0 }
         ensures note { result ≡ (transition self.old Writer).1 }
     {
-        let word = self.taken.words()[k as usize];
+        let word = self.staged.words()[k as usize];
         self.table.store(place(1 - self.side, k as usize), word);
         self.phase = phase_past(k);
         Note::Moved
@@ -227,7 +227,7 @@ impl Machine {
     {
         self.side = 1 - self.side;
         self.table.store(SIDE, self.side);
-        self.published = self.taken.front();
+        self.published = self.staged.front();
         self.seen_out.clear();
         self.phase = Phase::Idle;
         Note::Published(self.published)

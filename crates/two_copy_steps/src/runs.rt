@@ -5,7 +5,7 @@ ghost use Rattle.two_copy_steps.specs.Transitions.{machine_at_start, state_after
 ghost use Rattle.two_copy_steps.specs.Machines.{IsFew};
 ghost use Rattle.two_copy_steps.specs.Records.{FrontsNeverFall};
 ghost use Rattle.two_copy_steps.specs.declared.events.Event.{Event};
-ghost use Rattle.two_copy_steps.specs.Runs.{machine_after, TellsReplies, KeepsRecordsTold, WantsMemoryFrom};
+ghost use Rattle.two_copy_steps.specs.Runs.{machine_after, ReportsReplies, KeepsRecordsReported, WantsMemoryFrom};
 ghost use Rattle.two_copy_steps.specs.Runs.{KeepsRecordsLegal, StoresUnderNobody, IsFault};
 
 use crate::events::{Event, Note};
@@ -98,10 +98,10 @@ pub fn run(
     ensures machine { IfOk result (λ log. log.machine ≡ machine_after register readers events.now) }
 
     // The guarantees for every list of events.
-    ensures replies { IfOk result (λ log. TellsReplies register readers events.now) }
+    ensures replies { IfOk result (λ log. ReportsReplies register readers events.now) }
     ensures records { IfOk result (λ log. KeepsRecordsLegal register readers events.now) }
     ensures apart { IfOk result (λ log. StoresUnderNobody register readers events.now) }
-    ensures told { IfOk result (λ log. KeepsRecordsTold register readers events.now log.notes) }
+    ensures reported { IfOk result (λ log. KeepsRecordsReported register readers events.now log.notes) }
     ensures never_older { IfOk result (λ log. FrontsNeverFall log.notes) }
 
     // The cases in which the run reaches its end.
@@ -118,14 +118,14 @@ pub fn run(
             });
         }
     };
-    let mut told = match Vec::with_capacity(alloc, events.len()) {
-        Ok(told) => told,
+    let mut reported = match Vec::with_capacity(alloc, events.len()) {
+        Ok(reported) => reported,
         Err(_) => return Err(fault(machine, 0)),
     };
-    match take_all(&mut machine, &mut told, events) {
+    match take_all(&mut machine, &mut reported, events) {
         Ok(()) => {
             Ok(RunLog {
-                notes: Notes { list: told },
+                notes: Notes { list: reported },
                 machine,
             })
         }
@@ -148,18 +148,18 @@ fn fault(machine: Machine, done: usize) -> RunFault
 
 // Carries out the events in turn. If one runs out of memory, returns the number of completed events
 // as the error.
-fn take_all(machine: &mut Machine, told: &mut Vec<Note>, events: &[Event]) -> Result<(), usize>
-    requires empty { told.old.items ≡ [] }
-    requires room { length events.now ≤ vec_capacity told.old }
+fn take_all(machine: &mut Machine, reported: &mut Vec<Note>, events: &[Event]) -> Result<(), usize>
+    requires empty { reported.old.items ≡ [] }
+    requires room { length events.now ≤ vec_capacity reported.old }
     ensures machine { OnOk result (machine.new ≡ state_after_events machine.old events.now) }
-    ensures notes { OnOk result (told.new.items ≡ notes machine.old events.now) }
+    ensures notes { OnOk result (reported.new.items ≡ notes machine.old events.now) }
     ensures left { IfErr result (λ done. machine.new ≡ state_after_events machine.old (take done events.now)) }
     ensures within { IfErr result (λ done. done ≤ length events.now) }
     ensures wanted { IfErr result (λ done. WantsMemoryFrom machine.old events.now done) }
 {
     for (done, event) in events.iter().enumerate() {
         match machine.step(*event) {
-            Ok(note) => told.push_reserved(note),
+            Ok(note) => reported.push_reserved(note),
             Err(_) => return Err(done),
         }
     }

@@ -43,7 +43,7 @@ pub struct Writing {
     /// The published commands.
     pub published: LinkedList<Command>,
     /// The staged commands: those that the last publication began to publish.
-    pub taken: LinkedList<Command>,
+    pub staged: LinkedList<Command>,
     /// The phase of the writer.
     pub phase: Phase,
     /// Whether each reader is quiescent: its pin was found at 0 since side was last stored, or

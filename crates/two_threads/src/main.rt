@@ -41,17 +41,17 @@ fn commands(members: &[(MemberCode, Votes); 3]) -> Result<[Command; 6], Refusal>
 
 // Prints what doesn't depend on the threads' schedule: the numbers of publications and readings,
 // and the last answer.
-fn tell(rt: &(impl Print + Alloc), session: &Session) -> io::Result<()> {
+fn report(rt: &(impl Print + Alloc), session: &Session) -> io::Result<()> {
     println!(rt; "published {} times", session.cuts.len())?;
     for (at, sheets) in session.readings.iter().enumerate() {
         println!(rt; "reader {}: {} readings", at + 1, sheets.len())?;
     }
-    tell_indices(rt, &session.answer.indices)?;
+    report_indices(rt, &session.answer.indices)?;
     println!(rt; "audit: ok")
 }
 
 // Prints the indices, with one line for each chair.
-fn tell_indices(rt: &(impl Print + Alloc), indices: &Indices) -> io::Result<()> {
+fn report_indices(rt: &(impl Print + Alloc), indices: &Indices) -> io::Result<()> {
     println!(rt;
         "after {} commands {} of {} coalitions win",
         indices.front, indices.winning, indices.coalitions
@@ -76,7 +76,7 @@ fn held<R: Threads + Wait + Sync>(rt: &R, alloc: Global) -> Result<Session, Sess
 
 fn main(rt: HostRuntime) -> ExitCode {
     match held(&rt, rt.alloc()) {
-        Ok(session) => match tell(&rt, &session) {
+        Ok(session) => match report(&rt, &session) {
             Ok(()) => ExitCode::SUCCESS,
             Err(_) => ExitCode::FAILURE,
         },

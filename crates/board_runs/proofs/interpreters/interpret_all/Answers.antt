@@ -2,7 +2,7 @@ use Rattle.std.proofs.Common.{sym}
 use Rattle.board_runs.specs.Scripts.{interpreted_run}
 use Rattle.board_runs.proofs.ReplayFacts.{replay-cut, replayed}
 use Rattle.board_text.specs.declared.input.TheConstants.{INTERRUPTIONS}
-use Rattle.board_text.proofs.ReadingFacts.{retries-cut, retries-told}
+use Rattle.board_text.proofs.ReadingFacts.{retries-cut, retries-reported}
 use Rattle.board_runs.proofs.interpreters.interpret_all.Goals as goal
 
 pub returns-in_default-to_fault-clause-wrote : goal.returns-in_default-to_fault-clause-wrote
@@ -21,5 +21,5 @@ returns-in_default-to_fault-clause-retried g c =
 
 pub returns-clause-retried : goal.returns-clause-retried
 returns-clause-retried g c =
-    retries-told c.args.input.now c.interpret_input.new.input INTERRUPTIONS (Unit {0}) (Unit {0}) c.interpret_input.new.out.held c.end_with.new.out.held c.in-Err.stop c.end_with.result
+    retries-reported c.args.input.now c.interpret_input.new.input INTERRUPTIONS (Unit {0}) (Unit {0}) c.interpret_input.new.out.held c.end_with.new.out.held c.in-Err.stop c.end_with.result
     (record { fault = c.in-Some.fault; stopped_by = sym c.in-Some.ensures.same; ends = c.end_with.ensures.ends }) c.in-Err.ensures.retried

@@ -2,7 +2,7 @@ use Rattle.std.proofs.Common.{sym}
 use Rattle.board_serve.specs.Plans.{plan_of}
 use Rattle.board_serve.proofs.ServeFacts.{cut-serve, ended-serve}
 use Rattle.board_text.specs.declared.input.TheConstants.{INTERRUPTIONS}
-use Rattle.board_text.proofs.ReadingFacts.{retries-cut, retries-told}
+use Rattle.board_text.proofs.ReadingFacts.{retries-cut, retries-reported}
 use Rattle.board_serve.proofs.serving.serve_all.Goals as goal
 
 pub returns-in-Ok-clause-wrote : goal.returns-in-Ok-clause-wrote
@@ -23,5 +23,5 @@ returns-in_default-clause-retried g c =
 
 pub returns-clause-retried : goal.returns-clause-retried
 returns-clause-retried g c =
-    retries-told c.args.input.now c.serve_to.new.input INTERRUPTIONS (Unit {0}) (Unit {0}) c.serve_to.new.out.held c.end_with.new.out.held c.in-Err.stop c.end_with.result
+    retries-reported c.args.input.now c.serve_to.new.input INTERRUPTIONS (Unit {0}) (Unit {0}) c.serve_to.new.out.held c.end_with.new.out.held c.in-Err.stop c.end_with.result
     (record { fault = c.in-Some.fault; stopped_by = sym c.in-Some.ensures.same; ends = c.end_with.ensures.ends }) c.in-Err.ensures.retried

@@ -12,4 +12,4 @@ pub returns-clause-replies : goal.returns-clause-replies
 returns-clause-replies c = λ ledger readers k events. run_answers ledger readers k.legal.0 events
 
 pub returns-clause-fresh : goal.returns-clause-fresh
-returns-clause-fresh c = λ ledger readers k events more r words rest told. run_fresh ledger readers k.legal.0 events more r words rest told
+returns-clause-fresh c = λ ledger readers k events more r words rest reported. run_fresh ledger readers k.legal.0 events more r words rest reported

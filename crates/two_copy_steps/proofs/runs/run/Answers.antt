@@ -1,21 +1,21 @@
 use Rattle.std.proofs.Common.{◌≡◌, ℕ, ◌≤◌, length, take, ap, sym, ◌∙◌, subst, refl, inr}
 use Rattle.council_core.specs.Ledgers.{IsLedger}
 use Rattle.two_copy_steps.specs.Records.{FrontsNeverFall}
-use Rattle.two_copy_steps.specs.Runs.{KeepsRecordsTold, WantsMemoryFrom}
+use Rattle.two_copy_steps.specs.Runs.{KeepsRecordsReported, WantsMemoryFrom}
 use Rattle.two_copy_steps.specs.Transitions.{MachineState, machine_at_start, state_after_events, notes}
 use Rattle.two_copy_steps.proofs.EventLists.{ledger_records, run_answers, run_apart}
-use Rattle.two_copy_steps.proofs.ToldRecords.{run_told, run_never_older}
+use Rattle.two_copy_steps.proofs.ReportedRecords.{run_reported, run_never_older}
 use Rattle.two_copy_steps.proofs.runs.run.Goals as goal
 
 -- the register given is the one that the machine started with
 given : (c : goal.In-Ok-take_all) → IsLedger c.args.register
 given c = subst (λ (m : MachineState). IsLedger m.ledger) c.in-Ok.ensures.started c.in-Ok.ensures.ledger
 
-told_is : (c : goal.In-Ok-take_all) → c.take_all.new.told.items ≡ notes (machine_at_start c.args.register c.args.readers) c.args.events.now
-told_is c = c.in-Ok-take_all.ensures.notes ∙ ap (λ (m : MachineState). notes m c.args.events.now) c.in-Ok.ensures.started
+reported_is : (c : goal.In-Ok-take_all) → c.take_all.new.reported.items ≡ notes (machine_at_start c.args.register c.args.readers) c.args.events.now
+reported_is c = c.in-Ok-take_all.ensures.notes ∙ ap (λ (m : MachineState). notes m c.args.events.now) c.in-Ok.ensures.started
 
 pub returns-in-Ok-take_all-clause-notes : goal.returns-in-Ok-take_all-clause-notes
-returns-in-Ok-take_all-clause-notes c = told_is c
+returns-in-Ok-take_all-clause-notes c = reported_is c
 
 pub returns-in-Ok-take_all-clause-machine : goal.returns-in-Ok-take_all-clause-machine
 returns-in-Ok-take_all-clause-machine c = c.in-Ok-take_all.ensures.machine ∙ ap (λ (m : MachineState). state_after_events m c.args.events.now) c.in-Ok.ensures.started
@@ -29,14 +29,14 @@ returns-in-Ok-take_all-clause-records c = λ k. ledger_records c.args.register c
 pub returns-in-Ok-take_all-clause-apart : goal.returns-in-Ok-take_all-clause-apart
 returns-in-Ok-take_all-clause-apart c = λ k. run_apart c.args.register c.args.readers (given c).legal.0 (take k c.args.events.now)
 
-pub returns-in-Ok-take_all-clause-told : goal.returns-in-Ok-take_all-clause-told
-returns-in-Ok-take_all-clause-told c =
-    subst (KeepsRecordsTold c.args.register c.args.readers c.args.events.now) (sym (told_is c))
-    (run_told c.args.register c.args.readers c.args.events.now)
+pub returns-in-Ok-take_all-clause-reported : goal.returns-in-Ok-take_all-clause-reported
+returns-in-Ok-take_all-clause-reported c =
+    subst (KeepsRecordsReported c.args.register c.args.readers c.args.events.now) (sym (reported_is c))
+    (run_reported c.args.register c.args.readers c.args.events.now)
 
 pub returns-in-Ok-take_all-clause-never_older : goal.returns-in-Ok-take_all-clause-never_older
 returns-in-Ok-take_all-clause-never_older c =
-    subst FrontsNeverFall (sym (told_is c)) (run_never_older c.args.register c.args.readers c.args.events.now (ledger_records c.args.register c.args.readers (given c) c.args.events.now))
+    subst FrontsNeverFall (sym (reported_is c)) (run_never_older c.args.register c.args.readers c.args.events.now (ledger_records c.args.register c.args.readers (given c) c.args.events.now))
 
 pub returns-in-Err-take_all-clause-fault : goal.returns-in-Err-take_all-clause-fault
 returns-in-Err-take_all-clause-fault c =

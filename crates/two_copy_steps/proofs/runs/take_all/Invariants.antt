@@ -4,5 +4,5 @@ use Rattle.two_copy_steps.proofs.runs.take_all.Given as goal
 
 abbrev pub invariant-loop-done : goal.invariant-loop-done
 invariant-loop-done l =
-    (l.machine ≡ state_after_events l.fn.machine (take l.done l.events)) × (l.told.items ≡ notes l.fn.machine (take l.done l.events))
-    × (length l.events ≤ vec_capacity l.told) × (vec_len l.told ≡ l.done)
+    (l.machine ≡ state_after_events l.fn.machine (take l.done l.events)) × (l.reported.items ≡ notes l.fn.machine (take l.done l.events))
+    × (length l.events ≤ vec_capacity l.reported) × (vec_len l.reported ≡ l.done)

@@ -8,5 +8,5 @@ use Rattle.board_share.proofs.writer_steps.WordWriter.begin.Goals as goal
 
 pub returns-clause-events : goal.returns-clause-events
 returns-clause-events c =
-    ap (λ (taken : List Command). handed_over taken c.self.inside.register.journal ++ Publish ∷ []) (sym (ap (λ (l : Ledger). l.journal) c.self.invariant.knows.register))
+    ap (λ (staged : List Command). handed_over staged c.self.inside.register.journal ++ Publish ∷ []) (sym (ap (λ (l : Ledger). l.journal) c.self.invariant.knows.register))
     ∙ ap (λ (d : WriterSeen). handed_over (machine_of d.history).ledger.journal d.ledger.journal ++ Publish ∷ []) c.self.view_is

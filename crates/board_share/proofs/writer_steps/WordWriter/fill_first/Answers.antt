@@ -15,7 +15,7 @@ pub store-requires-clause-becomes : goal.store-requires-clause-becomes
 store-requires-clause-becomes g c =
     becomes _ _ _ _ _ _ _ _ c.self.invariant _ (Filling 0) (λ n. c.sheet_word-word.result) (c.requires.list ∙ ap (λ (d : WriterSeen). d.due) (sym c.self.view_is)) (ap (λ (d : WriterSeen). (known_at d).state.phase) c.self.view_is ∙ c.requires.first.phase)
     (λ n. c.sheet_word-word.ensures.same ∙ ap (λ (l : List Command). get_or (sheet c.self.inside.register.opening l) 0 0)
-    (sym (ap (λ (d : WriterSeen). (known_at d).state.taken) c.self.view_is ∙ (c.requires.first.taken ∙ ap (λ (d : WriterSeen). d.ledger.journal) (sym c.self.view_is)))))
+    (sym (ap (λ (d : WriterSeen). (known_at d).state.staged) c.self.view_is ∙ (c.requires.first.staged ∙ ap (λ (d : WriterSeen). d.ledger.journal) (sym c.self.view_is)))))
 
 pub store-requires-clause-alike : goal.store-requires-clause-alike
 store-requires-clause-alike g c = alike _ _ _ _ _ _ _ _ c.self.invariant _ (Filling 0) _ (c.requires.list ∙ ap (λ (d : WriterSeen). d.due) (sym c.self.view_is)) (ap (λ (d : WriterSeen). (known_at d).state.phase) c.self.view_is ∙ c.requires.first.phase) (λ n. refl)

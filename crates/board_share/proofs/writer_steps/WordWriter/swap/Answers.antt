@@ -24,7 +24,7 @@ invariant_of-self g c =
       phase_is = ap (λ (d : WriterSeen). (known_at d).state.phase) c.self.view_is ∙ c.requires.phase;
       step = c.store.ensures.step;
     }
-    (ap (λ (d : WriterSeen). (known_at d).state.taken) c.self.view_is ∙ (c.requires.whole ∙ ap (λ (d : WriterSeen). d.ledger.journal) (sym c.self.view_is)))
+    (ap (λ (d : WriterSeen). (known_at d).state.staged) c.self.view_is ∙ (c.requires.whole ∙ ap (λ (d : WriterSeen). d.ledger.journal) (sym c.self.view_is)))
     c.accepted-self-inside.ensures.number c.clear.ensures
 
 pub returns : goal.returns

@@ -7,12 +7,12 @@ use Rattle.two_copy_steps.proofs.machine.Machine.begin.Goals as goal
 
 began : (c : goal.After-self-2-1) → let i = c.self.inside in
     seen_as i.register i.table i.side i.published c.sheet-self-inside.result c.phase_after-self-inside.result i.seen_out i.stages
-    ≡ (transition (seen_as i.register i.table i.side i.published i.taken i.phase i.seen_out i.stages) Publish).0
+    ≡ (transition (seen_as i.register i.table i.side i.published i.staged i.phase i.seen_out i.stages) Publish).0
 began c =
     let i = c.self.inside in
     let later = c.if-accepted-self.false in
     (λ j. seen_as i.register i.table i.side i.published (c.sheet-self-inside.ensures.same j) (c.phase_after-self-inside.ensures j) i.seen_out i.stages)
-    ∙ begun_in i.register i.table i.side i.published i.taken i.phase i.seen_out i.stages c.self.invariant
+    ∙ begun_in i.register i.table i.side i.published i.staged i.phase i.seen_out i.stages c.self.invariant
     (ap (λ (m : MachineState). is_idle m.writer.phase) c.self.view_is ∙ (sym c.is_idle.ensures ∙ c.if-not-is_idle.false)) (omega arith)
 
 pub invariant_of-self : goal.invariant_of-self

@@ -9,7 +9,7 @@ invariant_of-result c =
       legal = publishable _ _ c.sheet-sheet.ensures.ledger c.sheet-sheet.ensures.same c.sheet-sheet.ensures.in_range;
       words_are = c.start.ensures.words ∙ ap (λ (x : List ℕ). 0 ∷ x ++ x ++ replicate c.args.readers 0) (c.words.ensures.same ∙ c.sheet-sheet.ensures.same);
       published_all = omega arith;
-      taken_all = c.sheet-sheet.ensures.same;
+      staged_all = c.sheet-sheet.ensures.same;
       all_out = c.start-2.ensures;
       all_rest = c.start-3.ensures;
     }).1

@@ -14,6 +14,6 @@ invariant_of-self c =
 pub returns-clause-machine : goal.returns-clause-machine
 returns-clause-machine c =
     let i = c.self.inside in
-    subst (λ (m : MachineState). IfOk c.hand_over.result (λ (note : Note). seen_as c.hand_over.new.register i.table i.side i.published i.taken i.phase i.seen_out i.stages ≡ (transition m (Submit c.args.command)).0)) c.self.view_is
-    (handed_transition i.register i.table i.side i.published i.taken i.phase i.seen_out i.stages c.self.invariant c.hand_over.new.register c.args.command c.hand_over.result
+    subst (λ (m : MachineState). IfOk c.hand_over.result (λ (note : Note). seen_as c.hand_over.new.register i.table i.side i.published i.staged i.phase i.seen_out i.stages ≡ (transition m (Submit c.args.command)).0)) c.self.view_is
+    (handed_transition i.register i.table i.side i.published i.staged i.phase i.seen_out i.stages c.self.invariant c.hand_over.new.register c.args.command c.hand_over.result
     (ap (λ (m : MachineState). is_idle m.writer.phase) c.self.view_is ∙ (sym c.is_idle.ensures ∙ c.if-not-is_idle.false)) c.hand_over.ensures.handed).0

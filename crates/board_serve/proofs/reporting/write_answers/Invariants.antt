@@ -4,7 +4,7 @@ use Rattle.board_text.specs.Replies.{reply_of}
 use Rattle.board_text.specs.Lines.{reply_line}
 use Rattle.board_text.specs.Sinks.{GoesOn}
 use Rattle.board_text.specs.Text.{text_of}
-use Rattle.board_serve.proofs.telling.write_answers.Given as goal
+use Rattle.board_serve.proofs.reporting.write_answers.Given as goal
 
 -- the lines of the answers so far were written
 abbrev pub invariant-loop-answer : goal.invariant-loop-answer

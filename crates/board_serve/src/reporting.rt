@@ -54,7 +54,7 @@ fn write_work<W: Write>(
 }
 
 // Writes the answers, the number of readings of each reader, and the result of the audit.
-pub(crate) fn tell<W: Write>(
+pub(crate) fn report<W: Write>(
     out: &mut Output<'_, W>,
     answers: &[Answer],
     counts: [u64; SERVED_READERS],

@@ -2,7 +2,7 @@ use Rattle.std.proofs.lemmas.Result.{err_from_is_err_and}
 use Rattle.board_text.specs.Replies.{reply_of}
 use Rattle.board_text.specs.Lines.{reply_line}
 use Rattle.board_text.proofs.PlayFacts.{plays-passed, row-found, rows-stop}
-use Rattle.board_serve.proofs.telling.write_answers.Goals as goal
+use Rattle.board_serve.proofs.reporting.write_answers.Goals as goal
 
 pub returns-in_err-write_line-clause-wrote : goal.returns-in_err-write_line-clause-wrote
 returns-in_err-write_line-clause-wrote g c =

@@ -2,7 +2,7 @@ use Rattle.std.proofs.Common.{rules, ◌≡◌, length, get_or}
 use Rattle.std.proofs.lemmas.Result.{err_from_is_err_and}
 use Rattle.board_serve.proofs.PartFacts.{two-of}
 use Rattle.board_serve.proofs.ServeFacts.{work-answers, work-count, work-counts}
-use Rattle.board_serve.proofs.telling.write_work.Goals as goal
+use Rattle.board_serve.proofs.reporting.write_work.Goals as goal
 
 pub returns-in_err-write_answers-clause-wrote : goal.returns-in_err-write_answers-clause-wrote
 returns-in_err-write_answers-clause-wrote g c =

@@ -24,7 +24,7 @@ use Rattle.two_copy_steps.specs.Actions.{readings_after, readings_with, stage_ac
 use Rattle.two_copy_steps.specs.Stages.{about_to_leave}
 use Rattle.two_copy_steps.specs.Transitions.{MachineState, transition, machine_and_note, published_by, is_pending, is_idle, phase_note, reader_transition, stage_note, machine_at_start, state_after_events, notes}
 use Rattle.two_copy_steps.specs.Auxiliary.{Auxiliary, auxiliary_start, auxiliary_step, auxiliary_steps, auxiliary_reader_step, record_at, HasLegalRecords}
-use Rattle.two_copy_steps.specs.Records.{told_of, sheets_told, RecordsAreTold, FrontsNeverFall}
+use Rattle.two_copy_steps.specs.Records.{reported_of, sheets_reported, RecordsAreReported, FrontsNeverFall}
 use Rattle.two_copy_steps.proofs.Lists.{at_set, inside, there}
 
 -- a record after a write
@@ -41,58 +41,58 @@ record_else (y ∷ records) (suc r) zero x ne = refl
 record_else (y ∷ records) (suc r) (suc q) x ne = record_else records r q x (λ e. ne (ap suc e))
 
 -- the part that a reader's own step adds, to its record and to the sheets in its outputs
-own_loaded : (side : ℕ) (words : List ℕ) (b : Bool) (readings told : List (List ℕ)) → readings ≡ told ++ []
-    → readings_with (cond b (Leaving side words) (Reading side words)) readings ≡ (told ++ []) ++ about_to_leave (cond b (Leaving side words) (Reading side words))
-own_loaded side words true readings told e = ap (λ (l : List (List ℕ)). l ++ words ∷ []) e
-own_loaded side words false readings told e = e ∙ sym (append-nil (told ++ []))
+own_loaded : (side : ℕ) (words : List ℕ) (b : Bool) (readings reported : List (List ℕ)) → readings ≡ reported ++ []
+    → readings_with (cond b (Leaving side words) (Reading side words)) readings ≡ (reported ++ []) ++ about_to_leave (cond b (Leaving side words) (Reading side words))
+own_loaded side words true readings reported e = ap (λ (l : List (List ℕ)). l ++ words ∷ []) e
+own_loaded side words false readings reported e = e ∙ sym (append-nil (reported ++ []))
 
-own : (r found : ℕ) (stage : Stage) (readings told : List (List ℕ)) → readings ≡ told ++ about_to_leave stage
-    → readings_after stage ((stage_action r stage).after found) readings ≡ (told ++ told_of (suc r) (stage_note (suc r) stage)) ++ about_to_leave ((stage_action r stage).after found)
-own r found AtRest readings told e = e ∙ sym (append-nil (told ++ []))
-own r found Arrived readings told e = e ∙ sym (append-nil (told ++ []))
-own r found (Reading side words) readings told e = own_loaded side (words ++ found ∷ []) (eqb (length (words ++ found ∷ [])) COPY_WORDS) readings told e
-own r found (Leaving side words) readings told e =
-    e ∙ (ap (λ (b : Bool). told ++ cond b (words ∷ []) []) (sym (eq-eqb (suc r) (suc r) refl)) ∙ sym (append-nil (told ++ told_of (suc r) (Read (suc r) words))))
+own : (r found : ℕ) (stage : Stage) (readings reported : List (List ℕ)) → readings ≡ reported ++ about_to_leave stage
+    → readings_after stage ((stage_action r stage).after found) readings ≡ (reported ++ reported_of (suc r) (stage_note (suc r) stage)) ++ about_to_leave ((stage_action r stage).after found)
+own r found AtRest readings reported e = e ∙ sym (append-nil (reported ++ []))
+own r found Arrived readings reported e = e ∙ sym (append-nil (reported ++ []))
+own r found (Reading side words) readings reported e = own_loaded side (words ++ found ∷ []) (eqb (length (words ++ found ∷ [])) COPY_WORDS) readings reported e
+own r found (Leaving side words) readings reported e =
+    e ∙ (ap (λ (b : Bool). reported ++ cond b (words ∷ []) []) (sym (eq-eqb (suc r) (suc r) refl)) ∙ sym (append-nil (reported ++ reported_of (suc r) (Read (suc r) words))))
 
 -- another reader's step adds no sheet to this one's outputs
-others : (r number : ℕ) (stage : Stage) → number ≢ suc r → told_of number (stage_note (suc r) stage) ≡ []
+others : (r number : ℕ) (stage : Stage) → number ≢ suc r → reported_of number (stage_note (suc r) stage) ≡ []
 others r number AtRest ne = refl
 others r number Arrived ne = refl
 others r number (Reading side words) ne = refl
 others r number (Leaving side words) ne = ap (λ (b : Bool). cond b (words ∷ []) []) (ne_eqb (suc r) number (λ e. ne (sym e)))
 
 -- events that change no reader and no record, and whose outputs have no sheet
-abbrev Tells : MachineState → Auxiliary → (ℕ → List (List ℕ)) → Type 0
-Tells m aux told = (r : ℕ) (stage : Stage) → slice_get m.readers r ≡ Some stage → record_at aux.records r ≡ told r ++ about_to_leave stage
+abbrev Reports : MachineState → Auxiliary → (ℕ → List (List ℕ)) → Type 0
+Reports m aux reported = (r : ℕ) (stage : Stage) → slice_get m.readers r ≡ Some stage → record_at aux.records r ≡ reported r ++ about_to_leave stage
 
 abbrev After : MachineState → Auxiliary → (ℕ → List (List ℕ)) → Note → Type 0
-After m aux told note = Tells m aux (λ r. told r ++ told_of (suc r) note)
+After m aux reported note = Reports m aux (λ r. reported r ++ reported_of (suc r) note)
 
-silent : (m : MachineState) (aux : Auxiliary) (told : ℕ → List (List ℕ)) → Tells m aux told → Tells m aux (λ r. told r ++ [])
-silent m aux told h r stage at = h r stage at ∙ ap (λ (l : List (List ℕ)). l ++ about_to_leave stage) (sym (append-nil (told r)))
+silent : (m : MachineState) (aux : Auxiliary) (reported : ℕ → List (List ℕ)) → Reports m aux reported → Reports m aux (λ r. reported r ++ [])
+silent m aux reported h r stage at = h r stage at ∙ ap (λ (l : List (List ℕ)). l ++ about_to_leave stage) (sym (append-nil (reported r)))
 
-after_submit : (m : MachineState) (aux : Auxiliary) (told : ℕ → List (List ℕ)) → Tells m aux told → (command : Command) (v : Result ⊤ Refusal) → let t = machine_and_note m command v in After t.0 aux told t.1
-after_submit m aux told h command (Ok u) = silent m aux told h
-after_submit m aux told h command (Err refusal) = silent m aux told h
+after_submit : (m : MachineState) (aux : Auxiliary) (reported : ℕ → List (List ℕ)) → Reports m aux reported → (command : Command) (v : Result ⊤ Refusal) → let t = machine_and_note m command v in After t.0 aux reported t.1
+after_submit m aux reported h command (Ok u) = silent m aux reported h
+after_submit m aux reported h command (Err refusal) = silent m aux reported h
 
-after_publish : (m : MachineState) (aux : Auxiliary) (told : ℕ → List (List ℕ)) → Tells m aux told → (b : Bool) → let t = published_by m b in After t.0 aux told t.1
-after_publish m aux told h true = silent m aux told h
-after_publish m aux told h false = silent m aux told h
+after_publish : (m : MachineState) (aux : Auxiliary) (reported : ℕ → List (List ℕ)) → Reports m aux reported → (b : Bool) → let t = published_by m b in After t.0 aux reported t.1
+after_publish m aux reported h true = silent m aux reported h
+after_publish m aux reported h false = silent m aux reported h
 
-quiet_look : (m : MachineState) (number k : ℕ) (b : Bool) → told_of number (cond b Moved (Busy k)) ≡ []
+quiet_look : (m : MachineState) (number k : ℕ) (b : Bool) → reported_of number (cond b Moved (Busy k)) ≡ []
 quiet_look m number k true = refl
 quiet_look m number k false = refl
 
-quiet_writer : (m : MachineState) (number : ℕ) (phase : Phase) → told_of number (phase_note m phase) ≡ []
+quiet_writer : (m : MachineState) (number : ℕ) (phase : Phase) → reported_of number (phase_note m phase) ≡ []
 quiet_writer m number Idle = refl
 quiet_writer m number Seeing = quiet_look m number _ _
 quiet_writer m number (Filling k) = refl
 quiet_writer m number Swapping = refl
 
-after_read : (m : MachineState) (aux : Auxiliary) (told : ℕ → List (List ℕ)) → Tells m aux told → length aux.records ≡ length m.readers → (r : ℕ) (o : Option Stage) → slice_get m.readers r ≡ o
-    → let t = reader_transition m r o in After t.0 (auxiliary_reader_step m aux r o) told t.1
-after_read m aux told h long r None at = silent m aux told h
-after_read m aux told h long r (Some stage) at = λ q later there.
+after_read : (m : MachineState) (aux : Auxiliary) (reported : ℕ → List (List ℕ)) → Reports m aux reported → length aux.records ≡ length m.readers → (r : ℕ) (o : Option Stage) → slice_get m.readers r ≡ o
+    → let t = reader_transition m r o in After t.0 (auxiliary_reader_step m aux r o) reported t.1
+after_read m aux reported h long r None at = silent m aux reported h
+after_read m aux reported h long r (Some stage) at = λ q later there.
     let d = stage_action r stage in
     let found : ℕ = get_or m.words d.word 0 in
     let readings : List (List ℕ) = readings_after stage (d.after found) (record_at aux.records r) in
@@ -101,23 +101,23 @@ after_read m aux told h long r (Some stage) at = λ q later there.
     (λ (e : (q ≡ r) × (d.after found ≡ later)).
     ap (λ (k : ℕ). record_at (set aux.records r readings) k) e.0
     ∙ (record_here aux.records r readings here
-    ∙ (own r found stage (record_at aux.records r) (told r) (h r stage at)
-    ∙ λ i. (told (sym e.0 i) ++ told_of (suc (sym e.0 i)) (stage_note (suc r) stage)) ++ about_to_leave (e.1 i))))
+    ∙ (own r found stage (record_at aux.records r) (reported r) (h r stage at)
+    ∙ λ i. (reported (sym e.0 i) ++ reported_of (suc (sym e.0 i)) (stage_note (suc r) stage)) ++ about_to_leave (e.1 i))))
     (λ (e : (q ≢ r) × (slice_get m.readers q ≡ Some later)).
     record_else aux.records r q readings e.0
     ∙ (h q later e.1
-    ∙ ap (λ (l : List (List ℕ)). l ++ about_to_leave later) (sym (append-nil (told q)) ∙ ap (λ (l : List (List ℕ)). told q ++ l) (sym (others r (suc q) stage (λ s. e.0 (omega arith)))))))
+    ∙ ap (λ (l : List (List ℕ)). l ++ about_to_leave later) (sym (append-nil (reported q)) ∙ ap (λ (l : List (List ℕ)). reported q ++ l) (sym (others r (suc q) stage (λ s. e.0 (omega arith)))))))
     (at_set m.readers r q (d.after found) later there)
 
-after_event : (m : MachineState) (aux : Auxiliary) (told : ℕ → List (List ℕ)) → Tells m aux told → length aux.records ≡ length m.readers → (event : Event) → After (transition m event).0 (auxiliary_step m aux event) told (transition m event).1
-after_event m aux told h long (Submit command) =
-    elim (is_idle m.writer.phase) as (λ b. let t = cond b (machine_and_note m command (verdict_of m.ledger command)) (m, Skipped) in After t.0 aux told t.1) [ true ↦ after_submit m aux told h command (verdict_of m.ledger command) | false ↦ silent m aux told h ]
-after_event m aux told h long Publish =
-    elim (is_idle m.writer.phase) as (λ b. let t = cond b (published_by m (is_pending m)) (m, Skipped) in After t.0 aux told t.1) [ true ↦ after_publish m aux told h (is_pending m) | false ↦ silent m aux told h ]
-after_event m aux told h long Writer = λ r stage at.
-    silent m aux told h r stage at ∙ ap (λ (l : List (List ℕ)). (told r ++ l) ++ about_to_leave stage) (sym (quiet_writer m (suc r) m.writer.phase))
-after_event m aux told h long (Reader zero) = silent m aux told h
-after_event m aux told h long (Reader (suc r)) = after_read m aux told h long r (slice_get m.readers r) refl
+after_event : (m : MachineState) (aux : Auxiliary) (reported : ℕ → List (List ℕ)) → Reports m aux reported → length aux.records ≡ length m.readers → (event : Event) → After (transition m event).0 (auxiliary_step m aux event) reported (transition m event).1
+after_event m aux reported h long (Submit command) =
+    elim (is_idle m.writer.phase) as (λ b. let t = cond b (machine_and_note m command (verdict_of m.ledger command)) (m, Skipped) in After t.0 aux reported t.1) [ true ↦ after_submit m aux reported h command (verdict_of m.ledger command) | false ↦ silent m aux reported h ]
+after_event m aux reported h long Publish =
+    elim (is_idle m.writer.phase) as (λ b. let t = cond b (published_by m (is_pending m)) (m, Skipped) in After t.0 aux reported t.1) [ true ↦ after_publish m aux reported h (is_pending m) | false ↦ silent m aux reported h ]
+after_event m aux reported h long Writer = λ r stage at.
+    silent m aux reported h r stage at ∙ ap (λ (l : List (List ℕ)). (reported r ++ l) ++ about_to_leave stage) (sym (quiet_writer m (suc r) m.writer.phase))
+after_event m aux reported h long (Reader zero) = silent m aux reported h
+after_event m aux reported h long (Reader (suc r)) = after_read m aux reported h long r (slice_get m.readers r) refl
 
 -- there are as many records as readers
 as_many : (m : MachineState) (aux : Auxiliary) → length aux.records ≡ length m.readers → (event : Event) → length (auxiliary_step m aux event).records ≡ length (transition m event).0.readers
@@ -138,12 +138,12 @@ as_many m aux long (Reader (suc r)) =
           length-set aux.records r (readings_after stage (d.after found) (record_at aux.records r)) ∙ (long ∙ sym (length-set m.readers r (d.after found)))
     ]
 
-told_all : (events : List Event) (m : MachineState) (aux : Auxiliary) (told : ℕ → List (List ℕ)) → Tells m aux told → length aux.records ≡ length m.readers
-    → Tells (state_after_events m events) (auxiliary_steps m aux events) (λ r. told r ++ sheets_told (suc r) (notes m events))
-told_all [] m aux told h long = silent m aux told h
-told_all (event ∷ events) m aux told h long = λ r stage at.
-    told_all events (transition m event).0 (auxiliary_step m aux event) (λ q. told q ++ told_of (suc q) (transition m event).1) (after_event m aux told h long event) (as_many m aux long event) r stage at
-    ∙ ap (λ (l : List (List ℕ)). l ++ about_to_leave stage) (append_assoc (told r) (told_of (suc r) (transition m event).1) (sheets_told (suc r) (notes (transition m event).0 events)))
+reported_all : (events : List Event) (m : MachineState) (aux : Auxiliary) (reported : ℕ → List (List ℕ)) → Reports m aux reported → length aux.records ≡ length m.readers
+    → Reports (state_after_events m events) (auxiliary_steps m aux events) (λ r. reported r ++ sheets_reported (suc r) (notes m events))
+reported_all [] m aux reported h long = silent m aux reported h
+reported_all (event ∷ events) m aux reported h long = λ r stage at.
+    reported_all events (transition m event).0 (auxiliary_step m aux event) (λ q. reported q ++ reported_of (suc q) (transition m event).1) (after_event m aux reported h long event) (as_many m aux long event) r stage at
+    ∙ ap (λ (l : List (List ℕ)). l ++ about_to_leave stage) (append_assoc (reported r) (reported_of (suc r) (transition m event).1) (sheets_reported (suc r) (notes (transition m event).0 events)))
 
 stage_at_start : (n r : ℕ) (stage : Stage) → slice_get (replicate n AtRest) r ≡ Some stage → AtRest ≡ stage
 stage_at_start zero r stage e = absurd (none-some stage e)
@@ -170,22 +170,22 @@ absent_set (y ∷ xs) (suc i) (suc j) x e = absent_set xs i j x e
 abbrev IsAbsent : MachineState → ℕ → Type 0
 IsAbsent m number = (r : ℕ) → number ≡ suc r → slice_get m.readers r ≡ None
 
-absent_after : (m : MachineState) (number : ℕ) → IsAbsent m number → (event : Event) → IsAbsent (transition m event).0 number × (told_of number (transition m event).1 ≡ [])
+absent_after : (m : MachineState) (number : ℕ) → IsAbsent m number → (event : Event) → IsAbsent (transition m event).0 number × (reported_of number (transition m event).1 ≡ [])
 absent_after m number h (Submit command) =
-    elim (is_idle m.writer.phase) as (λ b. let t = cond b (machine_and_note m command (verdict_of m.ledger command)) (m, Skipped) in IsAbsent t.0 number × (told_of number t.1 ≡ [])) [
-      | true ↦ elim (verdict_of m.ledger command) as (λ v. let t = machine_and_note m command v in IsAbsent t.0 number × (told_of number t.1 ≡ [])) [ Ok u ↦ (h, refl) | Err refusal ↦ (h, refl) ]
+    elim (is_idle m.writer.phase) as (λ b. let t = cond b (machine_and_note m command (verdict_of m.ledger command)) (m, Skipped) in IsAbsent t.0 number × (reported_of number t.1 ≡ [])) [
+      | true ↦ elim (verdict_of m.ledger command) as (λ v. let t = machine_and_note m command v in IsAbsent t.0 number × (reported_of number t.1 ≡ [])) [ Ok u ↦ (h, refl) | Err refusal ↦ (h, refl) ]
       | false ↦ (h, refl)
     ]
 absent_after m number h Publish =
-    elim (is_idle m.writer.phase) as (λ b. let t = cond b (published_by m (is_pending m)) (m, Skipped) in IsAbsent t.0 number × (told_of number t.1 ≡ [])) [
-      | true ↦ elim (is_pending m) as (λ c. let t = published_by m c in IsAbsent t.0 number × (told_of number t.1 ≡ [])) [ true ↦ (h, refl) | false ↦ (h, refl) ]
+    elim (is_idle m.writer.phase) as (λ b. let t = cond b (published_by m (is_pending m)) (m, Skipped) in IsAbsent t.0 number × (reported_of number t.1 ≡ [])) [
+      | true ↦ elim (is_pending m) as (λ c. let t = published_by m c in IsAbsent t.0 number × (reported_of number t.1 ≡ [])) [ true ↦ (h, refl) | false ↦ (h, refl) ]
       | false ↦ (h, refl)
     ]
 absent_after m number h Writer = (h, quiet_writer m number m.writer.phase)
 absent_after m number h (Reader zero) = (h, refl)
 absent_after m number h (Reader (suc r)) = by_stage (slice_get m.readers r) refl
   where
-    by_stage : (o : Option Stage) → slice_get m.readers r ≡ o → IsAbsent (reader_transition m r o).0 number × (told_of number (reader_transition m r o).1 ≡ [])
+    by_stage : (o : Option Stage) → slice_get m.readers r ≡ o → IsAbsent (reader_transition m r o).0 number × (reported_of number (reader_transition m r o).1 ≡ [])
     by_stage None at = (h, refl)
     by_stage (Some stage) at =
         let d = stage_action r stage in (
@@ -193,11 +193,11 @@ absent_after m number h (Reader (suc r)) = by_stage (slice_get m.readers r) refl
           others r number stage (λ e. none-some stage (sym (h r e) ∙ at)),
         )
 
-absent_all : (events : List Event) (m : MachineState) (number : ℕ) → IsAbsent m number → sheets_told number (notes m events) ≡ []
+absent_all : (events : List Event) (m : MachineState) (number : ℕ) → IsAbsent m number → sheets_reported number (notes m events) ≡ []
 absent_all [] m number h = refl
 absent_all (event ∷ events) m number h =
     let t = absent_after m number h event in
-    ap (λ (l : List (List ℕ)). l ++ sheets_told number (notes (transition m event).0 events)) t.1 ∙ absent_all events (transition m event).0 number t.0
+    ap (λ (l : List (List ℕ)). l ++ sheets_reported number (notes (transition m event).0 events)) t.1 ∙ absent_all events (transition m event).0 number t.0
 
 -- the fronts of a record never fall
 fronts_above : (opening : Opening) (commands : List Command) (cuts : List ℕ) (low : ℕ) (readings : List (List ℕ)) → IsRecordFrom opening commands cuts low readings
@@ -255,21 +255,21 @@ module _ (ledger : Ledger) (readers : ℕ) (events : List Event) where
   abbrev aux : Auxiliary
   aux = auxiliary_steps (machine_at_start ledger readers) (auxiliary_start ledger readers) events
 
-  abbrev told : ℕ → List (List ℕ)
-  told number = sheets_told number (notes (machine_at_start ledger readers) events)
+  abbrev reported : ℕ → List (List ℕ)
+  reported number = sheets_reported number (notes (machine_at_start ledger readers) events)
 
-  pub run_told : RecordsAreTold (state_after_events (machine_at_start ledger readers) events) (auxiliary_steps (machine_at_start ledger readers) (auxiliary_start ledger readers) events) (notes (machine_at_start ledger readers) events)
-  run_told =
-      told_all events (machine_at_start ledger readers) (auxiliary_start ledger readers) (λ r. [])
+  pub run_reported : RecordsAreReported (state_after_events (machine_at_start ledger readers) events) (auxiliary_steps (machine_at_start ledger readers) (auxiliary_start ledger readers) events) (notes (machine_at_start ledger readers) events)
+  run_reported =
+      reported_all events (machine_at_start ledger readers) (auxiliary_start ledger readers) (λ r. [])
       (λ r stage at. record_at_start readers r ∙ ap about_to_leave (stage_at_start readers r stage at)) (as_many_at_start readers)
 
-  from_record : AreRecords m.ledger.opening m.writer.published aux.cuts aux.records → (r : ℕ) (stage : Stage) → slice_get m.readers r ≡ Some stage → IsNonDecreasingBy front_of (told (suc r))
+  from_record : AreRecords m.ledger.opening m.writer.published aux.cuts aux.records → (r : ℕ) (stage : Stage) → slice_get m.readers r ≡ Some stage → IsNonDecreasingBy front_of (reported (suc r))
   from_record legal r stage at =
-      first_rise (told (suc r)) (about_to_leave stage) (record_at aux.records r) (run_told r stage at)
+      first_rise (reported (suc r)) (about_to_leave stage) (record_at aux.records r) (run_reported r stage at)
       (IsNonDecreasingBy-from_default front_of (record_at aux.records r) []
       (fronts_rise m.ledger.opening m.writer.published aux.cuts 0 (record_at aux.records r) (record_of m.ledger.opening m.writer.published aux.cuts aux.records legal r)))
 
-  never_older_of : AreRecords m.ledger.opening m.writer.published aux.cuts aux.records → (r : ℕ) (o : Option Stage) → slice_get (machine_at_start ledger readers).readers r ≡ o → IsNonDecreasingBy front_of (told (suc r))
+  never_older_of : AreRecords m.ledger.opening m.writer.published aux.cuts aux.records → (r : ℕ) (o : Option Stage) → slice_get (machine_at_start ledger readers).readers r ≡ o → IsNonDecreasingBy front_of (reported (suc r))
   never_older_of legal r (Some stage) at =
       let later = there m.readers r (subst (λ (n : ℕ). r < n) (sym (readers_all events (machine_at_start ledger readers))) (inside (machine_at_start ledger readers).readers r stage at)) in
       from_record legal r later.0 later.1
