@@ -1,4 +1,4 @@
-//! Links the static library: `lib/libboard.a` beside this crate's folder, or that of the folder that the environment's
+//! Links the static library: `lib/libboard.a` next to this crate's folder, or that of the folder that the environment's
 //! BOARD_LIBRARY_DIR names.
 use std::{env, path::PathBuf};
 
