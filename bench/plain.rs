@@ -404,7 +404,7 @@ impl Register {
         }
     }
 
-    /// Takes a member's votes out, changes the member, and enters what votes it has then.
+    /// Takes a member's votes out, changes the member, and enters its new votes.
     fn update(&mut self, code: Code, change: impl FnOnce(&mut Member)) {
         let Some(member) = self.members.get_mut(&code) else {
             return;
@@ -424,10 +424,10 @@ impl Register {
     }
 }
 
-/// Fields of a record that are looked at: more are no record of the formats.
+/// The fields of a record that are looked at: a record with more is not one of the formats.
 const FIELDS: usize = 4;
 
-/// One record, in room that is used again for the next.
+/// One record, in room that is reused for the next.
 #[derive(Default)]
 struct Row {
     bytes: Vec<u8>,
