@@ -65,7 +65,7 @@ def check_shared(room: Path) -> None:
 
 
 def check_package_config(room: Path) -> None:
-    """pkg-config says how to compile and link, wherever the release is, and the program counts."""
+    """pkg-config says how to compile and link, in any folder of the release, and the program counts."""
     elsewhere = room.parent / "else where"
     elsewhere.mkdir()
     config = {"PKG_CONFIG_PATH": str(room / "lib" / "pkgconfig")}

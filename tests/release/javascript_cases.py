@@ -56,7 +56,7 @@ def check_version(room: Path) -> None:
 
 
 def check_types(room: Path) -> None:
-    """The types are right for calls that the package takes, and refuse those that it doesn't."""
+    """The types accept calls that the package accepts, and refuse those that it refuses."""
     to = room / "node_modules"
     to.mkdir(exist_ok=True)
     (to / "voting-board").symlink_to(room / "js")

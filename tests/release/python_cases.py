@@ -48,7 +48,7 @@ def wheel_of(room: Path, name: str) -> Path:
 
 
 def check_wheel(room: Path) -> None:
-    """Two wheels have the same bytes, the tag of manylinux, readable files, and what describes them."""
+    """Two wheels have the same bytes, the tag of manylinux, readable files, and their metadata."""
     wheels = [wheel_of(room, name) for name in ("first", "second")]
     assert wheels[0].read_bytes() == wheels[1].read_bytes(), "two wheels differ"
     version = (room / "VERSION").read_text().split()[1]
@@ -74,7 +74,7 @@ def check_environment(room: Path, how: list[str]) -> None:
 
 
 def check_types(room: Path) -> None:
-    """mypy --strict finds nothing in the package, and what users write is right or wrong as they mean it."""
+    """mypy --strict finds nothing in the package, and accepts and rejects users' lines as they are marked."""
     ran(["mypy", "--strict", "--cache-dir", "types", "python/voting_board"], room)
     ran(["mypy", "--strict", "--python-version", "3.9", "--cache-dir", "types", "python/voting_board"], room)
     (room / "uses.py").write_text((TOP / "tests/release/uses.py").read_text())

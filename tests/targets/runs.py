@@ -19,7 +19,7 @@ Words = list[str]
 
 @dataclass(frozen=True)
 class Run:
-    """The text of a replay, and the number of the fault that ended it and of its record: 0 where there is none."""
+    """The text of a replay, and the number of the fault that ended it and of its record: 0 if there is none."""
 
     text: bytes
     fault: int
@@ -27,7 +27,7 @@ class Run:
 
 
 def printed(words: Words, given: bytes = b"") -> bytes:
-    """What a command prints; it fails where the command does."""
+    """The output of a command; it fails if the command does."""
     done = subprocess.run(words, input=given, stdout=subprocess.PIPE, stderr=subprocess.PIPE)
     if done.returncode:
         why = done.stderr.decode(errors="replace")[-2000:]
