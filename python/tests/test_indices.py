@@ -47,8 +47,8 @@ class IndicesTest(unittest.TestCase):
         many = indices_of_many([weights for weights, _ in drawn], MAJORITIES, totals=totals)
         for at, (weights, spare) in enumerate(drawn):
             every = indices_of_all(weights, total=totals[at])
-            told = readings(printed(script_of(weights, spare)).decode())
-            for majority, (fields, rows) in zip(MAJORITIES, told):
+            printed_readings = readings(printed(script_of(weights, spare)).decode())
+            for majority, (fields, rows) in zip(MAJORITIES, printed_readings):
                 with self.subTest(weights=weights, spare=spare, majority=majority):
                     got = indices(weights, total=totals[at], majority=majority)
                     counts = [len(weights), got.quota, got.cast, got.total, got.omega, got.coalitions]

@@ -213,8 +213,8 @@ class PlacesTest(unittest.TestCase):
     def test_pickle(self):
         for why in [Refused(32, "weight 3 is -1"), Refused(1, "refused", "open,1")]:
             same = pickle.loads(pickle.dumps(why))
-            for told in (str, lambda it: (it.name, it.number, it.command)):
-                self.assertEqual(told(same), told(why))
+            for facts in (str, lambda it: (it.name, it.number, it.command)):
+                self.assertEqual(facts(same), facts(why))
         got = indices([50, 49, 1], majority="half")
         self.assertEqual((pickle.loads(pickle.dumps(got)), len(got.chairs)), (got, 3))
         self.assertEqual(pickle.loads(pickle.dumps(got)).chairs[0].share, Fraction(3, 5))

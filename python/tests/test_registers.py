@@ -56,10 +56,10 @@ class RegisterTest(unittest.TestCase):
             fields = [commands(lot, [*members, "AAB", "QQQ"]) for _ in range(lot.randint(0, COMMANDS))]
             script = register.script() + "".join(",".join(it) + "\n" for it in fields)
             with self.subTest(script=script):
-                told = [answer(register, it) for it in fields]
+                answers = [answer(register, it) for it in fields]
                 asked = "".join(f"read,1,{it}\n" for it in MAJORITIES)
                 lines = printed(f"{script}publish\n{asked}").decode()
-                self.assertEqual(told, lines.splitlines()[: len(told)])
+                self.assertEqual(answers, lines.splitlines()[: len(answers)])
                 self.assertEqual(printed(f"{register.script()}publish\n{asked}").decode().splitlines()[-1],
                                  lines.splitlines()[-1])
                 for majority, (front, rows) in zip(MAJORITIES, readings(lines)):

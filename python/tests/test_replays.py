@@ -35,9 +35,9 @@ class ReplayTest(unittest.TestCase):
 
     def check_lines(self, got):
         """The objects have the values of the text."""
-        told = [line_of(it) for it in got.lines if not isinstance(it, Reading)]
+        lines_got = [line_of(it) for it in got.lines if not isinstance(it, Reading)]
         wanted = [it for it in got.text.splitlines() if it.split(",")[0] not in ("reading", "chair")]
-        self.assertEqual(told, wanted)
+        self.assertEqual(lines_got, wanted)
         rows = list(readings(got.text))
         self.assertEqual(len(got.readings), len(rows))
         for reading, (fields, below) in zip(got.readings, rows):

@@ -64,5 +64,5 @@ def room() -> Words:
 
 def version() -> str:
     """The version of the library."""
-    told: bytes = library.board_version()
-    return told.decode()
+    found: bytes = library.board_version()
+    return found.decode()

@@ -52,8 +52,8 @@ static void *given(void *block) {
 
 static void tell(void) {
     static const char line[] = "a growth was refused\n";
-    ssize_t told = write(TOLD, line, sizeof line - 1);
-    (void)told;
+    ssize_t written = write(TOLD, line, sizeof line - 1);
+    (void)written;
 }
 
 /* Whether this growth is refused; if so, the error is that of a malloc that has no memory. */

@@ -42,8 +42,8 @@ def check_chromium(room: Path) -> None:
     files = sorted(it.name for it in tests.glob("*.test.mjs"))
     lines = "".join(f'import "./{it}"; ' for it in files)
     (tests / "index.html").write_text(PAGE.format(imports=json.dumps({"imports": imports}), tests=lines))
-    told = ran([PYTHON, str(HERE / "visit_tests.py"), str(room), "js/tests/index.html"], room)
-    ended = json.loads(next(line for line in told.splitlines() if line.startswith("{")))
+    output = ran([PYTHON, str(HERE / "visit_tests.py"), str(room), "js/tests/index.html"], room)
+    ended = json.loads(next(line for line in output.splitlines() if line.startswith("{")))
     wanted = sum((tests / it).read_text().count('\ntest("') for it in files)
     assert not ended["failed"], ended["failed"]
     assert ended["passed"] == wanted > 0, f"{ended['passed']} of {wanted} tests passed"

@@ -33,7 +33,7 @@ function wordsOf({ quota, leastSize, cast, total, omega, coalitions, chairs }) {
 }
 
 /** The answer of a call and its counts, as counts.c writes them. */
-function told(many, call) {
+function answered(many, call) {
   try {
     return [Buffer.of(0), Buffer.from(BigUint64Array.from(call().flatMap(wordsOf), BigInt).buffer)];
   } catch (why) {
@@ -45,7 +45,7 @@ function told(many, call) {
 /** Counts the boards of words, and writes them as counts.c does. */
 function counts(given) {
   const words = new BigUint64Array(Uint8Array.from(given).buffer);
-  const byEach = (call) => [...MAJORITIES, "none"].flatMap((majority) => told(1, () => [call(majority)]));
+  const byEach = (call) => [...MAJORITIES, "none"].flatMap((majority) => answered(1, () => [call(majority)]));
   for (let at = 0; at < words.length; ) {
     const list = (width) => words.subarray(at + 1, (at += 1 + width * Number(words[at])));
     const [weights, total, members, mask] = [list(1), words[at++], list(3), Number(words[at++])];
@@ -53,7 +53,7 @@ function counts(given) {
     const named = rows.map(([votes, chair, suspended]) => ({ votes, chair, suspended: suspended !== 0n }));
     const open = Array.from({ length: CHAIRS }, (_, it) => it + 1).filter((it) => (mask >>> (it - 1)) & 1);
     write(Buffer.concat(byEach((majority) => board.countsOfWeights(weights, { total, majority }))));
-    write(Buffer.concat(told(MAJORITIES.length, () => Object.values(board.allCounts(weights, { total })))));
+    write(Buffer.concat(answered(MAJORITIES.length, () => Object.values(board.allCounts(weights, { total })))));
     write(Buffer.concat(byEach((majority) => board.countsOfMembers(named, { majority, open }))));
   }
 }
