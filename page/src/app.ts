@@ -44,7 +44,7 @@ export class App {
 
   readonly replay: Replay = async (script) => (await this.replays.replay(script)).text;
 
-  /** Stages another study. Studies of one gesture are one step of undo. */
+  /** Sets another study. Studies of one gesture are one step of undo. */
   take(study: Study, gesture = ""): void {
     this.history.take(study, gesture);
     void this.count();

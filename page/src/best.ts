@@ -1,4 +1,4 @@
-/** The best single move for a chair: each member of another chair is moved to it, and moved back. */
+/** The best single move for a chair: each member that is not in it is moved to it, and moved back. */
 import { answered, type Counted, type Replay } from "./count";
 import { compared, difference, type Ratio } from "./fractions";
 import { chairIn, measureOf } from "./lines";

@@ -153,7 +153,7 @@ function nameOf({ chair, name }: Named): string {
   return `${chair} ${name}`;
 }
 
-/** The group of a row: with its chair's number in `data-chair`, and a band behind every second one. */
+/** The group of a row: with its chair's number in `data-chair`, and a band under every second one. */
 export function rowGroup(
   { root }: Frame,
   row: Named,

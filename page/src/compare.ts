@@ -106,7 +106,7 @@ function extremes(
   return found;
 }
 
-/** Words, and the fractions behind their numbers with the lines that they come from. */
+/** Words, and the fractions of their numbers with the lines that they come from. */
 export interface Said {
   readonly words: string;
   readonly source: string;

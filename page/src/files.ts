@@ -104,9 +104,9 @@ export async function readFiles(app: App, files: readonly File[]): Promise<void>
   const read = await Promise.all(
     files.map(async (file) => ({ name: bareName(file.name), ...textOfBytes(await file.arrayBuffer()) })),
   );
-  const beside = read.find((it) => /^\s*\{\s*"format": "board study/.test(it.text));
+  const dataFile = read.find((it) => /^\s*\{\s*"format": "board study/.test(it.text));
   const script = read.find((it) => isScript(it.text));
-  if (beside && script) await takeBeside(app, beside.text, script.text).catch((why) => refuse(wordsOf(why)));
+  if (dataFile && script) await takeBeside(app, dataFile.text, script.text).catch((why) => refuse(wordsOf(why)));
   else if (read.length > 1) refuse(
     "Several files: a script and the file beside it can come together, others one by one.",
   );

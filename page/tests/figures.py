@@ -10,8 +10,8 @@ from oracle import MAJORITIES, Oracle
 
 # For each row of the table of the chart, or on the tab Table: its chair, and its cells' texts and fractions.
 ROWS = """
-  const [done] = [...arguments].slice(-1), behind = document.getElementById("behind");
-  if (behind) behind.open = true;
+  const [done] = [...arguments].slice(-1), box = document.getElementById("behind");
+  if (box) box.open = true;
   (function read() {
     const rows = [...document.querySelectorAll("#chair-table tbody tr")];
     if (!rows.length) return setTimeout(read, 1);

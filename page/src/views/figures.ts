@@ -136,7 +136,7 @@ function readout(app: App, chart: HTMLElement, rows: readonly ChairRow[]): HTMLE
 }
 
 /** Whether the table of a chart is open; it is made only then. */
-let isBehindOpen = false;
+let isTableOpen = false;
 
 /** Paints a chart of the chairs, the readout, and the table of the chart. */
 function paintChart(app: App, rows: readonly ChairRow[], draw: typeof drawPower): void {
@@ -146,14 +146,14 @@ function paintChart(app: App, rows: readonly ChairRow[], draw: typeof drawPower)
     { class: "chart", tabindex: 0, role: "group", "aria-label": "Chart of the chairs; arrow keys go through its rows" },
   );
   const box = readout(app, chart, rows);
-  const behind = h("details", { id: "behind", open: isBehindOpen }, h("summary", {}, "The table behind this chart"));
+  const tableBox = h("details", { id: "behind", open: isTableOpen }, h("summary", {}, "The table behind this chart"));
   const fill = () => {
-    isBehindOpen = behind.open;
-    if (behind.open && behind.childElementCount === 1) behind.append(chairTable(app, rows));
+    isTableOpen = tableBox.open;
+    if (tableBox.open && tableBox.childElementCount === 1) tableBox.append(chairTable(app, rows));
   };
   fill();
-  behind.addEventListener("toggle", fill);
-  paint(byId("panel"), box, chart, behind);
+  tableBox.addEventListener("toggle", fill);
+  paint(byId("panel"), box, chart, tableBox);
   if (model.majorities.length) draw(chart, model, screenLook(chart));
   else chart.remove();
 }
