@@ -17,7 +17,7 @@ enum Command {
     SetVotes([u8; 3], u64),
 }
 
-/// One member's votes and chair by code, the votes of each chair and one where it is open, and the total.
+/// One member's votes and chair by code, the votes of each chair and one if it is open, and the total.
 #[derive(Default)]
 struct Register {
     members: HashMap<[u8; 3], (u64, Option<usize>)>,

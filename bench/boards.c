@@ -1,4 +1,4 @@
-/* Counts boards from C, and replays a script: what bench/run-languages times other languages against.
+/* Counts boards from C, and replays a script: the times to which bench/run-languages compares other languages.
  *
  *     boards FILE ROUNDS      counts the boards of a file at all four majorities: words of 64 bits, 24 for a board
  *     boards replay FILE N    replays a script N times

@@ -1,5 +1,5 @@
-/* Times calls of the library on the sheets that bench/timing.rt.txt recounts with an evaluator, and prints such lines:
- * the board, what was counted, the least nanoseconds of a call over rounds through sixteen sheets, and a digest of the
+/* Times calls of the library on the sheets that bench/timing.rt.txt recounts with an evaluator, and prints lines with
+ * the board, the kind of count, the least nanoseconds of a call over rounds through sixteen sheets, and a digest of the
  * counts.
  *
  *     cc -O2 -Icrates/board_c bench/calls.c out/libboard_c.a -o calls && ./calls

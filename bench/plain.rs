@@ -404,7 +404,7 @@ impl Register {
         }
     }
 
-    /// Takes a member's votes out, changes the member, and enters what votes it has then.
+    /// Takes a member's votes out, changes the member, and enters its new votes.
     fn update(&mut self, code: Code, change: impl FnOnce(&mut Member)) {
         let Some(member) = self.members.get_mut(&code) else {
             return;
@@ -424,10 +424,10 @@ impl Register {
     }
 }
 
-/// Fields of a record that are looked at: more are no record of the formats.
+/// The fields of a record that are looked at: a record with more is not one of the formats.
 const FIELDS: usize = 4;
 
-/// One record, in room that is used again for the next.
+/// One record, in room that is reused for the next.
 #[derive(Default)]
 struct Row {
     bytes: Vec<u8>,
@@ -551,7 +551,7 @@ fn record(fields: &[&[u8]]) -> Option<Record> {
 
 /// A fault's place and name, or a write that failed.
 enum Fault {
-    Told(usize, &'static str),
+    Reported(usize, &'static str),
     Write,
 }
 
@@ -590,7 +590,7 @@ impl std::fmt::Display for Shown {
 /// The members, up to the mark.
 fn opening(cutter: &mut Cutter, row: &mut Row) -> Result<Vec<(Code, u64)>, Fault> {
     if !cutter.next(row) || row.fields(&mut [&[]; FIELDS + 1]) != [&b"member"[..], b"votes"] {
-        return Err(Fault::Told(0, "BadHeader"));
+        return Err(Fault::Reported(0, "BadHeader"));
     }
     let mut members = Vec::new();
     while cutter.next(row) {
@@ -600,15 +600,15 @@ fn opening(cutter: &mut Cutter, row: &mut Row) -> Result<Vec<(Code, u64)>, Fault
             return Ok(members);
         }
         if members.len() == 256 {
-            return Err(Fault::Told(0, "TooManyMembers"));
+            return Err(Fault::Reported(0, "TooManyMembers"));
         }
         let read = match fields {
             [m, v] => member(m).zip(votes(v)),
             _ => None,
         };
-        members.push(read.ok_or(Fault::Told(cutter.number, "BadRecord"))?);
+        members.push(read.ok_or(Fault::Reported(cutter.number, "BadRecord"))?);
     }
-    Err(Fault::Told(0, "NoScript"))
+    Err(Fault::Reported(0, "NoScript"))
 }
 
 fn started(list: &[(Code, u64)], limit: usize) -> Result<Register, Fault> {
@@ -626,7 +626,7 @@ fn started(list: &[(Code, u64)], limit: usize) -> Result<Register, Fault> {
             suspended: false,
         };
         if register.members.insert(code, member).is_some() {
-            return Err(Fault::Told(0, "DuplicateMember"));
+            return Err(Fault::Reported(0, "DuplicateMember"));
         }
         register.words[32] += votes;
     }
@@ -674,10 +674,10 @@ fn run<W: Write>(
     limit: usize,
 ) -> Result<(), Fault> {
     if !(1..=4).contains(&readers) || !(1..=1_000_000).contains(&limit) {
-        return Err(Fault::Told(0, "BadLimit"));
+        return Err(Fault::Reported(0, "BadLimit"));
     }
     if input.len() > 4_194_304 {
-        return Err(Fault::Told(0, "TooLong"));
+        return Err(Fault::Reported(0, "TooLong"));
     }
     let (mut cutter, mut row) = (Cutter { input, at: 0, number: 0 }, Row::default());
     let members = opening(&mut cutter, &mut row)?;
@@ -686,7 +686,7 @@ fn run<W: Write>(
     let mut evaluator = Evaluator::new();
     while cutter.next(&mut row) {
         let mut room = [&[][..]; FIELDS + 1];
-        match record(row.fields(&mut room)).ok_or(Fault::Told(cutter.number, "BadRecord"))? {
+        match record(row.fields(&mut room)).ok_or(Fault::Reported(cutter.number, "BadRecord"))? {
             Record::Submit(command) => match register.apply(command) {
                 Ok(accepted) => lines.put(format_args!("accepted,{accepted}"))?,
                 Err((code, name)) => lines.put(format_args!("refused,{code},{name}"))?,
@@ -696,7 +696,7 @@ fn run<W: Write>(
                 lines.put(format_args!("published,{}", published[33]))?;
             }
             Record::Read(reader, _) if !(1..=readers).contains(&reader) => {
-                return Err(Fault::Told(cutter.number, "BadReader"));
+                return Err(Fault::Reported(cutter.number, "BadReader"));
             }
             Record::Read(reader, by) => {
                 evaluator.set(&published);
@@ -716,11 +716,11 @@ fn replay(readers: u64, limit: usize) -> bool {
     let read = io::stdin().take(4_194_305).read_to_end(&mut input);
     let done = match read {
         Ok(_) => run(&input, &mut lines, readers, limit),
-        Err(_) => Err(Fault::Told(0, "ReadFault")),
+        Err(_) => Err(Fault::Reported(0, "ReadFault")),
     };
     match done {
         Ok(()) => true,
-        Err(Fault::Told(place, name)) => {
+        Err(Fault::Reported(place, name)) => {
             let _ = lines.put(format_args!("fault,{place},{name}"));
             eprintln!("board: {name}");
             false

@@ -187,7 +187,7 @@ fn time(name: &str, read: impl Fn(usize) -> Words + Sync, publish: impl Fn(&Word
 }
 
 fn main() {
-    // alone: a board of one reader, as the proved one is timed; beside: one of two
+    // alone: a board of one reader, as the proved one is timed; beside (with a writer): one of two
     let one = TwoCopies::new(1);
     let two = TwoCopies::new(2);
     let reading = least(5, READS / 4, || { black_box(one.read(0)); });

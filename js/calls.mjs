@@ -1,5 +1,5 @@
 // @ts-check
-// The counts and the replay. index.d.ts says what each function answers and refuses.
+// The counts and the replay. index.d.ts describes each function's answers and refusals.
 import { Board, MAJORITIES, Refused } from "./board.mjs";
 import { fraction } from "./fractions.mjs";
 import { linesOf } from "./lines.mjs";
@@ -13,7 +13,7 @@ export const LARGEST_JOURNAL = 1_000_000;
 /** @typedef {{ votes: Whole, chair?: Whole | null, suspended?: boolean }} Member */
 /** @typedef {import("./board.mjs").Majority} Majority */
 
-/** What stands for options that are left out: no majority, which is refused. */
+/** The options of a call without any: no majority, which is refused. */
 const NOTHING = /** @type {{ majority: any }} */ (/** @type {unknown} */ ({}));
 
 /** @type {Board} */
@@ -48,7 +48,7 @@ function withFractions(majority, { chairs, ...counts }) {
 }
 
 /**
- * What a call answers. Where it is refused, the refusal with its reason in words is thrown.
+ * The answer of a call. If it is refused, the refusal is thrown with its reason in words.
  * @template Answer
  * @param {() => Answer} call
  * @param {unknown} majority
@@ -65,9 +65,9 @@ function explained(call, majority, whyBoard) {
 }
 
 /**
- * The words of a board.
+ * The words of a board, in the library's form.
  * @param {Iterable<Whole>} weights
- * @param {Whole | undefined} given the total, where it is given
+ * @param {Whole | undefined} given the total, if it is given
  */
 function boardOf(weights, given) {
   const words = itemsOf(weights, "the weights are").map((it, at) => whole(it, `weight ${at + 1} is`, VOTES));

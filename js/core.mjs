@@ -1,4 +1,4 @@
-// What the package exports; index.d.ts says what each is.
+// The exports of the package; index.d.ts describes each.
 export { MAJORITIES, Refused } from "./board.mjs";
 export { counts, countsOfAll, countsOfMembers, replay } from "./calls.mjs";
 export { Fraction } from "./fractions.mjs";

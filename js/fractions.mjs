@@ -21,7 +21,7 @@ export class Fraction {
 }
 
 /**
- * A fraction, or null where it would have 0 for a denominator.
+ * A fraction, or null if its denominator would be 0.
  * @param {number} numerator
  * @param {number} denominator
  */
@@ -29,7 +29,7 @@ export const fraction = (numerator, denominator) =>
   denominator === 0 ? null : new Fraction(numerator, denominator);
 
 /**
- * The fraction of a replay's line, where "-" stands for none.
+ * The fraction of a replay's line, or null for "-".
  * @param {string} text
  */
 export const fractionOf = (text) => (text === "-" ? null : fraction(...pair(text.split("/").map(Number))));

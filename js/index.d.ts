@@ -1,11 +1,11 @@
 /**
  * The exact voting power of a board, counted over all coalitions, and a register of members, votes and chairs.
  *
- * What board.wasm is compiled from is proved. These functions are not: they place arguments, make objects of answers,
- * and say why a call is refused.
+ * The source of board.wasm is proved. These functions are not: they place arguments, make objects of answers, and give
+ * the reasons why a call is refused.
  */
 
-/** Which coalitions win. docs/DEFINITIONS.md has each in words. */
+/** Which coalitions win. docs/DEFINITIONS.md defines each in words. */
 export type Majority = "half" | "70" | "85" | "quorum";
 
 /** The majorities, in the order of their numbers. */
@@ -36,20 +36,20 @@ export interface Chair {
   swings: number;
   /** The Banzhaf measure: its swings over all coalitions of the other chairs. */
   banzhaf: Fraction;
-  /** The normalised Banzhaf index: its swings over those of all chairs; null where no chair has one. */
+  /** The normalised Banzhaf index: its swings over those of all chairs; null if no chair has one. */
   share: Fraction | null;
-  /** The power to prevent action: its swings over the coalitions that win; null where none wins. */
+  /** The power to prevent action: its swings over the coalitions that win; null if none wins. */
   prevent: Fraction | null;
   /** The power to initiate action: its swings over the coalitions that lose. */
   initiate: Fraction;
 }
 
-/** What wins on a board, and the voting power of its chairs. */
+/** The winning coalitions of a board, and the voting power of its chairs. */
 export interface Counts {
   majority: Majority;
   /** The least number of votes that wins. */
   quota: number;
-  /** The least number of chairs that wins; 0 where the majority asks for none. */
+  /** The least number of chairs that wins; 0 if the majority asks for none. */
   leastSize: number;
   /** The votes of the open chairs. */
   cast: number;
@@ -66,7 +66,7 @@ export interface Counts {
 /** A member of a board. */
 export interface BoardMember {
   votes: Whole;
-  /** The number of its chair, from 1 to 32; 0, null or nothing for a member in no chair. */
+  /** The number of its chair, from 1 to 32; 0, null or undefined for a member in no chair. */
   chair?: Whole | null;
   /** Whether its votes don't count. */
   suspended?: boolean;
@@ -76,7 +76,7 @@ export interface BoardMember {
  * The counts of a board by the weights of its chairs 1, 2 and so on, by one majority.
  *
  * There are at most 32 weights, in votes, each from 0. `total` is the total voting power in votes, at least the sum of
- * the weights and at most 2^48; without it, that sum. Others are `Refused` as BadSheet, and a majority that there isn't
+ * the weights and at most 2^48; without it, that sum. Other values are `Refused` as BadSheet, and an unknown majority
  * as BadRecord. A value that is no number is a TypeError.
  */
 export function counts(weights: Iterable<Whole>, by: { majority: Majority; total?: Whole }): Counts;
@@ -85,10 +85,10 @@ export function counts(weights: Iterable<Whole>, by: { majority: Majority; total
 export function countsOfAll(weights: Iterable<Whole>, by?: { total?: Whole }): Map<Majority, Counts>;
 
 /**
- * The counts of a board that is given by its members, by one majority. A chair is open where a member sits in it,
- * suspended or not, and where `openChairs` has its number. Its weight is the votes of its members that aren't
+ * The counts of a board that is given by its members, by one majority. A chair is open if a member sits in it,
+ * suspended or not, or if `openChairs` has its number. Its weight is the votes of its members that aren't
  * suspended, and the total is the votes of all members that aren't suspended. A chair above 32 and a total above 2^48
- * are `Refused` as BadSheet, and a majority that there isn't as BadRecord.
+ * are `Refused` as BadSheet, and an unknown majority as BadRecord.
  */
 export function countsOfMembers(
   members: Iterable<BoardMember>,
@@ -118,7 +118,7 @@ export interface Published {
   number: number;
 }
 
-/** What a reader reads: a published board, counted by a majority. */
+/** A reading of a reader: a published board, counted by a majority. */
 export interface Reading {
   kind: "reading";
   record: number;
@@ -136,7 +136,7 @@ export interface Reading {
   chairs: Chair[];
 }
 
-/** What ended a run early, by its number and name in docs/FORMATS.md. `record` is 0 where it has none. */
+/** The fault that ended a run, by its number and name in docs/FORMATS.md. `record` is 0 if it has none. */
 export interface Fault {
   kind: "fault";
   record: number;
@@ -144,7 +144,7 @@ export interface Fault {
   name: string;
 }
 
-/** What a replay answers. */
+/** The result of a replay. */
 export interface Replay {
   /** The lines, as `board replay` prints them. */
   text: string;
@@ -170,11 +170,11 @@ export interface Member {
 }
 
 /**
- * A register of members, their votes and the chairs that cast them. It has no rule of its own: it keeps a script, and
- * each of its answers is that of the script's replay, so a call takes longer the longer its script is.
+ * A register of members, their votes and the chairs that cast them. It contains no rules: it keeps a script, and each
+ * of its answers is that of the script's replay, so a call takes longer the longer its script is.
  *
- * A command answers how many commands were accepted. Where it is refused, it throws a `Refused` with the number and the
- * name of the refusal and with the command, and the register stays as it was.
+ * A command returns the number of commands accepted. If it is refused, it throws a `Refused` with the number and the
+ * name of the refusal and with the command, and the register is unchanged.
  */
 export class Register {
   /**
@@ -186,7 +186,7 @@ export class Register {
   open(chair: Whole): number;
   /** Closes an open chair without members. */
   close(chair: Whole): number;
-  /** Moves a member to an open chair, or out of its chair where `chair` is null. */
+  /** Moves a member to an open chair, or out of its chair if `chair` is null. */
   move(code: string, chair: Whole | null): number;
   /** Gives a member other votes. */
   setVotes(code: string, votes: Whole): number;
@@ -198,7 +198,7 @@ export class Register {
   admit(code: string, votes: Whole): number;
   /** Takes out a member that sits in no chair. */
   withdraw(code: string): number;
-  /** What a reader reads once all accepted commands are published. It is kept until the next command. */
+  /** The reading after all accepted commands are published. It is kept until the next command. */
   indices(majority: Majority): Reading;
   /** Copies of the members by their codes, in the order of entry. */
   readonly members: Map<string, Member>;
@@ -206,7 +206,7 @@ export class Register {
   readonly chairs: Map<number, string[]>;
   /** The accepted commands, as records of the script. */
   readonly journal: string[];
-  /** A copy, which changes on its own. */
+  /** A copy, which changes independently. */
   whatIf(): Register;
   /** The opening and the accepted commands: an input of `replay`. */
   script(): string;
@@ -219,6 +219,6 @@ export class Refused extends Error {
   readonly number: number;
   /** Its name there, as "BadSheet". */
   readonly code: string;
-  /** The record of a register's script that was refused, where it was one. */
+  /** The refused record of a register's script, if a record was refused. */
   readonly command: string | undefined;
 }

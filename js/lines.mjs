@@ -3,7 +3,7 @@
 import { fractionOf } from "./fractions.mjs";
 
 /**
- * How many records there are up to the mark of the script, where a run came past it: then each of them is one line.
+ * The number of records up to the mark of the script, if a run passed it: then each of them is one line.
  * @param {Uint8Array} input
  */
 function recordsToMark(input) {

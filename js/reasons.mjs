@@ -1,5 +1,5 @@
 // @ts-check
-// Why a call is refused, in words. The library decides what is refused; here the place of the mistake is named.
+// The reasons of refusals, in words. The library decides what is refused; this file names the place of the mistake.
 import { MAJORITIES, Refused } from "./board.mjs";
 
 const CHAIRS = 32;
@@ -15,7 +15,7 @@ export const WHOLE = Object.freeze(["number", "bigint"]);
 /** @typedef {{ votes: bigint, chair: bigint, suspended: boolean }} Row */
 
 /**
- * A value as a message shows it.
+ * A value in the form of a message.
  * @param {unknown} value
  */
 const shown = (value) => (typeof value === "string" ? `'${value}'` : String(value));
@@ -24,7 +24,7 @@ const shown = (value) => (typeof value === "string" ? `'${value}'` : String(valu
  * A value of one of some types; another is a TypeError.
  * @template Value
  * @param {Value} value
- * @param {string} what what the value is, as the message begins
+ * @param {string} what the beginning of the message, which names the value
  * @param {readonly string[]} types
  * @param {string} allowed
  */
@@ -52,7 +52,7 @@ export function whole(value, what, allowed) {
 }
 
 /**
- * The items of a list. What can't be iterated over, and a string, is a TypeError.
+ * The items of a list. A string, and a value that isn't iterable, is a TypeError.
  * @template Item
  * @param {Iterable<Item>} list
  * @param {string} what
@@ -75,7 +75,7 @@ export function noMajority(majority) {
 export const isWord = (word) => word <= LARGEST_WORD;
 
 /**
- * Why weights and a total aren't a board's.
+ * The reason why weights and a total aren't a board's.
  * @param {bigint[]} weights
  * @param {bigint} total
  */
@@ -86,7 +86,7 @@ export function noBoard(weights, total) {
 }
 
 /**
- * Why members aren't those of a board.
+ * The reason why members aren't those of a board.
  * @param {Row[]} rows
  */
 export function noMembers(rows) {

@@ -1,5 +1,5 @@
 // @ts-check
-/** The reasons of the refusals by their names, as docs/FORMATS.md has them. */
+/** The reasons of the refusals by their names, from docs/FORMATS.md. */
 export const REASONS = Object.freeze({
   ChairOpen: "the chair is open already",
   ChairNotOpen: "the chair is not open",

@@ -1,5 +1,5 @@
 // @ts-check
-// A register without a rule of its own: it keeps a script, and each of its answers is that of the script's replay.
+// A register without rules: it keeps a script, and each of its answers is that of the script's replay.
 import { MAJORITIES, Refused } from "./board.mjs";
 import { LARGEST_JOURNAL, run } from "./calls.mjs";
 import { linesOf } from "./lines.mjs";
@@ -13,7 +13,7 @@ const MEMBER = `${CODE}, and ${VOTES}`;
 /** @typedef {number | bigint} Whole */
 /** @typedef {{ votes: number, chair: number | null, suspended: boolean }} Member */
 
-/** What the fields of a command allow, by its first word. */
+/** The allowed fields of a command, by its first word. */
 const ALLOWED = /** @type {Record<string, string>} */ ({
   open: CHAIR,
   close: CHAIR,
@@ -26,7 +26,7 @@ const ALLOWED = /** @type {Record<string, string>} */ ({
 });
 
 /**
- * A field of a record. What isn't made of letters and digits alone stands in quotes, so that it stays one field.
+ * A field of a record. Unless it has only letters and digits it is in quotes, so that it stays one field.
  * @param {unknown} value
  */
 function field(value) {
@@ -46,7 +46,7 @@ const chair = (value) => field(typed(value, "the chair is", WHOLE, CHAIR));
  * @param {number} number
  * @param {string} name
  * @param {string | undefined} command
- * @param {string} allowed what the record allows
+ * @param {string} allowed the fields that the record allows
  */
 function refusal(number, name, command, allowed) {
   const reason = `${name} (${number}), ${/** @type {Record<string, string>} */ (REASONS)[name]}`;
@@ -98,7 +98,7 @@ export class Register {
   }
 
   /**
-   * Replays the script with records behind it.
+   * Replays the script followed by records.
    * @param {string} records
    */
   #answer(records) {
@@ -107,9 +107,9 @@ export class Register {
   }
 
   /**
-   * Has a command carried out.
+   * Submits a command.
    * @param {string[]} fields
-   * @returns how many commands are accepted
+   * @returns the number of accepted commands
    */
   #submit(...fields) {
     const record = fields.join(",");

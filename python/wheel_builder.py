@@ -39,7 +39,7 @@ def record_line(name: str, content: bytes) -> str:
 
 
 def version() -> str:
-    """The version of the package, where its library is there."""
+    """The version of the package, if its library is built."""
     if not all((HERE / name).is_file() for name in [LIBRARY, "VERSION"]):
         raise SystemExit("voting_board: the library isn't here: ./release makes a release, whose folder python has it")
     return (HERE / "VERSION").read_text().strip()
@@ -53,7 +53,7 @@ def entry(name: str) -> zipfile.ZipInfo:
 
 
 def write_wheel(folder: str, files: dict[str, bytes]) -> str:
-    """Writes a wheel of these files and what describes them, and answers its name."""
+    """Writes a wheel of these files and its metadata, and returns its name."""
     info = f"{PACKAGE}-{version()}.dist-info"
     described = METADATA.format(version=version()) + (HERE / "README.md").read_text()
     files = {**files, f"{info}/METADATA": described.encode(), f"{info}/WHEEL": WHEEL.encode()}
@@ -73,5 +73,5 @@ def build_wheel(wheel_directory: str, config_settings: object = None, metadata_d
 
 
 def build_editable(wheel_directory: str, config_settings: object = None, metadata_directory: object = None) -> str:
-    """The wheel that has the way to this folder, for `pip install -e`, as PEP 660 asks."""
+    """The wheel that has the path to this folder, for `pip install -e`, as PEP 660 asks."""
     return write_wheel(wheel_directory, {f"{PACKAGE}.pth": f"{HERE}\n".encode()})

@@ -7,7 +7,7 @@
 enum { NUMBERS = 7, COLUMNS = 3 };
 static const double ABOVE_WORDS = 18446744073709551616.0; /* 2^64 */
 
-/* R calls one function at a time, so that one room is enough. */
+/* R calls one function at a time, so one room is enough. */
 static struct board_room room;
 
 static int is_word(double number) {
@@ -64,7 +64,7 @@ void board_r_members(const double *members, const int *len, const double *open_c
     if (*refusal == BOARD_DONE) put(&found, counts, rows);
 }
 
-/* The text of `*written` bytes stands at `out`, which has room for `*out_len`. */
+/* The text of `*written` bytes is written to `out`, which has room for `*out_len`. */
 void board_r_replay(const uint8_t *input, const double *len, const int *readers, const int *journal, uint8_t *out,
                     const double *out_len, double *written, int *fault, int *record) {
     uint64_t bytes;

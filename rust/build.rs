@@ -1,11 +1,11 @@
-//! Links the static library: `lib/libboard.a` beside this crate's folder, or that of the folder that the environment's
+//! Links the static library: `lib/libboard.a` next to this crate's folder, or that of the folder that the environment's
 //! BOARD_LIBRARY_DIR names.
 use std::{env, path::PathBuf};
 
 fn main() {
     println!("cargo:rerun-if-env-changed=BOARD_LIBRARY_DIR");
-    let beside = || PathBuf::from(env::var_os("CARGO_MANIFEST_DIR").unwrap_or_default()).join("../lib");
-    let folder = env::var_os("BOARD_LIBRARY_DIR").map_or_else(beside, PathBuf::from);
+    let own_folder = || PathBuf::from(env::var_os("CARGO_MANIFEST_DIR").unwrap_or_default()).join("../lib");
+    let folder = env::var_os("BOARD_LIBRARY_DIR").map_or_else(own_folder, PathBuf::from);
     let archive = folder.join("libboard.a");
     assert!(archive.exists(), "{} isn't there: set BOARD_LIBRARY_DIR to its folder", archive.display());
     println!("cargo:rerun-if-changed={}", archive.display());

@@ -2,9 +2,9 @@
 /**
  * The register and the counts of a voting board in JavaScript, over the WebAssembly module board.wasm.
  *
- * What the module is compiled from is proved. This file is not: it puts arguments into the module's memory and takes
- * results out. Each replay has an instance of its own. Counts share one, which is thrown away where a call traps. The
- * package in js is built on this file.
+ * The source of the module is proved. This file is not: it puts arguments into the module's memory and takes results
+ * out. Each replay has a separate instance. Counts share one, which is thrown away if a call traps. The package in js
+ * is built on this file.
  *
  *     import { readFileSync } from "node:fs";
  *     import { Board } from "./board.mjs";
@@ -26,11 +26,11 @@
  *   chairs: Chair[] }} Counts
  */
 /**
- * A member: its votes; the number of its chair, or 0 where it is in none; and whether its votes are suspended.
+ * A member: its votes; the number of its chair, or 0 if it is in none; and whether its votes are suspended.
  * @typedef {{ votes: number | bigint, chair: number | bigint, suspended?: boolean }} Member
  */
 /**
- * What a replay printed; the number of the fault that ended it; and the number of that fault's record. Where there is
+ * The output of a replay; the number of the fault that ended it; and the number of that fault's record. If there is
  * none, it is 0.
  * @typedef {{ text: string, fault: number, record: number }} Replay
  */
@@ -45,7 +45,7 @@ const WORD = 8;
 /** The bytes of a board_counts, and of a board_room. */
 const COUNTS = WORD * (7 + 3 * CHAIRS);
 const ROOM = 65536 * 2 * (WORD + 2);
-/** The words of a list for which an instance that counts has a place at first: those of 256 members. */
+/** The words of a list for which a counting instance has room at first: those of 256 members. */
 const LIST = 3 * 256;
 /** More bytes than any line of a replay has. */
 const LINE = 128;
@@ -58,7 +58,7 @@ const REFUSALS = new Map([
 
 /**
  * A call that is refused. `number` and `code` are the refusal's number and name in docs/FORMATS.md; `command` is the
- * record of a register's script that was refused, where it was one.
+ * refused record of a register's script, if there is one.
  */
 export class Refused extends Error {
   /**
@@ -85,13 +85,13 @@ function word(value) {
 }
 
 /**
- * A limit as a parameter of 32 bits can hold it. Any other value becomes 0, which is out of the range of each limit.
+ * A limit as a parameter of 32 bits. Any other value becomes 0, which is out of the range of each limit.
  * @param {number} value
  */
 const limit = (value) => (Number.isInteger(value) && value >= 0 && value < 2 ** 32 ? value : 0);
 
 /**
- * The number of a majority, or one of none where there is no such majority.
+ * The number of a majority, or a number of none if the majority is unknown.
  * @param {Majority} majority
  */
 const numberOf = (majority) => MAJORITIES.indexOf(majority) >>> 0;
@@ -118,7 +118,7 @@ function longestText(input) {
   return LINE * (1 + CHAIRS) * readings + 4 * input.length + LINE;
 }
 
-/** An instance of the module for one call, and what stands in its memory. */
+/** An instance of the module for one call, and the contents of its memory. */
 class Call {
   /** @param {WebAssembly.Module} module */
   constructor(module) {
@@ -174,7 +174,7 @@ class Counting {
   }
 
   /**
-   * Calls an export, and answers what it answers.
+   * Calls an export, and returns its result.
    * @param {string} name
    * @param {bigint[]} words the list
    * @param {(bigint | number)[]} given the arguments between the list's address and the room
@@ -197,7 +197,7 @@ class Counting {
 }
 
 /**
- * The counts that words show.
+ * The counts in words.
  * @param {number[]} words
  * @returns {Counts}
  */
@@ -239,7 +239,7 @@ export class Board {
   }
 
   /**
-   * Replays an input, as `board replay` does. docs/FORMATS.md has its records, lines and faults.
+   * Replays an input, as `board replay` does. docs/FORMATS.md defines its records, lines and faults.
    * @param {Uint8Array} input
    * @param {{ readers?: number, journal?: number }} limits
    * @returns {Replay}
@@ -274,7 +274,7 @@ export class Board {
    * @param {{ total: number | bigint }} by
    */
   allCounts(weights, { total }) {
-    // The words of a sheet: for each chair its weight and 1, or 0 where it is closed; the total; and no commands.
+    // The words of a sheet: for each chair its weight and 1, or 0 if it is closed; the total; and no commands.
     const open = Array.from(weights, (it) => word(word(it) + 1n));
     const closed = Array.from({ length: Math.max(0, CHAIRS - open.length) }, () => 0n);
     const words = [...open, ...closed, word(total), 0n];
@@ -284,8 +284,8 @@ export class Board {
   }
 
   /**
-   * The counts of a board that is given by its members. A chair is open where a member sits in it, and where `open` has
-   * its number.
+   * The counts of a board that is given by its members. A chair is open if a member sits in it, or if `open` has its
+   * number.
    * @param {Iterable<Member>} members
    * @param {{ majority: Majority, open?: Iterable<number> }} by
    */

@@ -1,8 +1,8 @@
 /* The heap of board.wasm: the toolchain's std takes memory from it, and a host reserves memory in it. An instance of
- * the module serves one call and is then thrown away, so blocks stand one behind another, and none is given back. */
+ * the module serves one call and is then thrown away, so blocks follow one another, and none is given back. */
 typedef __SIZE_TYPE__ size;
 
-/* The answer to std: 1 and the block; or, where memory was refused, 0 and the address of a byte of no block. */
+/* The answer to std: 1 and the block; or, if memory was refused, 0 and the address of a byte of no block. */
 struct answer {
     size given;
     void *block;
@@ -13,19 +13,19 @@ static const size LARGEST = (size)1 << 48;
 
 extern unsigned char __heap_base;
 static unsigned char nothing;
-static size used; /* the first address behind all blocks, 0 before the first */
+static size used; /* the first address after all blocks, 0 before the first */
 
 static size aligned(size at) { return (at + ALIGNMENT - 1) / ALIGNMENT * ALIGNMENT; }
 
-/* Whether memory reaches up to an address, after it has grown if it must. It asks for the size again after a growth:
- * for a growth that is refused, memory.grow answers another number in a lowered module. */
+/* Whether memory reaches up to an address, after growing it if necessary. It asks for the size again after a growth:
+ * for a refused growth, memory.grow returns a different number in a lowered module. */
 static int reaches(size end) {
     size held = __builtin_wasm_memory_size(0) * PAGE;
     if (end > held) __builtin_wasm_memory_grow(0, (end - held + PAGE - 1) / PAGE);
     return end <= __builtin_wasm_memory_size(0) * PAGE;
 }
 
-/* Reserves bytes, aligned to 16: their address, or 0 where memory was refused. */
+/* Reserves bytes, aligned to 16: returns their address, or 0 if memory was refused. */
 size board_reserve(size bytes) {
     size at = used ? used : aligned((size)&__heap_base);
     if (bytes > LARGEST || !reaches(at + aligned(bytes))) return 0;

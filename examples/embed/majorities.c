@@ -13,7 +13,7 @@ static void print(const char *majority, const struct board_counts *counts) {
 }
 
 int main(void) {
-    /* For each chair its weight plus 1, and 0 where it is closed; then the total. */
+    /* For each chair its weight plus 1, and 0 if it is closed; then the total. */
     const uint64_t words[BOARD_SHEET_WORDS] = {51, 50, 2, [BOARD_CHAIRS] = 100};
     const uint64_t weights[] = {50, 49, 1};
     struct board_all_counts all;

@@ -1,4 +1,4 @@
-"""figures/board_study: what it answers, where its numbers come from, and how often it runs the program."""
+"""Checks of figures/board_study: its answers, their provenance, and the number of runs of the program."""
 from __future__ import annotations
 
 import hashlib
@@ -33,14 +33,14 @@ def answered(place: Place, *words: str, table: str = TABLE) -> list[str]:
 
 
 def expect_items(found: Sequence[str], wanted: Sequence[str]) -> None:
-    """Fails where one of the sentences isn't on the page."""
+    """Fails if the page lacks one of the sentences."""
     for sentence in wanted:
         expect(sentence in found, f"not on the page: {sentence!r}, but {found}")
 
 
-# Chairs with 40, 40 and 12 of 100 votes: any two win at half and at quorum, 1 and 2 at 70, all three at 85. With 52
-# votes of AAA, of 112, chair 1 wins at half and at quorum with any other one, and nobody without it: 3/5, 1/5 and 1/5
-# of the swings, and all, a third and a third of the coalitions that win, each half of them in the base.
+# Chairs with 40, 40 and 12 of 100 votes: any two win at half and at quorum, 1 and 2 at 70, all three at 85. With 52 of
+# 112 votes for AAA, chair 1 wins at half and at quorum with any other one, and no coalition wins without it: 3/5, 1/5
+# and 1/5 of the swings, and all, a third and a third of the winning coalitions, against half of them each in the base.
 GAINS = "chair 1 Alland gains most, +26.667 percentage points; chairs 2 Hills & Dales and 3 Plains lose most, "
 GAINS += "-13.333 percentage points each."
 PREVENTS = "At a simple majority, in power to prevent action: chair 1 Alland gains most, +0.500000; "
@@ -48,7 +48,7 @@ PREVENTS += "chairs 2 Hills & Dales and 3 Plains lose most, -0.166667 each."
 
 
 def check_gains(place: Place) -> None:
-    """Who gains and who loses most, ties among them, in share of power and in another measure."""
+    """The greatest gains and losses, with ties, in share of power and in another measure."""
     found = answered(place, "--scenario", "AAA +30%: votes,AAA,+30%", "--measure", "prevent")
     nobody = "no chair gains, and no chair loses."
     expect_items(found, [f"At a simple majority, in share of power: {GAINS}", PREVENTS])
@@ -58,10 +58,10 @@ def check_gains(place: Place) -> None:
 
 
 def check_opened(place: Place) -> None:
-    """A new chair, a closed one, and a majority at which no coalition wins any more."""
+    """A new chair, a closed one, and a majority at which no coalition wins after the change."""
     words = ["--scenario", "new: open,4; move,EEE,4", "--scenario", "closed: move,DDD,none; close,3"]
     found = answered(place, *words)
-    # 8 votes turn no coalition of 40, 40 and 12 into one that wins, more than 50. Without chair 3 all need both others.
+    # 8 votes make no losing coalition of 40, 40 and 12 win (more than 50). Without chair 3 every win needs both others.
     new = "no chair gains, and no chair loses. Chair 4 is new: 0.000 per cent."
     both = "chairs 1 Alland and 2 Hills & Dales gain most, +16.667 percentage points each; no chair loses."
     closed = "Chair 3 Plains is closed; in the base it had 33.333 per cent."
@@ -74,8 +74,8 @@ def check_opened(place: Place) -> None:
 
 
 def check_nothing_gained(place: Place) -> None:
-    """A chair that keeps its nothing doesn't gain, where all others lose."""
-    # At 70 per cent of 140 votes the three chairs with 40 of them are needed, and chair 3 is still of no use.
+    """A chair whose measure stays 0 doesn't gain, even if all others lose."""
+    # At 70 per cent of 140 votes the three chairs with 40 votes each are needed, and chair 3 still has no swing.
     found = answered(place, "--at", "70", "--scenario", "joins: admit,FFF,40; open,4; move,FFF,4")
     loss = "chairs 1 Alland and 2 Hills & Dales lose most, -16.667 percentage points each."
     expect_items(found, [f"At 70 per cent, in share of power: no chair gains; {loss} Chair 4 is new: 33.333 per cent."])
@@ -83,7 +83,7 @@ def check_nothing_gained(place: Place) -> None:
 
 
 def check_half_to_even(place: Place) -> None:
-    """A decimal halfway between two goes to the even one: 1/2048 = 0.00048828125, and -1/2048 for what is added."""
+    """A decimal halfway between two goes to the even one: 1/2048 = 0.00048828125, and -1/2048 for the difference."""
     # Of 13 votes all 12 chairs are needed at 85 per cent: each has one of 2^11 swings, and without any votes none.
     table = "code,votes,chair\n" + "".join(f"X{LETTERS[at]}A,1,{at + 1}\n" for at in range(12)) + "XXX,1,\n"
     with place.folder() as folder:
@@ -95,7 +95,7 @@ def check_half_to_even(place: Place) -> None:
 
 
 def check_tiny_gain(place: Place) -> None:
-    """A gain that would be rounded to nothing isn't said to be nothing."""
+    """A gain that rounds to 0 isn't reported as 0."""
     with place.folder() as folder:
         words = ["--no-charts", "--at", "half", "--scenario", "tiny: votes,XAD,+0.01%", f"{folder}/it"]
         expect_good(place.script("board_study", "examples/members.csv", *words))
@@ -121,7 +121,7 @@ def check_order(place: Place) -> None:
 
 
 def flags(place: Place, least: int, most: int) -> dict[str, dict[int, dict[tuple[int, str], bool]]]:
-    """What holds of each chair at each number of votes of AAA, by the program's lines: read by majority and votes."""
+    """The kinds of each chair's power at each number of AAA's votes, by the program's lines, by majority and votes."""
     votes = range(least, most + 1)
     records = [f"votes,AAA,{number}\npublish\n" + "".join(f"read,1,{at}\n" for at in AT) for number in votes]
     found: dict[str, dict[int, dict[tuple[int, str], bool]]] = {at: {} for at in AT}
@@ -141,7 +141,7 @@ def flags(place: Place, least: int, most: int) -> dict[str, dict[int, dict[tuple
 
 
 def wanted_thresholds(place: Place, steps: list[int]) -> set[tuple[str, int, int, str, bool]]:
-    """Where something changes between two steps, found by looking at each number of votes."""
+    """The thresholds between steps, found by trying each number of votes."""
     wanted = set()
     for majority, at in flags(place, steps[0], steps[-1]).items():
         for low, high in zip(steps, steps[1:]):
@@ -163,7 +163,7 @@ KINDS = {
 
 
 def said_thresholds(items: list[str]) -> set[tuple[str, int, int, str, bool]]:
-    """The thresholds that a page says."""
+    """The thresholds that a page reports."""
     ats = {"At a simple majority": "half", "At 70 per cent": "70", "At 85 per cent": "85", "For the quorum": "quorum"}
     found = set()
     for text in items:
@@ -181,7 +181,7 @@ def said_thresholds(items: list[str]) -> set[tuple[str, int, int, str, bool]]:
 
 
 def check_thresholds(place: Place) -> None:
-    """Thresholds are those that a look at each number of votes finds, at all majorities."""
+    """The reported thresholds equal those found by trying each number of votes, at all majorities."""
     percents = [1, *range(6, 72, 5)]
     steps = [round(Fraction(percent, 100 - percent) * 60) for percent in percents]
     items = answered(place, "--sweep", "AAA 1..71 by 5 %")
@@ -237,7 +237,7 @@ def check_groups(place: Place) -> None:
 
 
 def head_of(table: Path) -> list[str]:
-    """The lines that say where a table comes from."""
+    """The provenance lines of a table."""
     return [line[2:] for line in table.read_text().splitlines() if line.startswith("# ")]
 
 
@@ -247,7 +247,7 @@ def sha256(data: bytes) -> str:
 
 
 def check_provenance(place: Place) -> None:
-    """Table and page say the program, the table, the hashes of script and lines, and the words; a cell may have a #."""
+    """Table and page give the program, the table, the hashes of script and lines, and the words; cells may have a #."""
     words = ["--scenario", "plan #2: votes,AAA,41", "--sweep", "AAA 10..60 by 10 %", "--replay", "again.csv"]
     with place.folder() as folder:
         expect_good(study(place, folder, "--no-charts", *words))
@@ -271,7 +271,7 @@ def check_provenance(place: Place) -> None:
 
 
 def check_release(place: Place) -> None:
-    """The program of a release is named with its commit, which stands in the file VERSION beside it."""
+    """The program of a release is named with its commit, from the file VERSION next to it."""
     with place.folder() as folder, place.folder() as release:
         shutil.copy(place.program, f"{release}/board")
         Path(release, "VERSION").write_text("version 0.3.0\ncommit 0123abcd\nkit 13\n")
@@ -281,7 +281,7 @@ def check_release(place: Place) -> None:
 
 
 def check_replay_place(place: Place) -> None:
-    """The script isn't written over a table of members, nor over what the study writes."""
+    """The script isn't written over a table of members, nor over the study's own output files."""
     with place.folder() as folder:
         done = study(place, folder, "--no-charts", "--replay", "members.csv")
         expect_refused(done, "board_study", "members.csv is there already and isn't a file of this script", folder)
@@ -290,7 +290,7 @@ def check_replay_place(place: Place) -> None:
 
 
 def check_replayed(place: Place, script: bytes, rows: list[dict[str, str]]) -> None:
-    """The script that is written gives the readings of the table, in its order."""
+    """The written script produces the readings of the table, in order."""
     lines = place.board(script).decode().splitlines()
     printed = [line.split(",")[1:4] for line in lines if line.startswith("chair,")]
     table = [[row["chair"], row["votes"], row["swings"]] for row in rows]
@@ -298,7 +298,7 @@ def check_replayed(place: Place, script: bytes, rows: list[dict[str, str]]) -> N
 
 
 def check_figures(place: Place) -> None:
-    """Table and page of board_figures say the hash of the lines and the words."""
+    """Table and page of board_figures give the hash of the lines and the arguments."""
     output = place.board((BASE + "publish\nread,1,half\n").encode())
     with place.folder() as folder:
         expect_good(place.script("board_figures", f"{folder}/it", "--title", "Votes", given=output))
@@ -311,7 +311,7 @@ def check_figures(place: Place) -> None:
 
 
 def counted_starts(place: Place, words: list[str]) -> tuple[int, int]:
-    """How often a study starts the program to replay, and how many readings it gets."""
+    """The number of replays that a study starts, and the number of readings it gets."""
     log, wrapper = Path(place.top, "starts"), Path(place.top, "counted")
     wrapper.write_text(f'#!/bin/sh\necho "$1" >> "{log}"\nexec "{place.program}" "$@"\n')
     wrapper.chmod(0o755)
@@ -323,7 +323,7 @@ def counted_starts(place: Place, words: list[str]) -> tuple[int, int]:
 
 
 def check_starts(place: Place) -> None:
-    """All readings of a study are of one run of the program; each search for thresholds takes few more."""
+    """All readings of a study come from one run of the program; a search for thresholds adds a few runs."""
     commands = ["suspend,AAA", "open,4; move,EEE,4", "move,DDD,none; withdraw,DDD; close,3"]
     commands += ["admit,FFF,9; move,FFF,1"]
     words = [it for number, text in enumerate(commands) for it in ["--scenario", f"{number}: {text}"]]
@@ -335,7 +335,7 @@ def check_starts(place: Place) -> None:
 
 
 def check_undone(place: Place) -> None:
-    """Each scenario starts from the base register, whatever the one before it did."""
+    """Each scenario starts from the base register, regardless of the scenario before it."""
     commands = [
         "suspend,AAA",
         "move,AAA,2; suspend,AAA; votes,AAA,7",
@@ -358,7 +358,7 @@ def check_undone(place: Place) -> None:
 
 
 def check_other_register(place: Place) -> None:
-    """A reading of another register than the one that was asked for isn't taken."""
+    """A reading of a register other than the requested one is rejected."""
     wrapper = Path(place.top, "other")
     wrapper.write_text(f'#!/bin/sh\nsed s/votes,AAA,40/votes,AAA,39/ | "{place.program}" "$@"\n')
     wrapper.chmod(0o755)
@@ -369,7 +369,7 @@ def check_other_register(place: Place) -> None:
 
 
 def check_long(place: Place) -> None:
-    """A study that is too long for one input of the program takes two, and both are written."""
+    """A study that is too long for one input of the program uses two, and both are written."""
     codes = [f"X{one}{other}" for one in LETTERS for other in LETTERS]
     table = "code,votes,chair\n" + "".join(f"{code},{1000 + at},{max(1, at - 252)}\n" for at, code in enumerate(codes))
     with place.folder() as folder:
@@ -406,7 +406,7 @@ FILES = [
 
 
 def check_bad_files(place: Place) -> None:
-    """Files of scenarios that are wrong are refused, each line that is."""
+    """Wrong scenario files are refused, and each wrong line is named."""
     for name, text, wanted in FILES:
         Path(place.top, name).write_text(text)
         with place.folder() as folder:
@@ -436,26 +436,26 @@ def check_files(place: Place) -> None:
 
 
 def spent() -> float:
-    """The seconds of processors that ended children took."""
+    """The processor seconds of child processes that have ended."""
     return sum(resource.getrusage(resource.RUSAGE_CHILDREN)[:2])
 
 
 def slowness() -> float:
-    """How many times longer than alone something takes now, since others use the machine, too."""
+    """The factor by which other work on the machine slows a computation down now."""
     begun = time.process_time()
     sum(1 for _ in range(10_000_000))
     return max(1.0, (time.process_time() - begun) / CALIBRATION)
 
 
 def seconds_of(place: Place, folder: str, words: list[str]) -> float:
-    """The seconds of processors that a study takes on a machine that isn't busy."""
+    """The processor seconds of a study on an idle machine."""
     before, begun = slowness(), spent()
     expect_good(place.script("board_study", "examples/members.csv", *words, f"{folder}/it"))
     return (spent() - begun) / max(before, slowness())
 
 
 def check_time(place: Place) -> None:
-    """A study of 179 scenarios without charts takes at most 3 seconds on a machine that isn't busy."""
+    """A study of 179 scenarios without charts takes at most 3 seconds on an idle machine."""
     codes = [row["code"] for row in rows_of(Path(place.top, "examples", "members.csv")) if row["chair"]][:179]
     rows = "".join(f'{it} +30%,"votes,{it},+30%"\n' for it in codes)
     Path(place.top, "many.csv").write_text(f"label,commands\n{rows}")
@@ -466,7 +466,7 @@ def check_time(place: Place) -> None:
 
 
 def cases(place: Place) -> list[Case]:
-    """Each case by a name."""
+    """The cases by name."""
     return [
         ("board_study: who gains and who loses most", lambda: check_gains(place)),
         ("board_study: chairs that are opened and closed", lambda: check_opened(place)),

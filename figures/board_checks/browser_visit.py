@@ -1,7 +1,7 @@
 #!/usr/bin/env python3
-"""Opens a page in Chromium, uses it as a reader would, prints what was seen: browser_visit.py PAGE [PICTURE..]
+"""Opens a page in Chromium, uses it as a reader would, prints what it found: browser_visit.py PAGE [PICTURE..]
 
-A PICTURE is FILE:WIDTHxHEIGHT:THING, a picture of the page, that wide, from a thing of a CSS selector on.
+A PICTURE is FILE:WIDTHxHEIGHT:THING: a picture of the page at this width, starting at the element of a CSS selector.
 """
 from __future__ import annotations
 
@@ -22,7 +22,7 @@ COLUMN = (
 SIZES = "return [...document.images].map((it) => [it.currentSrc, it.clientWidth, it.closest('main').clientWidth])"
 LOADED = "const end = arguments[0]; Promise.all([...document.images].map((it) => it.decode())).then(() => end())"
 BACK = "return getComputedStyle(document.body).backgroundColor"
-# What is wider than the page, but for what scrolls within a box of its own.
+# Elements wider than the page, except those that scroll within their own box.
 WIDE = (
     "return [document.scrollingElement.scrollWidth, ...[...document.querySelectorAll('body *:not(.scroll *)')]"
     ".map((it) => it.getBoundingClientRect().right)].reduce((one, other) => Math.max(one, other))"
@@ -44,7 +44,7 @@ def started(*words: str, is_offline: bool = True) -> webdriver.Chrome:
 
 
 def set_width(browser: webdriver.Chrome, width: int, height: int = 844) -> None:
-    """Makes the page so wide."""
+    """Sets the width of the page."""
     metrics = {"width": width, "height": height, "deviceScaleFactor": 1, "mobile": False}
     browser.execute_cdp_cmd("Emulation.setDeviceMetricsOverride", metrics)
 
@@ -63,7 +63,7 @@ def sorted_by_click(browser: webdriver.Chrome) -> dict[str, list[str]]:
 
 
 def gains_by_click(browser: webdriver.Chrome) -> list[str]:
-    """What is added in the last table that has such a column, after a click on its heading; nothing without one."""
+    """The gains in the last table with such a column, after a click on its heading; empty without one."""
     headings = [it for it in browser.find_elements(By.CSS_SELECTOR, "thead th") if it.text.startswith("Added")]
     if not headings:
         return []
@@ -93,7 +93,7 @@ def take(browser: webdriver.Chrome, text: str) -> None:
 
 
 def visit(browser: webdriver.Chrome, page: str, pictures: list[str]) -> dict[str, object]:
-    """Opens the page, and looks."""
+    """Opens the page and collects what it shows."""
     set_width(browser, 390)
     browser.get(Path(page).resolve().as_uri())
     seen = {"narrow": browser.execute_script(WIDE), "pictures": shown_pictures(browser)}

@@ -13,7 +13,7 @@ SMALLEST_LETTERS, LARGEST_LETTERS = 9.0, 18.0
 
 
 def smallest_letters(address: str, shown: float) -> float:
-    """How high the smallest letters of a chart are on the screen, in pixels, where it is shown in a width."""
+    """The height in pixels of a chart's smallest letters, when it is shown at a given width."""
     picture = base64.b64decode(address.partition(",")[2]).decode()
     sizes = [float(size) for size in re.findall(r"font: (?:[a-z]+ )?([0-9.]+)px", picture)]
     units = re.findall(r'viewBox="0 0 ([0-9.]+) ', picture)
@@ -30,7 +30,7 @@ def check_pictures(seen: list[tuple[str, float, float]], count: int) -> None:
 
 
 def check_page(place: Place, path: Path, megabytes: float) -> None:
-    """Opens a page and looks."""
+    """Opens a page and checks it."""
     done = place.run(place.python, "figures/board_checks/browser_visit.py", str(path))
     expect_good(done)
     seen = json.loads(done.stdout)
@@ -54,7 +54,7 @@ def check_page(place: Place, path: Path, megabytes: float) -> None:
 
 
 def check_kept(text: str) -> None:
-    """Each heading above a chart is in one box with it, which isn't parted between printed pages."""
+    """Each heading above a chart is in one box with it, which isn't split across printed pages."""
     expect(
         re.search(r"\.kept, [^{]*\{ break-inside: avoid; \}", text) is not None, "the style doesn't keep boxes whole"
     )
@@ -85,7 +85,7 @@ def check_study(place: Place) -> None:
 
 
 def cases(place: Place) -> list[Case]:
-    """Each case by a name; none where Chromium isn't there, or what drives it."""
+    """The cases by name; none if Chromium or its driver is missing."""
     drivers = all(Path("/usr/bin", name).exists() for name in ["chromium", "chromedriver"])
     if not drivers or not has(place.python, "selenium"):
         print("figures/check: Chromium, its driver or selenium is not there, so no page was opened (tools/install)")

@@ -38,7 +38,7 @@ LAYOUTS = {"narrow": NARROW, "wide": WIDE, "paper": PAPER}
 
 
 def take_handles_away() -> None:
-    """Makes legends as no version of matplotlib has them: they give their handles by neither name."""
+    """Removes both handle attributes from legends, as in no version of matplotlib."""
     made = Legend.__init__
 
     def made_without(legend: Legend, *words: object, **more: object) -> None:
@@ -67,7 +67,7 @@ def numbers(values: Sequence[float]) -> list[float]:
 
 
 def axes_facts(axes: Axes) -> dict[str, object]:
-    """What axes show: their ends, their text, and the numbers of lines, bars and dots."""
+    """The contents of axes: their ends, their text, and the numbers of lines, bars and dots."""
     drawn = [line for line in axes.lines if len(line.get_xdata()) > 2]
     bars = {line.get_gid(): numbers(line.get_xdata())[1::2] for line in drawn if line.get_gid()}
     others = [line for line in drawn if not line.get_gid()]
@@ -76,7 +76,7 @@ def axes_facts(axes: Axes) -> dict[str, object]:
 
 
 def facts(picture: Picture, layout: Layout) -> dict[str, object]:
-    """What is in a picture."""
+    """The contents of a picture."""
     figure = picture.draw(layout)
     renderer = FigureCanvasAgg(figure).get_renderer()
     figure.draw(renderer)

@@ -32,7 +32,7 @@ def board_study(place: Place, folder: str, *words: str, table: str = TABLE) -> s
 
 @lru_cache(maxsize=None)
 def facts(place: Place) -> dict[str, Any]:
-    """What is in the pictures of a study, by measure, width and name."""
+    """The contents of a study's pictures, by measure, width and name."""
     Path(place.top, "drawn.csv").write_text(TABLE)
     done = place.run(
         place.python, "figures/board_checks/drawing_facts.py", place.program, "drawn.csv", *SCENARIOS
@@ -58,12 +58,12 @@ def check_whole(place: Place) -> None:
 
 
 def near(got: Sequence[float], wanted: Sequence[float]) -> bool:
-    """Whether numbers are those that are wanted, but for the rounding of floating-point numbers."""
+    """Whether numbers equal the wanted ones, except for floating-point rounding."""
     return len(got) == len(wanted) and all(abs(one - other) < 1e-9 for one, other in zip(got, wanted))
 
 
 def all_near(got: Sequence[Sequence[float]], wanted: Sequence[Sequence[float]]) -> bool:
-    """Whether that holds of several lists."""
+    """Whether `near` holds for each pair of lists."""
     return len(got) == len(wanted) and all(near(one, other) for one, other in zip(got, wanted))
 
 
@@ -75,7 +75,7 @@ BASE: dict[str, Sequence[Sequence[float]]] = {
     "prevent": ([40 / 92, 40 / 92, 12 / 92], [1 / 2] * 3, [1] * 3),
     "initiate": ([40 / 92, 40 / 92, 12 / 92], [1 / 2] * 3, [1 / 7] * 3),
 }
-# With EEE's 8 in a chair of its own 100 votes are cast. At half chair 4 is never needed, and the others stay as they
+# With EEE's 8 in a separate chair 100 votes are cast. At half chair 4 is never needed, and the others stay as they
 # were; at 85 {1,2,3}, {1,2,4} and {1,2,3,4} win: 3, 3, 1 and 1 swings, of 8 sets of others, 3 winning and 13 losing.
 ADDED: dict[str, Sequence[Sequence[float]]] = {
     "share": ([-100 * 40 * 8 / 9200] * 2 + [-100 * 12 * 8 / 9200], [0] * 3, [37.5 - 100 / 3] * 2 + [12.5 - 100 / 3]),
@@ -95,7 +95,7 @@ def series_bars(axes: dict[str, Any]) -> list[list[float]]:
 
 
 def check_values(place: Place) -> None:
-    """Each measure is drawn with its own numbers, reckoned by hand, in its own unit, which the axis says."""
+    """Each measure is drawn with its own numbers, computed by hand, in its own unit, which the axis names."""
     for measure, layouts in facts(place).items():
         base, scenario = layouts["wide"]["base"]["axes"][0], layouts["wide"]["scenario-1"]["axes"]
         drawn = [base["bars"]["bars-share-of-votes"], *base["dots"]]
@@ -113,7 +113,7 @@ def check_values(place: Place) -> None:
 
 
 def check_new_chair(place: Place) -> None:
-    """A chair that the base hasn't is in the picture of its scenario, also where no chair of the base is open."""
+    """A chair that the base lacks is in the picture of its scenario, even if no chair of the base is open."""
     for number, open_chairs in [(1, 2), (2, 1), (3, 1)]:
         picture = facts(place)["share"]["narrow"][f"scenario-{number}"]
         expect(len(picture["axes"]) == open_chairs, f"scenario {number}: {len(picture['axes'])} axes")
@@ -134,7 +134,7 @@ def check_sweep(place: Place) -> None:
             spread = max(values) - min(values)
             expect(low < min(values) and max(values) < high, f"{measure}: {values} on an axis from {low} to {high}")
             expect(spread == 0 or high - low < 1.3 * spread, f"{measure}: {values} on an axis from {low} to {high}")
-    # AAA with 15, 20, 26, 32 and 40 votes beside 40 and 12: up to 26 chair 2 wins alone; from 32 on any two chairs win.
+    # AAA with 15, 20, 26, 32 and 40 votes, with 40 and 12: up to 26 chair 2 wins alone; from 32 on any two chairs win.
     expect(near(facts(place)["prevent"]["wide"]["sweep-1"]["axes"][0]["lines"][0], [0, 0, 0, 0.5, 0.5]), "the line")
 
 
@@ -165,7 +165,7 @@ def greys(colour: str) -> float:
 
 
 def check_stripes(place: Place) -> None:
-    """Bars can be told apart without colours: by stripes, each series its own, or by being much lighter."""
+    """Bars can be distinguished without colours: each series has its own stripes, or is much lighter."""
     with place.folder() as folder:
         expect_good(board_study(place, folder, "--scenario", "more: votes,AAA,+30%"))
         wide = pictures_of(Page(Path(folder, "it.html").read_text()))[-1]
@@ -206,7 +206,7 @@ def check_pdf(data: bytes) -> None:
 
 
 def check_files(place: Place) -> None:
-    """Each chart of the page is there as SVG and PDF, the same in a second run, with its title in it or not."""
+    """Each chart of the page is written as SVG and PDF, identical in a second run, with or without its title."""
     words = ["--scenario", "more: votes,AAA,+30%", "--sweep", "AAA 20..40 by 5 %", "--at", "half,85"]
     names = ["base", "scenario-1", "sweep-1", "sweep-1-others-85", "sweep-1-others-half"]
     with place.folder() as folder:
@@ -225,7 +225,7 @@ def check_files(place: Place) -> None:
 
 
 def check_figures_files(place: Place) -> None:
-    """board_figures writes the chart of each reading, and refuses to be asked for charts and for none."""
+    """board_figures writes the chart of each reading, and refuses a request for charts and for no charts together."""
     good = place.board((TOP / "examples" / "three-chairs.csv").read_bytes())
     with place.folder() as folder:
         expect_good(place.script("board_figures", f"{folder}/it", "--figures", folder, given=good))
@@ -238,7 +238,7 @@ def check_figures_files(place: Place) -> None:
 
 
 def check_refused_files(place: Place) -> None:
-    """A folder that isn't there is refused before anything runs; another file stays, and then nothing is written."""
+    """A missing folder is refused before anything runs; a foreign file is kept, and then nothing is written."""
     with place.folder() as folder:
         done = board_study(place, folder, "--figures", f"{folder}/none", "--board", "/bin/false")
         expect_refused(done, "board_study", f"--figures: there is no folder {folder}/none", folder)
@@ -251,7 +251,7 @@ def check_refused_files(place: Place) -> None:
 
 
 def check_earlier_files(place: Place) -> None:
-    """A figure of an earlier run that this one doesn't write is named, and stays; other files aren't named."""
+    """A figure left over from an earlier run is named and kept; other files aren't named."""
     with place.folder() as folder:
         expect_good(board_study(place, folder, "--scenario", "more: votes,AAA,+30%", "--figures", folder))
         Path(folder, "it-notes.svg").write_text("<svg/>")
@@ -287,7 +287,7 @@ def check_letters(place: Place) -> None:
 
 
 def cases(place: Place) -> list[Case]:
-    """Each case by a name."""
+    """The cases by name."""
     checks = {
         "texts are whole": check_whole,
         "numbers and units of each measure": check_values,

@@ -21,7 +21,7 @@ move,AAA,2
 move,BBB,1
 publish
 """
-# Tables that become the same input: the words beside the table, and its text.
+# Tables that become the same input: the arguments after the table, and its text.
 GOOD: dict[str, tuple[list[str], str]] = {
     "plain": ([], HEAD + "AAA,40000,2\nBBB,25000,1\nCCC,8000,\n"),
     "commas between thousands": ([], HEAD + 'AAA,"40,000",2\nBBB,"25,000",1\nCCC,"8,000",\n'),
@@ -48,7 +48,7 @@ GOOD: dict[str, tuple[list[str], str]] = {
         '"Votes\nof 2026"\n' + HEAD + "AAA,40000,2\nBBB,25000,1\nCCC,8000,\n",
     ),
 }
-# Bad tables, and the problems that are named, each with its line.
+# Bad tables, and the problems that are reported, each with its line.
 BAD = {
     "nothing": ("", ["there is nothing in the table"]),
     "a header alone": (HEAD, ["there is no member in the table"]),
@@ -84,7 +84,7 @@ BAD = {
         ["line 3: chair 1 is named 'Hill' here and 'Hills' above", "line 4: a chair's name, 'Hills', and no chair"],
     ),
 }
-# The chair stands in the first row of its members alone: in two of three groups a blank chair follows.
+# The chair is in the first row of its members only: in two of three groups a blank chair follows.
 MERGED = "code,name,votes,chair,chair_name\nAAA,Alland,40,1,\nBBB,Belland,25,2,Hills\nCCC,Celland,15,,\n"
 MERGED += "DDD,Delland,12,3,Plains\nEEE,Elland,8,,\n"
 BLANK = "merged cells? 2 rows have a blank chair under a filled one (lines"
@@ -110,7 +110,7 @@ FUND_WORDS = ["--header-row", "4", "--name", "member", "--chair", "director", "-
 FUND_WORDS += ["--leave-out-total", "--total", "103,000"]
 FUND_CODES = "NOL Nölland; ALL Alland; BEL Belland, Republic of; BEA Bellany; DEL Delland; COT Côte d\u2019Elland; "
 FUND_CODES += "ALA Alland"
-# Tables that are read: the words, the bytes, the members and moves of the input, and what is said of them.
+# Tables that are read: the arguments, the bytes, the members and moves of the input, and the messages.
 READ: dict[str, tuple[list[str], bytes, str, list[str]]] = {
     "merged cells, filled down": (
         ["--fill-down"],
@@ -224,7 +224,7 @@ READ["256 members and a total"] = (
     ],
 )
 NO_WORDS: list[str] = []
-# Bad tables with words of the script, or of other bytes than UTF-8, and the problems that are named.
+# Bad tables with arguments of the script, or with bytes that aren't UTF-8, and the problems that are reported.
 BAD_WITH_WORDS: dict[str, tuple[list[str], bytes, list[str]]] = {
     "letters of two bytes": ([], (HEAD + "AAA,1,1\n").encode("utf-16"), ["line 1: two bytes for each letter"]),
     "a letter that isn't UTF-8": (
@@ -372,7 +372,7 @@ def check_good(place: Place, words: list[str], table: str) -> None:
 
 
 def check_read(place: Place, words: list[str], table: bytes, records: str, sentences: list[str]) -> None:
-    """A table becomes members and moves, and standard error has the sentences, each on a line, and no more."""
+    """A table becomes members and moves, and standard error has the sentences, one per line, and no others."""
     done = place.script("board_input", "-", *words, given=table)
     expect_good(done)
     skipped = ["member,votes", "script", "publish"]
@@ -382,7 +382,7 @@ def check_read(place: Place, words: list[str], table: bytes, records: str, sente
 
 
 def check_bad(place: Place, words: list[str], table: bytes, problems: list[str]) -> None:
-    """A table is refused; each problem is named, in order, and no other one."""
+    """A table is refused; each problem is reported, in order, and no other one."""
     with place.folder() as folder:
         names = ["--member-names", f"{folder}/members.csv", "--chair-names", f"{folder}/chairs.csv"]
         done = place.script("board_input", "-", *words, *names, given=table)
@@ -393,7 +393,7 @@ def check_bad(place: Place, words: list[str], table: bytes, problems: list[str])
 
 
 def check_names(place: Place) -> None:
-    """Names are kept: the table's, and for a chair without one its member with the most votes. Other files stay."""
+    """Names are kept: the table's, and for a chair without one its member with the most votes. Other files are kept."""
     table = (
         'code,name,votes,chair,chair_name\nAAA,Alland,5,1,Hills\nBBB,Belland,7,2,\nCCC,"C, D",9,2,\nDDD,Delland,1,,\n'
     )
@@ -415,7 +415,7 @@ READ_EXAMPLE = "190 members, 5,496,435 votes; 24 chairs; 1 member in no chair: X
 
 
 def merged_example() -> str:
-    """The example with merged cells: the member in no chair, then the others, each chair in its first row alone."""
+    """The example with merged cells: the member in no chair, then the others, each chair in its first row only."""
     with open(EXAMPLE, newline="") as file:
         header, *rows = csv.reader(file)
     rows.sort(key=lambda row: int(row[3] or 0))
@@ -439,7 +439,7 @@ def check_silent_faults(place: Place) -> None:
     """Merged cells and a total below the example stop both scripts, before anything is written."""
     total = EXAMPLE.read_text() + "TOT,Total,5496435,,\n"
     asked = "line 192: a total? This row (TOT, 5496435 votes) equals the sum of the others"
-    # 189 members sit in 24 chairs. Below the header and the member in no chair stand six chairs of one member each.
+    # 189 members sit in 24 chairs. Below the header and the member in no chair are six chairs of one member each.
     blank = "line 10: merged cells? 165 rows have a blank chair under a filled one (lines 10-"
     for table, message in [(merged_example(), blank), (total, asked)]:
         with place.folder() as folder:
@@ -449,7 +449,7 @@ def check_silent_faults(place: Place) -> None:
 
 
 def check_study(place: Place) -> None:
-    """board_study takes the same words, and says the same."""
+    """board_study takes the same arguments, and prints the same messages."""
     words, table, _, sentences = READ["the Fund's layout"]
     with place.folder() as folder:
         done = place.script("board_study", "-", *words, "--at", "half", f"{folder}/it", given=table)
@@ -460,7 +460,7 @@ def check_study(place: Place) -> None:
 
 
 def check_many(place: Place) -> None:
-    """Of more than twelve members in no chair twelve are named."""
+    """Of more than twelve members in no chair, twelve are named."""
     rows = "".join(f"AA{chr(65 + k)},1,{1 if k > 13 else ''}\n" for k in range(16))
     done = place.script("board_input", "-", given=(HEAD + rows).encode())
     named = ", ".join(f"AA{chr(65 + k)} (1 vote)" for k in range(12))
@@ -473,7 +473,7 @@ OUTPUT += b"open,2\npublish\nread,1,85\n"
 
 
 def check_figures(place: Place) -> None:
-    """board_figures says how many readings it read, of how many readers, at which majorities and of how many chairs."""
+    """board_figures reports the numbers of readings, of readers and of chairs, and the majorities."""
     with place.folder() as folder:
         output = place.run(place.program, "replay", "--readers", "2", given=OUTPUT).stdout
         done = place.script("board_figures", f"{folder}/it", "--no-charts", given=output)
@@ -493,7 +493,7 @@ runpy.run_path(sys.argv[0], run_name="__main__")
 
 
 def check_help(place: Place) -> None:
-    """Each script gives its help to a Python without libraries; those that need some name them for other words."""
+    """Each script prints its help without libraries; those that need libraries name them for other arguments."""
     made = place.run(place.python, "-m", "venv", "--without-pip", str(place.top / "bare"))
     expect(made.returncode == 0, f"no environment without libraries: {made.stderr.decode()}")
     alone = [str(place.top / "bare" / "bin" / "python"), "-c", ALONE]
@@ -526,7 +526,7 @@ WRONG: list[list[str]] = [
 
 
 def check_words(place: Place) -> None:
-    """Wrong words are status 2; the help is there; a file that isn't there is named."""
+    """Wrong arguments end with status 2; the help is printed; a missing file is named."""
     for wrong in WRONG:
         expect(place.script("board_input", *wrong).returncode == 2, f"{wrong}: not status 2")
     expect(b"For example:" in place.script("board_input", "--help").stdout, "no help")
@@ -535,7 +535,7 @@ def check_words(place: Place) -> None:
 
 
 def cases(place: Place) -> list[Case]:
-    """Each case by a name."""
+    """The cases by name."""
     bad = {name: (NO_WORDS, table.encode(), problems) for name, (table, problems) in BAD.items()} | BAD_WITH_WORDS
     return [
         *((f"board_input: {name}", partial(check_good, place, *case)) for name, case in GOOD.items()),

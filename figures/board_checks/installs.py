@@ -1,4 +1,4 @@
-"""tools/install: what it does where packages are there, and where it can't install them."""
+"""Checks of tools/install: with all packages installed, and when it can't install them."""
 from __future__ import annotations
 
 from pathlib import Path
@@ -7,7 +7,7 @@ from .place import TOP, Case, Place, expect
 
 
 def pretended(place: Place, **programs: str) -> tuple[int, str]:
-    """Runs the script among programs that pretend, each a line of shell."""
+    """Runs the script with stub programs, each a line of shell."""
     with place.folder() as folder:
         for name, line in programs.items():
             Path(folder, name.replace("_", "-")).write_text(f"#!/bin/bash\n{line}\n")
@@ -18,7 +18,7 @@ def pretended(place: Place, **programs: str) -> tuple[int, str]:
 
 
 def check_install(place: Place) -> None:
-    """Nothing is done where all is there; else one line says what was installed, or why it can't be."""
+    """Nothing is done if all is installed; else one line says what was installed, or why it can't be."""
     there, missing = "echo -n install ok installed", "[[ $4 != chromium ]] && echo -n install ok installed"
     silent = {"timeout": 'shift; exec "$@"', "apt_get": "true", "id": "echo 0"}
     expect(pretended(place, dpkg_query=there) == (0, ""), "something is done where all is there")

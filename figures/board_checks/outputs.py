@@ -12,7 +12,7 @@ from .page_files import check_frame
 from .place import TOP, Case, Place, expect, expect_good, expect_refused, has, rows_in, rows_of
 
 FRACTIONS = ["banzhaf", "power_share", "prevent", "initiate"]
-# Of which outputs the page is made, too: that takes longer than the table.
+# The outputs for which the page is made too: that takes longer than the table.
 PAGES = [
     "three-chairs",
     "twenty-four-chairs",
@@ -24,7 +24,7 @@ PAGES = [
 
 
 def made(place: Place, output: bytes, *words: str, times: int = 1) -> dict[str, str]:
-    """The texts of the files that the script makes of an output, by their endings; each time it makes the same."""
+    """The texts of the files that the script makes of an output, by their endings; each run makes the same."""
     with place.folder() as folder:
         texts = []
         for _ in range(times):
@@ -71,7 +71,7 @@ def check_table(text: str, output: bytes) -> None:
 
 
 def check_page(text: str, output: bytes) -> None:
-    """Looks at the page: section, chart and table of each reading, and exact numbers in cells of their own."""
+    """Checks the page: section, chart and table of each reading, and exact numbers in separate cells."""
     lines = [line.split(",") for line in output.decode().splitlines()]
     readings = [line for line in lines if line[0] == "reading"]
     page = check_frame(text, {line[3] for line in readings})
@@ -89,7 +89,7 @@ def check_page(text: str, output: bytes) -> None:
 
 
 def check_output(place: Place, name: str, output: bytes) -> None:
-    """Makes the table of an output, and of some the page, and looks at both."""
+    """Makes and checks the table of an output, and for some outputs the page."""
     with_page = any(it in name for it in PAGES)
     texts = made(place, output, times=2) if with_page else made(place, output, "--no-charts")
     expect(list(texts) == (["it.html"] if with_page else []) + ["it.readings.csv"], f"files: {list(texts)}")
@@ -131,7 +131,7 @@ CHANGES = [
 
 
 def bad_inputs(place: Place) -> list[tuple[str, bytes, str]]:
-    """Inputs that are no whole output of `board replay`, and how the message must begin."""
+    """Inputs that are no complete output of `board replay`, and the beginning of the message."""
     source = (TOP / "examples" / "three-chairs.csv").read_bytes()
     good = place.board(source)
     trace = place.run(place.program, "trace", given=(TOP / "examples" / "reader-in-the-way.csv").read_bytes()).stdout
@@ -160,7 +160,7 @@ def bad_inputs(place: Place) -> list[tuple[str, bytes, str]]:
 
 
 def check_bad_input(place: Place, given: bytes, message: str) -> None:
-    """The script answers with one message and status 1, and leaves no file."""
+    """The script ends with one message and status 1, and leaves no file."""
     with place.folder() as folder:
         done = place.script("board_figures", f"{folder}/it", given=given)
         expect_refused(done, "board_figures", message, folder)
@@ -193,7 +193,7 @@ def check_stale(place: Place) -> None:
 
 
 def check_interpreter(place: Place) -> None:
-    """A Python without the libraries hands over to the system's, or is named."""
+    """Without the libraries, the script runs with the system's Python, or names the Python that lacks them."""
     lone = Path(place.top, "lone")
     venv = subprocess.run([place.python, "-m", "venv", "--without-pip", str(lone)], capture_output=True, text=True)
     expect(venv.returncode == 0, f"no environment without libraries: {venv.stderr}")
@@ -216,7 +216,7 @@ def check_interpreter(place: Place) -> None:
 
 
 def check_other_files(place: Place, good: bytes) -> None:
-    """A file that isn't the script's stays, and then its fellow isn't written either."""
+    """A file that the script didn't write is kept, and then the other file isn't written either."""
     for name in ["it.readings.csv", "it.html"]:
         with place.folder() as folder:
             Path(folder, name).write_text("member,votes\n")
@@ -227,7 +227,7 @@ def check_other_files(place: Place, good: bytes) -> None:
 
 
 def check_no_room(place: Place, good: bytes) -> None:
-    """Where the second file can't be put, the first isn't either; nor in a folder that isn't there."""
+    """If the second file can't be written, neither is the first; nor is any in a missing folder."""
     with place.folder() as folder:
         Path(folder, "it.html").mkdir()
         done = place.script("board_figures", f"{folder}/it", given=good)
@@ -238,7 +238,7 @@ def check_no_room(place: Place, good: bytes) -> None:
 
 
 def check_words(place: Place, good: bytes) -> None:
-    """Wrong words are status 2; the help is there; an output may come from a file; a title is a text, not HTML."""
+    """Wrong arguments end with status 2; the help is printed; a file can be the output; a title is text, not HTML."""
     for wrong in [[], ["it.csv"], ["it.html"], ["it", "more"], ["--colour", "it"], [""]]:
         expect(place.script("board_figures", *wrong, given=good).returncode == 2, f"{wrong}: not status 2")
     shown = place.script("board_figures", "--help")
@@ -255,7 +255,7 @@ def check_words(place: Place, good: bytes) -> None:
 
 
 def check_names(place: Place, good: bytes) -> None:
-    """Chairs' names come into table and page from a table of names; a bad one is refused with its line."""
+    """Chairs' names from a table of names appear in table and page; a bad name is refused with its line."""
     with place.folder() as folder:
         Path(folder, "names.csv").write_text("chair,name\n1,Harbours & Hills\n3,Plains\n")
         done = place.script("board_figures", f"{folder}/it", "--chair-names", f"{folder}/names.csv", given=good)
@@ -273,7 +273,7 @@ def check_names(place: Place, good: bytes) -> None:
 
 
 def cases(place: Place) -> list[Case]:
-    """Each case by a name."""
+    """The cases by name."""
     found: list[Case] = []
     for name, output in good_outputs(place).items():
         found.append((name, lambda it=(name, output): check_output(place, *it)))

@@ -1,4 +1,4 @@
-"""What every page must be: whole, in need of nothing from elsewhere, and readable without its pictures."""
+"""Checks of every page: it is complete, self-contained, and readable without its pictures."""
 from __future__ import annotations
 
 import base64
@@ -18,7 +18,7 @@ ARTICLES = {
 
 
 class Page(HTMLParser):
-    """Looks at a page: its elements are closed; keeps their attributes, and the cells of its tables."""
+    """Parses a page: checks that its elements are closed; keeps their attributes, and the cells of its tables."""
 
     EMPTY = {"meta", "img", "source", "br"}
 
@@ -71,7 +71,7 @@ def pictures_of(page: Page) -> list[str]:
 
 
 def check_frame(text: str, majorities: set[str]) -> Page:
-    """Looks at what all pages share: language, title, headers, sources, and that nothing comes from elsewhere."""
+    """Checks what all pages share: language, title, headers, sources, and that nothing is loaded from elsewhere."""
     page = Page(text)
     expect(page.all("html") == [{"lang": "en"}], "the page doesn't say its language")
     expect(len(page.all("title")) == 1 and len(page.all("h1")) == 1, "a page has one title and one h1")

@@ -19,17 +19,17 @@ Done = subprocess.CompletedProcess[bytes]
 
 
 class Failed(Exception):
-    """What is wrong, for people."""
+    """The reason of a failed check, for people."""
 
 
 def expect(holds: bool, what: str) -> None:
-    """Fails with a sentence where something doesn't hold."""
+    """Fails with a sentence if a condition doesn't hold."""
     if not holds:
         raise Failed(what)
 
 
 def expect_text(got: str, wanted: str) -> None:
-    """Fails where a text isn't as it must be, and shows both."""
+    """Fails if a text differs from the wanted one, and shows both."""
     expect(got == wanted, f"what came:\n{got}\nand what must come:\n{wanted}")
 
 
@@ -42,7 +42,7 @@ def program_path() -> str:
 
 
 def has(python: str, *libraries: str) -> bool:
-    """Whether a Python is there and has the libraries."""
+    """Whether a Python exists and has the libraries."""
     look = "import importlib.util, sys; sys.exit(not all(map(importlib.util.find_spec, sys.argv[1:])))"
     return Path(python).exists() and subprocess.run([python, "-c", look, *libraries]).returncode == 0
 
@@ -77,7 +77,7 @@ class Place:
         return subprocess.run(words, input=given, capture_output=True, timeout=SECONDS, cwd=self.top, env=around)
 
     def board(self, given: bytes) -> bytes:
-        """What `board replay` prints of an input."""
+        """The output of `board replay` for an input."""
         return self.run(self.program, "replay", given=given).stdout
 
     def script(self, name: str, *words: str, given: bytes = b"") -> Done:
@@ -86,18 +86,18 @@ class Place:
 
     @contextmanager
     def folder(self) -> Iterator[str]:
-        """A new folder, which goes at the end."""
+        """A new folder, removed at the end."""
         with tempfile.TemporaryDirectory(dir=self.top) as folder:
             yield folder
 
 
 def expect_good(done: Done) -> None:
-    """Fails where a script didn't end well."""
+    """Fails if a script ended with an error."""
     expect(done.returncode == 0, f"status {done.returncode}: {done.stderr.decode()}")
 
 
 def expect_refused(done: Done, script: str, message: str, folder: str) -> None:
-    """Fails where a script didn't answer with a message, below what it read, and status 1, or left a file."""
+    """Fails unless a script ended with a message, after the lines on what it read, and status 1, and left no file."""
     said = done.stderr.decode()
     expect(done.returncode == 1 and not done.stdout, f"status {done.returncode}: {said}")
     expect(f"\n{script}: {message}" in f"\n{said}", f"standard error: {said}")
@@ -106,7 +106,7 @@ def expect_refused(done: Done, script: str, message: str, folder: str) -> None:
 
 
 def rows_in(text: str) -> list[dict[str, str]]:
-    """The rows of a table, behind the comments that say where it comes from."""
+    """The rows of a table, after its provenance comments."""
     return list(csv.DictReader(line for line in io.StringIO(text, newline="") if not line.startswith("# ")))
 
 

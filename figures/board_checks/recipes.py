@@ -29,7 +29,7 @@ def check_recipe(place: Place, language: str, code: str, wanted: str) -> None:
     expect_text(done.stdout.decode(), wanted)
 
 
-# What stands before a line of each table, and behind it.
+# The input before a line of each table, and after it.
 AROUND = {
     "The first record": ("", "\nAAA,10\nscript\nopen,1\n"),
     "A member's record": ("member,votes\nAAA,10\n", "\nscript\nopen,1\n"),
@@ -40,7 +40,7 @@ SPANS = re.compile("`([^`]*)`")
 
 
 def refused_lines() -> list[tuple[str, str, str]]:
-    """The rows of the tables of docs/FORMATS.md: the table's heading, the records as written, and what comes."""
+    """The rows of the tables of docs/FORMATS.md: the table's heading, the records as written, and the result."""
     found, heading = [], ""
     for line in (TOP / "docs" / "FORMATS.md").read_text().splitlines():
         if line.startswith("#"):
@@ -52,7 +52,7 @@ def refused_lines() -> list[tuple[str, str, str]]:
 
 
 def check_refused(place: Place, heading: str, records: str, comes: str) -> None:
-    """Runs an input with a line of a table, and looks at the last line that comes."""
+    """Runs an input with a line of a table, and checks the last line of the output."""
     before, after = AROUND[heading]
     given = before.encode() + records.encode().decode("unicode_escape").encode("latin-1") + after.encode()
     expect_text(place.board(given).decode().splitlines()[-1], comes)

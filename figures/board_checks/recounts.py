@@ -7,7 +7,7 @@ from .place import TOP, Case, Place, expect, expect_good
 
 
 def check_drawn(place: Place, seed: int, chairs: int) -> None:
-    """A drawn board is counted anew at four majorities, and all numbers agree."""
+    """A drawn board is recounted at four majorities, and all numbers agree."""
     drawn = place.script("board_recount", "--draw", str(seed), "--chairs", str(chairs))
     expect_good(drawn)
     output = place.board(drawn.stdout)
@@ -47,7 +47,7 @@ def check_changed(place: Place) -> None:
 
 
 def cases(place: Place) -> list[Case]:
-    """Each case by a name."""
+    """The cases by name."""
     return [
         ("board_recount: a drawn board of 24 chairs", lambda: check_drawn(place, 1, 24)),
         ("board_recount: a drawn board of 7 chairs", lambda: check_drawn(place, 2, 7)),

@@ -1,4 +1,4 @@
-"""figures/board_study: its table against runs of the program by hand, its page, and studies that go wrong."""
+"""Checks of figures/board_study: its table against runs of the program by hand, its page, and failing studies."""
 from __future__ import annotations
 
 import subprocess
@@ -14,7 +14,7 @@ TABLE += "DDD,Delland,12,3,Plains\nEEE,Elland,8,,\n"
 BASE = "member,votes\nAAA,40\nBBB,25\nCCC,15\nDDD,12\nEEE,8\nscript\nopen,1\nopen,2\nopen,3\n"
 BASE += "move,AAA,1\nmove,BBB,2\nmove,CCC,2\nmove,DDD,3\n"
 AT = ["half", "70", "85", "quorum"]
-# Each scenario as a word of the script, its label, and its commands with the votes reckoned by hand.
+# Each scenario as an argument of the script, its label, and its commands with the votes computed by hand.
 SCENARIOS = [
     ("AAA +30%: votes,AAA,+30%", "AAA +30%", ["votes,AAA,52"]),
     ("less: votes, AAA, -12.5%", "less", ["votes,AAA,35"]),
@@ -37,7 +37,7 @@ def study(place: Place, folder: str, *words: str, table: str = TABLE) -> subproc
 
 
 def all_words() -> list[str]:
-    """The words of the study that is looked at."""
+    """The arguments of the checked study."""
     return ["--sweep", SWEEP, *(word for text, _, _ in SCENARIOS for word in ["--scenario", text])]
 
 
@@ -120,7 +120,7 @@ def check_good(place: Place) -> None:
 
 
 SPELL = "say 40% of total for a share of the total voting power, or +40% for a change of the member's own votes"
-# What goes wrong, the words, and how the message begins.
+# Each failure, its arguments, and the beginning of its message.
 BAD = [
     (
         "a refused command",
@@ -191,7 +191,7 @@ BAD = [
 
 
 def check_bad(place: Place, words: list[str], message: str) -> None:
-    """A study that goes wrong says so, and writes nothing."""
+    """A failing study reports the problem, and writes nothing."""
     with place.folder() as folder:
         expect_refused(study(place, folder, *words), "board_study", message, folder)
 
@@ -209,7 +209,7 @@ def check_bad_table(place: Place) -> None:
 
 
 def check_progress(place: Place) -> None:
-    """Where the program is slow, standard error says how many readings there are."""
+    """If the program is slow, standard error reports the number of readings."""
     slow = Path(place.top, "slow")
     lines = "while read -r line; do case $line in reading*) sleep 0.6 ;; esac; echo \"$line\"; done"
     slow.write_text(f'#!/bin/sh\n"{place.program}" "$@" | {lines}\n')
@@ -222,7 +222,7 @@ def check_progress(place: Place) -> None:
 
 
 def check_words(place: Place) -> None:
-    """Wrong words are status 2; the help has an example."""
+    """Wrong arguments end with status 2; the help has an example."""
     words: list[list[str]] = [[], ["members.csv"], ["members.csv", "it.csv"], ["members.csv", "it", "--at", "50"]]
     for wrong in [*words, ["members.csv", "it", "--measure", "power"]]:
         expect(place.script("board_study", *wrong).returncode == 2, f"{wrong}: not status 2")
@@ -230,7 +230,7 @@ def check_words(place: Place) -> None:
 
 
 def cases(place: Place) -> list[Case]:
-    """Each case by a name."""
+    """The cases by name."""
     found: list[Case] = [("board_study: table and page", lambda: check_good(place))]
     for name, words, message in BAD:
         found.append((f"board_study, what goes wrong: {name}", partial(check_bad, place, words, message)))

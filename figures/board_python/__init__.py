@@ -1,1 +1,1 @@
-"""What stands beside `board`, over Debian's Python: inputs, studies, tables, charts and pages."""
+"""Tools around `board`, for Debian's Python: inputs, studies, tables, charts and pages."""

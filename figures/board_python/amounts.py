@@ -19,13 +19,13 @@ GROUP = re.compile(rf"{CODE}(?:\+{CODE})+|{CHAIR.pattern}")
 
 @dataclass(frozen=True)
 class Percent:
-    """Votes in per cent: with a sign a change of the votes that are there, without one a share of the total."""
+    """Votes in per cent: with a sign, a change of the present votes; without one, a share of the total."""
 
     sign: str
     number: Fraction
 
     def votes(self, standing: Standing, codes: Sequence[str]) -> Fraction:
-        """The votes that some members come to together, exactly."""
+        """The exact votes of some members together."""
         own = standing.votes_of(codes)
         if self.sign:
             return own * (1 + (self.number if self.sign == "+" else -self.number) / 100)
@@ -39,7 +39,7 @@ class Percent:
 
 
 def percent_of(text: str) -> Percent | None:
-    """What an amount in per cent means, or None for another amount. One without a meaning of its own is refused."""
+    """The meaning of an amount in per cent, or None for another amount. An ambiguous one is refused."""
     found = PERCENT.fullmatch(text)
     if not found:
         return None
@@ -53,7 +53,7 @@ def percent_of(text: str) -> Percent | None:
 
 
 def codes_of(standing: Standing, who: str) -> list[str]:
-    """The members that a code, several codes joined by +, or a chair names: of a chair those whose votes count."""
+    """The members that a code, several codes joined by +, or a chair names; for a chair, those whose votes count."""
     found = CHAIR.fullmatch(who)
     if found:
         chair, places = int(found[1]), standing.places.items()
@@ -73,8 +73,8 @@ def codes_of(standing: Standing, who: str) -> list[str]:
 def shared_out(votes: int, weights: dict[str, int]) -> dict[str, int]:
     """Whole votes for members in the proportions of their weights.
 
-    Each part is rounded down or up; as many are rounded up, those with the greatest remainders, as are needed for the
-    parts to add up to the votes. Of equal remainders the earlier one goes first.
+    Each part is rounded down or up: the parts with the greatest remainders are rounded up until all parts add up to the
+    votes. Of equal remainders, the earlier one is rounded up first.
     """
     whole = sum(weights.values())
     exact = {code: Fraction(votes * weight, whole) for code, weight in weights.items()}

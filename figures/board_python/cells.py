@@ -12,12 +12,12 @@ CHAIRS = range(1, 33)
 BLANKS = " \u00a0\u2009\u202f"
 APOSTROPHES = "'\u2019"
 CODE = re.compile("[A-Za-z]{3}")
-# What pandas and R write behind whole numbers of a column with a gap. Three zeros could be thousands.
+# What pandas and R write after whole numbers of a column with a gap. Three zeros could be thousands.
 ZEROS = re.compile(r"\.00?\Z")
 
 
 def number_of(text: str, marks: str) -> int:
-    """A whole number; one of the marks may stand between its thousands, the same one each time, and .0 behind it."""
+    """A whole number; one of the marks may be between its thousands, the same one each time, and .0 after it."""
     mark = f"([{re.escape(marks)}])"
     whole = ZEROS.sub("", text)
     found = re.fullmatch(rf"[0-9]{{1,20}}|[0-9]{{1,3}}{mark}[0-9]{{3}}(\1[0-9]{{3}})*", whole)
@@ -59,7 +59,7 @@ def is_name(text: str) -> bool:
 def made_codes(names: Iterable[str]) -> list[str]:
     """Codes of three capitals made from names, each once: a name's first two letters and one of its others.
 
-    Where all of these are taken comes any third letter, then any code. board.html makes the same codes.
+    If all of these are used, any third letter follows, then any code. board.html makes the same codes.
     """
     codes: dict[str, None] = {}
     for name in names:

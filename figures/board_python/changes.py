@@ -1,4 +1,4 @@
-"""What a command changes, in words: who, the old and the new, and what was asked for."""
+"""Changes by a command, in words: the member, the old and the new value, and the command as requested."""
 from __future__ import annotations
 
 from collections.abc import Mapping, Sequence
@@ -17,7 +17,7 @@ def chair_words(chair: int | None) -> str:
 
 
 def asked_words(command: str, taken: Sequence[str]) -> str:
-    """What was asked for, in brackets, where the program was given other words."""
+    """The request in brackets, if the program was given other commands."""
     if [command] == list(taken):
         return ""
     _, who, amount = command.split(",")
@@ -25,7 +25,7 @@ def asked_words(command: str, taken: Sequence[str]) -> str:
 
 
 def member_words(standing: Standing, word: str, code: str, value: str) -> str:
-    """What a command does with a member, behind its name."""
+    """The effect of a command on a member, for the text after its name."""
     place = standing.places.get(code, Place(0))
     if word == "votes":
         return f": {place.votes:,} → {votes_words(int(value))}"
@@ -38,7 +38,7 @@ def member_words(standing: Standing, word: str, code: str, value: str) -> str:
 
 
 def change_words(standing: Standing, command: str, taken: Sequence[str], names: Mapping[str, str]) -> list[str]:
-    """What commands change, one by one, that the program takes for a command on a register."""
+    """The changes by a command on a register, one for each of the commands that the program is given for it."""
     asked, said = asked_words(command, taken), []
     for one in taken:
         word, name, value = [*one.split(","), ""][:3]

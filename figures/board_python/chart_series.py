@@ -1,4 +1,4 @@
-"""What charts draw, made of readings: floating-point numbers in the unit of a measure, for drawing alone."""
+"""The data of charts, made from readings: floating-point numbers in the unit of a measure, for drawing only."""
 from __future__ import annotations
 
 import math
@@ -12,27 +12,27 @@ from .rounding import difference, exact
 
 
 def scale_of(measure: Measure) -> int:
-    """By what a fraction is multiplied to be drawn: a share is drawn in per cent, another measure from 0 to 1."""
+    """The factor of a fraction for drawing: a share is drawn in per cent, another measure from 0 to 1."""
     return 100 if measure.word == "share" else 1
 
 
 def unit_of(measure: Measure) -> str:
-    """The unit of what is drawn."""
+    """The unit of drawn values."""
     return "per cent" if measure.word == "share" else "fractions from 0 to 1"
 
 
 def added_unit(measure: Measure) -> str:
-    """The unit of what is added to the base."""
+    """The unit of gains over the base."""
     return "percentage points added to the base" if measure.word == "share" else "added to the base, fractions of 1"
 
 
 def number_drawn(number: Fraction | None, measure: Measure) -> float:
-    """A number as it is drawn beside a measure; nan where it is missing."""
+    """A number as it is drawn next to a measure; nan if it is missing."""
     return math.nan if number is None else float(scale_of(measure) * number)
 
 
 def ratio_drawn(ratio: Ratio | None, measure: Measure) -> float:
-    """A fraction as it is drawn beside a measure; nan where it is missing."""
+    """A fraction as it is drawn next to a measure; nan if it is missing."""
     return number_drawn(None if ratio is None else exact(ratio), measure)
 
 
@@ -52,7 +52,7 @@ def power_series(majority: str, measure: Measure, values: Sequence[float]) -> Se
 
 
 def vote_shares(reading: Reading, order: Sequence[int], measure: Measure) -> Series:
-    """The shares of votes of the chairs in an order, in the unit of a measure; 0 where no votes are cast."""
+    """The shares of votes of the chairs in an order, in the unit of a measure; 0 if no votes are cast."""
     chairs = {chair.chair: chair for chair in reading.chairs}
     shares = [ratio_drawn(reading.share_of_votes(chairs[number]), measure) for number in order]
     return votes_series([0 if math.isnan(share) else share for share in shares])
@@ -65,5 +65,5 @@ def powers_of(reading: Reading, order: Sequence[int], measure: Measure) -> Serie
 
 
 def added(after: Ratio | None, before: Ratio | None, measure: Measure) -> float:
-    """What is added to a fraction, as it is drawn; nan where one is missing."""
+    """The difference of two fractions as it is drawn; nan if one is missing."""
     return number_drawn(difference(after, before), measure)

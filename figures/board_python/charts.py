@@ -1,4 +1,4 @@
-"""Charts with matplotlib: for a telephone, a page and a paper, with shapes and hatches beside the colours."""
+"""Charts with matplotlib: for a phone, a page and a paper, with shapes and hatches in addition to the colours."""
 from __future__ import annotations
 
 import math
@@ -44,7 +44,7 @@ PANEL_HEIGHT = 230.0
 
 @dataclass(frozen=True)
 class Layout:
-    """How wide a drawing is, in points, and whether its title stands in it."""
+    """The width of a drawing in points, and whether it contains its title."""
 
     width: float
     is_titled: bool = True
@@ -55,7 +55,7 @@ NARROW, WIDE, PAPER = Layout(374), Layout(640), Layout(468)
 
 @dataclass(frozen=True)
 class Picture:
-    """A drawing: a name for its files, title, a text for readers who don't see it, caption, and what draws it."""
+    """A drawing: a name for its files, title, a text alternative, caption, and the function that draws it."""
 
     name: str
     title: str
@@ -68,7 +68,7 @@ class Picture:
 class Look:
     """How a series looks: a colour, a shape and dashes for lines, and white stripes on bars.
 
-    Stripes are how long each is, how far apart they are, in points, and which part of the bar's height they take.
+    Stripes are the length of each, the distance between them, in points, and the part of the bar's height they take.
     """
 
     colour: str
@@ -77,7 +77,7 @@ class Look:
     stripes: tuple[float, float, float] | None = None
 
 
-# Colours that stay apart for colour-blind readers, each with a shape, dashes and stripes of its own for print in grey.
+# Colours that colour-blind readers can distinguish, each with its own shape, dashes and stripes for print in grey.
 LOOKS = {
     "votes": Look("#b4b4b4", "|", "--"),
     "half": Look("#0072b2", "o", "-"),
@@ -90,7 +90,7 @@ OTHER_LOOKS = [*list(LOOKS.values())[1:], Look("#6a6a00", "v", "-"), Look("#56b4
 
 @dataclass(frozen=True)
 class Series:
-    """What is drawn in one look: a value for each place, nan where there is none."""
+    """Values that are drawn in one look: one for each place, nan if there is none."""
 
     label: str
     look: Look
@@ -99,7 +99,7 @@ class Series:
 
 @dataclass(frozen=True)
 class Key:
-    """An entry of a legend: its text, and the lines that are drawn on one another before it."""
+    """An entry of a legend: its text, and the lines that are drawn over one another before it."""
 
     label: str
     lines: tuple[Line2D, ...]
@@ -107,7 +107,7 @@ class Key:
 
 @dataclass(frozen=True)
 class Panel:
-    """A part of a drawing with axes of its own: what stands above and below them, room on their left, what paints."""
+    """A part of a drawing with its own axes: the texts above and below them, the room on their left, the painter."""
 
     heading: str
     label: str
@@ -159,7 +159,7 @@ def legend_shape(layout: Layout, keys: Sequence[Key]) -> tuple[list[str], int, f
 
 
 def add_legend(figure: Figure, layout: Layout, keys: Sequence[Key], top: float) -> float:
-    """Puts the legend at a distance below the top, in points, and gives the distance at which it ends."""
+    """Puts the legend at a distance below the top, in points, and returns the distance at which it ends."""
     texts, columns, height = legend_shape(layout, keys)
     if keys:
         place = {"loc": "upper left", "bbox_to_anchor": (0, 1 - top / whole_height(figure)), "borderaxespad": 0}
@@ -175,7 +175,7 @@ def whole_height(figure: Figure) -> float:
 
 
 def panel_label(layout: Layout, panel: Panel) -> str:
-    """What stands below a panel's axes, in lines that fit below them."""
+    """The text below a panel's axes, in lines that fit."""
     return "\n".join(wrapped(panel.label, layout.width - panel.left - 8, SIZE)) if panel.label else ""
 
 
@@ -188,7 +188,7 @@ def panel_room(layout: Layout, panel: Panel) -> tuple[list[str], float]:
 
 
 def add_panel(figure: Figure, layout: Layout, panel: Panel, top: float) -> float:
-    """Puts a panel at a distance below the top, in points, and gives the distance at which it ends."""
+    """Puts a panel at a distance below the top, in points, and returns the distance at which it ends."""
     whole = whole_height(figure)
     lines, height = panel_room(layout, panel)
     if lines:
@@ -221,14 +221,14 @@ def drawn(layout: Layout, title: str, keys: Sequence[Key], panels: Sequence[Pane
 
 @dataclass(frozen=True)
 class Rows:
-    """The rows of names on an upright axis: their lines, the height of each row, and how wide the names are."""
+    """The rows of names on an upright axis: their lines, the height of each row, and the width of the names."""
 
     names: Sequence[Sequence[str]]
     heights: Sequence[float]
 
     @classmethod
     def of(cls, layout: Layout, names: Sequence[str], height: float) -> Rows:
-        """Rows of one height, higher where a name takes more lines."""
+        """Rows of one height, higher if a name takes more lines."""
         lines = [wrapped(name, 0.35 * layout.width, SIZE) for name in names]
         return cls(lines, [max(height, 2 + 11.5 * len(it)) for it in lines])
 
@@ -241,7 +241,7 @@ class Rows:
         return [end - height / 2 for end, height in zip(accumulate(self.heights), self.heights)]
 
     def label(self, axes: Axes) -> None:
-        """Writes the names: plain texts, since to draw ticks takes twice as long."""
+        """Writes the names as plain texts, since drawing ticks takes twice as long."""
         axes.set_yticks([])
         axes.set_ylim(sum(self.heights) + 2, -2)
         for place, lines in zip(self.places(), self.names):
@@ -250,7 +250,7 @@ class Rows:
 
 
 def offsets(count: int, step: float) -> list[float]:
-    """A number of places round 0, a step apart."""
+    """`count` places centred on 0, a step apart."""
     return [step * (number - (count - 1) / 2) for number in range(count)]
 
 
@@ -299,7 +299,7 @@ def bars_panel(layout: Layout, heading: str, label: str, names: Sequence[str], s
 
 
 def own_limits(series: Sequence[Series]) -> tuple[float, float]:
-    """The ends of an axis that spans the values of series, with some room; also where all values are the same."""
+    """The ends of an axis that spans the values of series, with some room, even if all values are equal."""
     values = [value for one in series for value in one.values if not math.isnan(value)] or [0.0]
     low, high = min(values), max(values)
     room = 0.08 * (high - low) or 0.05 * abs(high) or 0.05

@@ -1,4 +1,4 @@
-"""Boards that are drawn by lot, for checks."""
+"""Random boards, for checks."""
 from __future__ import annotations
 
 from itertools import product
@@ -7,7 +7,7 @@ from string import ascii_uppercase
 
 
 def codes(count: int) -> list[str]:
-    """So many codes of those that ISO 3166 leaves to users: XAA, XAB and on."""
+    """`count` of the codes that ISO 3166 leaves to users: XAA, XAB and on."""
     return ["X" + "".join(letters) for letters in product(ascii_uppercase, repeat=2)][:count]
 
 

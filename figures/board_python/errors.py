@@ -1,4 +1,4 @@
-"""What a script says on standard error, above all what is wrong with what it was handed."""
+"""Messages of a script on standard error, mainly the problems of its input."""
 from __future__ import annotations
 
 import sys
@@ -6,20 +6,20 @@ from collections.abc import Callable, Iterable
 
 
 class BadInput(Exception):
-    """What is wrong, for people: a problem a line, each with the number of its line where there is one."""
+    """The problems of an input, for people: one per line, each with its line number if it has one."""
 
     def __init__(self, why: str, line: int | None = None):
         super().__init__(why if line is None else f"line {line}: {why}")
 
 
 def say(script: str, sentences: Iterable[str]) -> None:
-    """Says sentences on standard error, a line each, in the script's name."""
+    """Prints sentences on standard error, one per line, each after the script's name."""
     for sentence in sentences:
         print(f"{script}: {sentence}", file=sys.stderr, flush=True)
 
 
 def ended(script: str, work: Callable[[], None]) -> int:
-    """Does a script's work, and gives its status: 1 where something is wrong, and then nothing was written."""
+    """Runs a script's work and returns its status: 1 if there is a problem, and then nothing was written."""
     try:
         work()
     except (BadInput, OSError) as why:

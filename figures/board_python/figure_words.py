@@ -1,4 +1,4 @@
-"""The words that ask for figures in files of their own, and those files."""
+"""The arguments for figures in separate files, and those files."""
 from __future__ import annotations
 
 import argparse
@@ -15,7 +15,7 @@ if TYPE_CHECKING:
 
 
 def add_figure_words(parser: argparse.ArgumentParser) -> None:
-    """Adds the words for figures in files of their own."""
+    """Adds the arguments for figures in separate files."""
     figures = "write each chart of the page as SVG and PDF, too, into this folder, which must be there"
     parser.add_argument("--figures", metavar="FOLDER", type=Path, help=figures)
     titles = "whether their titles stand in these files, or in their metadata alone (default: %(default)s)"
@@ -23,7 +23,7 @@ def add_figure_words(parser: argparse.ArgumentParser) -> None:
 
 
 def check_folder(given: argparse.Namespace) -> None:
-    """Sees that the folder of the figures is there, where one is given."""
+    """Checks that the folder of the figures exists, if one is given."""
     if given.figures and not given.figures.is_dir():
         raise BadInput(f"--figures: there is no folder {given.figures}")
 
@@ -31,7 +31,7 @@ def check_folder(given: argparse.Namespace) -> None:
 def figure_files(
     given: argparse.Namespace, pictures: Sequence[Picture], script: str, provenance: Sequence[str]
 ) -> dict[Path, bytes]:
-    """The files that --figures asks for, by their paths; none without it. BadInput where another file stands there."""
+    """The files that --figures asks for, by their paths; none without it. BadInput if a foreign file has a path."""
     if not given.figures:
         return {}
     from .charts import PAPER

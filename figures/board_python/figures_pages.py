@@ -19,19 +19,19 @@ SCRIPT = "board_figures"
 
 
 def commands(count: int) -> str:
-    """So many commands, in words."""
+    """A number of commands, in words."""
     return "1 command" if count == 1 else f"{count:,} commands"
 
 
 def stale_words(reading: Reading) -> str:
-    """What a reading doesn't see, in words; nothing where it sees all."""
+    """The commands that a reading doesn't see, in words; empty if it sees all."""
     if not reading.pending:
         return ""
     return f"It doesn't see all that was accepted before it: {commands(reading.pending)} pending, not published."
 
 
 def facts_of(number: int, reading: Reading) -> str:
-    """A reading's heading, and what it says of the board as a whole."""
+    """A reading's heading, and its figures for the board as a whole."""
     act = Ratio(reading.winning, reading.coalitions)
     stale = stale_words(reading)
     warning = f'<p class="warning">A stale reading. {stale}</p>\n' if stale else ""
@@ -45,7 +45,7 @@ def facts_of(number: int, reading: Reading) -> str:
 
 
 def alternative(reading: Reading) -> str:
-    """The text that stands for a reading's chart."""
+    """The text alternative of a reading's chart."""
     most = by_votes(reading)[0]
     votes, power = percent(reading.share_of_votes(most)), percent(most.share)
     of_votes = f"{votes} per cent of the votes cast" if votes else "no votes"
@@ -57,7 +57,7 @@ def alternative(reading: Reading) -> str:
 
 
 def reading_picture(number: int, reading: Reading, names: Mapping[int, str]) -> Picture:
-    """A reading's chart: each chair's share of power on its share of the votes."""
+    """A reading's chart: each chair's share of power next to its share of the votes."""
     order = [chair.chair for chair in by_votes(reading)]
     labels = [f"{it} {names[it]}" if it in names else f"chair {it}" for it in order]
     stale = f", {reading.pending:,} pending" if reading.pending else ""
@@ -104,7 +104,7 @@ def overview(output: Output) -> str:
 
 
 def warnings_of(output: Output) -> str:
-    """What a reader must know first: refused commands, and readings that don't see all that was accepted."""
+    """The warnings at the top: refused commands, and readings that don't see all accepted commands."""
     stale = [str(number) for number, reading in enumerate(output.readings, 1) if reading.pending]
     said = ""
     if output.refusals:

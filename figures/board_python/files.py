@@ -1,4 +1,4 @@
-"""Files that are put in their places once all are whole, and only over files of the same kind."""
+"""Files that are put in their places once all are complete, and only over files of the same kind."""
 from __future__ import annotations
 
 import os
@@ -9,9 +9,9 @@ from .errors import BadInput
 
 
 def check_replaceable(path: Path, start: str) -> None:
-    """Sees that a file can be put there: that there is the folder, and no file that begins in another way.
+    """Checks that a file can be written: its folder exists, and no file that begins differently is in its place.
 
-    Comments at the beginning of a table, lines with a # first, are passed over.
+    Comments at the beginning of a table, lines with a # first, are skipped.
     """
     if not path.parent.is_dir():
         raise BadInput(f"there is no folder {path.parent}")
@@ -23,7 +23,7 @@ def check_replaceable(path: Path, start: str) -> None:
 
 
 def write_files(texts: Mapping[Path, str | bytes]) -> None:
-    """Writes each text, in UTF-8, or bytes to a new file beside its place, and puts them there once all are whole."""
+    """Writes each text, in UTF-8, or bytes to a new file next to its place, and moves them there once all are whole."""
     parts = {path: path.with_name(f".{path.name}.{os.getpid()}.part") for path in texts}
     try:
         for path, text in texts.items():

@@ -1,4 +1,4 @@
-"""The fonts of the charts: which are taken, how wide a text is in them, and which letters they lack."""
+"""The fonts of the charts: their order, the widths of texts, and missing letters."""
 from __future__ import annotations
 
 import sys
@@ -11,16 +11,16 @@ from functools import lru_cache
 from matplotlib.font_manager import FontProperties, findfont, fontManager, get_font
 from matplotlib.textpath import text_to_path
 
-# In this order, a letter is taken from the first that is installed and has it. matplotlib brings the first of them.
+# A letter is taken from the first font in this order that is installed and has it. matplotlib ships the first one.
 FONTS = ["DejaVu Sans", "Noto Sans", "Noto Sans CJK SC", "Noto Sans CJK JP", "Noto Sans CJK KR", "Source Han Sans SC"]
 FONTS += ["WenQuanYi Zen Hei", "WenQuanYi Micro Hei", "PingFang SC", "Microsoft YaHei", "Arial Unicode MS"]
-# matplotlib's words about missing letters: `letters_warning` says it once, for people.
+# matplotlib's words about missing letters: `letters_warning` reports them once, for people.
 warnings.filterwarnings("ignore", message=r"Glyph \d+ .*missing from")
 
 
 @lru_cache(maxsize=None)
 def font_names() -> list[str]:
-    """The names of the fonts that are installed, in the order in which they are asked for a letter."""
+    """The names of the installed fonts, in the order in which they are searched for a letter."""
     installed = {font.name for font in fontManager.ttflist}
     return [name for name in FONTS if name in installed]
 
@@ -33,7 +33,7 @@ def font_of(letter: str) -> str | None:
 
 @lru_cache(maxsize=None)
 def letter_width(letter: str) -> float:
-    """How wide a letter is, in sizes of the font; one that no font has counts as a square, as Chinese letters are."""
+    """The width of a letter, in sizes of the font; one that no font has counts as a square, as Chinese letters are."""
     name = font_of(letter)
     if name is None:
         return 1.0
@@ -42,7 +42,7 @@ def letter_width(letter: str) -> float:
 
 
 def text_width(text: str, size: float) -> float:
-    """How wide a text is, in points."""
+    """The width of a text, in points."""
     return size * sum(map(letter_width, text))
 
 
@@ -63,7 +63,7 @@ def missing_letters(texts: Iterable[str]) -> str:
 
 
 def letters_warning(texts: Iterable[str]) -> str:
-    """A sentence about the letters that the fonts of the charts lack; empty where they have all."""
+    """A sentence about the letters that the fonts of the charts lack; empty if they have all."""
     missing = missing_letters(texts)
     if not missing:
         return ""
@@ -75,7 +75,7 @@ def letters_warning(texts: Iterable[str]) -> str:
 
 
 def warn_of_letters(script: str, texts: Iterable[str]) -> None:
-    """Says on standard error which letters the fonts of the charts lack, and what helps."""
+    """Reports on standard error which letters the fonts of the charts lack, and what helps."""
     if said := letters_warning(texts):
         print(f"{script}: warning: {said}", file=sys.stderr)
         print(f"{script}: install a font that has them, one of {', '.join(FONTS[1:])}", file=sys.stderr)

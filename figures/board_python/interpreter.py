@@ -1,4 +1,4 @@
-"""The Python that runs a script: another one takes over where this one lacks the libraries."""
+"""The Python that runs a script: another one takes over if this one lacks the libraries."""
 from __future__ import annotations
 
 import importlib.util
@@ -19,7 +19,7 @@ def system_has(libraries: list[str]) -> bool:
 
 
 def need(*libraries: str) -> None:
-    """Goes on where this Python has the libraries; else the system's runs the script; else it ends with status 1."""
+    """Continues if this Python has the libraries; else runs the script with the system's; else ends with status 1."""
     missing = [name for name in libraries if importlib.util.find_spec(name) is None]
     if not missing:
         return

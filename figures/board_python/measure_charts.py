@@ -1,4 +1,4 @@
-"""Charts of a measure, each with its axes' texts: what draws them for a layout."""
+"""Charts of a measure, with their axis labels: functions that draw them for a layout."""
 from __future__ import annotations
 
 from collections.abc import Callable, Sequence
@@ -15,7 +15,7 @@ Draw = Callable[[Layout], Figure]
 
 
 def dots_label(measure: Measure) -> str:
-    """What the axis of a dot plot says."""
+    """The axis label of a dot plot."""
     return f"{unit_of(measure)}: the bars, votes of the votes cast; the dots, {measure.definition}"
 
 
@@ -31,7 +31,7 @@ def dot_plot(title: str, names: Sequence[str], votes: Series, powers: Sequence[S
 
 @dataclass(frozen=True)
 class NewChairs:
-    """The chairs that a scenario opens, with their votes and powers: there is nothing to compare them with."""
+    """The chairs that a scenario opens, with their votes and powers: the base has nothing to compare them with."""
 
     names: Sequence[str]
     series: Sequence[Series]
@@ -40,7 +40,7 @@ class NewChairs:
 def difference_plot(
     title: str, names: Sequence[str], series: Sequence[Series], new: NewChairs, measure: Measure
 ) -> Draw:
-    """What a scenario adds to each chair of the base, as bars; below, the chairs that the base hasn't, as they are."""
+    """The gains of each chair of the base, as bars; below them, the chairs that the base lacks, with their values."""
     what = f"votes of the votes cast; {measure.name}, {measure.definition}"
 
     def draw(layout: Layout) -> Figure:
@@ -54,13 +54,13 @@ def difference_plot(
 
 
 def sweep_label(member: str, measure: Measure) -> str:
-    """What the axis below a sweep says."""
+    """The axis label below a sweep."""
     return f"votes of {member}, per cent of the total voting power. {measure.name.capitalize()}: {measure.definition}"
 
 
 @dataclass(frozen=True)
 class SweepAxes:
-    """What the charts of a sweep share: the member, the steps in per cent, and the measure."""
+    """The data that the charts of a sweep share: the member, the steps in per cent, and the measure."""
 
     member: str
     percents: Sequence[float]
@@ -72,7 +72,7 @@ class SweepAxes:
 
 
 def own_plot(title: str, axes: SweepAxes, series: Sequence[Series], marks: Sequence[Sequence[Mark]]) -> Draw:
-    """A panel for each series, each on an axis of its own values, with its marks; the last has the axis' text."""
+    """A panel for each series, each on an axis that spans its values, with its marks; the last has the axis' text."""
     height = PANEL_HEIGHT if len(series) == 1 else PANEL_HEIGHT / 2
     labels = [""] * (len(series) - 1) + [sweep_label(axes.member, axes.measure)]
     panels = [axes.panel(one.label, [one], few, height, label) for one, few, label in zip(series, marks, labels)]

@@ -23,15 +23,15 @@ class Measure:
         return powers[self.word]
 
     def gain(self, after: Chair, before: Chair | None) -> Fraction | None:
-        """What is added to a chair's measure, exactly; None where one of both is missing."""
+        """The exact gain in a chair's measure; None if either value is missing."""
         return difference(self.of(after), self.of(before)) if before else None
 
     def unit(self) -> str:
-        """What values are given in, behind the measure's name in a heading."""
+        """The unit of values, after the measure's name in a heading."""
         return ", %" if self.word == "share" else ""
 
     def gain_unit(self) -> str:
-        """What gains are given in, in a heading."""
+        """The unit of gains, in a heading."""
         return ", points" if self.word == "share" else ""
 
     def cell(self, ratio: Ratio | None) -> str:
@@ -49,7 +49,7 @@ class Measure:
         return self.cell(ratio) + (" per cent" if self.word == "share" else "")
 
     def gain_words(self, gain: Fraction) -> str:
-        """A gain in a sentence; one that is rounded to nothing is said to be less than the last place."""
+        """A gain in a sentence; one that rounds to 0 is given as less than the last place."""
         places, unit = (PERCENT_PLACES, " percentage points") if self.word == "share" else (PAGE_PLACES, "")
         text = self.gain_cell(gain)
         if gain and not any(digit in text for digit in "123456789"):

@@ -62,7 +62,7 @@ class MemberTable:
         return sum(member.votes for member in self.members)
 
     def said(self) -> list[str]:
-        """What was read, in sentences: members, votes and chairs, then each choice and each conversion."""
+        """Sentences on what was read: members, votes and chairs, then each choice and each conversion."""
         none = [f"{it.code} ({counted(it.votes, 'vote')})" for it in self.members if it.chair is None]
         named = ", ".join(none[:MOST_NAMED]) + (f" and {len(none) - MOST_NAMED} more" if none[MOST_NAMED:] else "")
         seats = f"{counted(len(none), 'member')} in no chair: {named}" if none else "every member is in a chair"
@@ -71,7 +71,7 @@ class MemberTable:
 
 
 def conversions_of(rows: Sequence[Row], names: Sequence[str]) -> list[str]:
-    """What was converted in good rows, in sentences; the names are those of chairs that got a number."""
+    """Sentences on conversions in good rows; the names are those of chairs that got a number."""
     zeros = sum(bool(ZEROS.search(row.votes) or not names and ZEROS.search(row.chair)) for row in rows)
     marks = sum(not ZEROS.sub("", row.votes).isdigit() for row in rows)
     small = sum(row.code != row.code.upper() for row in rows)
@@ -86,7 +86,7 @@ def conversions_of(rows: Sequence[Row], names: Sequence[str]) -> list[str]:
 
 
 class TableReader:
-    """Takes in rows, asks about them, and keeps what is wrong with them, each problem with its line, 0 for none."""
+    """Reads rows, asks about them, and keeps their problems, each with its line number, 0 for none."""
 
     def __init__(self, marks: str, layout: Layout):
         self.marks = marks
@@ -101,11 +101,11 @@ class TableReader:
         self.problems.append((line, what))
 
     def choose(self, sentence: str) -> None:
-        """Keeps a choice, or a conversion, that is said."""
+        """Keeps a choice, or a conversion, for the messages."""
         self.table.choices.append(sentence)
 
     def read(self, line: int, what: str, reader: Callable[..., T], *words: object) -> T | None:
-        """What a cell says, or None and a problem more."""
+        """The value of a cell, or None, and then a further problem is kept."""
         try:
             return reader(*words)
         except ValueError as why:
@@ -123,7 +123,7 @@ class TableReader:
         return rows
 
     def limited(self, rows: list[Row]) -> list[Row]:
-        """The rows, as many as there may be members, and a problem where there are more."""
+        """The rows up to the limit on members; a problem is kept if there are more."""
         if len(rows) > MOST_MEMBERS:
             line = rows[MOST_MEMBERS].line
             many = f"there are {len(rows):,}, and {MOST_MEMBERS} at most"
@@ -151,7 +151,7 @@ class TableReader:
         return rows if self.layout.keep_total else [row for row in rows if row not in totals]
 
     def with_chairs(self, rows: list[Row]) -> list[Row]:
-        """The rows with blank chairs filled down, or as they are; where they are asked about, one problem says all."""
+        """The rows with blank chairs filled down, or as they are; if the user must choose, one problem names all."""
         blanks = blanks_of(rows)
         if self.layout.fill_down:
             self.choose(f"Merged cells: the chair was filled down in {counted(len(blanks), 'row')}")
@@ -179,7 +179,7 @@ class TableReader:
         return [replace(row, code=code) for code, row in zip(codes, rows)]
 
     def add_all(self, rows: list[Row]) -> None:
-        """Takes in the rows; chairs are names where most of them have letters."""
+        """Adds the rows; chairs are names if most of them have letters."""
         filled = [row.chair for row in rows if row.chair]
         by_name = 2 * sum(map(is_name, filled)) > len(filled)
         for row in rows:
@@ -188,7 +188,7 @@ class TableReader:
             self.table.chair_names.setdefault(number, name)
 
     def add(self, row: Row, chair_number: Callable[[str], int | None]) -> None:
-        """Takes in a row."""
+        """Adds a row."""
         code = self.read(row.line, "", code_of, row.code)
         votes = self.read(row.line, ", votes", votes_of, row.votes, self.marks)
         chair = self.read(row.line, "", chair_number, row.chair)
@@ -201,7 +201,7 @@ class TableReader:
             self.add_chair_name(row.line, chair, row.chair_name)
 
     def numbered(self, name: str) -> int | None:
-        """The number of a chair by its name: chairs are numbered in the order in which they come."""
+        """The number of a chair by its name: chairs are numbered in the order in which they appear."""
         if not name:
             return None
         if not is_name(name):
@@ -223,7 +223,7 @@ class TableReader:
             self.refuse(line, f"line {line}: chair {chair} is named {name!r} here and {other!r} above")
 
     def whole(self) -> MemberTable:
-        """The table, once all rows are in; BadInput with every problem where there is one."""
+        """The table, once all rows are in; BadInput with all problems if there are any."""
         votes, published = self.table.votes(), self.layout.total
         if not self.problems and not self.table.members:
             self.refuse(0, "there is no member in the table")
@@ -238,7 +238,7 @@ class TableReader:
 
 
 def how_read(sheet: Sheet, text: str, layout: Layout) -> list[str]:
-    """The rows that were skipped, and the encoding where it isn't UTF-8, in sentences."""
+    """Sentences on the rows that were skipped, and on the encoding if it isn't UTF-8."""
     skipped = [f"Rows above the header were skipped: {sheet.above}"] if layout.header_row and sheet.above else []
     word = accented(text)
     look = f": look at letters with accents, such as those of {word!r}" if word else ""
@@ -249,8 +249,8 @@ def how_read(sheet: Sheet, text: str, layout: Layout) -> list[str]:
 def read_table(data: bytes, columns: Columns, thousands: str | None = None, layout: Layout = Layout()) -> MemberTable:
     """The members of a table, saved with commas, semicolons or tabs.
 
-    Thousands may be parted by apostrophes, blanks, and `thousands`: without it, by a comma, or by a point where cells
-    are parted by semicolons, as spreadsheets do where decimals have a comma.
+    Thousands may be separated by apostrophes, blanks, and `thousands`: without it, by a comma, or by a point if cells
+    are separated by semicolons, as spreadsheets do if decimals have a comma.
     """
     text = text_of(data, layout.encoding, has_option=True)
     sheet = sheet_of(text, layout.header_row)

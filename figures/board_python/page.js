@@ -1,6 +1,6 @@
 "use strict";
-// Sorts a table by the column whose heading is clicked; a second click turns the order round. The first click puts the
-// least number on top, but of what is added to the base, the greatest. Empty cells come last.
+// Sorts a table by the column whose heading is clicked; a second click reverses the order. The first click puts the
+// least number on top, but for gains over the base the greatest. Empty cells come last.
 function compared(one, other) {
   const [x, y] = [Number(one), Number(other)];
   return Number.isNaN(x) || Number.isNaN(y) ? one.localeCompare(other) : x - y;

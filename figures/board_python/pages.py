@@ -1,4 +1,4 @@
-"""Pages of HTML that need no other file: their frame, sortable tables, figures, and what they say of sources."""
+"""Pages of HTML that need no other file: their frame, sortable tables, figures, and notes on sources."""
 from __future__ import annotations
 
 import html
@@ -55,7 +55,7 @@ def capital(text: str) -> str:
 
 
 def page_start(script: str) -> str:
-    """How a page of a script begins. An existing file is replaced only where it begins so."""
+    """The beginning of a script's page. An existing file is replaced only if it begins like this."""
     return (
         '<!DOCTYPE html>\n<html lang="en">\n<head>\n<meta charset="utf-8">\n'
         f'<meta name="generator" content="{script}">\n'
@@ -94,7 +94,7 @@ def table_of(caption: str, headers: Sequence[str], rows: Iterable[Sequence[objec
 
 
 def letters_note(texts: Iterable[str]) -> str:
-    """A warning on the page where the fonts of its charts lack letters of texts; else nothing."""
+    """A warning on the page if the fonts of its charts lack letters of texts; else nothing."""
     from .fonts import letters_warning
 
     said = letters_warning(texts)
@@ -102,7 +102,7 @@ def letters_note(texts: Iterable[str]) -> str:
 
 
 def majorities_of(majorities: Iterable[str]) -> str:
-    """What each majority asks for, and where it stands."""
+    """The rule of each majority, and its place in the Articles."""
     items = "".join(
         f"<dt><code>{majority}</code>: {MAJORITIES[majority]}</dt>\n"
         f"<dd>Articles of Agreement, {ARTICLES[majority]}.</dd>\n"
@@ -113,14 +113,14 @@ def majorities_of(majorities: Iterable[str]) -> str:
 
 
 def board_cells(reading: Reading) -> list[object]:
-    """The cells of a reading that speak of the board as a whole."""
+    """The cells of a reading for the board as a whole."""
     act = Ratio(reading.winning, reading.coalitions)
     counts = [reading.open_chairs, reading.quota, reading.cast, reading.total, reading.winning, reading.coalitions]
     return [*counts, decimal(act)]
 
 
 def power_cells(reading: Reading, chair: Chair) -> list[object]:
-    """The cells of a chair's votes and powers: decimals first, then what its exact fractions are made of."""
+    """The cells of a chair's votes and powers: decimals first, then the numbers of its exact fractions."""
     shares = [percent(reading.share_of_votes(chair)), percent(chair.share)]
     powers = [decimal(power) for power in [chair.banzhaf, chair.prevent, chair.initiate]]
     losing = reading.coalitions - reading.winning
@@ -129,5 +129,5 @@ def power_cells(reading: Reading, chair: Chair) -> list[object]:
 
 
 def added_points(chair: Chair, before: Chair | None) -> str:
-    """What is added to a chair's share of power, in percentage points."""
+    """The gain in a chair's share of power, in percentage points."""
     return points(difference(chair.share, before.share)) if before else ""

@@ -1,4 +1,4 @@
-"""Pictures as SVG and PDF: in a page, and in files of their own for a paper."""
+"""Pictures as SVG and PDF: in a page, and in separate files for a paper."""
 from __future__ import annotations
 
 import base64
@@ -12,7 +12,7 @@ from pathlib import Path
 from .charts import NARROW, WIDE, Layout, Picture
 from .errors import BadInput
 
-# How the files' names end.
+# The endings of the files' names.
 NAMES = re.compile(r"(base|reading-\d+|scenario-\d+|sweep-\d+(-others-\w+)?)\.(svg|pdf)")
 
 
@@ -46,7 +46,7 @@ def figure_of(picture: Picture) -> str:
 def picture_files(
     pictures: Iterable[Picture], start: Path, layout: Layout, script: str, provenance: Sequence[str]
 ) -> dict[Path, bytes]:
-    """Each picture as SVG and as PDF, by their paths, which begin alike; the metadata says where it comes from."""
+    """Each picture as SVG and as PDF, by paths with a common beginning; the metadata gives the provenance."""
     files, source = {}, "; ".join(provenance) or script
     for it in pictures:
         path = start.with_name(f"{start.name}-{it.name}")
@@ -57,13 +57,13 @@ def picture_files(
 
 
 def left_over(files: Container[Path], start: Path) -> list[Path]:
-    """The pictures of an earlier run whose names begin alike and that aren't among the files."""
+    """The pictures of an earlier run whose paths have this beginning and that aren't among the files."""
     found = start.parent.glob(f"{glob.escape(start.name)}-*")
     return sorted(it for it in found if it not in files and NAMES.fullmatch(it.name[len(start.name) + 1 :]))
 
 
 def check_own(paths: Iterable[Path], script: str) -> None:
-    """Sees that no other file stands where a picture of a script will."""
+    """Checks that no foreign file has the path of a script's picture."""
     for path in paths:
         if path.exists() and script.encode() not in path.read_bytes():
             raise BadInput(f"{path} is there already and isn't a file of this script: choose another name")

@@ -1,4 +1,4 @@
-"""What a study reads: the registers of its scenarios and of its sweeps' steps, before the program runs."""
+"""The plan of a study: the registers of its scenarios and of its sweeps' steps, made before the program runs."""
 from __future__ import annotations
 
 from collections import Counter
@@ -18,7 +18,7 @@ from .standing import Standing, standing_of
 
 @dataclass(frozen=True)
 class Swept:
-    """What a sweep sweeps: the register where it starts, the members, their chairs, and the votes of all others."""
+    """The subject of a sweep: the register where it starts, the members, their chairs, and the votes of all others."""
 
     start: Standing
     codes: Sequence[str]
@@ -59,7 +59,7 @@ class Plan:
         self.stages[scenario.label] = Stage(scenario.label, start, commands, here, majorities)
 
     def add_sweep(self, sweep: Sweep, majorities: Sequence[str]) -> None:
-        """Adds a sweep and its steps; a sweep of a scenario that went wrong is left out."""
+        """Adds a sweep and its steps; a sweep of a failed scenario is left out."""
         if sweep.start not in self.stages:
             return
         start = self.stages[sweep.start].end
@@ -72,7 +72,7 @@ class Plan:
 
 
 def changes_of(start: Standing, scenario: Scenario, names: Mapping[str, str]) -> list[str]:
-    """What a scenario changes, in words."""
+    """The changes of a scenario, in words."""
     here, said = start.copy(), []
     for command in scenario.commands:
         taken = with_numbers(here, command)
@@ -83,7 +83,7 @@ def changes_of(start: Standing, scenario: Scenario, names: Mapping[str, str]) ->
 
 
 def swept_of(sweep: Sweep, start: Standing) -> Swept:
-    """What a sweep sweeps on a register."""
+    """The subject of a sweep on a register."""
     codes, seats = codes_of(start, sweep.member), []
     for code in codes:
         chair = start.places[code].chair
@@ -94,7 +94,7 @@ def swept_of(sweep: Sweep, start: Standing) -> Swept:
 
 
 def label_problems(scenarios: Sequence[Scenario], sweeps: Sequence[Sweep]) -> list[str]:
-    """The labels that come twice, and the sweeps that start from a scenario that there isn't."""
+    """Labels that appear twice, and sweeps that start from a scenario that doesn't exist."""
     starts = [BASE, *(scenario.label for scenario in scenarios)]
     counts = Counter([*starts, *(step.label for sweep in sweeps for step in sweep.steps)])
     twice = [
@@ -109,7 +109,7 @@ def label_problems(scenarios: Sequence[Scenario], sweeps: Sequence[Sweep]) -> li
 def plan_of(
     table: MemberTable, majorities: Sequence[str], scenarios: Sequence[Scenario], sweeps: Sequence[Sweep]
 ) -> Plan:
-    """The registers of the base, the scenarios, then each sweep's steps; BadInput with everything that is wrong."""
+    """The registers of the base, the scenarios, then each sweep's steps; BadInput with all problems."""
     plan, base, problems = Plan(), standing_of(table), Problems(label_problems(scenarios, sweeps))
     problems.read(lambda it: plan.add(it, base, majorities), [Scenario(BASE), *scenarios])
     problems.read(lambda it: plan.add_sweep(it, majorities), sweeps)

@@ -13,12 +13,12 @@ Found = TypeVar("Found")
 
 @dataclass
 class Problems:
-    """What is wrong so far, a line each."""
+    """The problems so far, one per line."""
 
     lines: list[str] = field(default_factory=list)
 
     def read(self, reader: Callable[[Given], Found], given: Iterable[Given], place: str = "") -> list[Found]:
-        """What a reader makes of each thing that is given; what it refuses is kept, behind its place."""
+        """The results of a reader on the given items; each problem that it raises is kept, after its place."""
         found = []
         for one in given:
             try:
@@ -28,6 +28,6 @@ class Problems:
         return found
 
     def end(self) -> None:
-        """BadInput with everything that is wrong, where something is."""
+        """Raises BadInput with all problems, if there are any."""
         if self.lines:
             raise BadInput("\n".join(self.lines))

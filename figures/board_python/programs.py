@@ -1,4 +1,4 @@
-"""The program: its version and file, runs of `board replay`, and why it refuses a command."""
+"""The program: its version and file, runs of `board replay`, and its reasons for refusing a command."""
 from __future__ import annotations
 
 import os
@@ -18,7 +18,7 @@ REASON_ROW = re.compile(r"^\| [0-9]+ \| ([A-Za-z]+) \| (.+?)(?: \([^()]*\))? \|$
 
 
 class Refused(BadInput):
-    """A record that the program refuses, or that is a fault: why, and its place in the input, counted from 0."""
+    """A record that the program refuses, or that is a fault: the reason, and its place in the input, counted from 0."""
 
     def __init__(self, why: str, place: int):
         super().__init__(why)
@@ -32,7 +32,7 @@ def refusal_reasons() -> dict[str, str]:
 
 
 def silent(line: bytes) -> None:
-    """Makes nothing of a line."""
+    """Ignores a line."""
 
 
 @dataclass(frozen=True)
@@ -43,12 +43,12 @@ class Program:
     reasons: dict[str, str] = field(default_factory=refusal_reasons)
 
     def start(self) -> None:
-        """Starts it once, since ./board may have to build it; what it says of that is seen."""
+        """Starts it once, since ./board may have to build it; its messages about that are shown."""
         self.version
 
     @cached_property
     def version(self) -> str:
-        """What it says of its version."""
+        """The version that it prints."""
         done = subprocess.run([self.path, "--version"], stdout=subprocess.PIPE)
         if done.returncode != 0:
             raise BadInput(f"{self.path} doesn't run")
@@ -66,9 +66,9 @@ class Program:
         return f"{name}, {reason} (docs/FORMATS.md)" if reason else name
 
     def lines(self, records: list[str], heard: Callable[[bytes], None] = silent) -> bytes:
-        """What it prints for an input without empty lines; Refused names the first record that is refused or at fault.
+        """The output for an input without empty lines; Refused names the first record that is refused or at fault.
 
-        Each line is handed on as it comes.
+        Each line is passed to `heard` when it arrives.
         """
         printed = []
         with tempfile.TemporaryFile() as given, tempfile.TemporaryFile() as errors:
@@ -89,7 +89,7 @@ class Program:
     def check(self, records: list[str], lines: list[str]) -> None:
         """Looks for the first refused command, then at the last line for a fault.
 
-        Each record of the script has one line as its answer, beside chairs' lines.
+        Each record of the script has one line as its answer, in addition to the chairs' lines.
         """
         answers = [line for line in lines if not line.startswith("chair,")]
         for place, answer in enumerate(answers, records.index("script") + 1):

@@ -1,4 +1,4 @@
-"""Where figures come from: the program, the table, and the hashes of the script and of the lines it gives."""
+"""The provenance of figures: the program, the table, and the hashes of the script and of its output lines."""
 from __future__ import annotations
 
 import hashlib
@@ -25,12 +25,12 @@ def one_line(text: str) -> str:
 
 
 def command_line(script: str, words: Sequence[str]) -> str:
-    """The words that a script was started with."""
+    """The command line of a script."""
     return f"command: {shlex.join([script, *words])}"
 
 
 def commit_of(file: Path) -> str:
-    """The commit that a release says of its program; nothing where the program is no release's."""
+    """The commit of a release's program; empty if the program is not from a release."""
     said = file.with_name("VERSION")
     found = re.search("^commit (.+)$", said.read_text(), re.MULTILINE) if said.exists() else None
     return f", commit {found[1]}" if found else ""
@@ -51,25 +51,25 @@ def file_line(what: str, name: str, data: bytes) -> str:
 
 
 def numbered(what: str, parts: Sequence[bytes]) -> list[str]:
-    """The hash of each part, with its number where there are several."""
+    """The hash of each part, with its number if there are several."""
     places = [f" {number} of {len(parts)}" if len(parts) > 1 else "" for number in range(1, len(parts) + 1)]
     return [f"{what}{place} sha256 {sha256(part)}" for place, part in zip(places, parts)]
 
 
 def provenance_lines(program: Program, files: Sequence[str], run: Run, more: Sequence[str]) -> list[str]:
-    """The lines that say where a study comes from: its program, its files, its scripts and their lines, and more."""
+    """The provenance lines of a study: its program, its files, its scripts and their lines, and more."""
     scripts = [script.text().encode() for script in run.scripts]
     hashes = [*numbered("script", scripts), *numbered("lines", run.lines)]
     return [*map(one_line, [*program_lines(program), *files, *hashes, TO_CHECK, *more])]
 
 
 def output_lines(data: bytes, more: Sequence[str]) -> list[str]:
-    """The lines that say where the figures of an output come from. It doesn't say which program printed it."""
+    """The provenance lines of an output, which doesn't name the program that printed it."""
     said = "counted by board replay, of a version that its lines don't say"
     return [*map(one_line, [said, f"lines sha256 {sha256(data)}", *more])]
 
 
 def provenance_section(lines: Sequence[str]) -> str:
-    """The part of a page that says where its figures come from."""
+    """The part of a page on the provenance of its figures."""
     items = "".join(f"<li>{html.escape(line)}</li>\n" for line in lines)
     return f'<h2 id="provenance">Where the numbers come from</h2>\n<ul>\n{items}</ul>\n'

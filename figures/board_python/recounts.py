@@ -5,12 +5,12 @@ import numpy
 
 from .replay_output import Reading
 
-# How many of the chairs are counted in one array; for each set of the others there is an array.
+# The number of chairs that are counted in one array; for each set of the others there is an array.
 IN_ARRAY = 16
 
 
 def winning(weights: numpy.ndarray, sizes: numpy.ndarray, reading: Reading) -> numpy.ndarray:
-    """Which coalitions win, by their weights and sizes, as docs/DEFINITIONS.md says it of each majority."""
+    """Which coalitions win, by their weights and sizes, by the definitions of majorities in docs/DEFINITIONS.md."""
     if reading.majority == "half":
         return 2 * weights > reading.cast
     if reading.majority == "70":
@@ -29,7 +29,7 @@ def all_sums(values: list[int]) -> numpy.ndarray:
 
 
 def counted(reading: Reading) -> tuple[int, list[int]]:
-    """How many coalitions win, and for each chair how many that lose without it win with it."""
+    """The number of winning coalitions, and for each chair the number that lose without it and win with it."""
     weights = [chair.weight for chair in reading.chairs]
     low, high = weights[:IN_ARRAY], weights[IN_ARRAY:]
     sums, sizes = all_sums(low), all_sums([1] * len(low))
@@ -61,7 +61,7 @@ def least_quota(reading: Reading) -> int:
 
 
 def differences_of(reading: Reading) -> list[str]:
-    """Where a count anew differs from a reading, in words."""
+    """The differences between a recount and a reading, in words."""
     omega, swings = counted(reading)
     found = [("the quota", reading.quota, least_quota(reading)), ("the winning coalitions", reading.winning, omega)]
     found += [(f"the swings of chair {it.chair}", it.swings, own) for it, own in zip(reading.chairs, swings)]

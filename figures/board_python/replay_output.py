@@ -34,7 +34,7 @@ class Chair:
 
 @dataclass
 class Reading:
-    """A `reading` line, the lines of its chairs, and how many commands were accepted that it doesn't see."""
+    """A `reading` line, the lines of its chairs, and the number of accepted commands that it doesn't see."""
 
     line: int
     reader: int
@@ -68,7 +68,7 @@ class Refusal:
 
 @dataclass
 class Output:
-    """The readings of an output, its refusals, and how many commands were accepted and published so far."""
+    """The readings of an output, its refusals, and the numbers of commands accepted and published so far."""
 
     readings: list[Reading] = field(default_factory=list)
     refusals: list[Refusal] = field(default_factory=list)
@@ -87,7 +87,7 @@ OTHER_LINE = re.compile(f"began|skipped|busy,{NUMBER}|sheet(,{NUMBER}){{4}}|read
 
 
 def over(numerator: int, denominator: int) -> Ratio | None:
-    """The fraction, or None where the denominator is 0."""
+    """The fraction, or None if the denominator is 0."""
     return Ratio(numerator, denominator) if denominator else None
 
 
@@ -124,7 +124,7 @@ def add_chair(output: Output, found: re.Match[str], line: int) -> None:
 
 
 def add_count(output: Output, word: str, count: int, line: int) -> None:
-    """Takes in that a command was accepted, or that all of them are published."""
+    """Records that a command was accepted, or that all of them are published."""
     if word == "accepted":
         output.accepted += 1
     if count != output.accepted:
@@ -134,7 +134,7 @@ def add_count(output: Output, word: str, count: int, line: int) -> None:
 
 
 def check_ended(output: Output, line: int) -> None:
-    """Sees that the last reading has the lines of all its chairs, before another line or the end comes."""
+    """Checks that the last reading has the lines of all its chairs, before another line or the end comes."""
     if output.readings and len(output.readings[-1].chairs) < output.readings[-1].open_chairs:
         last = output.readings[-1]
         raise BadInput(
@@ -145,7 +145,7 @@ def check_ended(output: Output, line: int) -> None:
 
 
 def read_line(output: Output, text: str, line: int) -> None:
-    """Takes in one line of the output."""
+    """Reads one line of the output."""
     if found := CHAIR_LINE.fullmatch(text):
         add_chair(output, found, line)
     elif found := READING_LINE.fullmatch(text):
@@ -167,7 +167,7 @@ def read_line(output: Output, text: str, line: int) -> None:
 
 
 def check_counts(reading: Reading) -> None:
-    """Sees that the numbers of a reading fit together, as they do in each output of the program."""
+    """Checks that the numbers of a reading fit together, as they do in each output of the program."""
     if reading.coalitions != 2**reading.open_chairs or reading.winning >= reading.coalitions:
         raise BadInput("the numbers of coalitions don't fit the number of open chairs", reading.line)
     if reading.cast != sum(chair.weight for chair in reading.chairs):
@@ -185,7 +185,7 @@ def check_counts(reading: Reading) -> None:
 
 
 def read_output(data: bytes) -> Output:
-    """What an output of `board replay` says; BadInput where it is no such output, or not a whole one."""
+    """Parses an output of `board replay`; BadInput if it isn't one, or is incomplete."""
     if not data:
         raise BadInput("there is nothing on the input: no output of `board replay`")
     output = Output()

@@ -5,14 +5,14 @@ from fractions import Fraction
 
 from .replay_output import Ratio
 
-# How many decimal places are written: in the tables that are files, and on pages of a decimal and of a percentage.
+# The number of decimal places: in the tables that are files, and on pages of a decimal and of a percentage.
 TABLE_PLACES = 10
 PAGE_PLACES = 6
 PERCENT_PLACES = 3
 
 
 def exact(ratio: Ratio) -> Fraction:
-    """The number that a fraction is."""
+    """The value of a fraction."""
     return Fraction(ratio.numerator, ratio.denominator)
 
 
@@ -30,7 +30,7 @@ def rounded(number: Fraction | Ratio, places: int) -> str:
 
 
 def difference(after: Ratio | None, before: Ratio | None) -> Fraction | None:
-    """What is added to a fraction, or None where one is missing."""
+    """The difference of two fractions, or None if one is missing."""
     if after is None or before is None:
         return None
     numerator = after.numerator * before.denominator - before.numerator * after.denominator
@@ -38,15 +38,15 @@ def difference(after: Ratio | None, before: Ratio | None) -> Fraction | None:
 
 
 def percent(ratio: Ratio | None) -> str:
-    """A fraction in per cent, for a page; nothing where it is missing."""
+    """A fraction in per cent, for a page; empty if it is missing."""
     return "" if ratio is None else written(100 * ratio.numerator, ratio.denominator, PERCENT_PLACES)
 
 
 def points(number: Fraction | None) -> str:
-    """A difference in percentage points, for a page; nothing where it is missing."""
+    """A difference in percentage points, for a page; empty if it is missing."""
     return "" if number is None else written(100 * number.numerator, number.denominator, PERCENT_PLACES)
 
 
 def decimal(ratio: Ratio | None) -> str:
-    """A fraction as a decimal, for a page; nothing where it is missing."""
+    """A fraction as a decimal, for a page; empty if it is missing."""
     return "" if ratio is None else rounded(ratio, PAGE_PLACES)

@@ -1,4 +1,4 @@
-"""Registers that are read one after another in one run of the program: how one leads to the next, and what is read."""
+"""Registers read one after another in one run of the program: the commands between them, and the readings."""
 from __future__ import annotations
 
 import sys
@@ -20,7 +20,7 @@ Readings = dict[str, Reading]
 
 @dataclass(frozen=True)
 class Stage:
-    """A register that is read: its label, the commands that lead to it from a standing, and at which majorities."""
+    """A register that is read: its label, the commands that lead to it from a standing, and the majorities."""
 
     label: str
     start: Standing
@@ -33,7 +33,7 @@ class Stage:
         return [*way(here, self.start), *self.commands, "publish", *(f"read,1,{it}" for it in self.majorities)]
 
     def check(self, readings: Readings) -> None:
-        """Sees that readings are of this register, at the majorities that were asked for."""
+        """Checks that readings are of this register, at the requested majorities."""
         total, weights = self.end.total(), self.end.weights()
         for majority in self.majorities:
             reading = readings.get(majority)
@@ -44,14 +44,14 @@ class Stage:
 
 @dataclass
 class Script:
-    """An input of `board replay`, what it reads, and for which of that each record stands there."""
+    """An input of `board replay`, the registers that it reads, and the register that each record belongs to."""
 
     records: list[str]
     stages: list[Stage] = field(default_factory=list)
     owners: dict[int, Stage] = field(default_factory=dict)
 
     def add(self, stage: Stage, records: list[str]) -> None:
-        """Adds what leads to a register and reads it."""
+        """Adds the records that lead to a register and read it."""
         self.owners |= dict.fromkeys(range(len(self.records), len(self.records) + len(records)), stage)
         self.records += records
         self.stages.append(stage)
@@ -69,7 +69,7 @@ class Run:
     lines: list[bytes]
 
     def readings(self) -> list[Readings]:
-        """What was read of each register; BadInput where a reading isn't of its register."""
+        """The readings of each register; BadInput if a reading isn't of its register."""
         found = []
         for script, lines in zip(self.scripts, self.lines):
             readings = iter(read_output(lines).readings)
@@ -80,14 +80,14 @@ class Run:
 
 
 class Progress:
-    """Where readings take long, says every few seconds on standard error how many there are."""
+    """Reports the number of readings on standard error every few seconds, if they take long."""
 
     def __init__(self, count: int):
         self.count, self.seen = count, 0
         self.begun = self.said = time.monotonic()
 
     def hear(self, line: bytes) -> None:
-        """Takes in a line of the program."""
+        """Counts a reading's line; reports if it is time."""
         self.seen += line.startswith(b"reading,")
         now = time.monotonic()
         if now - self.said >= SECONDS_BETWEEN:

@@ -14,7 +14,7 @@ from .scenarios import Scenario, labelled
 from .sheets import delimiter_of, records_of, text_of
 
 HEADER = ["label", "commands"]
-# Where a scenario stands in its file, and what reads it.
+# The place of a scenario in its file, and its reader.
 Row = tuple[str, Callable[[], Scenario]]
 
 
@@ -47,7 +47,7 @@ def toml_scenario(given: object) -> Scenario:
 
 
 def places_of(text: str, count: int) -> list[str]:
-    """Where the scenarios of a TOML file begin: by lines, where each has a heading of its own."""
+    """The places where the scenarios of a TOML file begin: their lines, if each has its own heading."""
     heads = [text.count("\n", 0, found.start()) + 1 for found in re.finditer(r"^[ \t]*\[\[", text, re.MULTILINE)]
     return [f"line {line}" for line in heads] if len(heads) == count else [f"scenario {it + 1}" for it in range(count)]
 
@@ -70,7 +70,7 @@ def toml_rows(text: str) -> Iterator[Row]:
 
 
 def scenario_at(row: Row) -> Scenario:
-    """The scenario that is read there."""
+    """The scenario of a row."""
     place, read = row
     try:
         return read()
@@ -86,7 +86,7 @@ class ScenarioFile:
     data: bytes
 
     def rows(self) -> list[Row]:
-        """The scenarios, each where it stands."""
+        """The scenarios with their places."""
         text = text_of(self.data)
         rows = [*(toml_rows(text) if Path(self.name).suffix == ".toml" else csv_rows(text))]
         if not rows:
@@ -94,7 +94,7 @@ class ScenarioFile:
         return rows
 
     def scenarios(self) -> list[Scenario]:
-        """The scenarios; BadInput with each that is wrong, and where it stands."""
+        """The scenarios; BadInput with each that is wrong, and its place."""
         problems, place = Problems(), f"{self.name}: "
         rows = chain(*problems.read(ScenarioFile.rows, [self], place))
         found = problems.read(scenario_at, rows, place)

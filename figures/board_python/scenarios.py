@@ -1,4 +1,4 @@
-"""Labelled scenarios and sweeps: what they say, each command by itself."""
+"""Labelled scenarios and sweeps: their texts, with each command parsed by itself."""
 from __future__ import annotations
 
 import re
@@ -44,7 +44,7 @@ class Sweep:
 
 
 def command_of(text: str) -> str:
-    """A command without blanks round its fields."""
+    """A command without blanks around its fields."""
     command = ",".join(" ".join(part.split()) for part in text.split(","))
     word, *fields = command.split(",")
     if word not in COMMANDS:
@@ -65,7 +65,7 @@ def label_of(text: str) -> str:
 
 
 def labelled(label: str, commands: str) -> Scenario:
-    """The scenario of a label and of commands parted by semicolons."""
+    """The scenario of a label and of commands separated by semicolons."""
     parts = [part for part in commands.split(";") if part.strip()]
     if not label.strip():
         raise BadInput("a scenario without a label")
@@ -75,7 +75,7 @@ def labelled(label: str, commands: str) -> Scenario:
 
 
 def scenario_of(text: str) -> Scenario:
-    """The scenario that 'LABEL: command; command' says."""
+    """The scenario of a text 'LABEL: command; command'."""
     label, colon, commands = text.rpartition(":")
     if not colon or not label.strip() or not commands.strip(" ;"):
         raise BadInput(f"--scenario {text!r} isn't of the form 'LABEL: command; command'")
@@ -101,7 +101,7 @@ def percents_of(text: str, first: Decimal, last: Decimal, step: Decimal) -> list
 
 
 def sweep_of(text: str) -> Sweep:
-    """The sweep that 'WHO FROM..TO by STEP %' says; 'from LABEL:' may stand before it."""
+    """The sweep of a text 'WHO FROM..TO by STEP %'; 'from LABEL:' may come before it."""
     found = SWEEP.fullmatch(label_of(text))
     if not found:
         raise BadInput(

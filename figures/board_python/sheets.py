@@ -1,4 +1,4 @@
-"""A saved table as rows of cells: its encoding, what parts its cells, its header and its columns."""
+"""A saved table as rows of cells: its encoding, its delimiter, its header and its columns."""
 from __future__ import annotations
 
 import csv
@@ -16,7 +16,7 @@ MARKS_OF_TWO_BYTES = (b"\xff\xfe", b"\xfe\xff")
 
 @dataclass(frozen=True)
 class Columns:
-    """The names of a table's columns; the last two needn't be there, nor codes where there are members' names."""
+    """The names of a table's columns; the last two are optional, and so are codes if there are members' names."""
 
     code: str = "code"
     votes: str = "votes"
@@ -27,7 +27,7 @@ class Columns:
 
 @dataclass(frozen=True)
 class Layout:
-    """How a table is laid out, and the answers to what is asked about it; `total` is the published sum of votes."""
+    """The layout of a table, and the answers to questions about it; `total` is the published sum of votes."""
 
     header_row: int | None = None
     encoding: str = "utf-8"
@@ -40,7 +40,7 @@ class Layout:
 
 @dataclass(frozen=True)
 class Sheet:
-    """The header and its line, how many rows stand above it, the rows below that aren't empty, and the delimiter."""
+    """The header and its line, the number of rows above it, the rows below that aren't empty, and the delimiter."""
 
     delimiter: str
     above: int
@@ -62,7 +62,7 @@ class Row:
 
 
 def text_of(data: bytes, encoding: str = "utf-8", has_option: bool = False) -> str:
-    """A table's text, without a byte order mark; a message names --encoding where the script has that option."""
+    """A table's text, without a byte order mark; a message names --encoding if the script has that option."""
     likely = "utf-16" if data.startswith(MARKS_OF_TWO_BYTES) or b"\0" in data else "cp1252"
     remedy = "save the table as CSV in UTF-8" + (f", or have it read by --encoding {likely}" if has_option else "")
     if encoding != "utf-16" and likely == "utf-16":
@@ -83,7 +83,7 @@ def accented(text: str) -> str:
 
 
 def records_of(text: str, delimiter: str) -> Iterator[tuple[int, list[str]]]:
-    """The records, empty ones too, each with the line on which it begins; blanks round a cell are dropped."""
+    """The records, empty ones too, each with the line on which it begins; blanks around a cell are dropped."""
     reader = csv.reader(io.StringIO(text, newline=""), delimiter=delimiter, strict=True)
     line = 1
     try:
@@ -95,7 +95,7 @@ def records_of(text: str, delimiter: str) -> Iterator[tuple[int, list[str]]]:
 
 
 def header_of(text: str, delimiter: str, header_row: int | None) -> tuple[int, int, list[str]]:
-    """The header: its row, its line and its cells. It is the row that is named, else the first that isn't empty."""
+    """The header: its row, its line and its cells. It is the row that is named, else the first non-empty one."""
     for row, (line, cells) in enumerate(records_of(text, delimiter), 1):
         if row == header_row or (header_row is None and any(cells)):
             return row, line, cells
@@ -103,7 +103,7 @@ def header_of(text: str, delimiter: str, header_row: int | None) -> tuple[int, i
 
 
 def delimiter_of(text: str, header_row: int | None = None) -> str:
-    """What parts the cells: of comma, semicolon and tab the one that cuts the header into the most."""
+    """The delimiter: comma, semicolon or tab, the one that cuts the header into the most cells."""
 
     def width(delimiter: str) -> int:
         try:
@@ -126,7 +126,7 @@ def sheet_of(text: str, header_row: int | None = None) -> Sheet:
 
 
 def places_of(sheet: Sheet, columns: Columns) -> dict[str, int]:
-    """Where each column stands in a row; capitals make no difference."""
+    """The position of each column in a row; case is ignored."""
     heads = [head.casefold() for head in sheet.header]
     may_miss = {"name", "chair_name", *(["code"] if columns.name.casefold() in heads else [])}
     places = {}
@@ -148,7 +148,7 @@ def places_of(sheet: Sheet, columns: Columns) -> dict[str, int]:
 
 
 def check_no_codes(sheet: Sheet) -> None:
-    """Sees that no column looks like codes, before codes are made from names."""
+    """Checks that no column looks like codes, before codes are made from names."""
     for at, head in enumerate(sheet.header):
         cells = [cells[at] for _, cells in sheet.rows if at < len(cells) and re.fullmatch("[A-Z]{3}", cells[at])]
         if 2 * len(cells) > len(sheet.rows) and len(set(cells)) == len(cells):
@@ -156,7 +156,7 @@ def check_no_codes(sheet: Sheet) -> None:
 
 
 def row_of(sheet: Sheet, places: dict[str, int], line: int, cells: list[str]) -> Row:
-    """A row's cells by what they mean; a cell is empty where its column or the cell itself isn't there."""
+    """A row's cells by their meaning; a cell is empty if its column or the cell itself is missing."""
     if any(cells[len(sheet.header) :]):
         raise BadInput(f"{len(cells)} cells under a header of {len(sheet.header)}", line)
     cells = cells + [""] * len(sheet.header)

@@ -1,7 +1,7 @@
-"""A model of the register: where members stand while commands are carried out.
+"""A model of the register: the members' places while commands are carried out.
 
-The program alone decides which commands are accepted, and counts. The model follows it, to take percentages, to say
-what changes, and to lead the register from one standing to another; each reading is compared with it.
+The program alone decides which commands are accepted, and counts. The model follows it, to take percentages, to
+describe changes, and to lead the register from one standing to another; each reading is compared with it.
 """
 from __future__ import annotations
 
@@ -32,7 +32,7 @@ class Standing:
     open: set[int] = field(default_factory=set)
 
     def copy(self) -> Standing:
-        """The same, to carry out commands on."""
+        """A copy to carry out commands on."""
         return Standing(dict(self.places), set(self.open))
 
     def total(self) -> int:
@@ -52,7 +52,7 @@ class Standing:
         return sum(self.places[code].votes for code in codes)
 
     def take(self, command: str) -> None:
-        """Takes in a command, as the program does where it accepts it. One that isn't well formed changes nothing."""
+        """Applies a command, as the program does when it accepts it. A malformed command changes nothing."""
         word, name, value, *rest = [*command.split(","), "", ""]
         if word in ("open", "close") and is_number(name):
             (self.open.add if word == "open" else self.open.discard)(int(name))
@@ -65,7 +65,7 @@ class Standing:
 
 
 def is_number(text: str) -> bool:
-    """Whether the program takes a text for a number."""
+    """Whether the program accepts a text as a number."""
     return text.isascii() and text.isdigit() and len(text) <= 20
 
 
@@ -86,7 +86,7 @@ def standing_of(table: MemberTable) -> Standing:
 
 
 def leaving(here: Standing, there: Standing) -> list[str]:
-    """Restores members who don't stay as they are, and takes out those that the other standing hasn't."""
+    """The commands that restore members who change, and withdraw those that the other standing lacks."""
     commands = []
     for code, place in here.places.items():
         aim = there.places.get(code)
@@ -99,7 +99,7 @@ def leaving(here: Standing, there: Standing) -> list[str]:
 
 
 def arriving(here: Standing, there: Standing) -> list[str]:
-    """Gives each member its place in the other standing; nobody who must move is suspended any more."""
+    """The commands that give each member its place in the other standing; a member that must move isn't suspended."""
     commands = []
     for code, aim in there.places.items():
         place = here.places.get(code, Place(aim.votes))

@@ -17,13 +17,13 @@ from .runs import Progress, Run, Script, Stage, read_stages, run_script
 from .scenarios import BASE, Scenario, Sweep
 from .thresholds import Gap, Point, Points, Readings, Threshold, both_sides, gaps_of, narrowed
 
-# What is added to a chair's measure, by the chairs' numbers.
+# The gains in the chairs' measures, by the chairs' numbers.
 Gains = dict[int, "Fraction | None"]
 
 
 @dataclass
 class Result:
-    """A scenario, its commands with numbers of votes, its readings by majority, and what it changes in words."""
+    """A scenario, its commands with numbers of votes, its readings by majority, and its changes in words."""
 
     scenario: Scenario
     commands: Sequence[str]
@@ -37,7 +37,7 @@ class Result:
         return {at: {chair.chair: chair for chair in reading.chairs} for at, reading in self.readings.items()}
 
     def chair(self, majority: str, number: int) -> Chair | None:
-        """A chair at a majority, or None where it isn't open."""
+        """A chair at a majority, or None if it isn't open."""
         return self.by_number[majority].get(number)
 
 
@@ -45,7 +45,7 @@ class Result:
 class Study:
     """The results of the base, of the scenarios and of the sweeps, the chairs' names, and the run of the program.
 
-    What is swept, and the thresholds by majority and votes, are there by the sweeps' texts.
+    The subjects of sweeps, and the thresholds by majority and votes, are keyed by the sweeps' texts.
     """
 
     table: MemberTable
@@ -63,11 +63,11 @@ class Study:
         return [self.base, *self.scenarios, *(result for _, steps in self.sweeps for result in steps)]
 
     def seat(self, sweep: Sweep) -> int:
-        """The chair of a sweep's member; of several members the first one's."""
+        """The chair of a sweep's member; for several members, the first one's."""
         return self.swept[sweep.text].seats[0]
 
     def gains(self, result: Result, measure: Measure, majority: str) -> Gains:
-        """What is added to each chair's measure at a majority, exactly; None where it can't be compared."""
+        """The exact gain in each chair's measure at a majority; None if it can't be compared."""
         key = measure.word, majority
         if key not in result.gains:
             before = self.base.by_number[majority]
@@ -94,7 +94,7 @@ class Counting:
         return read_stages(self.program, self.table, stages)
 
     def refusals(self, scenarios: Sequence[Scenario]) -> list[str]:
-        """What the program refuses of scenarios, each of which is carried out by itself."""
+        """The program's refusals of scenarios, each of which is carried out by itself."""
         problems = Problems()
         problems.read(self.carry_out, [self.plan.stages[scenario.label] for scenario in scenarios])
         return problems.lines
@@ -114,7 +114,7 @@ class Counting:
         return dict(zip(points, self.read(self.stages_at(points)).readings()))
 
     def gaps(self, sweep: Sweep, readings: Mapping[str, Readings]) -> list[Gap]:
-        """Between which steps of a sweep the kind of a chair's power changes."""
+        """The gaps between steps of a sweep in which the kind of a chair's power changes."""
         swept, labels = self.plan.swept[sweep.text], [step.label for step in sweep.steps]
         votes = [self.plan.stages[label].end.votes_of(swept.codes) for label in labels]
         return [*gaps_of(sweep.text, swept.seats, votes, [readings[label] for label in labels])]
@@ -128,7 +128,7 @@ class Counting:
 
 
 def result_of(stage: Stage, scenario: Scenario, readings: dict[str, Reading], names: Mapping[str, str]) -> Result:
-    """What was read of a scenario, or of a step of a sweep."""
+    """The result of a scenario, or of a step of a sweep."""
     changes = [] if scenario.sweep else changes_of(stage.start, scenario, names)
     return Result(scenario, stage.commands, readings, changes)
 
@@ -140,9 +140,9 @@ def run_study(
     scenarios: Sequence[Scenario],
     sweeps: Sequence[Sweep],
 ) -> Study:
-    """Runs the program on the base, on every scenario and on every step of a sweep; BadInput says what goes wrong.
+    """Runs the program on the base, on every scenario and on every step of a sweep; BadInput gives the problems.
 
-    Further runs find thresholds. Where there are any, the run that is kept reads both sides of each of them, too.
+    Further runs find thresholds. If there are any, the run that is kept reads both sides of each of them, too.
     """
     plan = plan_of(table, majorities, scenarios, sweeps)
     counting, stages = Counting(program, table, plan), [*plan.stages.values()]

@@ -1,4 +1,4 @@
-"""What a study answers, in sentences: who gains and who loses most, and where a chair's power changes its kind."""
+"""The answers of a study, in sentences: the greatest gains and losses, and changes of the kind of a chair's power."""
 from __future__ import annotations
 
 from collections.abc import Mapping, Sequence
@@ -33,7 +33,7 @@ def chairs_words(study: Study, chairs: Sequence[int]) -> str:
 
 
 def most_words(study: Study, measure: Measure, gains: Mapping[int, Fraction], verb: str) -> str:
-    """Who gains most, or who loses most."""
+    """The chair or chairs that gain most, or lose most."""
     sign = 1 if verb == "gain" else -1
     most = max((sign * gain for gain in gains.values()), default=Fraction(0))
     if most <= 0:
@@ -44,7 +44,7 @@ def most_words(study: Study, measure: Measure, gains: Mapping[int, Fraction], ve
 
 
 def absent(one: Reading, other: Reading) -> list[Chair]:
-    """The chairs of a reading that another one hasn't."""
+    """The chairs of a reading that another one lacks."""
     there = {chair.chair for chair in other.chairs}
     return [chair for chair in one.chairs if chair.chair not in there]
 
@@ -62,7 +62,7 @@ def opened_words(study: Study, measure: Measure, before: Reading, after: Reading
 
 
 def answer(study: Study, result: Result, majority: str, measure: Measure) -> str:
-    """Who gains most and who loses most at a majority."""
+    """The greatest gain and loss at a majority."""
     before, after = study.base.readings[majority], result.readings[majority]
     if not after.winning:
         return f"{AT[majority]} no coalition wins."
@@ -75,18 +75,18 @@ def answer(study: Study, result: Result, majority: str, measure: Measure) -> str
 
 
 def answers(study: Study, result: Result, measure: Measure) -> list[str]:
-    """Who gains most and who loses most by a scenario: at each majority, in share of power and in the measure."""
+    """The greatest gains and losses by a scenario: at each majority, in share of power and in the measure."""
     said = [answer(study, result, at, it) for at in study.majorities for it in with_share(measure)]
     return [*dict.fromkeys(said)]
 
 
 def kind_words(study: Study, chairs: Sequence[int], words: str) -> str:
-    """That something holds of chairs."""
+    """A statement about chairs."""
     return f"{chairs_words(study, chairs)} {words if len(chairs) == 1 else words.replace('has ', 'have ')}"
 
 
 def threshold_words(study: Study, who: str, found: Sequence[Threshold]) -> str:
-    """What begins or ends at a number of votes."""
+    """The kinds of power that begin or end at a number of votes."""
     first, kinds = found[0], dict[str, list[int]]()
     for it in found:
         kinds.setdefault(it.text.removeprefix(f"chair {it.chair} "), []).append(it.chair)
@@ -99,7 +99,7 @@ def threshold_words(study: Study, who: str, found: Sequence[Threshold]) -> str:
 
 
 def steady_words(study: Study, sweep: Sweep, steps: Sequence[Result], majority: str) -> str:
-    """What holds at all steps of a sweep, or at none."""
+    """The statements that hold at all steps of a sweep, or at none."""
     seats, readings = study.swept[sweep.text].seats, [step.readings[majority] for step in steps]
     if not any(reading.winning for reading in readings):
         return f"{AT[majority]} no coalition wins at any step."
@@ -117,7 +117,7 @@ def steady_words(study: Study, sweep: Sweep, steps: Sequence[Result], majority: 
 
 
 def sweep_answers(study: Study, sweep: Sweep, steps: Sequence[Result]) -> list[str]:
-    """The thresholds of a sweep, and what holds at all of its steps or at none, majority by majority."""
+    """The thresholds of a sweep, and the statements that hold at all of its steps or at none, by majority."""
     said = []
     for majority in study.majorities:
         own = [it for it in study.thresholds[sweep.text] if it.majority == majority]

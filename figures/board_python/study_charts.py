@@ -1,4 +1,4 @@
-"""The pictures of a study: the base, what scenarios add to it, and how sweeps go."""
+"""The pictures of a study: the base, the scenarios' differences from it, and the sweeps."""
 from __future__ import annotations
 
 from collections.abc import Mapping, Sequence
@@ -17,7 +17,7 @@ from .thresholds import Threshold
 
 @dataclass(frozen=True)
 class Drawn:
-    """What the pictures of a study show: a measure, and the thresholds of each sweep by the sweep's text."""
+    """The subject of a study's pictures: a measure, and the thresholds of each sweep by the sweep's text."""
 
     measure: Measure = MEASURES["share"]
     thresholds: Mapping[str, Sequence[Threshold]] = field(default_factory=dict)
@@ -29,12 +29,12 @@ def axis_name(study: Study, number: int) -> str:
 
 
 def source_of(measure: Measure) -> str:
-    """What a caption says of a measure."""
+    """The text of a caption on a measure."""
     return f"{measure.name.capitalize()}: {measure.definition} ({measure.source})."
 
 
 def base_picture(study: Study, measure: Measure) -> Picture | None:
-    """The base: each chair's power at each majority beside its share of the votes; None where no chair is open."""
+    """The base: each chair's power at each majority next to its share of the votes; None if no chair is open."""
     readings = [study.base.readings[majority] for majority in study.majorities]
     order = [chair.chair for chair in by_votes(readings[0])]
     if not order:
@@ -51,25 +51,25 @@ def base_picture(study: Study, measure: Measure) -> Picture | None:
 
 
 def vote_share(result: Result, majority: str, number: int) -> Ratio | None:
-    """A chair's share of the votes; None where it isn't open or no votes are cast."""
+    """A chair's share of the votes; None if it isn't open or no votes are cast."""
     chair = result.chair(majority, number)
     return result.readings[majority].share_of_votes(chair) if chair else None
 
 
 def power(result: Result, majority: str, number: int, measure: Measure) -> Ratio | None:
-    """A chair's measure; None where it isn't open, or has none."""
+    """A chair's measure; None if it isn't open, or has none."""
     chair = result.chair(majority, number)
     return measure.of(chair) if chair else None
 
 
 def powers_added(study: Study, result: Result, order: list[int], majority: str, measure: Measure) -> Series:
-    """What a scenario adds to a measure of the chairs at a majority."""
+    """The gains in a measure of the chairs by a scenario at a majority."""
     ends = [(power(result, majority, it, measure), power(study.base, majority, it, measure)) for it in order]
     return power_series(majority, measure, [added(after, before, measure) for after, before in ends])
 
 
 def differences(study: Study, result: Result, order: list[int], measure: Measure) -> list[Series]:
-    """What a scenario adds to the chairs' shares of the votes, and to their measure at each majority."""
+    """The gains by a scenario in the chairs' shares of the votes, and in their measure at each majority."""
     first, base = study.majorities[0], study.base
     votes = [added(vote_share(result, first, it), vote_share(base, first, it), measure) for it in order]
     return [votes_series(votes), *(powers_added(study, result, order, at, measure) for at in study.majorities)]
@@ -84,7 +84,7 @@ def new_chairs(study: Study, result: Result, measure: Measure) -> NewChairs:
 
 
 def scenario_picture(study: Study, number: int, result: Result, measure: Measure) -> Picture | None:
-    """What a scenario adds to each chair, and the chairs that it opens; None where no chair is open in it."""
+    """The gains of each chair by a scenario, and the chairs that it opens; None if no chair is open in it."""
     first, label = study.majorities[0], result.scenario.label
     chairs = [chair.chair for chair in by_votes(study.base.readings[first])]
     order = [chair for chair in chairs if result.chair(first, chair)]
@@ -118,7 +118,7 @@ def marks_at(thresholds: Sequence[Threshold], majority: str) -> list[Mark]:
 
 
 def thresholds_text(thresholds: Sequence[Threshold], *majorities: str) -> str:
-    """What a caption says of the thin lines at some majorities; nothing where there are none."""
+    """The text of a caption on the thin lines at some majorities; empty if there are none."""
     said = [
         f"{number}: at {it.majority}, from {it.votes:,} votes "
         f"({rounded(it.percent, PERCENT_PLACES)} per cent), {it.text}"

@@ -1,4 +1,4 @@
-"""The page of a study: all majorities side by side, what scenarios add to the base, and how sweeps go."""
+"""The page of a study: all majorities side by side, the scenarios' differences from the base, and the sweeps."""
 from __future__ import annotations
 
 import html
@@ -32,14 +32,14 @@ def section_of(text: str, figures: Sequence[str]) -> str:
 
 
 def base_section(study: Study, figures: Mapping[str, str]) -> str:
-    """The base: each chair's power at each majority beside its share of the votes."""
+    """The base: each chair's power at each majority next to its share of the votes."""
     is_empty = not study.base.readings[study.majorities[0]].chairs
     text = "<h2>The base</h2>\n" + "<p>No chair is open.</p>\n" * is_empty
     return section_of(text, figures_in(figures, "base"))
 
 
 def scenario_section(study: Study, number: int, result: Result, measure: Measure, figures: Mapping[str, str]) -> str:
-    """A scenario: what it changes, who gains and who loses most, and what it adds to each chair's shares and powers."""
+    """A scenario: its changes, the greatest gains and losses, and the differences in each chair's shares and powers."""
     commands = ", ".join(f"<code>{html.escape(command)}</code>" for command in result.commands)
     text = (
         f'<h2 id="scenario-{number}">{html.escape(result.scenario.label)}</h2>\n'
@@ -50,7 +50,7 @@ def scenario_section(study: Study, number: int, result: Result, measure: Measure
 
 
 def swept_words(study: Study, sweep: Sweep) -> str:
-    """Whose votes a sweep changes, with names."""
+    """The members whose votes a sweep changes, with names."""
     swept, names = study.swept[sweep.text], {member.code: member.name for member in study.table.members}
     if sweep.member.startswith("chair "):
         count = len(swept.codes)
@@ -59,7 +59,7 @@ def swept_words(study: Study, sweep: Sweep) -> str:
 
 
 def sweep_text(study: Study, sweep: Sweep, steps: list[Result]) -> str:
-    """A sweep: what it changes, and the thresholds."""
+    """A sweep: its changes, and the thresholds."""
     swept, where = study.swept[sweep.text], "base" if sweep.start == BASE else f"scenario {sweep.start!r}"
     ends = [plain(it.scenario.percent) for it in (steps[0], steps[-1]) if it.scenario.percent is not None]
     keep = "; members keep their proportions" * (len(swept.codes) > 1)

@@ -20,7 +20,7 @@ def by_gain(study: Study, result: Result, measure: Measure, majority: str) -> li
 
 
 def share_cells(study: Study, result: Result, chair: Chair) -> list[object]:
-    """A chair's votes, its share of the votes, and what is added to that."""
+    """A chair's votes, its share of the votes, and the gain in that share."""
     first = study.majorities[0]
     before, votes = study.base.chair(first, chair.chair), result.readings[first].share_of_votes(chair)
     earlier = study.base.readings[first].share_of_votes(before) if before else None
@@ -28,7 +28,7 @@ def share_cells(study: Study, result: Result, chair: Chair) -> list[object]:
 
 
 def side_by_side(study: Study, result: Result, measure: Measure) -> str:
-    """A scenario's measure at all majorities side by side, and what is added to that of the base."""
+    """A scenario's measure at all majorities side by side, and the gains over the base."""
     headers, rows = ["Chair", "Name", "Votes", "Share of votes, %", "Added to it, points"], []
     for majority in study.majorities:
         name = measure.name[0].upper() + measure.name[1:]
@@ -44,7 +44,7 @@ def side_by_side(study: Study, result: Result, measure: Measure) -> str:
 
 
 def added_headers(measure: Measure) -> list[str]:
-    """The headings of what is added: to the share of power, and to the measure where that is another one."""
+    """The headings of gains: in the share of power, and in the measure if that is another one."""
     return [f"Added to the {it.name}{it.gain_unit()}" for it in with_share(measure)]
 
 
@@ -86,7 +86,7 @@ def sweep_table(study: Study, sweep: Sweep, steps: list[Result], majority: str, 
 
 
 def board_table(study: Study) -> str:
-    """What each reading says of the board as a whole."""
+    """The figures of each reading for the board as a whole."""
     rows = [
         [result.scenario.label, majority, *board_cells(reading)]
         for result in study.results()

@@ -1,4 +1,4 @@
-"""What is asked about a table of members, as board.html asks it: whether cells are merged, and which row is a total."""
+"""Questions about a table of members, as in board.html: whether cells are merged, and which row is a total."""
 from __future__ import annotations
 
 from collections import Counter
@@ -42,8 +42,8 @@ def blanks_of(rows: Sequence[Row]) -> list[Row]:
 def seem_merged(rows: Sequence[Row]) -> bool:
     """Whether blank chairs look like merged cells.
 
-    Two or more stand under filled ones, and either most filled chairs have a blank one right below, or no chair stands
-    in two rows. Where each member has its chair in its own row and a few have none, it is otherwise.
+    They do if two or more are under filled ones, and either most filled chairs have a blank one right below, or no
+    chair is in two rows. They don't if each member has its chair in its own row and a few have none.
     """
     filled = Counter(row.chair for row in rows if row.chair)
     heads = sum(bool(row.chair and not below.chair) for row, below in zip(rows, rows[1:]))
@@ -51,7 +51,7 @@ def seem_merged(rows: Sequence[Row]) -> bool:
 
 
 def filled_down(rows: Sequence[Row]) -> list[Row]:
-    """The rows, with the chair of the row above where theirs is blank. A chair's name stands for all of its rows."""
+    """The rows, with the chair of the row above where theirs is blank. A chair's name applies to all of its rows."""
     chair, filled = "", []
     for row in rows:
         chair = row.chair or chair

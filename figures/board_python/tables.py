@@ -1,4 +1,4 @@
-"""Tidy tables: a row for each reading and chair, with exact numerators and denominators beside decimals."""
+"""Tidy tables: a row for each reading and chair, with exact numerators and denominators next to decimals."""
 from __future__ import annotations
 
 import csv
@@ -25,12 +25,12 @@ def fractions_of(reading: Reading, chair: Chair) -> list[Ratio | None]:
 
 
 def fraction_cells(ratio: Ratio | None) -> Row:
-    """A fraction's three cells; all are empty where the program printed `-`."""
+    """A fraction's three cells; all are empty if the program printed `-`."""
     return ["", "", ""] if ratio is None else [ratio.numerator, ratio.denominator, rounded(ratio, TABLE_PLACES)]
 
 
 def board_cells(reading: Reading) -> Row:
-    """What a reading says of the board as a whole."""
+    """The cells of a reading for the board as a whole."""
     return [getattr(reading, name) for name in BOARD]
 
 
@@ -68,7 +68,7 @@ def study_rows(study: Study) -> Iterator[Row]:
 
 
 def rows_text(rows: Iterable[Sequence[object]]) -> str:
-    """Rows as CSV. A row that has a # is in quotes, so that a reader who skips comments doesn't cut it there."""
+    """Rows as CSV. A row that has a # is in quotes, so that a reader that skips comments doesn't cut it there."""
     text = io.StringIO()
     csv.writer(text, lineterminator="\n").writerows(rows)
     if "#" not in text.getvalue():
@@ -81,5 +81,5 @@ def rows_text(rows: Iterable[Sequence[object]]) -> str:
 
 
 def csv_text(lines: Iterable[str], columns: Sequence[str], rows: Iterable[Row]) -> str:
-    """A table as a file: first the lines that say where it comes from, each a comment, then header and rows."""
+    """A table as a file: first the provenance lines, each a comment, then header and rows."""
     return "".join(f"# {line}\n" for line in lines) + rows_text([columns, *rows])

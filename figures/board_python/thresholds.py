@@ -1,4 +1,4 @@
-"""Thresholds of a sweep: the numbers of votes at which a chair's power changes its kind, found exactly."""
+"""Thresholds of a sweep: the numbers of votes at which the kind of a chair's power changes, found exactly."""
 from __future__ import annotations
 
 from collections.abc import Callable, Iterable, Iterator, Mapping, Sequence
@@ -13,7 +13,7 @@ Readings = Mapping[str, Reading]
 Points = Mapping[Point, Sequence[str]]
 Read = Callable[[Points], Mapping[Point, Readings]]
 
-# The kinds: what holds of a chair, and the words for that it begins to hold, and for that it ends.
+# The kinds: each statement about a chair, and the words for its beginning and for its end.
 PREVENTS, POWERLESS = "prevents", "powerless"
 WORDS = {
     (PREVENTS, True): "can prevent every decision alone",
@@ -39,7 +39,7 @@ class Threshold:
 
 
 def kinds_of(reading: Reading, seats: Sequence[int]) -> dict[tuple[int, str], bool]:
-    """What holds: that a chair of the sweep is in each coalition that wins, and that a chair has no swing."""
+    """The kinds: whether a chair of the sweep is in each coalition that wins, and whether a chair has no swing."""
     powerless = {(chair.chair, POWERLESS): chair.swings == 0 for chair in reading.chairs}
     own = [chair for chair in reading.chairs if chair.chair in seats]
     return {(chair.chair, PREVENTS): 0 < chair.swings == reading.winning for chair in own} | powerless
@@ -47,7 +47,7 @@ def kinds_of(reading: Reading, seats: Sequence[int]) -> dict[tuple[int, str], bo
 
 @dataclass(frozen=True)
 class Gap:
-    """Two numbers of votes between which something begins to hold of a chair, or ends."""
+    """Two numbers of votes between which a statement about a chair begins to hold, or ends."""
 
     sweep: str
     majority: str
@@ -80,7 +80,7 @@ class Gap:
 
 
 def gaps_of(sweep: str, seats: Sequence[int], votes: Sequence[int], steps: Sequence[Readings]) -> Iterator[Gap]:
-    """Between which neighbouring steps of a sweep something begins to hold of a chair, or ends."""
+    """The gaps between neighbouring steps of a sweep in which a statement about a chair begins to hold, or ends."""
     kinds = [{majority: kinds_of(reading, seats) for majority, reading in step.items()} for step in steps]
     for low, high, before, after in zip(votes, votes[1:], kinds, kinds[1:]):
         for majority, now in after.items():
@@ -89,7 +89,7 @@ def gaps_of(sweep: str, seats: Sequence[int], votes: Sequence[int], steps: Seque
 
 
 def points_of(asked: Iterable[tuple[Point, str]]) -> dict[Point, list[str]]:
-    """The points that are asked for, each once, with the majorities."""
+    """The requested points, each once, with the majorities."""
     points: dict[Point, list[str]] = {}
     for point, majority in asked:
         majorities = points.setdefault(point, [])

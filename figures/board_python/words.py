@@ -1,4 +1,4 @@
-"""The words that more than one script takes."""
+"""The command-line arguments that several scripts share."""
 from __future__ import annotations
 
 import argparse
@@ -33,7 +33,7 @@ def thousands_mark(text: str) -> str:
 
 
 def add_table_words(parser: argparse.ArgumentParser) -> None:
-    """Adds the words for a table of members."""
+    """Adds the arguments for a table of members."""
     parser.add_argument("table", metavar="TABLE.csv", help="the table of members; - is standard input")
     for column in fields(Columns):
         option = "--" + column.name.replace("_", "-")
@@ -64,7 +64,7 @@ def row_number(text: str) -> int:
 
 
 def add_layout_words(parser: argparse.ArgumentParser) -> None:
-    """Adds the words that say how a table is laid out, and that answer what is asked about it."""
+    """Adds the arguments for the layout of a table, and for the answers to questions about it."""
     group = parser.add_argument_group("the table's layout", LAYOUT)
     add = group.add_argument
     add("--header-row", metavar="N", type=row_number, help="the row of the header; rows above it are skipped")
@@ -83,7 +83,7 @@ def columns_of(given: argparse.Namespace) -> Columns:
 
 
 def layout_of(given: argparse.Namespace) -> Layout:
-    """How the table is laid out."""
+    """The layout of the table."""
     return Layout(**{answer.name: getattr(given, answer.name) for answer in fields(Layout)})
 
 

@@ -9,7 +9,7 @@ const VOTES = "votes are whole numbers from 0 to 2^40";
 const CHAIR = "a chair is a whole number from 1 to 32";
 const BAD = "BadRecord (17), a record is not well formed";
 
-/** What commands answer, by number: 0 for accepted, else the refusal. */
+/** The answers of commands, by number: 0 for accepted, else the refusal. */
 const ANSWERS = [0, 1, 2, 3, 4, 5, 6, 7, 8, 9, 25, 26];
 
 const EXAMPLE = new URL("../../examples/three-chairs.csv", import.meta.url);
@@ -148,7 +148,7 @@ function drawer(seed) {
   };
 }
 
-/** Tries a command at random, and answers the line that its replay must print. */
+/** Tries a command at random, and returns the line that its replay must print. */
 function tried(register, draw) {
   const code = ["AAA", "BBB", "CCC", "DDD", "EEE"][draw(5)];
   const [chair, votes] = [1 + draw(4), draw(100)];

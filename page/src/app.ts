@@ -1,4 +1,4 @@
-/** The state of the page: a study with undo, how it is looked at, and what was counted last. */
+/** The state of the page: a study with undo, its view, and the last count. */
 import { counted, Fault, type Counted, type Replay } from "./count";
 import { History } from "./history";
 import type { Replays } from "./replays";
@@ -7,7 +7,7 @@ import type { Study, View } from "./study";
 
 export type State = "counting" | "ready" | "fault";
 
-/** A study and what its lines say. */
+/** A study and the values of its lines. */
 export interface Shown {
   readonly study: Study;
   readonly counted: Counted;
@@ -16,14 +16,14 @@ export interface Shown {
 export class App {
   readonly history: History<Study>;
   readonly replays: Replays;
-  /** Whether the module's bytes have the hash that the build wrote down. */
+  /** Whether the module's bytes have the hash that the build recorded. */
   readonly isOwnModule: boolean;
   readonly scenarios = new ScenarioCounts();
   view: View;
   shown: Shown | null = null;
   state: State = "counting";
   fault: Fault | Error | null = null;
-  /** Chairs whose cards are open, and the text that members are filtered by. */
+  /** Chairs whose cards are open, and the text by which members are filtered. */
   readonly openCards = new Set<string>();
   filter = "";
   #run = 0;
@@ -44,13 +44,13 @@ export class App {
 
   readonly replay: Replay = async (script) => (await this.replays.replay(script)).text;
 
-  /** Takes another study. Those of one gesture are one step of undo. */
+  /** Sets another study. Studies of one gesture are one step of undo. */
   take(study: Study, gesture = ""): void {
     this.history.take(study, gesture);
     void this.count();
   }
 
-  /** Looks at the study in another way. Other majorities are read first. */
+  /** Changes the view of the study. Readings of other majorities are made first. */
   look(part: Partial<View>): void {
     const needsCount = part.majorities !== undefined;
     this.view = { ...this.view, ...part };
@@ -77,7 +77,7 @@ export class App {
     return this.#counting;
   }
 
-  /** Counts the study and then its scenarios. A run that another overtakes is dropped. */
+  /** Counts the study and then its scenarios. A run is dropped if another one overtakes it. */
   count(): Promise<void> {
     this.#counting = this.#count();
     return this.#counting;
@@ -107,7 +107,7 @@ export class App {
     await this.#countScenarios(run, study);
   }
 
-  /** Counts the scenarios behind the study itself. */
+  /** Counts the scenarios, after the study itself. */
   async #countScenarios(run: number, { base, scenarios }: Study): Promise<void> {
     const isNew = await this.scenarios.fill(this.replay, base, scenarios, this.view.majorities);
     if (isNew && run === this.#run) this.repaint();

@@ -1,4 +1,4 @@
-/** The best single move for a chair: each member that sits elsewhere is moved to it, and moved back. */
+/** The best single move for a chair: each member that is not in it is moved to it, and moved back. */
 import { answered, type Counted, type Replay } from "./count";
 import { compared, difference, type Ratio } from "./fractions";
 import { chairIn, measureOf } from "./lines";
@@ -7,7 +7,7 @@ import type { Place } from "./standing";
 import type { Base } from "./study";
 import type { Majority, Measure } from "./words";
 
-/** A move that was tried, and what it adds. */
+/** A tried move, and its gain. */
 export interface Tried {
   readonly member: Place;
   readonly value: Ratio;

@@ -1,4 +1,4 @@
-/** What all charts share: colours for light and dark, the shapes of majorities, the frame with its legend. */
+/** The shared parts of all charts: colours for light and dark, the shapes of majorities, the frame with its legend. */
 import { select, type Selection } from "d3-selection";
 import { symbol, symbolCircle, symbolDiamond, symbolSquare, symbolTriangle, type SymbolType } from "d3-shape";
 import { MAJORITIES, MAJORITY, type Majority } from "./words";
@@ -33,7 +33,7 @@ export const DARK: Palette = {
   of: { half: "#6cb8f0", "70": "#ffa45c", "85": "#4fd0a5", quorum: "#e39ad3" },
 };
 
-/** How a chart is drawn. A title and a source line are drawn where they are given. */
+/** The style of a chart. A title and a source line are drawn if they are given. */
 export interface Look {
   readonly width: number;
   readonly palette: Palette;
@@ -61,7 +61,7 @@ export function fitted(text: string, width: number): string {
   return text.length <= most ? text : `${text.slice(0, most - 1)}…`;
 }
 
-/** A drawing: its root, and the height that is taken so far. */
+/** A drawing: its root, and the height that is used so far. */
 export interface Frame {
   readonly root: Selection;
   readonly top: number;
@@ -135,7 +135,7 @@ export function ended({ root }: Frame, look: Look, bottom: number): void {
   root.attr("height", height).attr("viewBox", `0 0 ${look.width} ${height}`);
 }
 
-/** Where rows begin: names stand left of them, or above them where there is little room. */
+/** Where rows begin: names are to the left of them, or above them if there is little room. */
 export function labelRoom(rows: readonly Named[], { width }: Look): { left: number; head: number } {
   const longest = Math.max(0, ...rows.map((row) => nameOf(row).length)) * LETTER + 18;
   return width < 480 || longest > width / 2 ? { left: 10, head: 17 } : {
@@ -153,7 +153,7 @@ function nameOf({ chair, name }: Named): string {
   return `${chair} ${name}`;
 }
 
-/** The group of a row: with its chair's number in `data-chair`, and every second one on a band. */
+/** The group of a row: with its chair's number in `data-chair`, and a band under every second one. */
 export function rowGroup(
   { root }: Frame,
   row: Named,
@@ -176,7 +176,7 @@ export function labelled(group: Selection, row: Named, look: Look, head: number,
   else label.attr("x", left - 10).attr("y", height / 2 + 4).attr("text-anchor", "end");
 }
 
-/** A small text beside an axis. */
+/** A small text next to an axis. */
 export function caption(
   root: Selection,
   words: string,

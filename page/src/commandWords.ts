@@ -1,4 +1,4 @@
-/** Changes in words: what each one does, with old and new. */
+/** Changes in words: the effect of each one, with old and new values. */
 import type { Outcome } from "./count";
 import { grouped } from "./fractions";
 import { recordOf } from "./script";
@@ -16,7 +16,7 @@ export function memberWords(code: string, name: string | undefined): string {
   return name ? `${code} ${name}` : code;
 }
 
-/** What was asked for in per cent. */
+/** The requested percentage, in words. */
 function askedWords({ what }: Change): string {
   if (what.word !== "percent") return "";
   return what.of === "own" ? ` (${what.percent} %)` : ` (${what.percent} % of the total)`;
@@ -47,7 +47,7 @@ function commandWords(
   }
 }
 
-/** A change in words, with its old and new values where it was accepted. */
+/** A change in words, with its old and new values if it was accepted. */
 export function changeWords(change: Change, outcome: Outcome | undefined, names: Standing): string {
   const { what } = change;
   const code = "code" in what ? what.code : "";
@@ -59,7 +59,7 @@ export function changeWords(change: Change, outcome: Outcome | undefined, names:
   return commandWords(command, who, before) + askedWords(change);
 }
 
-/** Why a change wasn't carried out, or nothing. */
+/** Why a change wasn't carried out; empty if it was. */
 export function refusalWords(outcome: Outcome | undefined): string {
   if (outcome?.kind === "impossible") return outcome.why;
   if (outcome?.kind !== "refused") return "";

@@ -1,4 +1,4 @@
-/** Base against changed: rows of chairs, their order, and the sentence on who gains. All of it is made here. */
+/** Base against changed: rows of chairs, their order, and the sentence on gains. All of it is made here. */
 import type { Counted, Readings } from "./count";
 import { compared, difference, fractionText, grouped, percent, rounded, signed, type Ratio } from "./fractions";
 import { chairIn, measureOf, voteShare, type ChairLine } from "./lines";
@@ -6,7 +6,7 @@ import { chairName } from "./standing";
 import type { Base, View } from "./study";
 import { MAJORITY, type Majority, type Measure } from "./words";
 
-/** A chair at a majority. A value is null where the program prints `-`, and undefined where the chair isn't open. */
+/** A chair at a majority. A value is null if the program prints `-`, and undefined if the chair isn't open. */
 export interface AtMajority {
   readonly before: ChairLine | undefined;
   readonly after: ChairLine | undefined;
@@ -60,7 +60,7 @@ export function chairRows(base: Base, counted: Counted, view: View): ChairRow[] 
   return inOrder(rows, view);
 }
 
-/** Greater numbers first, what is missing last, and equal ones by the chair's number. */
+/** Greater numbers first, missing ones last, and equal ones by the chair's number. */
 function inOrder(rows: ChairRow[], { order, orderAt, measure }: View): ChairRow[] {
   if (order === "number") return rows;
   const key = (row: ChairRow): Ratio | null => {
@@ -82,7 +82,7 @@ export function valueText(ratio: Ratio | null, measure: Measure, digits: number)
   return measure === "share" ? `${percent(ratio, digits)} %` : rounded(ratio, digits + 2);
 }
 
-/** What is added to a measure. Shares are in percentage points. */
+/** The gain in a measure. Shares are in percentage points. */
 export function gainText(gain: Ratio | null, measure: Measure, digits: number): string {
   if (gain === null) return "-";
   if (measure === "swings") return signed(grouped(gain.numerator / gain.denominator));
@@ -106,13 +106,13 @@ function extremes(
   return found;
 }
 
-/** Words, and the fractions behind their numbers with the lines that these come from. */
+/** Words, and the fractions of their numbers with the lines that they come from. */
 export interface Said {
   readonly words: string;
   readonly source: string;
 }
 
-/** A chair's value as its line has it. */
+/** A chair's value in the form of its line. */
 function lineSource(line: ChairLine | undefined, measure: Measure): string {
   return line ? `${fractionText(ratioOf(line, measure))} (line ${line.line})` : "-";
 }
@@ -123,7 +123,7 @@ function gainSource({ chair, name, at }: ChairRow, majority: Majority, measure: 
   return `${chair} ${name}, made here: ${values.join(" less ")}`;
 }
 
-/** Who gains most, or who loses most: a chair's name and its gain. Null where there is nobody. */
+/** The chair that gains most, or loses most: its name and its gain. Null if there is none. */
 function extreme(rows: readonly ChairRow[], view: View, majority: Majority, direction: 1 | -1) {
   const found = extremes(rows, majority, direction);
   const [first] = found?.best ?? [];
@@ -137,13 +137,13 @@ function extreme(rows: readonly ChairRow[], view: View, majority: Majority, dire
   };
 }
 
-/** Who gains most, or who loses most, in a cell of a table. */
+/** The chair that gains most, or loses most, in a cell of a table. */
 export function extremeCell(rows: readonly ChairRow[], view: View, majority: Majority, direction: 1 | -1): Said {
   const found = extreme(rows, view, majority, direction);
   return found ? { words: `${found.who} (${found.gain})`, source: found.source } : { words: "nobody", source: "" };
 }
 
-/** Chairs that are open in the base alone or in the changed board alone, which have no gain. */
+/** Chairs that are open only in the base or only in the changed board, which have no gain. */
 function openedWords(rows: readonly ChairRow[], view: View, majority: Majority): string {
   const named = (what: string, some: readonly ChairRow[]) => {
     const values = some.map((row) => {
@@ -158,7 +158,7 @@ function openedWords(rows: readonly ChairRow[], view: View, majority: Majority):
   return named("New", opened) + named("Closed", closed);
 }
 
-/** The sentence on who gains and who loses most at a majority. */
+/** The sentence on the greatest gain and the greatest loss at a majority. */
 function gainSentence(rows: readonly ChairRow[], view: View, majority: Majority): Said {
   const [best, worst] = [extreme(rows, view, majority, 1), extreme(rows, view, majority, -1)];
   const unit = view.measure === "share" ? " points" : "";
@@ -169,7 +169,7 @@ function gainSentence(rows: readonly ChairRow[], view: View, majority: Majority)
   return { words: `${MAJORITY[majority].at} ${gains}, ${loses}.${openedWords(rows, view, majority)}`, source };
 }
 
-/** The sentence on a base without changes: who has most. */
+/** The sentence on a base without changes: the chair with the greatest measure. */
 function mostSentence(rows: readonly ChairRow[], view: View, majority: Majority): Said {
   const lineOf = (row: ChairRow) => row.at.get(majority)?.after;
   const value = (row: ChairRow) => ratioOf(lineOf(row), view.measure);
@@ -186,7 +186,7 @@ function mostSentence(rows: readonly ChairRow[], view: View, majority: Majority)
   };
 }
 
-/** Why a reading has no power to show: no coalition wins. */
+/** The reason if a reading has no power to show: no coalition wins. */
 export function emptySentence(counted: Counted, majority: Majority): string | null {
   const reading = counted.after.get(majority);
   if (!reading || reading.winning > 0) return null;
@@ -195,7 +195,7 @@ export function emptySentence(counted: Counted, majority: Majority): string | nu
   return `${MAJORITY[majority].at} no coalition wins: ${votes}.`;
 }
 
-/** The sentences of all majorities shown. */
+/** The sentences of all majorities that are shown. */
 export function sentences(rows: readonly ChairRow[], counted: Counted, view: View): Said[] {
   const isChanged = [...counted.outcomes.values()].some((it) => it.kind === "accepted");
   return view.majorities.map((majority) => {

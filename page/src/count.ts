@@ -8,7 +8,7 @@ import { MOST_VOTES, type Majority } from "./words";
 
 export type Replay = (script: string) => Promise<string>;
 
-/** What became of a change. `command` is what stands in the script, and `before` the member as it stood. */
+/** The outcome of a change. `command` is its record in the script, and `before` the member before the change. */
 export type Outcome =
   | { readonly kind: "off" }
   | { readonly kind: "impossible"; readonly why: string }
@@ -24,7 +24,7 @@ export type Outcome =
 /** The readings of one register by majority. */
 export type Readings = ReadonlyMap<Majority, Reading>;
 
-/** What the lines of a list of changes say. */
+/** The values of the lines of a list of changes. */
 export interface Counted {
   readonly script: string;
   readonly lines: string;
@@ -32,10 +32,10 @@ export interface Counted {
   readonly before: Readings;
   readonly after: Readings;
   readonly outcomes: ReadonlyMap<number, Outcome>;
-  /** The members as they stand in the base and after the changes. */
+  /** The members in the base and after the changes. */
   readonly opening: Standing;
   readonly standing: Standing;
-  /** What doesn't fit together; nothing where all checks passed. */
+  /** The numbers that don't fit together; empty if all checks passed. */
   readonly misfits: readonly string[];
 }
 
@@ -55,7 +55,7 @@ export async function answered(replay: Replay, script: string): Promise<{ lines:
   return { lines, answers };
 }
 
-/** The register's own numbers of a member, from two readings: without its votes, and with them. */
+/** The register's own numbers for a member, from two readings: without its votes, and with them. */
 export interface Probe {
   readonly isSuspended: boolean;
   /** The total voting power without the member, and the member's votes. */
@@ -63,7 +63,7 @@ export interface Probe {
   readonly own: number;
 }
 
-/** Asks the register for a member's votes by suspending and restoring it. Null where there is no such member. */
+/** Asks the register for a member's votes by suspending and restoring it. Null if there is no such member. */
 export async function probed(replay: Replay, records: readonly string[], code: string): Promise<Probe | null> {
   const read = readRecords(["half"]);
   const probe = [...records, `suspend,${code}`, ...read, `restore,${code}`, ...read];
@@ -74,14 +74,14 @@ export async function probed(replay: Replay, records: readonly string[], code: s
   return { isSuspended: suspended?.kind === "refused", rest, own: whole.reading.total - rest };
 }
 
-/** The votes that are a share of the total voting power: p/(100-p) of the votes of all others. */
+/** The votes for a share of the total voting power: p/(100-p) of the votes of all others. */
 export function shareVotes(percent: Ratio, rest: number): Ratio | null {
   const left = 100n * percent.denominator - percent.numerator;
   if (left <= 0n || rest === 0) return null;
   return { numerator: percent.numerator * BigInt(rest), denominator: left };
 }
 
-/** The votes that a percentage asks for, exactly, or why there are none. */
+/** The exact votes that a percentage asks for, or why there are none. */
 function asked({ of, code, percent }: Percentage, { isSuspended, rest, own }: Probe): Ratio | string {
   const size = decimalRatio(percent.replace(/^[+-]/, ""));
   if (of === "own") {
@@ -127,7 +127,7 @@ function readingsOf(answers: readonly Answer[]): Readings {
   return new Map(readings.map((it) => [it.majority, it]));
 }
 
-/** Takes a command into the standing where its answer accepts it. */
+/** Applies a command to the standing if its answer accepts it. */
 function outcomeOf(standing: Standing, command: Command, answer: Answer | undefined, name?: string): Outcome {
   if (answer?.kind === "refused") {
     return { kind: "refused", command, line: answer.line, number: answer.number, name: answer.name };
@@ -138,7 +138,7 @@ function outcomeOf(standing: Standing, command: Command, answer: Answer | undefi
   return { kind: "accepted", command, before, line: answer.line };
 }
 
-/** Whether the members that the page shows have the votes that a reading says. */
+/** The differences between the members on the page and a reading, as lines of text. */
 function unlike(standing: Standing, reading: Reading): string[] {
   const wrong = reading.chairs.filter((it) => it.weight !== standing.weight(it.chair));
   const found = wrong.map((it) => `line ${it.line}: chair ${it.chair} has other members here`);
@@ -149,7 +149,7 @@ function unlike(standing: Standing, reading: Reading): string[] {
   return found;
 }
 
-/** Carries out changes on a base, and reads at majorities. Throws a Fault where the run ends in one. */
+/** Carries out changes on a base, and reads at majorities. Throws a Fault if the run ends in one. */
 export async function counted(
   replay: Replay,
   base: Base,

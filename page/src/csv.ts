@@ -14,7 +14,7 @@ const ALL = [
   ...FRACTIONS.flatMap((it) => [`${it}_numerator`, `${it}_denominator`, it, `${it}_difference`]),
 ];
 
-/** A register that was read: its label, and the sweep and its per cent where it is a step of one. */
+/** A register that was read: its label, and the sweep and its per cent if it is a step of one. */
 export interface Labelled {
   readonly label: string;
   readonly sweep?: string;

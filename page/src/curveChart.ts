@@ -25,7 +25,7 @@ export interface CurveModel {
 }
 
 const HEIGHT = 340;
-/** Where points stand close together, about this many dots of a line show their shape. */
+/** If points are close together, the number of dots that show the shape of a line. */
 const SHAPES = 14;
 
 function yOf(ratio: Ratio | null, measure: Measure): number | null {
@@ -43,7 +43,7 @@ function measureAt({ readings }: CurvePoint, { chair, measure }: CurveModel, maj
   return line ? yOf(measureOf(line, measure), measure) : null;
 }
 
-/** The path through points; it is broken where one has no value. */
+/** The path through points; it is broken at a point without a value. */
 function pathOf(points: readonly (readonly [number, number | null])[]): string {
   let isOpen = false;
   return points
@@ -61,7 +61,7 @@ function pathOf(points: readonly (readonly [number, number | null])[]): string {
 
 const DASHES: Readonly<Record<Majority, string>> = { half: "", "70": "7 3", "85": "2 3", quorum: "9 3 2 3" };
 
-/** A chart that is being drawn: where its plot stands, and what places are for values. */
+/** A chart that is being drawn: the place of its plot, and the scales. */
 interface Plot {
   readonly root: Selection;
   readonly model: CurveModel;
@@ -95,7 +95,7 @@ export function drawCurve(place: Element, model: CurveModel, look: Look): void {
   ended(frame, look, bottom + 38);
 }
 
-/** Draws the axes of the plot, the one of the measure over values with a little room: its scale. */
+/** Draws the axes of the plot, and returns the scale of the measure, with a little room around its values. */
 function drawAxes(
   { root, model, look, left, right, top, bottom, x }: Plot,
   values: readonly (number | null)[],
@@ -118,7 +118,7 @@ function drawAxes(
   return y;
 }
 
-/** Draws the chair's share of the votes, with an axis of its own. */
+/** Draws the chair's share of the votes, with a separate axis. */
 function drawVotes({ root, model, look, right, top, bottom, x }: Plot): void {
   const { palette, width } = look;
   const votes = model.points.map((it) => votesAt(it, model.chair));

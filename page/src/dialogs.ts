@@ -1,7 +1,7 @@
-/** Dialogs: each is made when it opens and taken away when it closes. */
+/** Dialogs: each is made when it opens and removed when it closes. */
 import { button, h, type Child } from "./dom";
 
-/** Opens a dialog with a heading. It closes by its button, by Escape and by what `close` returns. */
+/** Opens a dialog with a heading. It closes by its button, by Escape and by the function that `close` returns. */
 export function openDialog(
   id: string,
   title: string,

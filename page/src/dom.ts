@@ -31,7 +31,7 @@ export function h<Name extends keyof HTMLElementTagNameMap>(
   return element;
 }
 
-/** Gives a place other children. What had the focus has it again, found by its id. */
+/** Replaces the children of a place. The element that had the focus has it again, found by its id. */
 export function paint(place: Element, ...children: Child[]): void {
   const { activeElement } = document;
   const id = activeElement && place.contains(activeElement) ? activeElement.id : "";

@@ -45,7 +45,7 @@ export function draggable(app: App, list: HTMLElement): void {
   select(list).selectAll(".chip").call(dragging);
 }
 
-/** A member that is carried by keyboard, and the place of the card that is aimed at. */
+/** A member that is carried by keyboard, and the place of the card that it aims at. */
 let held: { code: string; at: number } | null = null;
 
 function cards(): HTMLElement[] {

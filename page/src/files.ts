@@ -1,4 +1,4 @@
-/** What is opened, dropped or pasted: a table, a script, a page with a study in it, or the file beside a script. */
+/** Opened, dropped or pasted input: a table, a script, a page with a study in it, or the file next to a script. */
 import { dsvFormat } from "d3-dsv";
 import type { App } from "./app";
 import { answered, Fault } from "./count";
@@ -11,7 +11,7 @@ import { textOfBytes } from "./table";
 import { reasonOf } from "./words";
 import { openTable } from "./views/tableDialog";
 
-/** Says why something can't be taken. The study before stays. */
+/** Reports why something can't be read. The previous study is kept. */
 function refuse(why: string): void {
   openDialog("refusal", "This can't be taken", (close) => [
     h("p", { class: "wrong", role: "alert" }, why),
@@ -38,7 +38,7 @@ function recordsOf(text: string): string[][] {
   return dsvFormat(",").parseRows(text).filter((fields) => fields.length > 1 || fields[0] !== "");
 }
 
-/** Takes a script. The program looks at it first. */
+/** Reads a script. The program checks it first. */
 async function takeScript(app: App, given: string, name: string): Promise<void> {
   await answered(app.replay, given);
   const text = given.replace(/^\ufeff/, "").replace(/\r\n/g, "\n");
@@ -58,7 +58,7 @@ async function takeScript(app: App, given: string, name: string): Promise<void> 
   takeData(app, { study, view: { ...app.view, majorities, orderAt: majorities[0] ?? "half" } });
 }
 
-/** Takes the file beside a script, and the script where it came with it. */
+/** Reads the file next to a script, and the script if it came with it. */
 async function takeBeside(app: App, json: string, script: string | null): Promise<void> {
   const data = readData(json);
   if (!data) throw new Error("the file has no study in it");
@@ -86,7 +86,7 @@ function wordsOf(why: unknown): string {
   return `fault,${why.record},${why.name}: ${reasonOf(why.name)}${why.record ? `, at record ${why.record}` : ""}`;
 }
 
-/** Reads a text, and says why where it can't. */
+/** Reads a text, and reports why if it can't. */
 export async function readText(app: App, text: string, name: string, notices: readonly string[] = []): Promise<void> {
   try {
     await takeText(app, text, name, notices);
@@ -99,14 +99,14 @@ function bareName(name: string): string {
   return name.replace(/\.[a-z]+$/i, "");
 }
 
-/** Reads files: one, or a script and the file beside it. */
+/** Reads files: one, or a script and the file next to it. */
 export async function readFiles(app: App, files: readonly File[]): Promise<void> {
   const read = await Promise.all(
     files.map(async (file) => ({ name: bareName(file.name), ...textOfBytes(await file.arrayBuffer()) })),
   );
-  const beside = read.find((it) => /^\s*\{\s*"format": "board study/.test(it.text));
+  const dataFile = read.find((it) => /^\s*\{\s*"format": "board study/.test(it.text));
   const script = read.find((it) => isScript(it.text));
-  if (beside && script) await takeBeside(app, beside.text, script.text).catch((why) => refuse(wordsOf(why)));
+  if (dataFile && script) await takeBeside(app, dataFile.text, script.text).catch((why) => refuse(wordsOf(why)));
   else if (read.length > 1) refuse(
     "Several files: a script and the file beside it can come together, others one by one.",
   );

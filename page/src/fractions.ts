@@ -6,7 +6,7 @@ export interface Ratio {
   readonly denominator: bigint;
 }
 
-/** The fraction, or null where the denominator is 0. */
+/** The fraction, or null if the denominator is 0. */
 export function over(numerator: number | bigint, denominator: number | bigint): Ratio | null {
   return BigInt(denominator) === 0n ? null : { numerator: BigInt(numerator), denominator: BigInt(denominator) };
 }
@@ -16,7 +16,7 @@ export function fractionText(ratio: Ratio | null): string {
   return ratio === null ? "-" : `${ratio.numerator}/${ratio.denominator}`;
 }
 
-/** What is added to `before` to make `after`, or null where one is missing. */
+/** The difference from `before` to `after`, or null if one is missing. */
 export function difference(after: Ratio | null, before: Ratio | null): Ratio | null {
   if (after === null || before === null) return null;
   const numerator = after.numerator * before.denominator - before.numerator * after.denominator;
@@ -56,18 +56,18 @@ export function percent(ratio: Ratio, places: number): string {
   return rounded(times(ratio, 100n), places);
 }
 
-/** A decimal with its sign also where it is above 0. */
+/** A decimal with its sign even if it is above 0. */
 export function signed(decimal: string): string {
   return decimal.startsWith("-") || !/[1-9]/.test(decimal) ? decimal : `+${decimal}`;
 }
 
-/** The fraction that a plain decimal such as `12.5` says. */
+/** The value of a plain decimal such as `12.5`, as a fraction. */
 export function decimalRatio(text: string): Ratio {
   const [whole = "", part = ""] = text.split(".");
   return { numerator: BigInt(whole + part), denominator: 10n ** BigInt(part.length) };
 }
 
-/** Where a fraction is drawn: the one place where a number becomes a floating one. */
+/** A fraction for drawing: the one place where a number becomes a floating one. */
 export function drawn(ratio: Ratio): number {
   return Number((ratio.numerator * 10n ** 12n) / ratio.denominator) / 1e12;
 }

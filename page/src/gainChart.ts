@@ -1,4 +1,4 @@
-/** The chart of what is added: a bar for each chair and majority, to the right of the line or to the left. */
+/** The chart of gains: a bar for each chair and majority, to the right of the line or to the left. */
 import { axisTop } from "d3-axis";
 import { scaleLinear, type Linear } from "d3-scale";
 import type { Selection } from "d3-selection";
@@ -12,7 +12,7 @@ import type { PowerModel } from "./powerChart";
 import { MEASURE, type Majority, type Measure } from "./words";
 
 const [LANE, SPACE] = [12, 8] as const;
-/** Hatches by majority, so that bars can be told apart without colour: an angle and a distance. */
+/** Hatches by majority, so that bars can be distinguished without colour: an angle and a distance. */
 const HATCHES: Readonly<Record<Majority, readonly [number, number]>> = {
   half: [0, 3],
   "70": [45, 5],
@@ -35,7 +35,7 @@ function hatches(root: Selection, majorities: readonly Majority[], look: Look): 
   }
 }
 
-/** What is added to a chair: a value for each lane, the votes first where the measure is a share. */
+/** The gains of a chair: a value for each lane, the votes first if the measure is a share. */
 function lanesOf(row: ChairRow, model: PowerModel): (readonly [Majority | "votes", number | null])[] {
   const votes = difference(row.votesAfter, row.votesBefore);
   const first = model.measure === "share" ? [["votes", votes && place(votes, "share")] as const] : [];

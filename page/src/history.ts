@@ -11,7 +11,7 @@ export class History<State> {
     return this.now;
   }
 
-  /** Takes a state. States of one gesture, such as a slider that moves, are one step of undo. */
+  /** Adds a state. States of one gesture, such as a slider that moves, are one step of undo. */
   take(state: State, gesture = ""): void {
     if (gesture === "" || gesture !== this.#gesture) this.#past.push(this.now);
     this.#gesture = gesture;
@@ -19,7 +19,7 @@ export class History<State> {
     this.now = state;
   }
 
-  /** Ends a gesture: the next state is a step of its own. */
+  /** Ends a gesture: the next state is a separate step. */
   rest(): void {
     this.#gesture = "";
   }

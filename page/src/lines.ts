@@ -27,7 +27,7 @@ export interface Reading {
   readonly chairs: readonly ChairLine[];
 }
 
-/** What the program answers to one record of the script. */
+/** The answer of the program to one record of the script. */
 export type Answer =
   | { readonly kind: "accepted"; readonly line: number }
   | { readonly kind: "refused"; readonly line: number; readonly number: number; readonly name: string }
@@ -92,17 +92,17 @@ export function voteShare(reading: Reading, chair: ChairLine): Ratio | null {
   return over(chair.weight, reading.cast);
 }
 
-/** A chair's measure, as its line has it. Swings are a fraction over 1. */
+/** A chair's measure, in the form of its line. Swings are a fraction over 1. */
 export function measureOf(chair: ChairLine, measure: Measure): Ratio | null {
   return measure === "swings" ? over(chair.swings, 1) : chair[measure];
 }
 
-/** A chair of a reading, or undefined where it isn't open. */
+/** A chair of a reading, or undefined if it isn't open. */
 export function chairIn(reading: Reading | undefined, chair: number): ChairLine | undefined {
   return reading?.chairs.find((it) => it.chair === chair);
 }
 
-/** What doesn't fit in the numbers of a reading; nothing where all is well. */
+/** The numbers of a reading that don't fit together; empty if all is well. */
 export function misfits(reading: Reading): string[] {
   const { line, cast, coalitions, winning, chairs } = reading;
   const all = allSwings(reading);

@@ -1,4 +1,4 @@
-/** The controls that stand in the page from its beginning. */
+/** The controls that are in the page from its beginning. */
 import type { App } from "./app";
 import { byId } from "./dom";
 import { readFiles, readText } from "./files";

@@ -1,4 +1,4 @@
-/** What the build wrote into the page: the version, the commit, and the module with its hash. */
+/** The build's records in the page: the version, the commit, and the module with its hash. */
 import made from "../out/made.json";
 
 export const VERSION = made.version;
@@ -13,10 +13,10 @@ export function moduleBytes(): Uint8Array {
   return Uint8Array.from(atob(text.trim()), (letter) => letter.charCodeAt(0));
 }
 
-/** What stands in place of a hash where the browser gives none. */
+/** The text in place of a hash if the browser gives none. */
 export const NO_HASH = "not available in this browser";
 
-/** The SHA-256 of bytes or of a text, in hexadecimal; or words where the browser gives none. */
+/** The SHA-256 of bytes or of a text, in hexadecimal; or words if the browser gives none. */
 export async function hashOf(content: Uint8Array | string): Promise<string> {
   if (!globalThis.crypto?.subtle) return NO_HASH;
   const bytes = typeof content === "string" ? new TextEncoder().encode(content) : content;

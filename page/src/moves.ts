@@ -1,4 +1,4 @@
-/** Where a member is moved: to a chair, to none, or to a new chair, which is opened first. */
+/** Moves of a member: to a chair, to none, or to a new chair, which is opened first. */
 import type { App } from "./app";
 import { withAdded, type Command } from "./study";
 import { closedChair } from "./views/chairs";

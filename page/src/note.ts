@@ -1,4 +1,4 @@
-/** What a number's title says, for a finger: a tap on the number shows it in a note. */
+/** The title of a number, for touch screens: a tap on the number shows it in a note. */
 import { h } from "./dom";
 
 const SECONDS = 12;

@@ -1,4 +1,4 @@
-/** An independent count, from the definitions alone: over all 2^n coalitions, one after the other. It is no source. */
+/** An independent count, from the definitions alone: over all 2^n coalitions, one after another. It is no source. */
 import type { Majority } from "./words";
 
 /** The chairs' votes, the total of all members, and a majority. */

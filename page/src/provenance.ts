@@ -1,8 +1,8 @@
-/** Where figures come from: version, commit, and the hashes of module, table, script and lines. */
+/** The provenance of figures: version, commit, and the hashes of module, table, script and lines. */
 import type { Shown } from "./app";
 import { COMMIT, hashOf, MODULE_HASH, VERSION } from "./made";
 
-/** The lines that stand first in each file that is exported. */
+/** The first lines of each exported file. */
 export async function provenance({ study, counted }: Shown): Promise<string[]> {
   const [script, lines] = await Promise.all([hashOf(counted.script), hashOf(counted.lines)]);
   const choices = study.base.choices.map((it) => `choice: ${it}`);

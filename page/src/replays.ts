@@ -1,4 +1,4 @@
-/** Where scripts are replayed: in a worker made from a blob where the browser has that for a file, else in the page. */
+/** The place of replays: a worker made from a blob if the browser allows that for a file, else the page. */
 import workerText from "../out/worker.txt";
 import { replayOver, type Replayed } from "./module";
 import { plainCount, type Weights } from "./plain";
@@ -8,7 +8,7 @@ export interface Replays {
   /** `worker` or `page`. */
   readonly place: string;
   replay(script: string): Promise<Replayed>;
-  /** The independent count; it stands outside the line of replays. */
+  /** The independent count; it doesn't wait for the replays. */
   plain(weights: Weights): Promise<number[]>;
 }
 
@@ -59,7 +59,7 @@ function inPage(bytes: Uint8Array): Replays {
   };
 }
 
-/** Makes the place of replays. It fails where the browser can't run the module. */
+/** Makes the place of replays. It fails if the browser can't run the module. */
 export async function replaysOver(bytes: Uint8Array): Promise<Replays> {
   try {
     const desk = new Desk();

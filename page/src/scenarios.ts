@@ -12,7 +12,7 @@ interface Kept {
 export class ScenarioCounts {
   readonly #kept = new WeakMap<Scenario, Kept>();
 
-  /** What was counted of a scenario, or undefined where that isn't done yet. */
+  /** The count of a scenario, or undefined if it isn't made yet. */
   of(base: Base, scenario: Scenario, majorities: readonly Majority[]): Counted | undefined {
     const kept = this.#kept.get(scenario);
     return kept?.base === base && kept.at === majorities.join() ? kept.counted : undefined;

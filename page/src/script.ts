@@ -1,4 +1,4 @@
-/** Scripts for `board replay`: the text of one, and the study that one says. */
+/** Scripts for `board replay`: the text of a study's script, and the study of a script. */
 import type { Base, Command, Member } from "./study";
 import { MAJORITIES, type Majority } from "./words";
 
@@ -40,7 +40,7 @@ export function scriptOf(base: Base, commands: readonly Command[], majorities: r
   return textOf([...baseRecords(base), ...reads, ...commands.map(recordOf), ...reads]);
 }
 
-/** A command that the fields of a record say, or null for `publish` and `read`. */
+/** The command of a record's fields, or null for `publish` and `read`. */
 function commandOf(fields: readonly string[]): Command | null {
   const [word = "", first = "", second = ""] = fields;
   switch (word) {
@@ -61,7 +61,7 @@ function commandOf(fields: readonly string[]): Command | null {
   }
 }
 
-/** What a script says: its base up to the first publication, the commands behind it, and the majorities read. */
+/** The values of a script: its base up to the first publication, the commands after it, and the majorities read. */
 export interface ReadScript {
   readonly members: readonly Member[];
   readonly base: readonly Command[];

@@ -1,7 +1,7 @@
-/** Which member and which chair a name means: the table's members, and the commands that the program accepted. */
+/** The member and the chair of a name: the table's members, and the commands that the program accepted. */
 import type { Base, Command, Member } from "./study";
 
-/** A member as it stands: its chair, or null where it is in none. */
+/** A member's present place: its chair, or null if it is in none. */
 export interface Place {
   readonly code: string;
   readonly name: string;
@@ -30,7 +30,7 @@ export class Standing {
     return new Standing(new Map(this.#places), new Set(this.#open));
   }
 
-  /** Takes in a command that the program accepted. */
+  /** Applies a command that the program accepted. */
   take(command: Command, name = ""): void {
     switch (command.word) {
       case "open":

@@ -1,7 +1,7 @@
 /** A study: the table's register, the changes, and named scenarios. Nothing in it is changed in place. */
 import type { Majority, Measure } from "./words";
 
-/** A member of the table; its row there, from 1, or 0 where it has none. */
+/** A member of the table; its row there, from 1, or 0 if it has none. */
 export interface Member {
   readonly code: string;
   readonly name: string;
@@ -9,7 +9,7 @@ export interface Member {
   readonly row: number;
 }
 
-/** A command of a script, as docs/FORMATS.md has it. A chair that is null is `none`. */
+/** A command of a script, as in docs/FORMATS.md. A chair that is null is `none`. */
 export type Command =
   | { readonly word: "open" | "close"; readonly chair: number }
   | { readonly word: "move"; readonly code: string; readonly chair: number | null }
@@ -24,7 +24,7 @@ export interface Percentage {
   readonly percent: string;
 }
 
-/** A change in the list. One that is switched off stays there and isn't carried out. */
+/** A change in the list. One that is switched off stays in the list and isn't carried out. */
 export interface Change {
   readonly id: number;
   readonly on: boolean;
@@ -65,7 +65,7 @@ export type Tab = typeof TABS[number];
 export const ORDERS = ["number", "votes", "power", "gain"] as const;
 export type Order = typeof ORDERS[number];
 
-/** How a study is looked at. It changes no number. */
+/** The view of a study. It changes no number. */
 export interface View {
   readonly majorities: readonly Majority[];
   readonly measure: Measure;

@@ -1,4 +1,4 @@
-/** A study as data: in a page that holds one, and in the file beside an exported script. What is read is checked. */
+/** A study as data: in a page that holds one, and in the file next to an exported script. It checks what it reads. */
 import {
   FIRST_VIEW, ORDERS, TABS, type Base, type Change, type Command, type Member, type Percentage, type Scenario,
   type Study, type View,
@@ -10,7 +10,7 @@ export interface StudyData {
   readonly view: View;
 }
 
-/** The data as a text that may stand in a page. */
+/** The data as a text that is safe in a page. */
 export function dataText(data: StudyData, provenance: readonly string[]): string {
   return JSON.stringify({ format: "board study 1", provenance, ...data }, null, 1).replace(/</g, "\\u003c");
 }
@@ -156,7 +156,7 @@ function view(value: unknown): View {
   };
 }
 
-/** The study that a text of data says, or null where it says none. Throws where it is no study. */
+/** The study in a text of data, or null if it has none. Throws if it isn't a study. */
 export function readData(json: string): StudyData | null {
   const found: unknown = JSON.parse(json);
   if (found === null) return null;

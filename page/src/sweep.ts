@@ -11,7 +11,7 @@ export type Who =
   | { readonly kind: "member"; readonly code: string }
   | { readonly kind: "chair"; readonly chair: number };
 
-/** What is swept. From, to and by are plain decimals: votes, or per cent of the total voting power. */
+/** A sweep's request. From, to and by are plain decimals: votes, or per cent of the total voting power. */
 export interface SweepAsked {
   readonly who: Who;
   readonly on: "base" | "changed";
@@ -21,14 +21,14 @@ export interface SweepAsked {
   readonly by: string;
 }
 
-/** A point: its value as asked for, the votes of what is swept, and the readings. */
+/** A point: its value as requested, the votes of the swept members, and the readings. */
 export interface SweepPoint {
   readonly value: string;
   readonly votes: number;
   readonly readings: Readings;
 }
 
-/** The least votes from which something holds, or with `isFrom` false, from which it doesn't hold any more. */
+/** The least votes from which a statement holds, or with `isFrom` false, from which it doesn't hold any more. */
 export interface Threshold {
   readonly majority: Majority;
   readonly what: Statement;
@@ -49,7 +49,7 @@ export interface Swept {
   readonly milliseconds: number;
 }
 
-/** Why a sweep can't be made. */
+/** The reason why a sweep can't be made. */
 export class BadSweep extends Error {}
 
 const MOST_POINTS = 1001;
@@ -114,7 +114,7 @@ export function sharedOut(votes: number, members: readonly Place[]): Command[] {
   return members.map((it, at) => ({ word: "votes", code: it.code, votes: Number(given[at] ?? 0n) }));
 }
 
-/** What a sweep moves: how many votes stand beside it in the total, its chair, and the commands for some votes. */
+/** The target of a sweep: the votes of all others in the total, its chair, and the commands for some votes. */
 interface Target {
   readonly rest: number;
   readonly chair: number;
@@ -245,7 +245,7 @@ async function thresholdsOf(
 
 const ZERO: Ratio = { numerator: 0n, denominator: 1n };
 
-/** The text of a sweep as board_study has it: `XAA 10..20 by 0.5 %`. */
+/** The text of a sweep in board_study's form: `XAA 10..20 by 0.5 %`. */
 export function sweepText({ who, unit, from, to, by }: SweepAsked): string {
   const name = who.kind === "member" ? who.code : `chair ${who.chair}`;
   return `${name} ${from}..${to} by ${by}${unit === "percent" ? " %" : " votes"}`;

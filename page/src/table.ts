@@ -4,7 +4,7 @@ import { counted } from "./fractions";
 import type { Base, Command, Member } from "./study";
 import { CHAIRS, MOST_CHAIRS, MOST_MEMBERS, MOST_VOTES, reasonOf } from "./words";
 
-/** What a column may mean. */
+/** The meanings of a column. */
 export const MEANINGS = ["code", "name", "votes", "chair", "chairName"] as const;
 export type Meaning = typeof MEANINGS[number];
 export const MEANING_WORDS: Readonly<Record<Meaning, string>> = {
@@ -15,22 +15,22 @@ export const MEANING_WORDS: Readonly<Record<Meaning, string>> = {
   chairName: "Chair's name",
 };
 
-/** A table as cells without blanks round them. Row n of the sheet is `rows[n - 1]`. */
+/** A table as cells without blanks around them. Row n of the sheet is `rows[n - 1]`. */
 export interface Sheet {
   readonly rows: readonly (readonly string[])[];
   readonly width: number;
-  /** What parts thousands in its numbers; a comma or a point comes first. */
+  /** The marks that separate thousands in its numbers; a comma or a point comes first. */
   readonly marks: string;
   readonly notices: readonly string[];
 }
 
-/** The row of the header, 0 where there is none; and the column of each meaning, -1 where there is none. */
+/** The row of the header, 0 if there is none; and the column of each meaning, -1 if there is none. */
 export interface Layout {
   readonly header: number;
   readonly columns: Readonly<Record<Meaning, number>>;
 }
 
-/** The user's answers. What is null isn't answered, and neither is a row that may be the total and isn't in `totals`. */
+/** The user's answers. A null isn't answered, and neither is a row that may be the total and isn't in `totals`. */
 export interface Answers {
   readonly merged: boolean | null;
   readonly totals: ReadonlyMap<number, boolean>;
@@ -44,14 +44,14 @@ export interface Row {
   readonly cells: Readonly<Record<Meaning, string>>;
 }
 
-/** A cell that can't be taken. */
+/** A cell that can't be read. */
 export interface CellFault {
   readonly row: number;
   readonly meaning: Meaning;
   readonly reason: string;
 }
 
-/** What a table says. It is whole where it has a base. */
+/** The contents of a table. It is complete if it has a base. */
 export interface ReadTable {
   readonly base: Omit<Base, "hash"> | null;
   readonly faults: readonly CellFault[];
@@ -63,7 +63,7 @@ export interface ReadTable {
 
 const BLANKS = " \u00a0\u2009\u202f";
 const APOSTROPHES = "'\u2019";
-/** What pandas and R write behind whole numbers of a column with a gap. Three zeros could be thousands. */
+/** The decimals that pandas and R write after whole numbers of a column with a gap. Three zeros could be thousands. */
 const ZEROS = /\.00?$/;
 const DECIMAL = /^[0-9]+[.,][0-9]+$/;
 
@@ -74,7 +74,7 @@ function encodingWords(encoding: string, text: string): string {
   return `The table was read as ${encoding}${look}`;
 }
 
-/** The text of a file, and how it was read where it wasn't UTF-8. */
+/** The text of a file, and how it was read if it wasn't UTF-8. */
 export function textOfBytes(bytes: ArrayBuffer): { text: string; notices: string[] } {
   const start = new Uint8Array(bytes.slice(0, 2));
   const mark = ((start[0] ?? 0) << 8) | (start[1] ?? 0);
@@ -96,14 +96,14 @@ function emptied(text: string, delimiters: string): string {
   return text.replace(quoted, "$1");
 }
 
-/** What parts the cells: the one of tab, semicolon and comma that stands there most often, outside of quotes. */
+/** The delimiter of cells: the one of tab, semicolon and comma that appears most often, outside of quotes. */
 function delimiterOf(text: string): string {
   const bare = emptied(text, "\t;,");
   const count = (delimiter: string) => bare.split(delimiter).length;
   return ["\t", ";", ","].reduce((best, next) => (count(next) > count(best) ? next : best));
 }
 
-/** Sees that each quoted cell is closed, and that nothing stands behind its quotes. */
+/** Checks that each quoted cell is closed, and that no text follows its quotes. */
 function checkQuotes(text: string, delimiter: string): void {
   const bare = emptied(text, delimiter);
   const at = bare.search(new RegExp(`(^|${delimiter})"`, "m"));
@@ -112,7 +112,7 @@ function checkQuotes(text: string, delimiter: string): void {
   throw new Error(`row ${row}: a quoted cell isn't closed, or something stands behind its quotes`);
 }
 
-/** What may part thousands: a comma or a point, apostrophes and blanks. */
+/** The separators of thousands: a comma or a point, apostrophes and blanks. */
 export function marksWith(mark: string): string {
   return mark + APOSTROPHES + BLANKS;
 }
@@ -129,7 +129,7 @@ export function sheetOf(text: string, notices: readonly string[] = []): Sheet {
   return { rows: trimmed, width: trimmed.reduce((most, row) => Math.max(most, row.length), 0), marks, notices };
 }
 
-/** A whole number; one of the marks may stand between its thousands, and .0 behind it. Null where the cell is none. */
+/** A whole number; one of the marks may separate its thousands, and .0 may follow. Null if the cell is none. */
 function wholeOf(cell: string, marks: string): number | null {
   const whole = cell.replace(ZEROS, "");
   const found = new RegExp(`^(?:[0-9]{1,20}|[0-9]{1,3}([${marks}])[0-9]{3}(?:\\1[0-9]{3})*)$`).exec(whole);
@@ -149,7 +149,7 @@ const HEADS: Readonly<Record<Meaning, RegExp>> = {
   name: /name|member|country/i,
 };
 
-/** Whether a cell is a number, also one that is refused. */
+/** Whether a cell is a number, even if it is refused. */
 function isNumber(sheet: Sheet, cell: string): boolean {
   return wholeOf(cell, sheet.marks) !== null || DECIMAL.test(cell);
 }
@@ -164,7 +164,7 @@ function headerOf(sheet: Sheet): number {
   return at + 1;
 }
 
-/** A column that no other meaning has and whose cells are mostly so. */
+/** A column that no other meaning has and most of whose cells satisfy `like`. */
 function columnLike(sheet: Sheet, header: number, taken: ReadonlySet<number>, like: (cell: string) => boolean): number {
   const rows = sheet.rows.slice(header);
   const columns = Array.from({ length: sheet.width }, (_, at) => at).filter((at) => !taken.has(at));
@@ -237,7 +237,7 @@ function blanksOf(rows: readonly Row[]): number[] {
   return rows.slice(first).flatMap(({ row, cells }) => (cells.chair === "" ? [row] : []));
 }
 
-/** Rows with the chair of the row above where theirs is blank. A chair's name stands for all of its rows. */
+/** Rows with the chair of the row above where theirs is blank. A chair's name applies to all of its rows. */
 function filledDown(rows: readonly Row[]): Row[] {
   let chair = "";
   return rows.map(({ row, cells }) => {
@@ -246,7 +246,7 @@ function filledDown(rows: readonly Row[]): Row[] {
   });
 }
 
-/** What is wrong with rows as a whole: more cells than the header has, or no name where codes are made from names. */
+/** The faults of rows as a whole: more cells than the header has, or no name if codes are made from names. */
 function rowFaults(sheet: Sheet, { header, columns }: Layout, rows: readonly Row[]): CellFault[] {
   const width = sheet.rows[header - 1]?.length ?? sheet.width;
   const cellsOf = (row: number) => sheet.rows[row - 1] ?? [];
@@ -286,7 +286,7 @@ export function madeCodes(names: readonly string[]): string[] {
   });
 }
 
-/** Reads rows one by one, and keeps what is wrong with them. */
+/** Reads rows one by one, and keeps their faults. */
 class Reader {
   readonly faults: CellFault[] = [];
   readonly members: Member[] = [];
@@ -294,7 +294,7 @@ class Reader {
   readonly #marks: string;
   readonly #byName: boolean;
   readonly #rowOfCode = new Map<string, number>();
-  /** The names of chairs from their own column; and numbers and names of chairs that stand there by name. */
+  /** The names of chairs from their own column; and numbers and names of chairs that cells give by name. */
   readonly #names = new Map<number, string>();
   readonly #numbered = new Map<string, readonly [number, string]>();
 
@@ -322,12 +322,12 @@ class Reader {
     return [...opens, ...this.#seats];
   }
 
-  /** The chairs that stand there by name, in the order of their numbers. */
+  /** The chairs that cells give by name, in the order of their numbers. */
   numbered(): (readonly [number, string])[] {
     return [...this.#numbered.values()];
   }
 
-  /** The chairs' names: those of the column of names, else those by which the chairs stand there. */
+  /** The chairs' names: those of the column of names, else the names in the chairs' cells. */
   chairNames(): Record<number, string> {
     return Object.fromEntries([...this.numbered(), ...this.#names]);
   }
@@ -365,7 +365,7 @@ class Reader {
     return CHAIRS.includes(chair) ? chair : this.#refuse(row, "chair", `BadChair: ${reasonOf("BadChair")}`);
   }
 
-  /** Numbers chairs in the order in which their names come. */
+  /** Numbers chairs in the order in which their names appear. */
   #numberOf(row: number, cell: string): number | null {
     if (!isName(cell)) return this.#refuse(row, "chair", "no chair: the other chairs stand there by name");
     // Small letters, then capitals: so `ß` and `SS` are the same, as in Python's casefold.
@@ -385,7 +385,7 @@ class Reader {
   }
 }
 
-/** How a sheet was read, and what was converted in good rows, in the scripts' sentences. */
+/** How a sheet was read, and the conversions in good rows, in the scripts' sentences. */
 function noticesOf(sheet: Sheet, header: number, rows: readonly Row[], reader: Reader): string[] {
   const bad = new Set(reader.faults.map(({ row }) => row));
   const chairs = reader.numbered().map(([number, name]) => `${number} ${name}`);
@@ -407,7 +407,7 @@ function noticesOf(sheet: Sheet, header: number, rows: readonly Row[], reader: R
   ];
 }
 
-/** What was chosen, in the scripts' sentences, for the list of changes and the exports. */
+/** The choices, in the scripts' sentences, for the list of changes and the exports. */
 function choicesOf(answers: Answers, totals: readonly Row[], blanks: readonly number[]): string[] {
   const left = [...answers.leftOut].sort((one, other) => one - other).map((row) => `Row ${row} was left out`);
   const asked = totals.map((it) => {
@@ -431,14 +431,14 @@ function withCodes(rows: readonly Row[], isMade: boolean): { rows: readonly Row[
   };
 }
 
-/** The column that a table can't do without and that isn't chosen. */
+/** The column that a table needs and that isn't chosen. */
 function missingColumn({ columns: { code, name, votes } }: Layout): CellFault | null {
   if (votes < 0) return { row: 0, meaning: "votes", reason: "no column is chosen" };
   if (code >= 0 || name >= 0) return null;
   return { row: 0, meaning: "code", reason: "no column is chosen, nor one of names to make codes from" };
 }
 
-/** All that is wrong, by row. */
+/** All faults, by row. */
 function faultsOf(sheet: Sheet, layout: Layout, rows: readonly Row[], reader: Reader): CellFault[] {
   const missing = missingColumn(layout);
   if (missing) return [missing];
@@ -451,7 +451,7 @@ export function readTable(sheet: Sheet, layout: Layout, answers: Answers): ReadT
   const all = rowsOf(sheet, layout).filter(({ row }) => !answers.leftOut.has(row));
   const may = totalsOf(all, sheet.marks);
   const left = may.filter(({ row }) => answers.totals.get(row));
-  // Where one row is left out as the total, no other one equals the sum of the others.
+  // If one row is left out as the total, no other one equals the sum of the others.
   const totals = left.length ? left : may;
   const kept = all.filter((row) => !left.includes(row));
   const blanks = blanksOf(kept);

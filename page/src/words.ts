@@ -1,10 +1,10 @@
-/** The words of majorities, measures, refusals and faults, as docs/FORMATS.md and docs/DEFINITIONS.md have them. */
+/** The words of majorities, measures, refusals and faults, from docs/FORMATS.md and docs/DEFINITIONS.md. */
 
 export const MAJORITIES = ["half", "70", "85", "quorum"] as const;
 export type Majority = typeof MAJORITIES[number];
 
 interface MajorityWords {
-  /** As a sentence begins with it. */
+  /** The form at the beginning of a sentence. */
   readonly at: string;
   readonly label: string;
   readonly rule: string;
@@ -47,7 +47,7 @@ interface MeasureWords {
   readonly label: string;
   readonly definition: string;
   readonly source: string;
-  /** The column of the line `chair` that it stands in. */
+  /** Its column of the line `chair`. */
   readonly column: string;
 }
 

@@ -2,7 +2,7 @@
 import { plainCount, type Weights } from "./plain";
 import { replayOver, type Replayed } from "./module";
 
-/** What the page sends, each with a number that the answer has again. */
+/** An order of the page, with a number that the answer repeats. */
 export type Order =
   | { readonly id: number; readonly kind: "module"; readonly bytes: Uint8Array }
   | { readonly id: number; readonly kind: "replay"; readonly script: string }
@@ -12,7 +12,7 @@ export type Reply =
   | { readonly id: number; readonly value: Replayed | number[] | null }
   | { readonly id: number; readonly error: string };
 
-/** What the page uses of a worker's global scope. */
+/** The part of a worker's global scope that the page uses. */
 declare const self: { onmessage: (event: MessageEvent<Order>) => void; postMessage(reply: Reply): void };
 
 let replay: ((script: string) => Replayed) | null = null;

@@ -1,4 +1,4 @@
-// What a page shows, looked at for people who don't see it well. Run in the page, it gives an object of checks.
+// Checks of a page for people who don't see it well. Run in the page, it returns an object of checks.
 const shapes = "rect, path, circle, ellipse, polygon";
 const canvas = Object.assign(document.createElement("canvas"), { width: 1, height: 1 });
 const pen = canvas.getContext("2d", { willReadFrequently: true });
@@ -27,7 +27,7 @@ function contrast(one, other) {
   return (light + 0.05) / (dark + 0.05);
 }
 
-/** The colour that a thing paints behind what stands on it. */
+/** The colour that an element paints as a background. */
 function paint(thing) {
   const style = getComputedStyle(thing);
   if (!thing.matches(shapes)) return channels(style.backgroundColor);
@@ -36,7 +36,7 @@ function paint(thing) {
   return [r, g, b, a * Number(style.fillOpacity) * Number(style.opacity)];
 }
 
-/** How opaque a thing is with all that it stands in. */
+/** The opacity of an element together with that of all its parents. */
 const opacity = (thing) => (thing ? Number(getComputedStyle(thing).opacity) * opacity(thing.parentElement) : 1);
 
 /** The texts of a page, each with its element and its middle on the screen. */
@@ -56,7 +56,7 @@ function texts() {
   return found;
 }
 
-/** The contrast of a text with what is painted behind its middle. */
+/** The contrast of a text with the background of its middle. */
 function contrastOf({ thing, x, y }) {
   const stack = document.elementsFromPoint(x, y);
   const at = stack.indexOf(thing);
@@ -67,7 +67,7 @@ function contrastOf({ thing, x, y }) {
   return contrast(over([r, g, b, a * opacity(thing)], ground), ground);
 }
 
-/** The texts that contrast with their ground by less than `least`. */
+/** The texts whose contrast with their background is below `least`. */
 function faint(least) {
   const sheet = new CSSStyleSheet();
   sheet.replaceSync("* { pointer-events: auto !important; }");
@@ -77,7 +77,7 @@ function faint(least) {
   return found.filter(([, much]) => much < least);
 }
 
-/** What Tab leads to now: what it is, its place on the screen, and whether one sees that it has the focus. */
+/** The element that Tab leads to now: its kind, its place on the screen, and whether its focus is visible. */
 function focused() {
   const thing = document.activeElement;
   const { outlineStyle, outlineWidth, boxShadow } = getComputedStyle(thing);
@@ -86,7 +86,7 @@ function focused() {
   return { what: thing.outerHTML.slice(0, 120), left, top, width, height, isRinged, isBody: thing === document.body };
 }
 
-/** What is wider than the page, but for what scrolls within a box of its own. */
+/** The elements wider than the page, except those that scroll within their own box. */
 function wide(most) {
   const isBox = (it) => /auto|scroll|hidden/.test(getComputedStyle(it).overflowX);
   const scrolls = (it) => it && (isBox(it) || scrolls(it.parentElement));

@@ -1,4 +1,4 @@
-"""Random acts of a user, from a seed, and the commands that they must come to."""
+"""Random acts of a user, from a seed, and the commands that must result from them."""
 from __future__ import annotations
 
 import re
@@ -11,13 +11,13 @@ from board_python.errors import BadInput
 from board_python.standing import standing_of
 from oracle import Oracle
 
-# A word of acts.js, and what it needs: the fields of a command, or a place in the list of changes.
+# A word of acts.js, and its arguments: the fields of a command, or a place in the list of changes.
 Act = list[str]
 
 
 @dataclass(frozen=True)
 class Change:
-    """A change in the list: its command, where per cent may stand for votes as in board_study."""
+    """A change in the list: its command, where per cent may replace votes as in board_study."""
 
     command: str
     is_on: bool = True
@@ -25,14 +25,14 @@ class Change:
 
 @dataclass
 class Model:
-    """The list of changes, as the page must keep it, with what can be undone and redone."""
+    """The list of changes that the page must keep, with the states to undo and redo."""
 
     changes: list[Change] = field(default_factory=list)
     past: list[list[Change]] = field(default_factory=list)
     future: list[list[Change]] = field(default_factory=list)
 
     def take(self, act: Act) -> None:
-        """Takes in an act that the page offered."""
+        """Applies an act that the page offered."""
         if act[0] in ("undo", "redo"):
             origin, to = (self.past, self.future) if act[0] == "undo" else (self.future, self.past)
             to.append(self.changes)
@@ -43,7 +43,7 @@ class Model:
         self.changes = self.after(act)
 
     def after(self, act: Act) -> list[Change]:
-        """The list of changes after an act that is no undo and no redo."""
+        """The list of changes after an act other than undo and redo."""
         word, *rest = act
         changes = [*self.changes]
         if word not in ("switch", "remove", "earlier"):
@@ -57,7 +57,7 @@ class Model:
         return changes
 
     def commands(self, oracle: Oracle) -> list[str]:
-        """The commands of all changes that are on, with numbers of votes where they say per cent. Where there is no
+        """The commands of all changes that are on, with numbers of votes in place of per cent. If there is no
         such number, there is no command; a refused command changes no votes."""
         standing = standing_of(oracle.table)
         commands: list[str] = []
@@ -70,12 +70,12 @@ class Model:
 
 
 def spelled(command: str) -> str:
-    """A command as board_study spells it, which says of a share of the total that it is one."""
+    """A command as board_study spells it, which marks a share of the total as one."""
     return re.sub(",([0-9.]+%)$", r",\1 of total", command)
 
 
 def drawn_command(some: Random, oracle: Oracle) -> Act:
-    """A command on one of a few members, so that commands meet, and some are refused."""
+    """A command on one of a few members, so that commands affect one another, and some are refused."""
     codes = [member.code for member in oracle.table.members]
     code, admitted = some.choice([*codes[:2], *codes[-2:], some.choice(codes)]), some.choice(["ZAA", "ZAB"])
     percent = f"{some.randint(0, 60)}{some.choice(['', '.5', '.25', '.125'])}%"
@@ -93,7 +93,7 @@ def drawn_command(some: Random, oracle: Oracle) -> Act:
 
 
 def drawn_act(some: Random, model: Model, oracle: Oracle) -> Act:
-    """The next thing that a user does."""
+    """The next act of a user."""
     words = ["command"] * 4 + ["undo"] * bool(model.past) + ["redo"] * 2 * bool(model.future)
     words += ["switch", "remove"] * bool(model.changes) + ["earlier"] * (len(model.changes) > 1)
     word = some.choice(words)

@@ -1,5 +1,5 @@
-// What a user does, by the page's own controls but in one call: the arguments are the act and its words. The answer,
-// once the figures are there, is whether the page offers it, or what an export would save.
+// A user's acts, by the page's own controls but in one call: the arguments are the act and its words. The answer, once
+// the figures are complete, is whether the page offers the act, or the content that an export would save.
 const [act, ...words] = [...arguments].slice(0, -1);
 const [answer] = [...arguments].slice(-1);
 const at = (id) => document.getElementById(id);
@@ -10,7 +10,7 @@ function fill(field, text) {
   for (const kind of ["input", "change"]) field.dispatchEvent(new Event(kind, { bubbles: true }));
 }
 
-/** Presses a button, where it is there and can be pressed. */
+/** Presses a button, if it exists and can be pressed. */
 function press(button) {
   if (!button || button.disabled) return false;
   button.click();
@@ -25,7 +25,7 @@ function opened(code) {
   return isThere;
 }
 
-/** Writes into a field of a menu and presses its button; where the field doesn't offer that, it closes the menu. */
+/** Writes into a field of a menu and presses its button; if the field doesn't offer that, it closes the menu. */
 function taken(field, text, button) {
   fill(at(field), text);
   const isOffered = at(field).value === text && at(field).checkValidity();

@@ -1,4 +1,4 @@
-"""Chromium with board.html in it. page/README.md says how the page's places are named."""
+"""Chromium with board.html in it. page/README.md lists the names of the page's parts."""
 from __future__ import annotations
 
 import time
@@ -29,12 +29,12 @@ class Page:
         self.driver.execute_cdp_cmd("Browser.setDownloadBehavior", to)
 
     def open(self, file: Path | None = None, *without: str) -> None:
-        """Opens the page from scratch, or another file, in a browser that lacks what is named."""
+        """Opens the page from scratch, or another file, in a browser that lacks the named features."""
         self.load(file, *without)
         self.settle()
 
     def load(self, file: Path | None = None, *without: str) -> None:
-        """The same, without waiting for figures."""
+        """Loads the page like `open`, without waiting for figures."""
         self.show()
         wanted = {"source": "".join(f"delete window.{it};" for it in without)}
         script = self.driver.execute_cdp_cmd("Page.addScriptToEvaluateOnNewDocument", wanted)
@@ -48,19 +48,19 @@ class Page:
         self.driver.execute_cdp_cmd("Emulation.setEmulatedMedia", {"features": features})
 
     def run(self, script: str, *words: object) -> Any:
-        """What a script returns in the page."""
+        """The value that a script returns in the page."""
         return self.driver.execute_script(script, *words)
 
     def wait_for(self, script: str, *words: object) -> Any:
-        """What a script in the page passes to its last argument, a function."""
+        """The value that a script in the page passes to its last argument, a function."""
         return self.driver.execute_async_script(script, *words)
 
     def look(self, check: str, *words: object) -> Any:
-        """What a check of access.js finds."""
+        """The result of a check of access.js."""
         return self.run(ACCESS, check, *words)
 
     def until(self, holds: Callable[[], Any], what: str) -> Any:
-        """Waits until something holds, and gives it."""
+        """Waits until a condition holds, and returns its value."""
         end = time.monotonic() + SECONDS
         while not (found := holds()):
             assert time.monotonic() < end, f"it never came: {what}"
@@ -73,11 +73,11 @@ class Page:
         return str(self.until(lambda: self.run(state), "figures"))
 
     def all(self, place: str) -> list[WebElement]:
-        """What a CSS selector finds."""
+        """The elements that a CSS selector finds."""
         return list(self.driver.find_elements(By.CSS_SELECTOR, place))
 
     def at(self, place: str) -> WebElement:
-        """The one thing that a CSS selector finds."""
+        """The one element that a CSS selector finds."""
         found = self.all(place)
         assert len(found) == 1, f"{len(found)} things are at {place}"
         return found[0]
@@ -99,7 +99,7 @@ class Page:
         self.settle()
 
     def write(self, place: str, text: str) -> None:
-        """Types a text into a field, in the place of what stands there, and Enter."""
+        """Replaces the text of a field by typing, and presses Enter."""
         self.at(place).send_keys(Keys.CONTROL, "a", Keys.NULL, text, Keys.ENTER)
         self.settle()
 
@@ -109,7 +109,7 @@ class Page:
         self.settle()
 
     def act(self, *words: object) -> Any:
-        """Does what acts.js has, much faster than by mouse and keyboard, and gives its answer."""
+        """Runs an act of acts.js, much faster than by mouse and keyboard, and returns its answer."""
         return self.wait_for(ACTS, *words)
 
     def downloaded(self, place: str) -> tuple[str, bytes]:
@@ -119,7 +119,7 @@ class Page:
         self.at(place).click()
 
         def ended() -> Path | None:
-            """The file, once it is whole: before that it is empty, and stands beside a part of it."""
+            """The file, once it is complete: before that it is empty, and a partial file is next to it."""
             file, *others = [*self.downloads.iterdir(), None]
             is_whole = file and others == [None] and file.suffix != ".crdownload" and file.stat().st_size
             return file if is_whole else None

@@ -1,4 +1,4 @@
-"""What the tests stand on: one browser for all of them, and the page opened from scratch for each."""
+"""Fixtures of the tests: one browser for all of them, and the page opened from scratch for each."""
 from __future__ import annotations
 
 import os
@@ -29,7 +29,7 @@ def browser(tmp_path_factory: pytest.TempPathFactory) -> Iterator[Page]:
 
 @pytest.fixture
 def page(browser: Page) -> Iterator[Page]:
-    """The page, just opened. Whatever a test does, nothing comes on the console."""
+    """The page, just opened. A test fails if anything appears on the console."""
     browser.driver.get_log("browser")
     browser.open()
     yield browser
@@ -43,7 +43,7 @@ def times() -> list[str]:
 
 
 def pytest_unconfigure(config: pytest.Config) -> None:
-    """Prints the times and, as the last line of all, the one that the gate adds up."""
+    """Prints the times, and as the last line the one that the gate adds up."""
     reporter = config.pluginmanager.get_plugin("terminalreporter")
     assert isinstance(reporter, TerminalReporter)
     counts = {name: len(reporter.stats.get(name, [])) for name in ["passed", "failed", "error"]}

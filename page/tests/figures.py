@@ -1,4 +1,4 @@
-"""What the page shows, compared with what the program prints."""
+"""The figures on the page, compared with the program's output."""
 from __future__ import annotations
 
 from fractions import Fraction
@@ -8,10 +8,10 @@ from board_python.rounding import exact
 from chromium import Page
 from oracle import MAJORITIES, Oracle
 
-# For each row of the table behind the chart, or on the tab Table: its chair, and its cells' texts and fractions.
+# For each row of the table of the chart, or on the tab Table: its chair, and its cells' texts and fractions.
 ROWS = """
-  const [done] = [...arguments].slice(-1), behind = document.getElementById("behind");
-  if (behind) behind.open = true;
+  const [done] = [...arguments].slice(-1), box = document.getElementById("behind");
+  if (box) box.open = true;
   (function read() {
     const rows = [...document.querySelectorAll("#chair-table tbody tr")];
     if (!rows.length) return setTimeout(read, 1);
@@ -22,12 +22,12 @@ ROWS = """
 """
 # The cells of a row before those of the majorities: the name, and votes.
 BEFORE = 6
-# The cells of a majority: base, changed, and what is added.
+# The cells of a majority: base, changed, and the gain.
 EACH = 3
 
 
 def rows(page: Page) -> dict[int, list[tuple[str, str]]]:
-    """The table's cells by chair: what stands there, and the exact fraction."""
+    """The table's cells by chair: the text, and the exact fraction."""
     return {chair: [(text, fraction) for text, fraction in cells] for chair, cells in page.wait_for(ROWS)}
 
 
@@ -40,12 +40,12 @@ def measure_of(chair: Chair, measure: str) -> Ratio | None:
 
 
 def fraction_text(ratio: Ratio | None, measure: str) -> str:
-    """A fraction as the page has it: as the program prints it, and swings as a number."""
+    """A fraction in the page's form: as the program prints it, and swings as a number."""
     return "-" if ratio is None else str(ratio.numerator) if measure == "swings" else str(ratio)
 
 
 def check_figures(page: Page, oracle: Oracle, commands: list[str], measure: str = "share") -> None:
-    """The fractions of base and changed are those that the program prints, and so are the votes."""
+    """The fractions of base and changed, and the votes, are those that the program prints."""
     majorities, cells = shown_majorities(page), rows(page)
     for which, some in enumerate((list[str](), commands)):
         for at, reading in enumerate(oracle.output(some, majorities).readings):
@@ -57,7 +57,7 @@ def check_figures(page: Page, oracle: Oracle, commands: list[str], measure: str 
 
 
 def gains(oracle: Oracle, commands: list[str], majority: str) -> dict[int, Fraction]:
-    """What each chair's share of power gains by commands that close no chair and open none."""
+    """The gain in each chair's share of power by commands that close no chair and open none."""
     before, after = (oracle.output(it, [majority]).readings[0].chairs for it in (list[str](), commands))
     shares = [{it.chair: exact(it.share) for it in chairs if it.share} for chairs in (before, after)]
     return {chair: share - shares[0][chair] for chair, share in shares[1].items()}

@@ -45,12 +45,12 @@ class Firefox:
         return result
 
     def run(self, script: str) -> Any:
-        """What a script returns in the page."""
+        """The value that a script returns in the page."""
         return self.send("WebDriver:ExecuteScript", script=script, args=[])["value"]
 
 
 def port_of(profile: Path, process: subprocess.Popen[bytes]) -> int:
-    """The port that Firefox listens on, once it does."""
+    """The port that Firefox listens on, once it is open."""
     file, end = profile / "MarionetteActivePort", time.monotonic() + SECONDS
     while time.monotonic() < end and process.poll() is None:
         if file.exists() and (text := file.read_text()):
@@ -61,7 +61,7 @@ def port_of(profile: Path, process: subprocess.Popen[bytes]) -> int:
 
 @contextmanager
 def firefox() -> Iterator[Firefox]:
-    """A Firefox with a profile of its own, which ends with the block."""
+    """A Firefox with a separate profile, which ends with the block."""
     with tempfile.TemporaryDirectory(ignore_cleanup_errors=True) as folder:
         lines = [f"user_pref({json.dumps(name)}, {json.dumps(value)});\n" for name, value in SETTINGS.items()]
         Path(folder, "user.js").write_text("".join(lines))

@@ -20,7 +20,7 @@ CCC,15000,2
 DDD,12000,3
 EEE,8000,
 """
-# The same as cells: a title above, other names and another order of the columns, thousands, blanks, empty rows.
+# That table as cells: a title above, other names and another order of columns, thousands, blanks, empty rows.
 CELLS = """Votes of 2026|||
 |||
 Director|Voting power|Member|ISO
@@ -31,7 +31,7 @@ Director|Voting power|Member|ISO
 |8,000|Elland|EEE
 |||
 """.replace("|", "\t")
-# The chair stands in the first row of its members alone.
+# The chair is in the first row of its members only.
 MERGED = """code,name,votes,chair
 AAA,Alland,40,1
 BBB,Belland,25,2
@@ -62,7 +62,7 @@ CCC,Celland,15,33
 CCC,Delland,12,2
 EEE,Elland,8,1
 """
-# What is refused, since a guess could be another number, chair or member: the text, and for each bad row some words.
+# Tables that are refused, since a guess could be another number, chair or member: the text, and words for each bad row.
 REFUSED: dict[str, tuple[str, dict[int, str]]] = {
     "three zeros behind a point": (
         "code\tvotes\tchair\nAAA\t40.000\tHills\nBBB\t8.000\tPlains\n",
@@ -92,7 +92,7 @@ REFUSED: dict[str, tuple[str, dict[int, str]]] = {
     "a comma that cuts a number": (HEAD + "AAA,40,001,1\nBBB,5,2\n", {2: "4 cells under a header of 3"}),
     "a letter that has two capitals": (HEAD + "aß,5,1\nBBB,5,2\n", {2: "'aß': BadMember"}),
 }
-# What is read: the text, the answers that are clicked, the same answers for the scripts, and the records that it gives.
+# Tables that are read: the text, the answers that are clicked, the same answers for the scripts, and the records.
 READ: dict[str, tuple[str, list[str], Layout, str]] = {
     "marks, zeros and small letters": (
         HEAD + "AAA,\"9,000\",1.0\nbbb,25000.00,2\nCCC,1'000,2\nDDD,7,1\n",
@@ -143,15 +143,15 @@ READ: dict[str, tuple[str, list[str], Layout, str]] = {
         "ALL,40 BEL,25 script open,1 open,2 move,ALL,1 move,BEL,2",
     ),
 }
-# One member, vote or chair more than the program takes, by the fault's name.
+# One member, vote or chair more than the program accepts, by the fault's name.
 BEYOND = {
     "TooManyMembers": HEAD + "".join(f"{code},1,1\n" for code in codes(257)),
     "VotesTooLarge": HEAD + f"AAA,{2**40 + 1},1\n",
     "BadChair": HEAD + "".join(f"{code},1,{chair}\n" for chair, code in enumerate(codes(33), 1)),
 }
-# As much as the program takes: 256 members, 32 chairs, 2^40 votes.
+# The most that the program accepts: 256 members, 32 chairs, 2^40 votes.
 MOST = HEAD + "".join(f"{code},{2**40 - 977 * at},{1 + at % 32}\n" for at, code in enumerate(codes(256)))
-# Names that a page, a CSV or a picture may trip over.
+# Names that could break a page, a CSV or a picture.
 ODD = """code,name,votes,chair,chair_name
 AAA,"A, ""B"" </script><b>&amp;",40,1,"=1+1, ""C"" --> <i>"
 BBB,Łódź,26,2,"Ünter & Söhne; 'x'"

@@ -1,4 +1,4 @@
-"""What the program and the scripts of figures answer: the page is compared with that."""
+"""The answers of the program and of the scripts of figures, with which the page is compared."""
 from __future__ import annotations
 
 import subprocess
@@ -33,7 +33,7 @@ class Oracle:
         return read_table(data, Columns(), layout=layout)
 
     def lines(self, script: bytes) -> bytes:
-        """What `board replay` prints of a script, also where it ends in a fault."""
+        """The output of `board replay` for a script, even if it ends in a fault."""
         return subprocess.run([self.program, "replay"], input=script, stdout=subprocess.PIPE).stdout
 
     def script(self, commands: list[str], majorities: list[str]) -> str:
@@ -59,7 +59,7 @@ class Oracle:
 
 
 def least(holds: Callable[[int], bool], low: int, high: int) -> int:
-    """The least number from `low` to `high` for which something holds that holds from some number on, by bisection."""
+    """The least number from `low` to `high` for which `holds` is true, by bisection: it must be true from there on."""
     while low < high:
         middle = (low + high) // 2
         low, high = (low, middle) if holds(middle) else (middle + 1, high)

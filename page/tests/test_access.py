@@ -22,14 +22,14 @@ TABS = ["#tab-power", "#tab-change", "#tab-curve", "#tab-table"]
 
 
 def controls(page: Page) -> list[dict[str, Any]]:
-    """What may have the focus, in the browser's accessibility tree."""
+    """The elements that may have the focus, in the browser's accessibility tree."""
     nodes = page.driver.execute_cdp_cmd("Accessibility.getFullAXTree", {})["nodes"]
     can: dict[str, Any] = {"name": "focusable", "value": {"type": "booleanOrUndefined", "value": True}}
     return [it for it in nodes if can in it.get("properties", []) and it["role"]["value"] != "RootWebArea"]
 
 
 def check_names(page: Page, where: str) -> None:
-    """Whatever may have the focus has a role and a name."""
+    """Every element that may have the focus has a role and a name."""
     found = [(it["role"]["value"], it.get("name", {}).get("value", "")) for it in controls(page)]
     assert found and not [it for it in found if it[0] in ("generic", "none") or not it[1].strip()], (where, found)
 
@@ -90,7 +90,7 @@ def test_width_of_a_phone(page: Page) -> None:
 
 
 def stops(page: Page) -> list[dict[str, Any]]:
-    """What Tab leads to, one after the other, from the page's start to its end."""
+    """The elements that Tab leads to, one after another, from the page's start to its end."""
     page.run("document.activeElement.blur(); scrollTo(0, 0);")
     found = list[dict[str, Any]]()
     for _ in range(MOST_STOPS):
@@ -103,7 +103,7 @@ def stops(page: Page) -> list[dict[str, Any]]:
 
 
 def test_order_of_tab(page: Page) -> None:
-    # Catches: a focus that isn't seen, or that jumps back to what stands above in the same column.
+    # Catches: a focus that isn't visible, or that jumps back to something above in the same column.
     page.show(height=TALL)
     found = stops(page)
     assert len(found) > 20 and not [it for it in found if not it["isRinged"] or not it["width"] * it["height"]]
@@ -149,7 +149,7 @@ def test_keyboard_alone(page: Page, oracle: Oracle) -> None:
 
 
 def test_charts_have_tables(page: Page) -> None:
-    # Catches: a chart that a screen reader can't read: it has a name, and its numbers stand in a table.
+    # Catches: a chart that a screen reader can't read: it needs a name, and a table of its numbers.
     assert page.act("move", "XAA", "2")
     for tab in TABS[:2]:
         page.click(tab)

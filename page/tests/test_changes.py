@@ -1,4 +1,4 @@
-"""Changes of the board: each is entered as a user enters it, and the program's numbers come."""
+"""Changes of the board: each is entered as a user enters it, and the program's numbers must appear."""
 from __future__ import annotations
 
 import time
@@ -21,7 +21,7 @@ def carry(page: Page, code: str, card: str) -> None:
 
 
 def test_drag_by_mouse(page: Page, oracle: Oracle) -> None:
-    # Catches: a member that is dropped and stays, or that goes to the card beside.
+    # Catches: a member that is dropped and stays, or that goes to the next card.
     page.click("#card-1")
     carry(page, "XAA", "2")
     assert page.texts("#changes .change-words") == ["XAA Marenia: chair 1 → chair 2"]
@@ -136,7 +136,7 @@ def test_refused_in_red(page: Page, oracle: Oracle) -> None:
 
 
 def test_undo_and_redo(page: Page, oracle: Oracle) -> None:
-    # Catches: an undo that leaves something of a change behind, or that takes two at once.
+    # Catches: an undo that leaves a part of a change, or that undoes two at once.
     check_figures(page, oracle, [])
     seen = [page.text("#figures")]
     for act in [["move", "XAA", "2"], ["votes", "XAB", "+10%"], ["suspend", "XAC"], ["remove", "1"], ["switch", "0"]]:

@@ -1,4 +1,4 @@
-"""What is exported, and what comes back from it."""
+"""Exported files, and the studies that are read back from them."""
 from __future__ import annotations
 
 import hashlib
@@ -35,7 +35,7 @@ def sha256(content: bytes) -> str:
 
 
 def check_provenance(text: str, page: Page, oracle: Oracle) -> None:
-    """A file says the version, the commit and the hashes of all that its numbers come from."""
+    """A file gives the version, the commit and the hashes of all sources of its numbers."""
     lines = text.splitlines()
     starts = [next((it for it in lines if start in it), "") for start in PROVENANCE]
     assert all(starts) and re.search(r"counted by board \d+\.\d+\.\d+, commit [0-9a-f]{40}", starts[0]), lines[:9]
@@ -156,7 +156,7 @@ def test_import_of_the_script(study: Page, oracle: Oracle, tmp_path: Path) -> No
 
 
 def test_import_of_script_and_file_beside(study: Page, oracle: Oracle, tmp_path: Path) -> None:
-    # Catches: names and per cent that are lost, though the file beside the script has them.
+    # Catches: names and per cent that are lost, though the file next to the script has them.
     files = dict([study.downloaded("#export-script"), study.downloaded("#export-beside")])
     changes = study.texts("#changes .change-words")
     taken_back(study, files, tmp_path)

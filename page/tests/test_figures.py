@@ -56,7 +56,7 @@ def test_decimals(changed: Page, oracle: Oracle, measure: str, digits: int) -> N
 
 
 def test_order_by_gain(changed: Page, oracle: Oracle) -> None:
-    # Catches: an order by number's text, by the absolute gain, or at another majority than the one that is named.
+    # Catches: an order by number's text, by the absolute gain, or at a majority other than the named one.
     changed.choose("#order", "gain")
     changed.choose("#order-at", "85")
     by_gain = sorted(gains(oracle, COMMANDS, "85").items(), key=lambda it: (-it[1], it[0]))

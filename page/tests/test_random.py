@@ -1,4 +1,4 @@
-"""Random lists of acts: whatever a user does, the script that is exported gives the numbers that are shown."""
+"""Random lists of acts: after any of them, the exported script gives the numbers on the page."""
 from __future__ import annotations
 
 import random
@@ -25,7 +25,7 @@ TEXTS = """
 
 
 def acted(page: Page, oracle: Oracle, some: random.Random) -> Model:
-    """Does a list of acts from the base on, and keeps what they must come to."""
+    """Runs a list of acts from the base on, and keeps the expected state."""
     page.run('document.getElementById("clear-changes").click();')
     model = Model()
     for _ in range(some.randint(2, MOST_ACTS)):
@@ -42,7 +42,7 @@ def table_of(csv: str) -> str:
 
 @pytest.mark.parametrize("part", range(PARTS))
 def test_random_lists(page: Page, oracle: Oracle, part: int) -> None:
-    # Catches: any act, in whatever order, after which the page shows other numbers than its script gives.
+    # Catches: any sequence of acts after which the page shows other numbers than its script gives.
     some = random.Random(SEED + part)
     for majority in some.sample(["70", "quorum"], part % 3):
         page.click(f"#at-{majority}")

@@ -1,4 +1,4 @@
-"""Tables of members: pasted from a spreadsheet, opened or dropped; what is asked about them, and their faults."""
+"""Tables of members: pasted from a spreadsheet, opened or dropped; the questions about them, and their faults."""
 from __future__ import annotations
 
 import re
@@ -176,7 +176,7 @@ def test_read_as_by_the_scripts(page: Page, small: Oracle, name: str) -> None:
 
 
 def test_two_rows_that_may_be_the_total(page: Page, small: Oracle) -> None:
-    # Catches: a member that is left out as the total, since it stands above it.
+    # Catches: a member that is left out as the total, since it is above it.
     with pytest.raises(BadInput, match="lines 2, 4 each have votes that equal the sum of the others"):
         small.table_of(inputs.TOTALS.encode(), Layout(leave_out_total=True))
     paste(page, inputs.TOTALS)

@@ -1,4 +1,4 @@
-"""How long the page takes. The times are printed and not asserted: they depend on the machine."""
+"""Times of the page. They are printed and not asserted: they depend on the machine."""
 from __future__ import annotations
 
 from statistics import median
@@ -18,7 +18,7 @@ SLIDE = """
 
 
 def test_times(page: Page, times: list[str]) -> None:
-    # Catches: nothing. It prints the times, for whoever changes the page.
+    # Catches: nothing. It prints the times, for developers of the page.
     first = page.run('const [it] = performance.getEntriesByName("edit to numbers"); return it.startTime + it.duration;')
     times.append(f"opened to first numbers: {first:.0f} ms")
     for majority in ["70", "quorum"]:

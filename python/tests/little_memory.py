@@ -11,7 +11,7 @@ PAGE = resource.getpagesize()
 
 
 def limit(more: int | None) -> None:
-    """Sets the limit of the process's memory to what it has and a little more, or takes it away."""
+    """Sets the limit of the process's memory to its present size and `more` bytes, or removes it."""
     now = int(Path("/proc/self/statm").read_text().split()[0]) * PAGE
     most = resource.RLIM_INFINITY if more is None else now + more
     resource.setrlimit(resource.RLIMIT_AS, (most, resource.RLIM_INFINITY))

@@ -1,4 +1,4 @@
-"""Boards and scripts drawn by lot, always the same; the counts over all coalitions; and what the program prints."""
+"""Random boards and scripts, the same in each run; the counts over all coalitions; and the program's output."""
 from __future__ import annotations
 
 import os
@@ -14,7 +14,7 @@ HEADER = "member,votes"
 
 
 def printed(script: str | bytes, *words: str) -> bytes:
-    """What `board replay` prints of a script. The environment's BOARD names the program."""
+    """The output of `board replay` for a script. The environment's BOARD names the program."""
     given = script.encode() if isinstance(script, str) else script
     return subprocess.run([os.environ["BOARD"], "replay", *words], input=given, capture_output=True).stdout
 
@@ -35,7 +35,7 @@ def wins(majority: str, votes: int, size: int, cast: int, total: int, chairs: in
 
 
 def counted(weights: list[int], total: int, majority: str) -> tuple[int, list[int]]:
-    """How many coalitions win, and the swings of each chair: each set of chairs is looked at in turn."""
+    """The number of winning coalitions, and the swings of each chair: each set of chairs is tested in turn."""
     chairs = range(len(weights))
 
     def does_win(coalition: tuple[int, ...]) -> bool:
@@ -49,7 +49,7 @@ def counted(weights: list[int], total: int, majority: str) -> tuple[int, list[in
 
 
 def boards(many: int, most: int) -> list[tuple[list[int], int]]:
-    """Boards of up to `most` chairs: weights, and votes beside them. Some have equal votes, some have zeros, and some
+    """Boards of up to `most` chairs: weights, and spare votes. Some have equal votes, some have zeros, and some
     have many votes."""
     lot = random.Random(1946)
     found = []

@@ -19,7 +19,7 @@ BOARDS = 2_000
 
 class IndicesTest(unittest.TestCase):
     def test_published_games(self):
-        """The figures stand, with their sources, in docs/VALIDATION.md."""
+        """The figures and their sources are in docs/VALIDATION.md."""
         games = [
             ([31, 31, 28, 21, 2, 2], "half", 58, 32, (16, 16, 16, 0, 0, 0)),
             ([4, 4, 4, 2, 2, 1], "70", 12, 14, (10, 10, 10, 6, 6, 0)),
@@ -47,8 +47,8 @@ class IndicesTest(unittest.TestCase):
         many = indices_of_many([weights for weights, _ in drawn], MAJORITIES, totals=totals)
         for at, (weights, spare) in enumerate(drawn):
             every = indices_of_all(weights, total=totals[at])
-            told = readings(printed(script_of(weights, spare)).decode())
-            for majority, (fields, rows) in zip(MAJORITIES, told):
+            printed_readings = readings(printed(script_of(weights, spare)).decode())
+            for majority, (fields, rows) in zip(MAJORITIES, printed_readings):
                 with self.subTest(weights=weights, spare=spare, majority=majority):
                     got = indices(weights, total=totals[at], majority=majority)
                     counts = [len(weights), got.quota, got.cast, got.total, got.omega, got.coalitions]
@@ -103,7 +103,7 @@ class ManyTest(unittest.TestCase):
     ROWS = [[50, 49, 1], [5, 5], [], [0, 0, 0, 7]]
 
     def check(self, many):
-        """The arrays have what `indices` answers, and zeros behind it."""
+        """The arrays have the answers of `indices`, followed by zeros."""
         self.assertEqual((len(many), many.chairs.tolist(), many.total.tolist()), (4, [3, 2, 0, 4], [100, 10, 0, 7]))
         self.assertEqual(many.weights.tolist(), [[50, 49, 1, 0], [5, 5, 0, 0], [0] * 4, [0, 0, 0, 7]])
         shares, banzhaf = many.floats("share").tolist(), many.floats("banzhaf").tolist()
@@ -125,7 +125,7 @@ class ManyTest(unittest.TestCase):
         self.check(indices_of_many(self.ROWS, ["quorum", "85", "half", "70", "half"]))
 
     def test_no_swings(self):
-        """Where an index is None, its float is nan."""
+        """If an index is None, its float is nan."""
         many = indices_of_many([[0, 0]], ["half"])
         self.assertEqual(str(many.floats("share").tolist()), "[[[nan, nan]]]")
         self.assertEqual(many.floats("initiate").tolist(), [[[0, 0]]])

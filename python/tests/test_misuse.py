@@ -1,4 +1,4 @@
-"""What callers do wrong, and where they call from: values, threads, processes, and little memory."""
+"""Mistakes of callers, and the places that they call from: values, threads, processes, and little memory."""
 from __future__ import annotations
 
 import asyncio
@@ -63,7 +63,7 @@ def shares(weights):
 
 class ValuesTest(unittest.TestCase):
     def test_types(self):
-        """What isn't a whole number is refused with its place, and so are bools, which are 1 and 0 to Python."""
+        """A value that isn't a whole number is refused with its place, even a bool, which is 1 or 0 to Python."""
         for value in NO_NUMBERS:
             kind = type(value).__name__
             for what, call in [
@@ -85,7 +85,7 @@ class ValuesTest(unittest.TestCase):
                 self.assertRaisesRegex(TypeError, what, indices_of_members, [(1, value)], majority="half")
 
     def test_ranges(self):
-        """A number out of its range is refused with its place, its value and what is allowed."""
+        """A number out of its range is refused with its place, its value and the allowed range."""
         for weights, total, message in OUT_OF_RANGE:
             totals = None if total is None else [0, total]
             for prefix, call in [
@@ -99,7 +99,7 @@ class ValuesTest(unittest.TestCase):
                 self.assertIsInstance(caught.exception, ValueError)
 
     def test_rule(self):
-        """The package refuses those boards that the library refuses."""
+        """The package refuses the boards that the library refuses."""
         lot, found = random.Random(1953), array("Q", bytes(8 * COUNT_WORDS))
         edges = [0, 1, 2**47, 2**48 - 1, 2**48, 2**48 + 1, 2**63, 2**64 - 1]
         for _ in range(2_000):
@@ -177,7 +177,7 @@ class ValuesTest(unittest.TestCase):
                 self.assertEqual(caught.exception.name, "BadLimit")
 
     def test_generators_that_raise(self):
-        """An exception of the caller passes, and the next call counts."""
+        """An exception of the caller is passed on, and the next call counts."""
         def weights():
             yield 1
             raise KeyError("mine")
@@ -197,7 +197,7 @@ class ValuesTest(unittest.TestCase):
             self.assertEqual(library.board_refusal_name(number).decode(), name)
 
     def test_examples(self):
-        """The package's own examples answer what stands below them."""
+        """The package's own examples give the answers below them."""
         self.assertEqual(doctest.testmod(voting_board), doctest.TestResults(failed=0, attempted=4))
 
     def test_types_are_told(self):
@@ -213,8 +213,8 @@ class PlacesTest(unittest.TestCase):
     def test_pickle(self):
         for why in [Refused(32, "weight 3 is -1"), Refused(1, "refused", "open,1")]:
             same = pickle.loads(pickle.dumps(why))
-            for told in (str, lambda it: (it.name, it.number, it.command)):
-                self.assertEqual(told(same), told(why))
+            for facts in (str, lambda it: (it.name, it.number, it.command)):
+                self.assertEqual(facts(same), facts(why))
         got = indices([50, 49, 1], majority="half")
         self.assertEqual((pickle.loads(pickle.dumps(got)), len(got.chairs)), (got, 3))
         self.assertEqual(pickle.loads(pickle.dumps(got)).chairs[0].share, Fraction(3, 5))
@@ -229,7 +229,7 @@ class PlacesTest(unittest.TestCase):
                 self.assertEqual((caught.exception.name, caught.exception.number), ("BadSheet", 32))
 
     def test_eight_threads(self):
-        """Each thread has its room: calls that run at once count what one call counts."""
+        """Each thread has its room: simultaneous calls give the counts of a single call."""
         boards = [[2**at + turn for at in range(16 + turn)] for turn in range(8)]
         wanted = [indices_of_all(it) for it in boards]
         output = replay(SCRIPT).text
@@ -297,7 +297,7 @@ class PlacesTest(unittest.TestCase):
         self.assertEqual(asyncio.run(count()), [[0.6, 0.2, 0.2]] * 20)
 
     def test_little_memory(self):
-        """Where memory is refused, a call raises MemoryError, a replay answers OutOfMemory, and a later call counts."""
+        """If memory is refused, a call raises MemoryError, a replay answers OutOfMemory, and a later call counts."""
         program = Path(__file__).with_name("little_memory.py")
         done = subprocess.run([sys.executable, str(program)], stdout=subprocess.PIPE, text=True, check=True)
         self.assertEqual(done.stdout, "MemoryError\nOutOfMemory\nMemoryError\n3/5\n")

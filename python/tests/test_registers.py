@@ -17,7 +17,7 @@ HAS_PANDAS = importlib.util.find_spec("pandas") is not None
 
 
 def do(register, fields):
-    """Has a register carry a command out by the method for it."""
+    """Carries out a command on a register by the method for it."""
     word, first, *rest = fields
     if word in ("open", "close"):
         return getattr(register, word)(int(first))
@@ -29,7 +29,7 @@ def do(register, fields):
 
 
 def answer(register, fields):
-    """What a command answers, as the program prints it."""
+    """The answer to a command, as the program prints it."""
     try:
         return f"accepted,{do(register, fields)}"
     except Refused as why:
@@ -56,10 +56,10 @@ class RegisterTest(unittest.TestCase):
             fields = [commands(lot, [*members, "AAB", "QQQ"]) for _ in range(lot.randint(0, COMMANDS))]
             script = register.script() + "".join(",".join(it) + "\n" for it in fields)
             with self.subTest(script=script):
-                told = [answer(register, it) for it in fields]
+                answers = [answer(register, it) for it in fields]
                 asked = "".join(f"read,1,{it}\n" for it in MAJORITIES)
                 lines = printed(f"{script}publish\n{asked}").decode()
-                self.assertEqual(told, lines.splitlines()[: len(told)])
+                self.assertEqual(answers, lines.splitlines()[: len(answers)])
                 self.assertEqual(printed(f"{register.script()}publish\n{asked}").decode().splitlines()[-1],
                                  lines.splitlines()[-1])
                 for majority, (front, rows) in zip(MAJORITIES, readings(lines)):
@@ -96,7 +96,7 @@ class RegisterTest(unittest.TestCase):
         self.assertEqual(seen, replay(register.script() + "publish\nread,1,half\n").readings[0])
 
     def test_refused(self):
-        """A refused command leaves the register as it was, and says why."""
+        """A refused command leaves the register unchanged, and gives the reason."""
         register = opened()
         before = register.script(), register.members, register.chairs, register.indices("half")
         for call, number, name, command in [
@@ -118,7 +118,7 @@ class RegisterTest(unittest.TestCase):
             register.indices("HALF")
 
     def test_members(self):
-        """Members that the register doesn't take are refused with their record."""
+        """Members that the register refuses are refused with their record."""
         for members, name, command in [
             ({"AAA": 1, "bbb": 2}, "BadRecord", "bbb,2"),
             ({"AAA": -1}, "BadRecord", "AAA,-1"),
@@ -150,7 +150,7 @@ class RegisterTest(unittest.TestCase):
         self.assertNotIn("EEE", register.members)
 
     def test_too_long(self):
-        """A script that has grown too long is refused, and the register stays as it was."""
+        """A script that has grown too long is refused, and the register is unchanged."""
         register = Register({"AAA": 1})
         for chair in range(1, 9):
             register.open(chair)
@@ -162,7 +162,7 @@ class RegisterTest(unittest.TestCase):
         self.assertEqual(len(register.journal), 8)
 
     def test_out_of_memory(self):
-        """Where a replay ends for want of memory, it is a MemoryError, and the register stays as it was."""
+        """If a replay runs out of memory, it is a MemoryError, and the register is unchanged."""
         register, answer = opened(), Answer(10, 0, b"accepted,1\nfault,0,OutOfMemory\n")
         with mock.patch("voting_board.registers.run", return_value=answer):
             for call in [lambda: register.open(9), lambda: register.indices("half"), lambda: Register({})]:

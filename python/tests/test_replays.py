@@ -1,4 +1,4 @@
-"""Replays against the program: the same text, and lines as objects that say the same."""
+"""Replays against the program: the same text, and lines as objects with the same values."""
 from __future__ import annotations
 
 import os
@@ -34,10 +34,10 @@ class ReplayTest(unittest.TestCase):
                 self.check_records(got)
 
     def check_lines(self, got):
-        """The objects say what the text says."""
-        told = [line_of(it) for it in got.lines if not isinstance(it, Reading)]
+        """The objects have the values of the text."""
+        lines_got = [line_of(it) for it in got.lines if not isinstance(it, Reading)]
         wanted = [it for it in got.text.splitlines() if it.split(",")[0] not in ("reading", "chair")]
-        self.assertEqual(told, wanted)
+        self.assertEqual(lines_got, wanted)
         rows = list(readings(got.text))
         self.assertEqual(len(got.readings), len(rows))
         for reading, (fields, below) in zip(got.readings, rows):

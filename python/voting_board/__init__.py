@@ -1,4 +1,4 @@
-"""The exact voting power of a board, and the register behind it, by a library that is proved to count and to replay so.
+"""The exact voting power of a board, and its register, by a library whose counts and replays are proved.
 
     >>> from voting_board import Register, indices
     >>> for chair in indices([50, 49, 1], majority="half").chairs:
@@ -11,7 +11,7 @@
     (1, 2)
 
 "Proved" ends at the library's exports: the counts that they write are the definitions', and the lines of a replay are
-the program's. What this package makes of them, as fractions, objects and messages, is tested.
+the program's. The package's own work, such as fractions, objects and messages, is tested.
 """
 from .checks import MAJORITIES, Majority
 from .counts import Chair, Counts, Indices, Member, indices, indices_of_all, indices_of_members

@@ -1,5 +1,5 @@
-"""What callers hand in, as whole numbers within their limits: what is wrong is said with its place, its value and what
-is allowed."""
+"""Arguments of callers, as whole numbers within their limits: a mistake is reported with its place, its value and the
+allowed values."""
 from __future__ import annotations
 
 import operator
@@ -22,7 +22,7 @@ CHAIR = f"a chair is a whole number from 1 to {CHAIRS}"
 
 
 def whole(value: Any, what: str, allowed: str) -> int:
-    """A whole number. Bools are none, and neither are floats, also those without a fraction."""
+    """A whole number. A bool is refused, and so is a float, even without a fraction."""
     if type(value) is int:
         return value
     kind = type(value).__name__
@@ -52,7 +52,7 @@ def number_of(majority: Any) -> int:
 
 
 def items_of(given: Iterable[Any], what: str) -> list[Any]:
-    """What an iterable or an array holds. Text and bytes are no lists of numbers."""
+    """The items of an iterable or an array. Text and bytes are no lists of numbers."""
     items = given.tolist() if hasattr(given, "tolist") else given
     if isinstance(items, (str, bytes, bytearray)) or not isinstance(items, Iterable):
         raise TypeError(f"{what} are {repr(given)} ({type(given).__name__}): a list or an array of whole numbers")
@@ -68,8 +68,8 @@ def votes_of(weights: Iterable[SupportsIndex], where: str = "") -> list[int]:
 
 
 def check_board(votes: list[int], total: Optional[int], where: str = "") -> int:
-    """The total of a board, which is the sum of its weights where none is given. Refuses weights and a total that are
-    no board's, for the first reason that holds."""
+    """The total of a board, which is the sum of its weights if none is given. Refuses weights and a total that are no
+    board's, for the first reason that holds."""
     cast = sum(votes)
     if len(votes) > CHAIRS:
         raise Refused(BAD_SHEET, f"{where}{len(votes)} weights: a board has at most {CHAIRS} chairs")
@@ -85,6 +85,6 @@ def check_board(votes: list[int], total: Optional[int], where: str = "") -> int:
 
 
 def total_of(votes: list[int], total: Optional[SupportsIndex], where: str = "") -> int:
-    """The total of a board whose weights and total the library takes."""
+    """The total of a board whose weights and total the library accepts."""
     given = None if total is None else whole(total, f"{where}the total", VOTES)
     return check_board(votes, given, where)

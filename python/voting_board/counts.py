@@ -20,12 +20,12 @@ MOST_WORD = 2**64 - 1
 
 
 def over(swings: int, coalitions: int) -> Optional[Fraction]:
-    """A fraction, or None where it would be over 0."""
+    """A fraction, or None if it would be over 0."""
     return Fraction(swings, coalitions) if coalitions else None
 
 
 class Chair:
-    """The voting power of a chair. The fractions are made when they are asked for."""
+    """The voting power of a chair. The fractions are computed on request."""
 
     __slots__ = ("chair", "weight", "swings", "_of")
 
@@ -45,12 +45,12 @@ class Chair:
 
     @property
     def share(self) -> Optional[Fraction]:
-        """The normalised Banzhaf index: its part of all chairs' swings; None where nobody has one."""
+        """The normalised Banzhaf index: its part of all chairs' swings; None if no chair has one."""
         return over(self.swings, self._of.divisor("share"))
 
     @property
     def prevent(self) -> Optional[Fraction]:
-        """The power to prevent action: swings over the coalitions that win; None where none does."""
+        """The power to prevent action: swings over the coalitions that win; None if none does."""
         return over(self.swings, self._of.divisor("prevent"))
 
     @property
@@ -80,7 +80,7 @@ class Chair:
 
 @dataclass(frozen=True)
 class Counts:
-    """What wins on a board, and how often each of its chairs is decisive."""
+    """The winning coalitions of a board, and the number of coalitions in which each chair is decisive."""
 
     majority: Majority
     """One of `MAJORITIES`."""
@@ -108,16 +108,16 @@ class Counts:
 
     @property
     def winning(self) -> int:
-        """How many coalitions win, by the name that the program's output has for `omega`."""
+        """The number of winning coalitions, by the name that the program's output has for `omega`."""
         return self.omega
 
     @property
     def act(self) -> Fraction:
-        """The power of the board to act: the coalitions that win among all."""
+        """The power of the board to act: the winning coalitions over all coalitions."""
         return Fraction(self.omega, self.coalitions)
 
     def divisor(self, index: IndexName) -> int:
-        """What the swings are divided by for an index of `Chair`: 0 where it is None."""
+        """The divisor of the swings for an index of `Chair`: 0 if the index is None."""
         return {
             "banzhaf": self.coalitions // 2,
             "share": sum(self.swings),
@@ -130,7 +130,7 @@ class Counts:
         return [chair.record(floats) for chair in self.chairs]
 
     def to_dataframe(self, floats: bool = False) -> Any:
-        """The same as a table of pandas with a row for each chair. Fractions stay exact, unless `floats` is given."""
+        """The records as a table of pandas, a row for each chair. Fractions stay exact, unless `floats` is given."""
         return import_module("pandas").DataFrame(self.records(floats), columns=list(COLUMNS))
 
 
@@ -161,8 +161,8 @@ def indices(
     `weights` are at most 32, in votes, each from 0. `total` is the total voting power in votes, at least the sum of the
     weights and at most 2^48; without it, that sum. `majority` is one of `MAJORITIES`.
 
-    Raises `Refused`: `BadSheet` for other weights or another total, else `BadRecord` where there is no such majority.
-    What isn't a whole number is a TypeError.
+    Raises `Refused`: `BadSheet` for other weights or another total, else `BadRecord` for an unknown majority.
+    A value that isn't a whole number is a TypeError.
     """
     votes = votes_of(weights)
     whole_of = total_of(votes, total)
@@ -189,11 +189,11 @@ def indices_of_members(
 ) -> Indices:
     """The voting power of a board by its members, in any order: each a `Member`, or a sequence that makes one.
 
-    A chair is open where a member sits in it, suspended or not, and where `open_chairs` names it. Its weight is the
+    A chair is open if a member sits in it, suspended or not, or if `open_chairs` names it. Its weight is the
     votes of its members that aren't suspended. The total is the votes of all members that aren't suspended.
 
     Raises `Refused`: `BadSheet` for a chair that isn't from 1 to 32, for votes below 0 and for a total above 2^48, else
-    `BadRecord` where there is no such majority.
+    `BadRecord` for an unknown majority.
     """
     table = [member_of(member, place) for place, member in enumerate(members, 1)]
     total = sum(member.votes for member in table if not member.suspended)
@@ -209,7 +209,7 @@ def indices_of_members(
 
 
 def member_of(given: MemberLike, place: int) -> Member:
-    """A member whose numbers are within what the library takes."""
+    """A member whose numbers are within the library's limits."""
     member = Member(*given)
     votes = whole(member.votes, f"the votes of member {place}", VOTES)
     if votes < 0:
@@ -253,7 +253,7 @@ def rows_in(found: array[int], at: int, column: int) -> array[int]:
 
 
 def indices_in(found: array[int], at: int, majority: Majority) -> Indices:
-    """The counts that a board_counts has, whose words begin at `at`."""
+    """The counts of a board_counts whose words begin at `at`."""
     quota, least_size, cast, total, _, omega, coalitions = found[at : at + FIRST_ROW]
     numbers, weights, swings = (tuple(rows_in(found, at, column)) for column in range(ROW_WORDS))
     return Indices(majority, quota, cast, total, omega, coalitions, numbers, weights, swings, least_size)

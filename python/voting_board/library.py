@@ -26,7 +26,7 @@ class MemberWords(ctypes.Structure):
 
 
 def opened() -> ctypes.CDLL:
-    """The library beside this module, or the one that the environment's BOARD_LIBRARY names."""
+    """The library next to this module, or the one that the environment's BOARD_LIBRARY names."""
     path = os.environ.get("BOARD_LIBRARY") or str(Path(__file__).resolve().parent / "libboard.so")
     try:
         return ctypes.CDLL(path)
@@ -48,8 +48,8 @@ library.board_version.restype = ctypes.c_char_p
 library.board_refusal_name.argtypes = [number]
 library.board_refusal_name.restype = ctypes.c_char_p
 
-# Each thread lends the library a board_room of its own, since a room serves one call at a time. The room is kept: to
-# make one takes longer than most counts.
+# Each thread lends the library a separate board_room, since a room serves one call at a time. The room is kept, since
+# making one takes longer than most counts.
 ROOM_WORDS = 163_840
 thread = threading.local()
 
@@ -64,5 +64,5 @@ def room() -> Words:
 
 def version() -> str:
     """The version of the library."""
-    told: bytes = library.board_version()
-    return told.decode()
+    found: bytes = library.board_version()
+    return found.decode()

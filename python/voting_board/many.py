@@ -20,9 +20,9 @@ KINDS = {"Q": "uint64", "d": "float64"}
 
 @dataclass(frozen=True, eq=False)
 class ManyIndices:
-    """The counts of many boards. Its arrays are numpy's, or memoryviews of the same lengths where numpy isn't there.
+    """The counts of many boards. Its arrays are numpy's, or memoryviews of the same lengths if numpy isn't installed.
 
-    A board with fewer chairs than the largest has zeros behind its own in `weights` and `swings`.
+    A board with fewer chairs than the largest has zeros after its own numbers in `weights` and `swings`.
     """
 
     majorities: tuple[Majority, ...]
@@ -59,7 +59,7 @@ class ManyIndices:
         return Indices(majority, quota, sum(weights), total, omega, 2**many, numbers, weights, swings, least_size)
 
     def floats(self, index: IndexName) -> Any:
-        """An index of `Chair` as floats, by board, majority and chair; nan where it is None or there is no chair."""
+        """An index of `Chair` as floats, by board, majority and chair; nan if it is None or there is no chair."""
         if index not in INDEX_NAMES:
             raise ValueError(f"no index {index!r}: {', '.join(INDEX_NAMES)}")
         width = max(map(int, self.chairs), default=0)
@@ -84,7 +84,7 @@ def indices_of_many(
     them. `rows` is an array of numpy, a table of pandas or any iterable of iterables; boards may differ in their
     chairs. `totals` has the total of each board; without it, it is the sum of the row.
 
-    All boards are looked at before the first is counted. Raises what `indices` raises, with the row, counted from 0.
+    All boards are checked before the first is counted. Raises the exceptions of `indices`, with the row from 0.
     Other threads run while the library counts.
     """
     if isinstance(majorities, str):
@@ -101,7 +101,7 @@ def indices_of_many(
 def boards_of(
     rows: Iterable[Iterable[SupportsIndex]], totals: Optional[Iterable[SupportsIndex]]
 ) -> Iterator[tuple[list[int], int]]:
-    """The weights and the total of each board, as whole numbers that the library takes."""
+    """The weights and the total of each board, as whole numbers that the library accepts."""
     table = items_of(rows.to_numpy() if hasattr(rows, "to_numpy") else rows, "the rows")
     wholes = [None] * len(table) if totals is None else items_of(totals, "the totals")
     if len(wholes) != len(table):
@@ -157,7 +157,7 @@ class Columns:
 
 
 def shaped(numbers: array[Any], *shape: int) -> Any:
-    """Numbers in an array of numpy with these lengths; where numpy isn't there, a memoryview with them."""
+    """Numbers in an array of numpy with these lengths; if numpy isn't installed, a memoryview with them."""
     try:
         numpy = import_module("numpy")
     except ImportError:

@@ -60,7 +60,7 @@ def reason_of(number: int) -> str:
 
 
 class Refused(ValueError):
-    """A refusal: a value that the library or the register doesn't take. The message has the value and what is allowed.
+    """A refusal: a value that the library or the register rejects. The message has the value and the allowed values.
 
     `name` and `number` are those of docs/FORMATS.md. `command` is the record that a `Register` refused, else None.
     """

@@ -1,4 +1,4 @@
-"""A register of members, votes and chairs, which keeps a script and has it replayed."""
+"""A register of members, votes and chairs, which keeps a script and replays it by the library."""
 from __future__ import annotations
 
 from collections.abc import Mapping
@@ -16,7 +16,7 @@ SPECIAL = frozenset(',"\r\n')
 VOTES = "votes are whole numbers from 0 to 2^40"
 CODE = "a code is three ASCII capitals"
 MEMBER = f"{CODE}, and {VOTES}"
-#: What a well-formed command has, by its first word; "votes" and "admit" have a code and votes, as a member has.
+#: The parts of a well-formed command, by its first word; "votes" and "admit" have a code and votes, as a member has.
 ALLOWED = {"open": CHAIR, "close": CHAIR, "move": f"{CODE}, and {CHAIR}, or None"}
 ALLOWED |= dict.fromkeys(["suspend", "restore", "withdraw"], CODE)
 
@@ -24,9 +24,9 @@ ALLOWED |= dict.fromkeys(["suspend", "restore", "withdraw"], CODE)
 class Register:
     """A register with its members, their votes and the chairs that they sit in.
 
-    It has no rule of its own: it keeps a script, and what each command and each reading answers is what the replay of
-    that script answers. A command answers how many were accepted, or raises `Refused` with the name, the number and the
-    command, and the register is as before. So each command takes as long as a replay of all commands before it.
+    It contains no rules: it keeps a script, and the answer to each command and each reading is the answer of that
+    script's replay. A command returns the number of accepted commands, or raises `Refused` with the name, the number
+    and the command, and the register is unchanged. So each command takes as long as a replay of all commands before it.
 
     `members` and `chairs` are kept from the commands that were accepted. A register serves one thread at a time.
     """
@@ -36,7 +36,7 @@ class Register:
         self._begin(list(members.items()), journal)
 
     def _begin(self, members: list[tuple[str, SupportsIndex]], journal: SupportsIndex) -> None:
-        """Begins the script with the records of members, no code twice."""
+        """Begins the script with the records of members; no code may appear twice."""
         rows = [(code_in(code), votes_in(votes, code)) for code, votes in members]
         records = [record_of(*row) for row in rows]
         self._limit = limit(journal, "journal", JOURNAL)
@@ -46,7 +46,7 @@ class Register:
         self._journal: list[str] = []
         self._open: set[int] = set()
         self._readings: dict[str, Reading] = {}
-        # How many characters the lines of the journal's commands have.
+        # The number of characters in the lines of the journal's commands.
         self._said = 0
         check_members(run(self._script.encode(), 1, self._limit), records)
 
@@ -79,7 +79,7 @@ class Register:
         return self._run([record_of("close", whole(chair, "the chair", CHAIR))])
 
     def move(self, code: str, chair: Optional[SupportsIndex]) -> int:
-        """Moves a member to an open chair, or out of its chair, where `chair` is None."""
+        """Moves a member to an open chair, or out of its chair, if `chair` is None."""
         seat = "none" if chair is None else str(whole(chair, "the chair", CHAIR))
         return self._run([record_of("move", code_in(code), seat)])
 
@@ -104,7 +104,7 @@ class Register:
         return self._run([record_of("withdraw", code_in(code))])
 
     def indices(self, majority: Majority) -> Reading:
-        """The voting power of the open chairs as the register stands, at a majority. It is kept until the next
+        """The voting power of the open chairs in the present register, at a majority. It is kept until the next
         command."""
         number_of(majority)
         if majority not in self._readings:
@@ -138,7 +138,7 @@ class Register:
         return self._script
 
     def what_if(self) -> Register:
-        """A copy, which can be changed while this register stays as it is. It is also a context."""
+        """A copy, which can be changed while this register is unchanged. It is also a context."""
         copy = object.__new__(type(self))
         copy._limit, copy._script, copy._records, copy._said = self._limit, self._script, self._records, self._said
         copy._members, copy._open = dict(self._members), set(self._open)
@@ -157,7 +157,7 @@ class Register:
         return answer.number, answer.text[self._said :].decode().splitlines()
 
     def _run(self, records: list[str]) -> int:
-        """Carries commands out if all of them are accepted, and answers how many were accepted in all."""
+        """Carries commands out if all of them are accepted, and returns the number of all accepted commands."""
         more = "".join(f"{record}\n" for record in records)
         fault, lines = self._answer(more)
         wanted = [f"accepted,{number}" for number, _ in enumerate(records, len(self._journal) + 1)]
@@ -207,12 +207,12 @@ def refused_by(number: int, record: str) -> Exception:
 
 
 def record_of(*fields: Union[str, int]) -> str:
-    """A record. A field that would end it or cut it is quoted, so that the register refuses it as a whole."""
+    """A record. A field that would end it or split it is quoted, so that the register refuses it as a whole."""
     return ",".join(quoted(str(field)) for field in fields)
 
 
 def quoted(field: str) -> str:
-    """A field, in quotes where it needs them."""
+    """A field, in quotes if it needs them."""
     return '"' + field.replace('"', '""') + '"' if SPECIAL & set(field) else field
 
 
@@ -229,7 +229,7 @@ def votes_in(votes: Any, code: Any) -> int:
 
 
 def chair_in(cell: Any) -> Optional[int]:
-    """The chair in a cell of a table. Where cells of a column are missing, pandas has all its numbers as floats."""
+    """The chair in a cell of a table. If cells of a column are missing, pandas has all its numbers as floats."""
     if cell is None or type(cell).__name__ == "NAType" or cell != cell:
         return None
     if isinstance(cell, float) and cell.is_integer():

@@ -1,4 +1,4 @@
-"""The whole replay of a script, as the program `board replay` does it, with its lines as objects."""
+"""The whole replay of a script, as by the program `board replay`, with its lines as objects."""
 from __future__ import annotations
 
 import re
@@ -16,8 +16,8 @@ from .refusals import BAD_LIMIT, WRITE_FAULT, Refused, name_of
 READERS = 4
 JOURNAL = 1_000_000
 
-# Room for the lines of a run. A script without readings never needs more than four bytes for each of its own. Where a
-# run doesn't fit in, it is repeated in room that is four times as large.
+# Room for the lines of a run. A script without readings never needs more than four bytes for each of its own. If a
+# run doesn't fit, it is repeated in room that is four times as large.
 LEAST_ROOM = 1 << 16
 GROWTH = 4
 thread = threading.local()
@@ -47,7 +47,7 @@ class Published:
 
 @dataclass(frozen=True)
 class Refusal:
-    """A command was refused: the register is as before."""
+    """A command was refused: the register is unchanged."""
 
     record: int
     """The number of its record, from 1."""
@@ -67,7 +67,7 @@ class Fault:
 
 @dataclass(frozen=True)
 class Reading(Counts):
-    """What a reader saw: the counts of the register after `front` commands."""
+    """A reader's reading: the counts of the register after `front` commands."""
 
     record: int
     """The number of its record, from 1."""
@@ -81,7 +81,7 @@ Line = Union[Accepted, Refusal, Published, Reading, Fault]
 
 
 class Answer(NamedTuple):
-    """What the library answers to a replay."""
+    """The library's answer to a replay."""
 
     number: int
     record: int
@@ -114,7 +114,7 @@ def taken_room(least: int) -> bytearray:
 
 
 def run_in(room: bytearray, script: bytes, readers: int, journal: int) -> Answer:
-    """Replays a script in some room, or in more, where its lines don't fit in."""
+    """Replays a script in `room`, or in more if its lines don't fit."""
     written, record = c_uint64(), c_uint32()
     while True:
         to, size = byref(c_char.from_buffer(room)), len(room)
@@ -127,7 +127,7 @@ def run_in(room: bytearray, script: bytes, readers: int, journal: int) -> Answer
 def replay(text: Union[str, bytes], *, readers: SupportsIndex = 1, journal: SupportsIndex = JOURNAL) -> Replay:
     """Replays a script as `board replay` does: its records, lines, refusals and faults are those of docs/FORMATS.md.
 
-    `readers` are from 1 to 4, and `journal` is how many commands are accepted at most, from 1 to 1,000,000; other
+    `readers` are from 1 to 4, and `journal` is the greatest number of accepted commands, from 1 to 1,000,000; other
     limits raise `Refused`, `BadLimit`. A refused command and a fault are part of the answer, and raise nothing.
     """
     if not isinstance(text, (str, bytes, bytearray)):
@@ -173,14 +173,14 @@ class Replay:
 
 
 def first_record(script: bytes) -> int:
-    """The number of the first record behind the mark. Before the mark a record is a line, else the run has ended
+    """The number of the first record after the mark. Before the mark a record is a line, else the run has ended
     there."""
     records = [it for it in LINE_ENDS.split(script.removeprefix(BYTE_ORDER_MARK)) if it]
     return 2 + next((at for at, it in enumerate(records) if it in (b"script", b'"script"')), len(records))
 
 
 def line_of(word: str, fields: list[str], record: int, below: list[list[str]]) -> Line:
-    """The line of a record; below a reading are the lines of its chairs."""
+    """The line of a record; `below` has the lines of a reading's chairs."""
     if word == "refused":
         return Refusal(record, int(fields[0]), fields[1])
     if word == "reading":

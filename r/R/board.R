@@ -1,7 +1,7 @@
 # The exact voting power of a board, counted over all coalitions, and the replay of a register's script, by libboard.so.
 #
-# This file is the package votingboard. It can also be sourced from where it stands: source("r/R/board.R"). The library
-# is proved. This file isn't: it checks and places arguments, makes lists of answers, and says why a call is refused.
+# This file is the package votingboard. It can also be sourced from its folder: source("r/R/board.R"). The library is
+# proved. This file isn't: it checks and places arguments, makes lists of answers, and gives the reasons of refusals.
 
 board_majorities <- c("half", "70", "85", "quorum")
 board_chair_words <- "a chair is a whole number from 1 to 32"
@@ -15,7 +15,7 @@ board_write_fault <- 20
 # The version of the board.
 board_version <- function() "0.5.0"
 
-# A number as a message shows it.
+# A number in the form of a message.
 board_shown <- function(number) format(number, digits = 15, scientific = FALSE, trim = TRUE)
 
 # Stops with a condition of class board_refused, which has the name and the number of the refusal.
@@ -24,7 +24,7 @@ board_refuse <- function(name, number, ...) {
   stop(structure(class = c("board_refused", "error", "condition"), fields))
 }
 
-# Stops where one of some numbers is bad. `what` says what it is, with % for its place.
+# Stops if one of some numbers is bad. `what` is the message, with % for its place.
 board_check <- function(numbers, is_bad, what, allowed, places = seq_along(numbers)) {
   bad <- which(is_bad)[1]
   if (!is.na(bad)) {
@@ -33,20 +33,20 @@ board_check <- function(numbers, is_bad, what, allowed, places = seq_along(numbe
   }
 }
 
-# Stops where one of some votes isn't whole or is below 0.
+# Stops if one of some votes isn't whole or is below 0.
 board_check_votes <- function(votes, what) {
   board_check(votes, is.na(votes) | votes < 0 | votes != floor(votes) | is.infinite(votes), what, board_votes_words)
 }
 
-# Stops where one of some chairs has no chair's number.
+# Stops if one of some chairs has no chair's number.
 board_check_chairs <- function(chairs, what, places = seq_along(chairs)) {
   board_check(chairs, !(chairs %in% seq_len(board_most_chairs)), what, board_chair_words, places)
 }
 
-# Whether values are a vector of numbers. A factor has codes, and a class of its own may mean others than it holds.
+# Whether values are a vector of numbers. A factor holds codes, and a class may give its numbers another meaning.
 board_is_numbers <- function(values) is.numeric(values) && is.null(dim(values)) && !is.object(values)
 
-# The number of a majority in the library, or 4 where there is none of this name.
+# The number of a majority in the library, or 4 if the name is unknown.
 board_number_of <- function(majority) {
   stopifnot(
     "a majority is a text: half, 70, 85 or quorum" = is.character(majority),
@@ -55,7 +55,7 @@ board_number_of <- function(majority) {
   match(majority, board_majorities, nomatch = length(board_majorities) + 1) - 1
 }
 
-# Stops with the refusal of a majority, where it is refused.
+# Stops with the refusal of a majority, if it is refused.
 board_check_majority <- function(refusal, majority) {
   if (refusal == 17) {
     names <- paste(paste(head(board_majorities, -1), collapse = ", "), "or", tail(board_majorities, 1))
@@ -64,7 +64,7 @@ board_check_majority <- function(refusal, majority) {
   if (refusal == 10) stop("out of memory")
 }
 
-# The list of what was counted.
+# The counts as a list.
 board_counts_in <- function(got, majority) {
   names <- c("quota", "least_size", "cast", "total", "chairs", "omega", "coalitions")
   counts <- stats::setNames(as.list(got$counts), names)
@@ -98,7 +98,7 @@ board_indices_of_weights <- function(weights, majority, total) {
   board_counts_in(got, majority)
 }
 
-# Why weights and a total aren't a board's.
+# The reason why weights and a total aren't a board's.
 board_why_no_board <- function(weights, total, cast) {
   if (length(weights) > board_most_chairs) {
     return(paste(length(weights), "weights: a board has at most 32 chairs"))
@@ -109,7 +109,7 @@ board_why_no_board <- function(weights, total, cast) {
   paste0("the total is ", board_shown(total), ": at least the sum of the weights, ", board_shown(cast))
 }
 
-# The counts by members, a row each, and the numbers of chairs that are open also without a member.
+# The counts by members, a row each, and the numbers of chairs that are open even without a member.
 board_indices_of_members <- function(members, majority, open) {
   stopifnot("members have the columns votes and chair" = all(c("votes", "chair") %in% names(members)))
   suspended <- if (is.null(members$suspended)) logical(nrow(members)) else members$suspended
@@ -150,7 +150,7 @@ board_indices <- function(x, majority, total = NULL, open = NULL) {
   }
 }
 
-# The same by each of the four majorities, in a list by their names.
+# The voting power by each of the four majorities, in a list by their names.
 board_indices_of_all <- function(x, total = NULL, open = NULL) {
   sapply(board_majorities, function(majority) board_indices(x, majority, total, open), simplify = FALSE)
 }
@@ -165,7 +165,7 @@ board_limit <- function(value, name, most) {
   as.integer(value)
 }
 
-# The replay of an input, as `board replay` does it.
+# The replay of an input, as by `board replay`.
 board_replay <- function(text, readers = 1, journal = 1e6) {
   stopifnot("a script is text or raw bytes" = is.raw(text) || (is.character(text) && !anyNA(text)))
   input <- if (is.raw(text)) text else charToRaw(enc2utf8(paste(text, collapse = "\n")))
@@ -181,7 +181,7 @@ board_replay <- function(text, readers = 1, journal = 1e6) {
   board_replay_of(rawToChar(got$out[seq_len(got$written)]), input, got$fault, got$record)
 }
 
-# How many records there are up to the mark of the script, where a run came past it: then each of them is one line.
+# The number of records up to the mark of the script, if a run passed it: then each of them is one line.
 board_records_to_mark <- function(input) {
   mark <- as.raw(c(0xef, 0xbb, 0xbf))
   if (identical(head(input, 3), mark)) input <- tail(input, -3)
@@ -190,7 +190,7 @@ board_records_to_mark <- function(input) {
   match(TRUE, records[records != ""] %in% c("script", '"script"'), nomatch = 0)
 }
 
-# The list of what a replay printed.
+# The output of a replay as a list.
 board_replay_of <- function(text, input, fault, fault_record) {
   fields <- strsplit(strsplit(text, "\n", fixed = TRUE)[[1]], ",", fixed = TRUE)
   kind <- vapply(fields, `[`, "", 1)
@@ -235,13 +235,13 @@ board_reading_of <- function(head, rows, record) {
   )
 }
 
-# In the package the library stands in its folder. Where this file is sourced, it stands in the folder inst beside R.
+# In the package the library is in its folder. If this file is sourced, it is in the folder inst next to R.
 .onLoad <- function(libname, pkgname) dyn.load(file.path(libname, pkgname, "libboard.so"))
 .onUnload <- function(libpath) dyn.unload(file.path(libpath, "libboard.so"))
 local({
   sourced <- Filter(Negate(is.null), lapply(sys.frames(), function(frame) frame$ofile))
   if (length(sourced) == 0) return()
-  # Where it is sourced with chdir = TRUE, this is the folder R itself.
+  # If it is sourced with chdir = TRUE, this is the folder R itself.
   places <- file.path(c(dirname(tail(sourced, 1)[[1]]), "."), "..", "inst", "libboard.so")
   there <- Filter(file.exists, places)
   if (length(there) == 0) stop("libboard.so isn't in the folder inst beside R: a release has it there")

@@ -13,9 +13,10 @@ board_replay(text, readers = 1, journal = 1e6)
   \item{journal}{The most commands that are accepted, from 1 to 1,000,000.}
 }
 \value{
-  A list with \code{text}, what the program prints; \code{lines}, a data frame of its lines, each with the number of
-  the record that it answers; \code{readings}, a list of the readings, each with its chairs as \code{board_indices} has them;
-  \code{refused}, a data frame of the refused commands; and \code{fault}, the fault that ended the run, or \code{NULL}.
+  A list with \code{text}, the output of the program; \code{lines}, a data frame of its lines, each with the number of
+  the record that it answers; \code{readings}, a list of the readings, each with its chairs in the form of
+  \code{board_indices}; \code{refused}, a data frame of the refused commands; and \code{fault}, the fault that ended
+  the run, or \code{NULL}.
   Limits out of their ranges stop with a condition of class \code{board_refused}.
 }
 \examples{

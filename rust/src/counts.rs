@@ -17,22 +17,22 @@ pub struct Chair {
     pub swings: u64,
     /// The Banzhaf measure: its swings over all coalitions of the other chairs.
     pub banzhaf: Fraction,
-    /// The normalised Banzhaf index: its swings over those of all chairs; none where no chair has one.
+    /// The normalised Banzhaf index: its swings over those of all chairs; none if no chair has one.
     pub share: Option<Fraction>,
-    /// The power to prevent action: its swings over the coalitions that win; none where none wins.
+    /// The power to prevent action: its swings over the coalitions that win; none if none wins.
     pub prevent: Option<Fraction>,
     /// The power to initiate action: its swings over the coalitions that lose.
     pub initiate: Fraction,
 }
 
-/// What wins on a board, and the voting power of its chairs.
+/// The winning coalitions of a board, and the voting power of its chairs.
 #[derive(Clone, Debug, PartialEq, Eq)]
 pub struct Counts {
     /// The majority that it is counted by.
     pub majority: Majority,
     /// The least number of votes that wins.
     pub quota: u64,
-    /// The least number of chairs that wins; 0 where the majority asks for none.
+    /// The least number of chairs that wins; 0 if the majority asks for none.
     pub least_size: u64,
     /// The votes of the open chairs.
     pub cast: u64,
@@ -87,7 +87,7 @@ impl Counts {
 /// The counts of a board by the weights of its chairs 1, 2 and so on, by one majority.
 ///
 /// There are at most 32 weights, in votes. `total` is the total voting power in votes, at least the sum of the weights
-/// and at most 2^48; `None` stands for that sum. Others are refused as `BadSheet`.
+/// and at most 2^48; `None` means that sum. Other values are refused as `BadSheet`.
 pub fn counts(weights: &[u64], majority: Majority, total: impl Into<Option<u64>>) -> Result<Counts, Refused> {
     let total = total_of(weights, total.into());
     let found = library::counts_of_weights(weights, word(total), majority);
@@ -102,8 +102,8 @@ pub fn counts_of_all(weights: &[u64], total: impl Into<Option<u64>>) -> Result<[
     Ok([0, 1, 2, 3].map(|at| Counts::new(MAJORITIES[at], &found[at])))
 }
 
-/// The counts of a board that is given by its members, by one majority. A chair is open where a member sits in it,
-/// suspended or not, and where `open_chairs` has its number. Its weight is the votes of its members that aren't
+/// The counts of a board that is given by its members, by one majority. A chair is open if a member sits in it,
+/// suspended or not, or if `open_chairs` has its number. Its weight is the votes of its members that aren't
 /// suspended, and the total is the votes of all members that aren't suspended.
 ///
 /// A chair that isn't from 1 to 32 and a total above 2^48 are refused as `BadSheet`.
@@ -128,12 +128,12 @@ fn sum_of(votes: &[u64]) -> u128 {
     votes.iter().copied().map(u128::from).sum()
 }
 
-/// A total as the library takes it. One above all words becomes the largest, which is refused too.
+/// A total in the library's type. One that doesn't fit becomes the largest, which is refused too.
 fn word(total: u128) -> u64 {
     u64::try_from(total).unwrap_or(u64::MAX)
 }
 
-/// The words of a sheet: for each chair its weight plus 1, or 0 where it is closed; the total; and no commands.
+/// The words of a sheet: for each chair its weight plus 1, or 0 if it is closed; the total; and no commands.
 fn sheet_of(weights: &[u64], total: u64) -> Result<Vec<u64>, BadBoard> {
     let open = weights.iter().map(|weight| weight.checked_add(1).ok_or(BadBoard));
     let mut words = open.collect::<Result<Vec<u64>, BadBoard>>()?;
@@ -148,7 +148,7 @@ fn bit_of(chair: u32) -> Result<u32, Refused> {
     place.ok_or_else(|| Refused::bad_sheet(format!("an open chair is {chair}: {CHAIR}")))
 }
 
-/// Why weights and a total aren't a board's.
+/// The reason why weights and a total aren't a board's.
 fn no_board(weights: &[u64], total: u128) -> Refused {
     let (many, sum) = (weights.len(), sum_of(weights));
     Refused::bad_sheet(if many > CHAIRS {
@@ -164,7 +164,7 @@ fn no_chair(at: usize, chair: u32) -> Refused {
     Refused::bad_sheet(format!("the chair of member {} is {chair}: {CHAIR}", at + 1))
 }
 
-/// Why members aren't those of a board.
+/// The reason why members aren't those of a board.
 fn no_members(members: &[Member]) -> Refused {
     let beyond = |it: &Member| it.chair.filter(|&chair| chair as usize > CHAIRS);
     if let Some((at, chair)) = members.iter().enumerate().find_map(|(at, it)| Some((at, beyond(it)?))) {

@@ -3,14 +3,14 @@ use std::fmt;
 /// A fraction of whole numbers, not reduced. It prints as `3/4`.
 #[derive(Clone, Copy, Debug, PartialEq, Eq, Hash)]
 pub struct Fraction {
-    /// What is divided.
+    /// The dividend.
     pub numerator: u64,
-    /// What it is divided by, above 0.
+    /// The divisor, above 0.
     pub denominator: u64,
 }
 
 impl Fraction {
-    /// A fraction, or none where it would have 0 for a denominator.
+    /// A fraction, or none if its denominator would be 0.
     pub(crate) fn new(numerator: u64, denominator: u64) -> Option<Self> {
         (denominator > 0).then_some(Fraction { numerator, denominator })
     }

@@ -1,7 +1,7 @@
 //! The exact voting power of a board, counted over all coalitions, and the replay of a register's script.
 //!
-//! The library that is called is proved. This crate isn't: it places arguments, makes values of answers, and says why a
-//! call is refused. It depends on the standard library alone.
+//! The library that it calls is proved. This crate isn't: it places arguments, makes values of answers, and gives the
+//! reasons of refusals. It depends on the standard library only.
 //!
 //! Three chairs with 50, 49 and 1 votes, at more than half of the votes cast:
 //!
@@ -15,7 +15,7 @@
 //! # Ok::<(), voting_board::Refused>(())
 //! ```
 //!
-//! The same at all four majorities:
+//! The counts at all four majorities:
 //!
 //! ```
 //! use voting_board::counts_of_all;

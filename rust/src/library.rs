@@ -1,4 +1,4 @@
-//! The calls of the library, with lists in place of addresses. include/board.h says what each answers.
+//! The calls of the library, with lists in place of addresses. include/board.h describes each answer.
 use crate::majority::Majority;
 use std::cell::RefCell;
 
@@ -41,7 +41,7 @@ pub struct Seated {
 /// The library refuses the board.
 pub struct BadBoard;
 
-/// What a replay answers: the number of the fault or 0, the number of its record or 0, and the text.
+/// The answer of a replay: the number of the fault or 0, the number of its record or 0, and the text.
 pub struct Ran {
     pub fault: u8,
     pub record: u32,
@@ -82,7 +82,7 @@ thread_local! {
     static ROOM: RefCell<Vec<u64>> = RefCell::new(vec![0; ROOM_WORDS]);
 }
 
-/// Makes a call with the room of this thread, and answers what it has written.
+/// Makes a call with the room of this thread, and returns what it wrote.
 fn counted<Counted: Default>(call: impl FnOnce(*mut u64, *mut Counted) -> u8) -> Result<Counted, BadBoard> {
     let mut found = Counted::default();
     let answer = ROOM.with(|room| call(room.borrow_mut().as_mut_ptr(), &mut found));
@@ -115,7 +115,7 @@ pub fn counts_of_members(members: &[Seated], open_chairs: u32, majority: Majorit
     counted(|room, found| unsafe { board_counts_of_members(list, len, open_chairs, number, room, found) })
 }
 
-/// A replay whose text may have some length.
+/// A replay whose text has at most `longest` bytes.
 pub fn replay(input: &[u8], readers: u32, journal: u32, longest: usize) -> Ran {
     let mut text = vec![0; longest];
     let (mut written, mut record) = (0, 0);

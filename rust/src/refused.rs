@@ -26,7 +26,7 @@ impl Refused {
         self.number
     }
 
-    /// The name of the refusal there, as `BadSheet`.
+    /// The name of the refusal there, such as `BadSheet`.
     pub fn name(&self) -> &'static str {
         self.name
     }

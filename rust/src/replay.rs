@@ -5,11 +5,11 @@ use crate::majority::Majority;
 use crate::refused::Refused;
 use std::ops::RangeInclusive;
 
-/// The most commands that a replay accepts, where its limit isn't lower.
+/// The most commands that a replay accepts, unless its limit is lower.
 pub const JOURNAL: u32 = 1_000_000;
 const READERS: u32 = 4;
 const WRITE_FAULT: u8 = 20;
-/// Room for a text at first, beside four bytes for each of the input. Where that isn't enough, it grows.
+/// Initial room for a text, in addition to four bytes for each byte of the input. If that isn't enough, it grows.
 const ROOM: usize = 1 << 16;
 const GROWTH: usize = 4;
 
@@ -38,7 +38,7 @@ pub enum Line {
     Fault(Fault),
 }
 
-/// A command that was refused. The register is as before.
+/// A command that was refused. The register is unchanged.
 #[derive(Clone, Debug, PartialEq, Eq)]
 pub struct RefusedCommand {
     /// The number of the record.
@@ -49,7 +49,7 @@ pub struct RefusedCommand {
     pub name: String,
 }
 
-/// What a reader reads: the last published board, counted by a majority.
+/// A reading of a reader: the last published board, counted by a majority.
 #[derive(Clone, Debug, PartialEq, Eq)]
 pub struct Reading {
     /// The number of the record.
@@ -74,10 +74,10 @@ pub struct Reading {
     pub chairs: Vec<Chair>,
 }
 
-/// What ended a run early.
+/// The fault that ended a run early.
 #[derive(Clone, Debug, PartialEq, Eq)]
 pub struct Fault {
-    /// The number of its record, or 0 where it has none.
+    /// The number of its record, or 0 if it has none.
     pub record: u32,
     /// The number of the fault in docs/FORMATS.md.
     pub number: u32,
@@ -85,7 +85,7 @@ pub struct Fault {
     pub name: String,
 }
 
-/// What a replay answers.
+/// The result of a replay.
 #[derive(Clone, Debug, PartialEq, Eq)]
 pub struct Replay {
     /// The lines, as `board replay` prints them.
@@ -143,7 +143,7 @@ fn ran(input: &[u8], readers: u32, journal: u32) -> Ran {
     }
 }
 
-/// How many records there are up to the mark of the script, where a run came past it: then each of them is one line.
+/// The number of records up to the mark of the script, if a run passed it: then each of them is one line.
 fn records_to_mark(input: &[u8]) -> u32 {
     let text = input.strip_prefix(b"\xEF\xBB\xBF").unwrap_or(input);
     let records = text.split(|byte| matches!(byte, b'\r' | b'\n')).filter(|it| !it.is_empty());
@@ -167,7 +167,7 @@ fn lines_of(text: &str, input: &[u8], ran: &Ran) -> Vec<Line> {
     lines
 }
 
-/// A line of its own. The library prints no other than these.
+/// A line other than a chair's. The library prints no others.
 fn line_of(fields: &[&str], record: u32, ran: &Ran) -> Option<Line> {
     Some(match *fields {
         ["accepted", number] => Line::Accepted { record, number: number.parse().ok()? },
@@ -211,7 +211,7 @@ fn chair_of(row: &[&str]) -> Option<Chair> {
     })
 }
 
-/// The fraction of a line, where `-` stands for none.
+/// The fraction of a line, or none for `-`.
 fn fraction_of(text: &str) -> Option<Fraction> {
     let (numerator, denominator) = text.split_once('/')?;
     Fraction::new(numerator.parse().ok()?, denominator.parse().ok()?)

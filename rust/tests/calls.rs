@@ -6,7 +6,7 @@ const WEIGHTS: [u64; 3] = [50, 49, 1];
 const MOST: u64 = 1 << 48;
 
 /// The name, the number and the message of a refusal.
-fn told(why: Refused) -> (&'static str, u32, String) {
+fn facts_of(why: Refused) -> (&'static str, u32, String) {
     (why.name(), why.number(), why.to_string())
 }
 
@@ -56,8 +56,8 @@ fn members_in_chairs() {
 
 #[test]
 fn boards_that_cannot_be_are_refused() {
-    let one = |weights: &[u64], total: Option<u64>| told(counts(weights, Majority::Half, total).unwrap_err());
-    let all = |weights: &[u64], total: Option<u64>| told(counts_of_all(weights, total).unwrap_err());
+    let one = |weights: &[u64], total: Option<u64>| facts_of(counts(weights, Majority::Half, total).unwrap_err());
+    let all = |weights: &[u64], total: Option<u64>| facts_of(counts_of_all(weights, total).unwrap_err());
     for call in [&one as &dyn Fn(&[u64], Option<u64>) -> _, &all] {
         assert_eq!(call(&[1; 33], None), bad_sheet("33 weights: a board has at most 32 chairs"));
         assert_eq!(call(&[1; 33], Some(0)), bad_sheet("33 weights: a board has at most 32 chairs"));
@@ -74,7 +74,7 @@ fn boards_that_cannot_be_are_refused() {
 
 #[test]
 fn members_that_cannot_be_are_refused() {
-    let of = |members: &[Member], open: &[u32]| told(counts_of_members(members, open, Majority::Half).unwrap_err());
+    let of = |members: &[Member], open: &[u32]| facts_of(counts_of_members(members, open, Majority::Half).unwrap_err());
     let member = |votes, chair| Member { votes, chair, suspended: false };
     for chair in [0, 33, u32::MAX] {
         let message = format!("the chair of member 2 is {chair}: a chair is a whole number from 1 to 32");
@@ -95,7 +95,7 @@ fn majorities_have_names() {
     }
     for name in ["HALF", " half", "70%", "", "0"] {
         let message = format!("no majority '{name}': half, 70, 85 or quorum");
-        assert_eq!(told(name.parse::<Majority>().unwrap_err()), ("BadRecord", 17, message));
+        assert_eq!(facts_of(name.parse::<Majority>().unwrap_err()), ("BadRecord", 17, message));
     }
 }
 
@@ -143,10 +143,10 @@ fn a_text_that_is_longer_than_its_first_room() {
 fn limits_of_a_replay() {
     for readers in [0, 5, u32::MAX] {
         let message = format!("readers is {readers}: a whole number from 1 to 4");
-        assert_eq!(told(replay("", readers, 1).unwrap_err()), ("BadLimit", 13, message));
+        assert_eq!(facts_of(replay("", readers, 1).unwrap_err()), ("BadLimit", 13, message));
     }
     for journal in [0, JOURNAL + 1, u32::MAX] {
         let message = format!("journal is {journal}: a whole number from 1 to 1000000");
-        assert_eq!(told(replay("", 1, journal).unwrap_err()), ("BadLimit", 13, message));
+        assert_eq!(facts_of(replay("", 1, journal).unwrap_err()), ("BadLimit", 13, message));
     }
 }

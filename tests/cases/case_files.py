@@ -3,7 +3,7 @@
 A case begins with '== NAME'. '$ board WORDS' is the command, '<' marks each line of its input, '>' each line of its
 output, '!' each line of standard error, and 'status N' gives the exit status if that isn't 0.
 '! ...' is any text. Other lines are comments. In an input '\\xHH' and '\\r' are bytes, and '\\' at the end of a line
-takes away the line's end."""
+removes the line's end."""
 from __future__ import annotations
 
 import re

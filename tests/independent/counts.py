@@ -90,7 +90,7 @@ def by_table(weights: tuple[int, ...], wins: Rule) -> Counts:
 
 @lru_cache(maxsize=1024)
 def counts(weights: tuple[int, ...], total: int, majority: str) -> Counts:
-    """The counts of the open chairs' weights, where all members have this total, by each method that is possible."""
+    """The counts of the open chairs' weights, if all members have this total, by each method that is possible."""
     wins = rule_of(weights, total, majority)
     methods = [by_coalitions] if len(weights) <= MOST_CHAIRS else []
     if (sum(weights) + 1) * (len(weights) + 1) <= MOST_CELLS:

@@ -12,7 +12,7 @@ EXAMPLES = Path(__file__).resolve().parents[2] / "examples"
 MAJORITIES = ["half", "70", "85", "quorum"]
 MOST_BYTES = 4_194_304
 Records = list[list[str]]
-# Bytes that no sound input has, or that it has at some places alone.
+# Bytes that no sound input has, or has only in some places.
 TOKENS = [
     b'"', b'"', b'""', b'"""', b'"\n"', b'",', b',"', b",", b",,", b"\r", b"\n", b"\r\n", b"\r\r\n", b"\0", b" ", b"\t",
     b";", b"+", b"-", b"0", b"\xef\xbb\xbf", b"\xff\xfe", b"\xc2\xa0", b"\x85", b"\xe2\x80\xa8", b"\x0b", b"\x1a", b"#",

@@ -28,7 +28,7 @@ csv.field_size_limit(MOST_BYTES)
 
 @dataclass(frozen=True)
 class Answer:
-    """What the program prints, its words on standard error (None: some reason, whose words aren't said), its status."""
+    """The program's output, its words on standard error (None: some reason in unspecified words), its status."""
 
     printed: bytes
     reason: bytes | None
@@ -52,7 +52,7 @@ class Fault(Exception):
 
 
 class Malformed(Exception):
-    """A record isn't well formed."""
+    """A record is malformed."""
 
 
 @dataclass
@@ -66,7 +66,7 @@ class Member:
 
 @dataclass(frozen=True)
 class Sheet:
-    """What a publication shows: how many commands it has, the total, and the weights of the open chairs by number."""
+    """The state that a publication shows: its number of commands, the total, and the weights of the open chairs."""
 
     front: int
     total: int
@@ -74,7 +74,7 @@ class Sheet:
 
 
 def refuse(number: int, reason: bool) -> None:
-    """Refuses a command by this number where the reason holds."""
+    """Refuses a command with this number if the reason holds."""
     if reason:
         raise Refused(number)
 
@@ -94,7 +94,7 @@ class Register:
         return self.members[code]
 
     def accept(self) -> None:
-        """Takes a command that nothing else refuses."""
+        """Accepts a command that no other rule refuses."""
         refuse(9, self.accepted >= self.limit)
         self.accepted += 1
 
@@ -161,8 +161,8 @@ class Register:
 
 
 def records_of(given: bytes | None) -> Iterator[tuple[int, list[str]]]:
-    """The records with their numbers. Python's csv module cuts them as FORMATS says, where lines end at CR, LF and CRLF
-    alone, a byte is a character, and a line without fields isn't counted."""
+    """The records with their numbers. Python's csv module cuts them as FORMATS says, if only CR, LF and CRLF end lines,
+    a byte is a character, and a line without fields isn't counted."""
     if given is None:
         raise Fault(0, "ReadFault")
     if len(given) > MOST_BYTES:
@@ -211,7 +211,7 @@ def command(register: Register, fields: list[str]) -> None:
 
 
 def fraction(numerator: int, denominator: int) -> str:
-    """A fraction that isn't reduced; it is absent where it would be divided by 0."""
+    """A fraction that isn't reduced; it is absent if it would be divided by 0."""
     return f"{numerator}/{denominator}" if denominator else "-"
 
 
@@ -282,7 +282,7 @@ def lines_of(given: bytes | None, readers: int, journal: int) -> Iterator[str]:
 
 
 def limits_of(words: tuple[str, ...]) -> tuple[int, int]:
-    """How many readers there are and the journal's limit, from the words after `board`."""
+    """The number of readers and the journal's limit, from the words after `board`."""
     said = dict(zip(words[1::2], words[2::2]))
     if words[:1] != ("replay",) or len(words) % 2 == 0 or not said.keys() <= {"--readers", "--journal"}:
         raise Malformed(words)
@@ -290,8 +290,8 @@ def limits_of(words: tuple[str, ...]) -> tuple[int, int]:
 
 
 def answer(words: tuple[str, ...], given: bytes | None, writable: bool) -> Answer:
-    """What `board` with these words answers to these bytes, or to an input that can't be read (None), where its output
-    can be written or can't."""
+    """The answer of `board` with these words to these bytes, or to an input that can't be read (None), if its output
+    can be written or if it can't."""
     lines: list[str] = []
     name = ""
     try:

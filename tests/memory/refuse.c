@@ -1,19 +1,19 @@
-/* Refuses growth on demand, for tests. Loaded before the C library (LD_PRELOAD); it changes nothing for a program that asks
- * for none of what stands here.
+/* Refuses growth on demand, for tests. Loaded before the C library (LD_PRELOAD); it changes nothing for a program that uses
+ * none of the requests below.
  *
- * A growth is a call of malloc, calloc or realloc between the beginning of main and its end, whoever makes it: the program, or
- * the C library on its behalf, as for a new thread. A realloc counts also where it asks for no more than before. What the C
- * library takes from the kernel by itself, as a thread's stack, is none, and nor is what is asked for before main.
+ * A growth is a call of malloc, calloc or realloc between the beginning and the end of main, by the program or by the C
+ * library on its behalf, as for a new thread. A realloc counts even if it asks for no more than before. Memory that the C
+ * library takes from the kernel by itself, as a thread's stack, is no growth, and nor is memory requested before main.
  *
- * - While a block of 77,777,777 bytes is held every growth is refused. When it is given back, standard error gets a line with how
- *   many were.
- * - Where a block of 77,000,000 + N bytes is given, N from 1 to 700,000, the Nth growth after it is refused, once; giving the
+ * - While a block of 77,777,777 bytes is held every growth is refused. When it is given back, standard error gets a line with the
+ *   number of refused growths.
+ * - If a block of 77,000,000 + N bytes is given, N from 1 to 700,000, the Nth growth after it is refused, once; giving the
  *   block back ends this.
- * - Where the environment has REFUSE_GROWTH=N, the Nth growth of the whole run is refused, once.
+ * - If the environment has REFUSE_GROWTH=N, the Nth growth of the whole run is refused, once.
  *
- * Each of the last two writes a line to descriptor 99, where that is open, when it refuses.
+ * Each of the last two writes a line to descriptor 99, if it is open, when it refuses.
  *
- * Where the environment has TELL_KEPT, standard error gets a line at the end of main: how many blocks more were given than
+ * If the environment has TELL_KEPT, standard error gets a line at the end of main: the number of blocks given minus those
  * given back since main began. */
 #define _GNU_SOURCE
 #include <dlfcn.h>
@@ -35,14 +35,14 @@ void *__libc_calloc(size_t, size_t);
 void __libc_free(void *);
 
 static atomic_bool in_main;
-/* The block while which all growth is refused, and how many were. */
+/* The block that makes all growth refused while it is held, and the number of refused growths. */
 static _Atomic(void *) refusing;
 static atomic_long refused;
 /* The block that counts, and the number of the growth that is refused, counted from now: 1 is the next, 0 or less is none. */
 static _Atomic(void *) counting;
 static atomic_long until;
 
-/* How many blocks more were given than given back since main began. */
+/* The number of blocks given minus the number given back since main began. */
 static atomic_long kept;
 
 static void *given(void *block) {
@@ -52,8 +52,8 @@ static void *given(void *block) {
 
 static void tell(void) {
     static const char line[] = "a growth was refused\n";
-    ssize_t told = write(TOLD, line, sizeof line - 1);
-    (void)told;
+    ssize_t written = write(TOLD, line, sizeof line - 1);
+    (void)written;
 }
 
 /* Whether this growth is refused; if so, the error is that of a malloc that has no memory. */
@@ -104,7 +104,7 @@ void free(void *block) {
 
 static int (*program)(int, char **, char **);
 
-/* The program's main, between which and its end growths count. */
+/* The program's main; growths count from its beginning to its end. */
 static int counted(int words, char **texts, char **environment) {
     const char *number = getenv("REFUSE_GROWTH");
     if (number) atomic_store(&until, atol(number));
@@ -115,7 +115,7 @@ static int counted(int words, char **texts, char **environment) {
     return status;
 }
 
-/* The C library's first call, which is handed main. */
+/* The C library's first call, which is passed main. */
 int __libc_start_main(int (*main)(int, char **, char **), int words, char **texts, void (*begin)(void), void (*end)(void),
                       void (*unload)(void), void *stack) {
     int (*start)(int (*)(int, char **, char **), int, char **, void (*)(void), void (*)(void), void (*)(void), void *) =

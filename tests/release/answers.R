@@ -4,13 +4,13 @@ library(votingboard)
 read <- function(name) readLines(file.path(Sys.getenv("BOARD_ANSWERS"), name))
 fail <- function(...) stop(paste0(...), call. = FALSE)
 
-# The numbers of a chair's line: its fractions are doubles, and NA where there is none.
+# The numbers of a chair's line: its fractions are doubles, and NA if there is none.
 chair_of <- function(fields) {
   fraction <- function(text) if (text == "-") NA_real_ else Reduce(`/`, as.double(strsplit(text, "/")[[1]]))
   c(as.double(fields[2:4]), vapply(fields[5:8], fraction, 0, USE.NAMES = FALSE))
 }
 
-# Whether counts, or a reading, are those of the program's line and of the lines of its chairs.
+# Whether counts, or a reading, equal those of the program's line and of the lines of its chairs.
 is_same <- function(got, head, rows) {
   omega <- if (is.null(got$omega)) got$winning else got$omega
   numbers <- c(nrow(got$chairs), got$quota, got$cast, got$total, omega, got$coalitions)
@@ -19,7 +19,7 @@ is_same <- function(got, head, rows) {
     identical(as.double(chairs), as.double(t(as.matrix(got$chairs))))
 }
 
-# Compares the counts of a board by each call with the lines that the program prints of it.
+# Compares the counts of a board by each call with the program's lines on it.
 check_board <- function(lines) {
   numbers <- as.double(strsplit(lines[1], ",", fixed = TRUE)[[1]][-1])
   weights <- numbers[-1]
@@ -50,7 +50,7 @@ lines_of <- function(run) {
   line[run$lines$kind != "reading"]
 }
 
-# Compares a replay with what the program prints.
+# Compares a replay with the program's output.
 check_script <- function(fields) {
   run <- board_replay(bytes_of(fields[4]), readers = as.double(fields[1]), journal = as.double(fields[2]))
   wanted <- bytes_of(fields[5])

@@ -1,5 +1,5 @@
 /* Counts the boards and replays the scripts of tests/release/answers.py, and prints them with its answers: the bytes of
- * its files, if the library answers what the program does.
+ * its files, if the library's answers equal the program's.
  *
  *     answers boards < boards.txt
  *     answers scripts < scripts.txt */
@@ -15,7 +15,7 @@ static struct board_room room;
 static char line[LINE];
 static uint8_t input[LINE / 2], text[TEXT];
 
-/* A fraction as the program prints it, or `-` where it is over 0. */
+/* A fraction as the program prints it, or `-` if it is over 0. */
 static void print_fraction(uint64_t swings, uint64_t over) {
     if (over) printf(",%" PRIu64 "/%" PRIu64, swings, over);
     else printf(",-");

@@ -6,7 +6,7 @@
 FOLDER/boards.txt has, for each board, `board,TOTAL,WEIGHT..`, then for each majority
 `MAJORITY,CHAIRS,QUOTA,CAST,TOTAL,WINNING,COALITIONS` and the lines `chair,..` of the reading. FOLDER/scripts.txt has,
 for each script, `READERS,JOURNAL,STATUS,INPUT,TEXT`: the limits, the status of the program, and the bytes of the input
-and of what was printed, each byte as two hexadecimal digits."""
+and of the output, each byte as two hexadecimal digits."""
 from __future__ import annotations
 
 import random
@@ -33,7 +33,7 @@ SECONDS = 60
 
 
 def ran(program: Path, call: Call) -> tuple[int, bytes]:
-    """The status of a replay by the program, and what it printed."""
+    """The status of a replay by the program, and its output."""
     words = [str(program), "replay", "--readers", str(call.readers), "--journal", str(call.journal)]
     done = subprocess.run(words, input=call.text, stdout=subprocess.PIPE, stderr=subprocess.DEVNULL, timeout=SECONDS)
     return done.returncode, done.stdout
@@ -65,7 +65,7 @@ def script_of(total: int, weights: list[int]) -> bytes:
 
 
 def board_lines(program: Path, board: tuple[int, list[int]]) -> str:
-    """A board and what the program reads on it."""
+    """A board and the program's readings of it."""
     total, weights = board
     status, text = ran(program, Call("a board", script_of(total, weights)))
     assert status == 0, text
@@ -75,7 +75,7 @@ def board_lines(program: Path, board: tuple[int, list[int]]) -> str:
 
 
 def script_line(program: Path, call: Call) -> str:
-    """A script and what the program prints."""
+    """A script and the program's output for it."""
     status, text = ran(program, call)
     return f"{call.readers},{call.journal},{status},{call.text.hex()},{text.hex()}\n"
 

@@ -1,4 +1,4 @@
-// The answers of the program, which stand beside this file, and those of the package.
+// The answers of the program, which are in files next to this one, and those of the package.
 import { equal } from "node:assert/strict";
 import { readFile } from "node:fs/promises";
 import { test } from "node:test";
@@ -17,7 +17,7 @@ function chairLine({ chair, weight, swings, banzhaf, share, prevent, initiate })
   return ["chair", chair, weight, swings, ...fractions].join(",");
 }
 
-/** The lines of counts, as boards.txt has them. */
+/** The lines of counts, in the form of boards.txt. */
 function countsLines({ majority, quota, cast, total, omega, coalitions, chairs }) {
   return [[majority, chairs.length, quota, cast, total, omega, coalitions].join(","), ...chairs.map(chairLine)];
 }

@@ -53,9 +53,9 @@ def check_shared(room: Path) -> None:
     name = f"libboard.so.{version_of(room).rpartition('.')[0]}"
     link = room / "lib" / "libboard.so"
     assert link.is_symlink() and str(link.readlink()) == name, "libboard.so is no link to the shared library"
-    told = ran(["readelf", "--dynamic", "--wide", f"lib/{name}"], room)
-    assert f"soname: [{name}]" in told, told
-    assert re.findall(r"Shared library: \[(.*)\]", told) == ["libc.so.6"], told
+    output = ran(["readelf", "--dynamic", "--wide", f"lib/{name}"], room)
+    assert f"soname: [{name}]" in output, output
+    assert re.findall(r"Shared library: \[(.*)\]", output) == ["libc.so.6"], output
     symbols = ran(["nm", "--dynamic", f"lib/{name}"], room)
     newest = max(tuple(map(int, it.split("."))) for it in re.findall(r"@GLIBC_([\d.]+)", symbols))
     assert newest <= (2, 17), f"it needs glibc {newest}"
@@ -65,7 +65,7 @@ def check_shared(room: Path) -> None:
 
 
 def check_package_config(room: Path) -> None:
-    """pkg-config says how to compile and link, wherever the release is, and the program counts."""
+    """pkg-config says how to compile and link, in any folder of the release, and the program counts."""
     elsewhere = room.parent / "else where"
     elsewhere.mkdir()
     config = {"PKG_CONFIG_PATH": str(room / "lib" / "pkgconfig")}
@@ -86,9 +86,9 @@ def check_other_languages(room: Path) -> None:
 
 def check_aarch64(room: Path) -> None:
     """The library for aarch64 has the same calls."""
-    told = ran(["nm", "--print-armap", "lib/aarch64/libboard.a"], room)
+    output = ran(["nm", "--print-armap", "lib/aarch64/libboard.a"], room)
     declared = set(re.findall(r"\b(board_\w+)\(", (room / "include/board.h").read_text()))
-    assert set(re.findall(r"^(board_\w+) in ", told, re.MULTILINE)) == declared, told
+    assert set(re.findall(r"^(board_\w+) in ", output, re.MULTILINE)) == declared, output
 
 
 def cases(room: Path) -> list[Case]:

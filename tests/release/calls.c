@@ -20,7 +20,7 @@ static void judge(int is_right, const char *what) {
     if (!is_right) printf("tests/release/calls.c: %s\n", what);
 }
 
-/* Numbers drawn by lot, always the same. */
+/* Random numbers, the same in each run. */
 static uint64_t lot(uint64_t most) {
     static uint64_t state = 1946;
     state = state * 6364136223846793005u + 1442695040888963407u;
@@ -96,8 +96,8 @@ static void words_of(const struct board *board, uint64_t *words) {
     words[BOARD_CHAIRS] = board->total;
 }
 
-/* The members of a board: in each chair one that votes and, where the weight is odd, a suspended one. Where the weight
- * is 0 nobody sits there, and the mask names the chair. The last member is in no chair. Answers how many there are. */
+/* The members of a board: in each chair one that votes and, if the weight is odd, a suspended one. If the weight is 0
+ * the chair has no member, and the mask names it. The last member is in no chair. Returns the number of members. */
 static size_t members_of(const struct board *board, struct board_member *members, uint32_t *open_chairs) {
     size_t count = 0;
     *open_chairs = 0;
@@ -193,7 +193,7 @@ static void count_largest(void) {
     }
 }
 
-/* A thread's board and room, and how often it counted what it counted first. */
+/* A thread's board and room, and how often it repeated its first counts. */
 struct work {
     uint64_t weights[BOARD_CHAIRS / 2];
     struct board_room room;
@@ -213,7 +213,7 @@ static void *count_beside(void *given) {
     return NULL;
 }
 
-/* Threads count at once, each another board in a room of its own, and then all boards are counted one after another. */
+/* Threads count at once, each another board in a separate room, and then all boards are counted one after another. */
 static void count_in_threads(void) {
     static struct work works[THREADS], again[THREADS];
     pthread_t threads[THREADS];

@@ -42,8 +42,8 @@ def check_chromium(room: Path) -> None:
     files = sorted(it.name for it in tests.glob("*.test.mjs"))
     lines = "".join(f'import "./{it}"; ' for it in files)
     (tests / "index.html").write_text(PAGE.format(imports=json.dumps({"imports": imports}), tests=lines))
-    told = ran([PYTHON, str(HERE / "visit_tests.py"), str(room), "js/tests/index.html"], room)
-    ended = json.loads(next(line for line in told.splitlines() if line.startswith("{")))
+    output = ran([PYTHON, str(HERE / "visit_tests.py"), str(room), "js/tests/index.html"], room)
+    ended = json.loads(next(line for line in output.splitlines() if line.startswith("{")))
     wanted = sum((tests / it).read_text().count('\ntest("') for it in files)
     assert not ended["failed"], ended["failed"]
     assert ended["passed"] == wanted > 0, f"{ended['passed']} of {wanted} tests passed"
@@ -56,7 +56,7 @@ def check_version(room: Path) -> None:
 
 
 def check_types(room: Path) -> None:
-    """The types are right for calls that the package takes, and refuse those that it doesn't."""
+    """The types accept calls that the package accepts, and refuse those that it refuses."""
     to = room / "node_modules"
     to.mkdir(exist_ok=True)
     (to / "voting-board").symlink_to(room / "js")

@@ -1,4 +1,4 @@
-// What the tests of the package take from node, for a page: a test runner, strict comparisons, the reading of files.
+// The parts of node that the package's tests use, for a page: a test runner, strict comparisons, the reading of files.
 const tests = [];
 const ran = { passed: 0, failed: [] };
 
@@ -6,7 +6,7 @@ export function test(name, body) {
   tests.push([name, body]);
 }
 
-/** Runs all tests, and answers how many passed, and why the others failed. */
+/** Runs all tests, and returns the number that passed, and the errors of the others. */
 export async function ended() {
   for (const [name, body] of tests) {
     try {
@@ -27,7 +27,7 @@ export function equal(got, wanted) {
   if (!Object.is(got, wanted)) fail(`${String(got).slice(0, 200)} came, and not ${String(wanted).slice(0, 200)}`);
 }
 
-/** A value as text: two are equal where their texts are. The texts of different classes and types differ. */
+/** A value as text: two are equal if their texts are. The texts of different classes and types differ. */
 function textOf(value) {
   if (typeof value !== "object" || value === null) return `${typeof value} ${Object.is(value, -0) ? "-0" : value}`;
   const items = value instanceof Map ? [...value] : Object.keys(value).sort().map((key) => [key, value[key]]);

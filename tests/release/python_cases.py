@@ -35,8 +35,8 @@ def has_pip() -> bool:
 def check_tests(room: Path, file: Path) -> None:
     """The tests of a file, also those against the program."""
     words = [python_path() or sys.executable, "-W", "error::ResourceWarning", str(file)]
-    told = ran(words, room, PYTHONPATH=str(installed(room)), BOARD=str(room / "board"))
-    if "skipped" in told:
+    output = ran(words, room, PYTHONPATH=str(installed(room)), BOARD=str(room / "board"))
+    if "skipped" in output:
         print(f"tests/release: pandas or numpy isn't here, so parts of {file.name} are left out")
 
 
@@ -48,7 +48,7 @@ def wheel_of(room: Path, name: str) -> Path:
 
 
 def check_wheel(room: Path) -> None:
-    """Two wheels have the same bytes, the tag of manylinux, readable files, and what describes them."""
+    """Two wheels have the same bytes, the tag of manylinux, readable files, and their metadata."""
     wheels = [wheel_of(room, name) for name in ("first", "second")]
     assert wheels[0].read_bytes() == wheels[1].read_bytes(), "two wheels differ"
     version = (room / "VERSION").read_text().split()[1]
@@ -69,19 +69,19 @@ def check_environment(room: Path, how: list[str]) -> None:
     ran([sys.executable, "-m", "venv", "--without-pip", str(place)], room)
     python = str(place / "bin" / "python3")
     ran([sys.executable, "-m", "pip", "--python", python, *INSTALL[3:], *how], room)
-    told = ran([python, "-c", f"{EXAMPLE}; import voting_board; print(voting_board.__version__)"], room.parent)
-    assert told == f"(3, 1, 1)\n{(room / 'VERSION').read_text().split()[1]}\n", told
+    output = ran([python, "-c", f"{EXAMPLE}; import voting_board; print(voting_board.__version__)"], room.parent)
+    assert output == f"(3, 1, 1)\n{(room / 'VERSION').read_text().split()[1]}\n", output
 
 
 def check_types(room: Path) -> None:
-    """mypy --strict finds nothing in the package, and what users write is right or wrong as they mean it."""
+    """mypy --strict finds nothing in the package, and accepts and rejects users' lines as they are marked."""
     ran(["mypy", "--strict", "--cache-dir", "types", "python/voting_board"], room)
     ran(["mypy", "--strict", "--python-version", "3.9", "--cache-dir", "types", "python/voting_board"], room)
     (room / "uses.py").write_text((TOP / "tests/release/uses.py").read_text())
-    told = ran(["sh", "-c", "mypy --strict --cache-dir types uses.py || true"], room, MYPYPATH=str(room / "python"))
+    output = ran(["sh", "-c", "mypy --strict --cache-dir types uses.py || true"], room, MYPYPATH=str(room / "python"))
     lines = (room / "uses.py").read_text().splitlines()
     wanted = [at for at, line in enumerate(lines, 1) if line.endswith("# wrong")]
-    assert [int(it) for it in re.findall(r"^uses.py:(\d+): error", told, re.MULTILINE)] == wanted, told
+    assert [int(it) for it in re.findall(r"^uses.py:(\d+): error", output, re.MULTILINE)] == wanted, output
 
 
 def cases(room: Path) -> list[Case]:

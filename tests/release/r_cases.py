@@ -40,23 +40,23 @@ def check_sourced(room: Path) -> None:
     alone.mkdir(parents=True)
     shutil.copy(file, alone)
     source = "tryCatch(source('R/board.R'), error = function(it) cat(conditionMessage(it)))"
-    told = ran(["Rscript", "-e", source], alone.parent)
-    assert told == "libboard.so isn't in the folder inst beside R: a release has it there", told
+    output = ran(["Rscript", "-e", source], alone.parent)
+    assert output == "libboard.so isn't in the folder inst beside R: a release has it there", output
 
 
 def check_answers(room: Path) -> None:
     """The installed package answers as the program does."""
     words = ["Rscript", str(HERE / "answers.R")]
-    told = ran(words, room, R_LIBS=installed(room), BOARD_ANSWERS=str(answers_in(room)))
-    assert told.startswith("8000 boards by majorities and "), told
+    output = ran(words, room, R_LIBS=installed(room), BOARD_ANSWERS=str(answers_in(room)))
+    assert output.startswith("8000 boards by majorities and "), output
 
 
 def check_version(room: Path) -> None:
     """The package and its function have the version of the release."""
     version = (room / "VERSION").read_text().split()[1]
     assert f"\nVersion: {version}\n" in (room / "r" / "DESCRIPTION").read_text(), f"it isn't {version}"
-    told = ran(["Rscript", "-e", "cat(votingboard::board_version())"], room, R_LIBS=installed(room))
-    assert told == version, told
+    output = ran(["Rscript", "-e", "cat(votingboard::board_version())"], room, R_LIBS=installed(room))
+    assert output == version, output
 
 
 def cases(room: Path) -> list[Case]:

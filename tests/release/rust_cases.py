@@ -17,10 +17,10 @@ def check_crate(room: Path) -> None:
     more = {"CARGO_TARGET_DIR": str(room / "target"), "BOARD_ANSWERS": str(answers_in(room))}
     more |= {"BOARD_LIBRARY_DIR": str(room / "lib"), "RUSTFLAGS": "-D warnings"}
     words = ["cargo", "test", "--offline", "--jobs", "2", "--manifest-path", str(crate / "Cargo.toml")]
-    told = ran(words, room, **more)
+    output = ran(words, room, **more)
     blocks = (crate / "src" / "lib.rs").read_text().count("\n//! ```") // 2
-    assert f"{blocks} passed" in told, f"the {blocks} blocks of its documents don't all pass:\n{told}"
-    assert "1 ignored" not in told, "tests are ignored"
+    assert f"{blocks} passed" in output, f"the {blocks} blocks of its documents don't all pass:\n{output}"
+    assert "1 ignored" not in output, "tests are ignored"
 
 
 def check_version(room: Path) -> None:

@@ -1,4 +1,4 @@
-"""What the cases of a release share: commands in the unpacked release, and the available tools."""
+"""The shared parts of a release's cases: commands in the unpacked release, and the available tools."""
 from __future__ import annotations
 
 import os
@@ -17,7 +17,7 @@ def path_without(tool: str) -> str:
 
 
 def ran(words: list[str], where: Path, **more: str) -> str:
-    """What a command prints, on standard output and standard error; it fails where the command does."""
+    """The output of a command, on standard output and standard error; it fails if the command does."""
     environment = os.environ | {"PATH": path_without("rt"), "LC_ALL": "C.UTF-8"} | more
     done = subprocess.run(
         words,

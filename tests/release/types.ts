@@ -1,4 +1,4 @@
-// Calls that the types of voting-board take, and calls that they refuse.
+// Calls that the types of voting-board accept, and calls that they refuse.
 import { Fraction, Majority, Refused, Register, counts, countsOfAll, countsOfMembers, replay } from "voting-board";
 
 const share: Fraction | null = counts(new Set([50n, 49, 1]), { majority: "half", total: 100n }).chairs[0].share;
@@ -15,7 +15,7 @@ console.log(Number(share), quota, omega, accepted, winning, names, code, majorit
 
 // @ts-expect-error a majority is required
 counts([50]);
-// @ts-expect-error the same, beside a total
+// @ts-expect-error a majority is required, with a total too
 counts([50], { total: 50 });
 // @ts-expect-error there is no such majority
 counts([50], { majority: "HALF" });

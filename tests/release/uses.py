@@ -1,4 +1,4 @@
-"""What a program that uses voting_board writes: mypy finds an error in each line that ends in `# wrong`, and no
+"""Lines of programs that use voting_board: mypy finds an error in each line that ends in `# wrong`, and no
 other."""
 from array import array
 from collections.abc import Iterator

@@ -34,7 +34,7 @@ seen: list[str] = []
 
 
 def said(browser: webdriver.Chrome) -> list[str]:
-    """What the page has written to its console so far."""
+    """The messages that the page has written to its console so far."""
     seen.extend(entry["message"] for entry in browser.get_log("browser"))
     return seen
 

@@ -18,7 +18,7 @@ function write(bytes) {
   for (let at = 0; at < bytes.length; ) at += writeSync(1, bytes, at);
 }
 
-/** Replays the inputs of a JSON list, and writes the list of what they answer. */
+/** Replays the inputs of a JSON list, and writes the list of their answers. */
 function replays(given) {
   const calls = JSON.parse(given.toString());
   const ran = calls.map(({ text, ...limits }) => board.replay(Buffer.from(text, "base64"), limits));
@@ -33,7 +33,7 @@ function wordsOf({ quota, leastSize, cast, total, omega, coalitions, chairs }) {
 }
 
 /** The answer of a call and its counts, as counts.c writes them. */
-function told(many, call) {
+function answered(many, call) {
   try {
     return [Buffer.of(0), Buffer.from(BigUint64Array.from(call().flatMap(wordsOf), BigInt).buffer)];
   } catch (why) {
@@ -42,10 +42,10 @@ function told(many, call) {
   }
 }
 
-/** Counts the boards of words, and writes what counts.c writes of them. */
+/** Counts the boards of words, and writes them as counts.c does. */
 function counts(given) {
   const words = new BigUint64Array(Uint8Array.from(given).buffer);
-  const byEach = (call) => [...MAJORITIES, "none"].flatMap((majority) => told(1, () => [call(majority)]));
+  const byEach = (call) => [...MAJORITIES, "none"].flatMap((majority) => answered(1, () => [call(majority)]));
   for (let at = 0; at < words.length; ) {
     const list = (width) => words.subarray(at + 1, (at += 1 + width * Number(words[at])));
     const [weights, total, members, mask] = [list(1), words[at++], list(3), Number(words[at++])];
@@ -53,7 +53,7 @@ function counts(given) {
     const named = rows.map(([votes, chair, suspended]) => ({ votes, chair, suspended: suspended !== 0n }));
     const open = Array.from({ length: CHAIRS }, (_, it) => it + 1).filter((it) => (mask >>> (it - 1)) & 1);
     write(Buffer.concat(byEach((majority) => board.countsOfWeights(weights, { total, majority }))));
-    write(Buffer.concat(told(MAJORITIES.length, () => Object.values(board.allCounts(weights, { total })))));
+    write(Buffer.concat(answered(MAJORITIES.length, () => Object.values(board.allCounts(weights, { total })))));
     write(Buffer.concat(byEach((majority) => board.countsOfMembers(named, { majority, open }))));
   }
 }
@@ -73,7 +73,7 @@ function callAlone(name, list, width, given, many) {
   write(Buffer.concat([Buffer.of(answer), Buffer.from(found)]));
 }
 
-/** Counts the boards of words by such a module, and writes what counts.c writes of them. */
+/** Counts the boards of words by such a module, and writes them as counts.c does. */
 function alone(given) {
   const words = new BigUint64Array(Uint8Array.from(given).buffer);
   const numbers = [...MAJORITIES.keys(), MAJORITIES.length];
@@ -89,7 +89,7 @@ function alone(given) {
   }
 }
 
-/** The exports of an instance, what shows bytes of its memory, and what puts bytes there and answers their address. */
+/** An instance's exports; `bytes` is a view of its memory; `put` copies bytes there and returns their address. */
 function instance() {
   const calls = new WebAssembly.Instance(module).exports;
   const bytes = (at, length) => new Uint8Array(calls.memory.buffer, Number(at), length);
@@ -129,7 +129,7 @@ function limitsOfRoom(text) {
   assert.deepEqual(replayed(text, { readers: 5, room: 5 }), { text: "fault", fault: 20, record: 0 });
 }
 
-/** Limits out of their ranges, and such as their parameters can't hold. */
+/** Limits out of their ranges, and limits that their parameters can't hold. */
 function limitsOfLimits(text) {
   const [readers, journals] = [[0, 5, 255, 256, 257], [0, 1000001, 2 ** 32 - 1]];
   for (const bad of [...readers.map((readers) => ({ readers })), ...journals.map((journal) => ({ journal }))]) {
@@ -141,7 +141,7 @@ function limitsOfLimits(text) {
   }
 }
 
-/** Majorities that there are not, and numbers that are no votes and no chairs. */
+/** Majorities that don't exist, and numbers that are no votes and no chairs. */
 function limitsOfCounts() {
   for (const majority of [4, 255, 256, 2 ** 32 - 1]) {
     const { calls, bytes, put } = instance();
@@ -159,7 +159,7 @@ function limitsOfCounts() {
   }
 }
 
-/** More memory than there is: no such room, and a replay for which all is reserved that a 32-bit memory has. */
+/** More memory than exists: an impossible room, and a replay that reserves all memory of a 32-bit address space. */
 function limitsOfMemory(text) {
   for (const size of [2n ** 48n + 1n, 2n ** 63n, 2n ** 64n - 1n]) {
     assert.equal(instance().calls.board_reserve(size), 0n);

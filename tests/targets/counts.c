@@ -1,5 +1,5 @@
 /* Reads boards from standard input, in words of 64 bits, counts each by every call of board.h, and writes the answer
- * of each call and what stands in its counts then. A board is the number of its weights, the weights, the total, the
+ * of each call and the counts after it. A board is the number of its weights, the weights, the total, the
  * number of its members, the votes of each, its chair and whether it is suspended, and the mask of open chairs. */
 #include <stdio.h>
 #include <stdlib.h>
@@ -7,12 +7,12 @@
 
 #include "board.h"
 
-/* One majority more than there is. */
+/* One majority more than exist. */
 enum { MOST_WEIGHTS = 64, MOST_MEMBERS = 256, MAJORITIES = 5, UNTOUCHED = 0xAA };
 
 static struct board_room room;
 
-/* Reads `many` words, and ends the program where there are no more. */
+/* Reads `many` words, and ends the program if there are no more. */
 static void read_words(void *to, size_t many) {
     if (fread(to, sizeof(uint64_t), many, stdin) != many) exit(0);
 }
@@ -22,7 +22,7 @@ static void write_answer(uint8_t answer, const void *counts, size_t size) {
     fwrite(counts, size, 1, stdout);
 }
 
-/* By the calls for weights, and for the words of a sheet, which must say the same. */
+/* By the calls for weights, and for the words of a sheet, which must agree. */
 static void count_weights(const uint64_t *weights, size_t len, uint64_t total) {
     struct board_counts counts, same;
     struct board_all_counts all;

@@ -125,7 +125,7 @@ def of_cases() -> list[Call]:
 
 
 def at_limits() -> list[Call]:
-    """Inputs without bytes, with as many as there may be, and with one more; and one whose text is long."""
+    """Inputs without bytes, with the most that are allowed, and with one more; and one whose text is long."""
     begun = b"member,votes\nAAA,1\nscript\n"
     chairs = b"".join(b"open,%d\n" % chair for chair in range(1, 33))
     return [

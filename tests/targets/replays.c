@@ -1,4 +1,4 @@
-/* Replays inputs from standard input by board_replay, and writes of each the number of its fault, the number of the
+/* Replays inputs from standard input by board_replay, and writes for each the number of its fault, the number of the
  * fault's record, the length of the text, and the text. An input is four words of 64 bits, its length, the readers, the
  * limit of the journal and the room for the text, and then its bytes. */
 #include <stdio.h>

@@ -19,7 +19,7 @@ Words = list[str]
 
 @dataclass(frozen=True)
 class Run:
-    """The text of a replay, and the number of the fault that ended it and of its record: 0 where there is none."""
+    """The text of a replay, and the number of the fault that ended it and of its record: 0 if there is none."""
 
     text: bytes
     fault: int
@@ -27,7 +27,7 @@ class Run:
 
 
 def printed(words: Words, given: bytes = b"") -> bytes:
-    """What a command prints; it fails where the command does."""
+    """The output of a command; it fails if the command does."""
     done = subprocess.run(words, input=given, stdout=subprocess.PIPE, stderr=subprocess.PIPE)
     if done.returncode:
         why = done.stderr.decode(errors="replace")[-2000:]
@@ -65,12 +65,12 @@ def by_c(words: Words, calls: list[Call], wanted: list[Run]) -> list[Run]:
         struct.pack("<4Q", len(call.text), call.readers, call.journal, len(want.text)) + call.text
         for call, want in zip(calls, wanted, strict=True)
     ]
-    told = printed(words, b"".join(given))
+    answers = printed(words, b"".join(given))
     found, at = list[Run](), 0
-    while at < len(told):
-        fault, record, length = struct.unpack_from("<BIQ", told, at)
+    while at < len(answers):
+        fault, record, length = struct.unpack_from("<BIQ", answers, at)
         at += struct.calcsize("<BIQ") + length
-        found.append(Run(told[at - length : at], fault, record))
+        found.append(Run(answers[at - length : at], fault, record))
     return found
 
 
@@ -79,8 +79,8 @@ def by_module(words: Words, calls: list[Call]) -> list[Run]:
     given = [
         {"text": base64.b64encode(it.text).decode(), "readers": it.readers, "journal": it.journal} for it in calls
     ]
-    told = json.loads(printed(words, json.dumps(given).encode()))
-    return [Run(it["text"].encode(), it["fault"], it["record"]) for it in told]
+    answers = json.loads(printed(words, json.dumps(given).encode()))
+    return [Run(it["text"].encode(), it["fault"], it["record"]) for it in answers]
 
 
 def check_same(calls: list[Call], found: list[Run], wanted: list[Run]) -> None:

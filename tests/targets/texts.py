@@ -1,4 +1,4 @@
-"""What the texts of WebAssembly modules say, as wasm2wat writes them."""
+"""The texts of WebAssembly modules, as wasm2wat writes them, compared and measured."""
 from __future__ import annotations
 
 import re
@@ -24,8 +24,8 @@ def with_locals_by_type(function: str) -> str:
 
 
 def lines_of(text: str) -> list[str]:
-    """The lines of a text without what lowering writes in another way: the order of types, which each function says
-    itself too, the order of locals, and whether memory and its data are placed by 64 bits or by 32."""
+    """The lines of a text without the parts that lowering writes differently: the order of types, which each function
+    gives itself too, the order of locals, and whether memory and its data are placed by 64 bits or by 32."""
     text = FUNCTION.sub(lambda it: with_locals_by_type(it[0]), text)
     text = re.sub(r"(\(func \(;\d+;\)) \(type \d+\)", r"\1", text)
     text = re.sub(r"^  \(type .*\n", "", text, flags=re.MULTILINE)
@@ -55,8 +55,8 @@ def is_of_lowering(line: str, before: list[str]) -> bool:
 
 
 def beyond_lowering(wide: str, lowered: str) -> str:
-    """Where the text of a lowered module differs in more than lowering from that of the module with a 64-bit memory,
-    or nothing if it doesn't."""
+    """The first difference, beyond lowering, of a lowered module's text from that of the module with a 64-bit memory;
+    empty if there is none."""
     left, seen = iter(lines_of(wide)), list[str]()
     wanted = next(left, None)
     for line in lines_of(lowered):
@@ -69,7 +69,7 @@ def beyond_lowering(wide: str, lowered: str) -> str:
 
 
 def deepest_stack(text: str) -> int:
-    """How many bytes of the stack the deepest chain of calls takes, by the frames that the functions reserve. A module
+    """The bytes of the stack that the deepest chain of calls takes, by the frames that the functions reserve. A module
     in which a function calls itself, through others or not, ends in an error of recursion; one that calls functions in
     a table, or that reserves a frame in another way, is refused."""
     functions = {int(found[1]): found[0] for found in FUNCTION.finditer(text)}

@@ -40,7 +40,7 @@ function tableOf(app: App, chair: number, tried: readonly Tried[], close: () => 
   );
 }
 
-/** What is asked for, and where the answer stands. */
+/** The request, and the place of the answer. */
 function form(app: App, { study, counted }: Shown, close: () => void): Child {
   const open = counted.standing.open();
   let chair = open[0] ?? 0;

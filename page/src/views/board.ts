@@ -1,4 +1,4 @@
-/** What the readings say of the board as a whole. */
+/** The figures of the readings for the board as a whole. */
 import type { App } from "../app";
 import { byId, h, paint, type Child } from "../dom";
 import { grouped, over, rounded } from "../fractions";

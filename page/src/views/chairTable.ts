@@ -7,7 +7,7 @@ import { measureOf, type ChairLine } from "../lines";
 import type { View } from "../study";
 import { MAJORITY, MEASURE, type Measure } from "../words";
 
-/** A cell: its decimal, its fraction, and where it comes from. */
+/** A cell: its decimal, its fraction, and its source. */
 interface Cell {
   readonly decimal: string;
   readonly fraction: string;
@@ -51,7 +51,7 @@ function votesCells(row: ChairRow, digits: number): Cell[] {
   ];
 }
 
-/** All cells of a row behind its number and name. */
+/** All cells of a row after its number and name. */
 function cellsOf(row: ChairRow, { measure, digits }: View): Cell[] {
   const powers = [...row.at.values()].flatMap(({ before, after, gain }) => [
     lineCell(before, measure, digits),

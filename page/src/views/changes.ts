@@ -5,7 +5,7 @@ import { changeWords, refusalWords } from "../commandWords";
 import { withChanges, type Change, type Command, type Percentage } from "../study";
 import { MOST_VOTES } from "../words";
 
-/** An item that is on the page: its element, and what brings it up to date. */
+/** An item that is on the page: its element, and the function that updates it. */
 interface Item {
   readonly element: HTMLElement;
   update(): void;
@@ -30,7 +30,7 @@ function replaced(app: App, id: number, part: Partial<Change>, gesture = ""): vo
   set(app, app.study.changes.map((it) => (it.id === id ? { ...it, ...part } : it)), gesture);
 }
 
-/** The numbers that a slider goes through, and the one that it stands at. */
+/** The range of a slider, and its present number. */
 interface Range {
   readonly min: number;
   readonly max: number;
@@ -55,7 +55,7 @@ function rangeOf(app: App, { id, what }: Change): Range | null {
   };
 }
 
-/** The change with the number that a slider says; null where it says none. */
+/** The change with the number of a slider; null if the text is no number. */
 function slid(what: Command | Percentage, text: string): Command | Percentage | null {
   const value = Number(text);
   if (text.trim() === "" || !Number.isFinite(value)) return null;

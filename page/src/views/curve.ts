@@ -1,4 +1,4 @@
-/** The tab Curve: a sweep, its chart, its thresholds, and the table behind it. */
+/** The tab Curve: a sweep, its chart, its thresholds, and its table. */
 import type { App, Shown } from "../app";
 import { valueText } from "../compare";
 import { drawCurve, type CurveModel } from "../curveChart";
@@ -22,7 +22,7 @@ import {
 import { MAJORITY, MEASURE } from "../words";
 import { screenLook } from "./figures";
 
-/** What the tab shows: the form's fields, and the sweep that was counted last, with the study that it is of. */
+/** The state of the tab: the form's fields, and the sweep that was counted last, with its study. */
 export interface CurveState {
   asked: SweepAsked;
   swept: Swept | null;
@@ -126,7 +126,7 @@ function thresholdWords(threshold: Threshold, digits: number): string {
   return `${MAJORITY[majority].at} it ${from} ${grouped(own)} votes${part} (${other}).`;
 }
 
-/** The chart's model, also for exports. Null where nothing was swept. */
+/** The chart's model, also for exports. Null if nothing was swept. */
 export function curveModel(app: App): CurveModel | null {
   const { swept: found, of } = state;
   if (!found || !of) return null;
@@ -224,13 +224,13 @@ function results(app: App, model: CurveModel, found: Swept): Child {
   ];
 }
 
-/** A value of a sweep with as many places as its first value and its step have, as board_study writes it. */
+/** A value of a sweep, with the decimal places of its first value and its step, as board_study writes it. */
 function padded(value: string, { from, by }: SweepAsked): string {
   const places = Math.max(...[from, by].map((it) => it.split(".")[1]?.length ?? 0));
   return places ? rounded(decimalRatio(value), places) : value;
 }
 
-/** The points of the sweep shown as registers of a table. Nothing where it isn't one of this study. */
+/** The points of the sweep shown as registers of a table. Empty if it isn't one of this study. */
 export function sweepRegisters(app: App): Labelled[] {
   const { swept: found, of } = state;
   const isOfThis = found && of?.study.base === app.study.base && !isOld(app);
@@ -247,13 +247,13 @@ export function sweepRegisters(app: App): Labelled[] {
   });
 }
 
-/** Whether the changes are others than when a sweep of the changed board was counted. */
+/** Whether the changes differ from those when a sweep of the changed board was counted. */
 function isOld(app: App): boolean {
   const { of, swept: found } = state;
   return of !== null && found?.asked.on === "changed" && of.counted.script !== app.shown?.counted.script;
 }
 
-/** Forgets a sweep of another study, and what can't be swept any more. */
+/** Forgets a sweep of another study, and fields that can't be swept any more. */
 function forgetOther({ study, counted }: Shown): void {
   if (state.of && state.of.study.base !== study.base) Object.assign(state, FIRST_CURVE);
   const { who, on } = state.asked;

@@ -120,7 +120,7 @@ async function savePage(app: App): Promise<void> {
   save(`${fileName(app)}.html`, text(pageText(data), "text/html"));
 }
 
-/** A button that makes an export once all that it holds is counted. */
+/** A button that makes an export once all its contents are counted. */
 function exporter(app: App, said: HTMLElement) {
   return (words: string, id: string, act: () => Promise<string | void>, disabled = false): HTMLElement => {
     const run = () => {

@@ -1,4 +1,4 @@
-/** The figures in the middle: what is chosen over them, the sentences, and the chart or table of the tab. */
+/** The figures in the middle: the choices above them, the sentences, and the chart or table of the tab. */
 import type { App } from "../app";
 import { DARK, LIGHT, type Look } from "../charts";
 import { chairRows, sentences, type ChairRow } from "../compare";
@@ -18,7 +18,7 @@ const ORDER_WORDS: Readonly<Record<Order, string>> = {
   gain: "gain",
 };
 
-/** The width of charts in a window of some width: to measure it lays the whole page out. */
+/** The width of charts in a window of some width: measuring it lays out the whole page. */
 const measured = { window: 0, chart: 0 };
 
 function chartWidth(place: HTMLElement): number {
@@ -95,7 +95,7 @@ function paintTabs(app: App): void {
   byId("panel").setAttribute("aria-labelledby", `tab-${app.view.tab}`);
 }
 
-/** What the charts of chairs show. */
+/** The data of the charts of chairs. */
 export function powerModel(app: App, rows: readonly ChairRow[]): PowerModel {
   const outcomes = [...(app.shown?.counted.outcomes.values() ?? [])];
   const { majorities, measure } = app.view;
@@ -135,10 +135,10 @@ function readout(app: App, chart: HTMLElement, rows: readonly ChairRow[]): HTMLE
   return box;
 }
 
-/** Whether the table behind a chart is open; it is made when it is. */
-let isBehindOpen = false;
+/** Whether the table of a chart is open; it is made only then. */
+let isTableOpen = false;
 
-/** Paints a chart of the chairs, what is read out of it, and the table behind it. */
+/** Paints a chart of the chairs, the readout, and the table of the chart. */
 function paintChart(app: App, rows: readonly ChairRow[], draw: typeof drawPower): void {
   const model = powerModel(app, rows);
   const chart = h(
@@ -146,14 +146,14 @@ function paintChart(app: App, rows: readonly ChairRow[], draw: typeof drawPower)
     { class: "chart", tabindex: 0, role: "group", "aria-label": "Chart of the chairs; arrow keys go through its rows" },
   );
   const box = readout(app, chart, rows);
-  const behind = h("details", { id: "behind", open: isBehindOpen }, h("summary", {}, "The table behind this chart"));
+  const tableBox = h("details", { id: "behind", open: isTableOpen }, h("summary", {}, "The table behind this chart"));
   const fill = () => {
-    isBehindOpen = behind.open;
-    if (behind.open && behind.childElementCount === 1) behind.append(chairTable(app, rows));
+    isTableOpen = tableBox.open;
+    if (tableBox.open && tableBox.childElementCount === 1) tableBox.append(chairTable(app, rows));
   };
   fill();
-  behind.addEventListener("toggle", fill);
-  paint(byId("panel"), box, chart, behind);
+  tableBox.addEventListener("toggle", fill);
+  paint(byId("panel"), box, chart, tableBox);
   if (model.majorities.length) draw(chart, model, screenLook(chart));
   else chart.remove();
 }

@@ -1,4 +1,4 @@
-/** The foot: definitions of what is shown, marks, sources, how to cite, script and lines, and licences. */
+/** The foot: definitions of the measures, marks, sources, how to cite, script and lines, and licences. */
 import type { App } from "../app";
 import { openDialog } from "../dialogs";
 import { byId, button, h, paint, type Child } from "../dom";
@@ -101,7 +101,7 @@ function openCitation(app: App): void {
   });
 }
 
-/** What the seal says: where the numbers come from, and which checks were made. */
+/** The text of the seal: the source of the numbers, and the checks that were made. */
 export function openSeal(app: App): void {
   const { shown } = app;
   if (!shown) return;

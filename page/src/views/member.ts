@@ -12,7 +12,7 @@ import { closedChair } from "./chairs";
 
 const DECIMAL = "[0-9]{1,9}(\\.[0-9]{1,9})?";
 
-/** A field with a button that takes what stands in it. */
+/** A field with a button that takes its text. */
 function field(
   id: string,
   label: string,
@@ -29,7 +29,7 @@ function field(
   return h("form", { class: "field", onsubmit: submit }, words, input, h("button", { id: `${id}-take` }, act));
 }
 
-/** Where a member can go: the chairs, none, and a new chair. */
+/** The places where a member can go: the chairs, none, and a new chair. */
 function places(app: App): [string, string][] {
   const { shown } = app;
   if (!shown) return [];
@@ -82,7 +82,7 @@ function votesForms(code: string, add: (what: Command | Percentage) => void): HT
   ];
 }
 
-/** A member as it stands, in words. */
+/** The place of a member, in words. */
 function placeWords(app: App, place: Place): HTMLElement {
   const [reading] = app.shown?.counted.after.values() ?? [];
   const share = place.suspended || !reading ? null : over(place.votes, reading.total);

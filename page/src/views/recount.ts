@@ -8,7 +8,7 @@ import { MOST_PLAIN } from "../plain";
 import type { Standing } from "../standing";
 import { MAJORITY } from "../words";
 
-/** How many numbers of a reading the plain count gives otherwise. */
+/** The number of differences between the plain count and a reading. */
 async function differing(app: App, standing: Standing, reading: Reading): Promise<number> {
   const chairs = standing.open();
   const votes = chairs.map((it) => standing.weight(it));
@@ -17,7 +17,7 @@ async function differing(app: App, standing: Standing, reading: Reading): Promis
   return wrong + (winning === reading.winning ? 0 : 1);
 }
 
-/** Counts a reading again: an item with what was found. */
+/** Recounts a reading, and writes the result into an item. */
 async function compare(app: App, standing: Standing, reading: Reading, item: HTMLElement): Promise<void> {
   const { label } = MAJORITY[reading.majority];
   item.textContent = `${label}: counting…`;

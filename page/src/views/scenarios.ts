@@ -1,4 +1,4 @@
-/** Named scenarios side by side: who gains and who loses most at each majority. */
+/** Named scenarios side by side: the greatest gain and the greatest loss at each majority. */
 import type { App } from "../app";
 import { chairRows, emptySentence, extremeCell, type Said } from "../compare";
 import { button, byId, h, paint, type Child } from "../dom";

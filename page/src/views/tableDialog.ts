@@ -1,4 +1,4 @@
-/** The preview of a table: its header and columns, what is asked about it, and all its faults. */
+/** The preview of a table: its header and columns, the questions about it, and all its faults. */
 import type { App } from "../app";
 import { openDialog } from "../dialogs";
 import { button, choice, h, paint, type Child } from "../dom";
@@ -14,7 +14,7 @@ const MOST_FAULTS = 100;
 /** More members in no chair than this are counted and not named. */
 const MOST_NAMED = 12;
 
-/** A table that is looked at, and what was chosen so far. */
+/** A table in the preview, and the choices so far. */
 class Preview {
   layout: Layout;
   answers: Answers = NO_ANSWERS;
@@ -230,7 +230,7 @@ function previewTable(preview: Preview, read: ReadTable): HTMLElement {
   );
 }
 
-/** What was read, in the scripts' sentence. */
+/** The summary of the table, in the scripts' sentence. */
 function wholeWords({ base }: ReadTable): string {
   if (!base) return "Not whole yet.";
   const votes = base.members.reduce((sum, it) => sum + it.votes, 0);

@@ -9,7 +9,7 @@ import type { Study } from "../study";
 import { reasonOf } from "../words";
 import { Fault } from "../count";
 
-/** More names than this stand in the cards of chairs alone. */
+/** If there are more names than this, only the cards of chairs show them. */
 const MOST_NAMES = 12;
 
 function namesOf(places: readonly Place[]): string {
