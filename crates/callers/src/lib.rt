@@ -1,0 +1,20 @@
+//! For each public library a short function that calls it, as a first program would.
+#![tactic(auto)]
+
+mod board_audits_caller;
+mod council_core_caller;
+mod half_sums_caller;
+mod majority_rule_caller;
+mod power_index_caller;
+mod swing_walk_caller;
+mod told_streams_caller;
+mod two_copy_steps_caller;
+
+pub use board_audits_caller::audit_reader;
+pub use council_core_caller::first_sheet;
+pub use half_sums_caller::subsets_of_two;
+pub use majority_rule_caller::is_quorum;
+pub use power_index_caller::evaluate_once;
+pub use swing_walk_caller::winning_of_three;
+pub use told_streams_caller::forward;
+pub use two_copy_steps_caller::outputs_of;

@@ -1,0 +1,20 @@
+//! A caller of `told_streams`.
+ghost use Rattle.std.specs.Prelude.{◌≡◌, take, IfOk};
+ghost use Rattle.std.specs.Io.KnownBytes.{Appends};
+
+use std::io;
+use std::io::{Read, Write};
+use told_streams::{Given, Told};
+
+/// Reads once, and writes once what was read. Returns the reader, and how many of its bytes the writer took.
+pub fn forward<R: Read + Drop, W: Write>(from: R, to: &mut W) -> io::Result<(Given<R>, usize)>
+    ensures asks { IfOk result (λ r. r.0.asks ≡ 1) }
+    ensures wrote { IfOk result (λ r. Appends (W.contents to.old) (W.contents to.new) (take r.1 r.0.gave)) }
+{
+    let (mut reader, mut writer) = (Given::new(from), Told::new(to));
+    let mut bytes = [0; 512];
+    let read = reader.read(&mut bytes)?;
+    let written = writer.write(&bytes[..read])?;
+    let _to = writer.finish();
+    Ok((reader, written))
+}
