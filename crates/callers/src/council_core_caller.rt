@@ -5,8 +5,8 @@ ghost use Rattle.council_core.specs.Sheets.{front_of, total_of, weight_word};
 use council_core::{ChairId, Command, MAX_COMMANDS, MemberCode, Refusal, Register, Sheet, Votes};
 use std::alloc::Global;
 
-/// Starts a register with two members, opens chair 1 and moves the first member there. Returns the sheet, or the first
-/// refusal.
+/// Starts a register with two members, opens chair 1 and moves the first member there. Returns the sheet after the two
+/// commands, in which chair 1 casts 50 of 99 votes, or the first refusal.
 pub fn first_sheet(alloc: Global) -> Result<Sheet, Refusal>
     ensures weight { IfOk result (λ sheet. weight_word sheet 1 ≡ Some 50) }
     ensures total { IfOk result (λ sheet. total_of sheet ≡ 99) }

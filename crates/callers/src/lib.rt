@@ -1,7 +1,8 @@
-//! For each public library a short function that calls it, as a first program would.
+//! For each public library a short function that a program can begin with.
 #![tactic(auto)]
 
 mod board_audits_caller;
+mod board_share_caller;
 mod council_core_caller;
 mod half_sums_caller;
 mod majority_rule_caller;
@@ -11,6 +12,7 @@ mod told_streams_caller;
 mod two_copy_steps_caller;
 
 pub use board_audits_caller::audit_reader;
+pub use board_share_caller::read_twice;
 pub use council_core_caller::first_sheet;
 pub use half_sums_caller::subsets_of_two;
 pub use majority_rule_caller::is_quorum;
