@@ -3,6 +3,7 @@
 
 mod board_audits_caller;
 mod board_share_caller;
+mod board_text_caller;
 mod council_core_caller;
 mod half_sums_caller;
 mod majority_rule_caller;
@@ -13,6 +14,7 @@ mod two_copy_steps_caller;
 
 pub use board_audits_caller::audit_reader;
 pub use board_share_caller::read_twice;
+pub use board_text_caller::first_request;
 pub use council_core_caller::first_sheet;
 pub use half_sums_caller::subsets_of_two;
 pub use majority_rule_caller::is_quorum;
