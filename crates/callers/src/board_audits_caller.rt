@@ -6,7 +6,7 @@ use board_audits::{AuditFault, audit};
 use council_core::{MemberCode, Register, Sheet, Votes};
 use std::alloc::Global;
 
-/// Audits the sheets that one reader read of a register whose commands were published at once.
+/// Audits the sheets that one reader read from a board that published all commands of `register` at once.
 pub fn audit_reader(
     alloc: Global,
     members: &[(MemberCode, Votes)],

@@ -7,8 +7,8 @@ use board_share::start;
 use council_core::{Command, Refusal, Register, Sheet};
 use std::alloc::Global;
 
-/// Starts a board with one reader, and reads before and after a command is published, all on one thread. Both sheets
-/// are those of a legal register, and the second is not older than the first.
+/// Starts a board with one reader, and reads before and after `command` is published, on one thread. Both sheets are
+/// sheets of legal registers, and the second is not older than the first.
 pub fn read_twice(
     alloc: Global,
     register: Register,

@@ -7,7 +7,7 @@ use board_text::{Request, Script, Stop, request_in};
 use csv::ByteRecord;
 use std::alloc::Global;
 
-/// Returns what the first record of `text` asks for, or `None` where there is no record or it is not well formed.
+/// Returns the request of the first record of `text`, or `None` if there is no record or it is not well formed.
 pub fn first_request(alloc: Global, text: &[u8]) -> Result<Option<Request>, Stop>
     ensures request { IfOk result (λ request. request
         ≡ option_and_then request_of (slice_get (records default_config (strip_bom text.now)) 0)) }

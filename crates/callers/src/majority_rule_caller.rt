@@ -6,7 +6,7 @@ ghost use Rattle.majority_rule.specs.declared.majorities.Majority.TheVariants.{Q
 use council_core::Sheet;
 use majority_rule::{Majority, least_size, quota};
 
-/// Whether `chairs` chairs with `weight` votes together are a quorum: they reach the quota and the least size.
+/// Returns whether `chairs` chairs with `weight` votes in total form a quorum.
 pub fn is_quorum(sheet: &Sheet, weight: u64, chairs: u8) -> bool
     ensures wins { result ≡ wins Quorum sheet.now weight chairs }
 {

@@ -6,7 +6,8 @@ use std::io;
 use std::io::{Read, Write};
 use told_streams::{Given, Told};
 
-/// Reads once, and writes once what was read. Returns the reader, and how many of its bytes the writer took.
+/// Reads once from `from` and writes what was read once to `to`. Returns the reader, and the number of its bytes that
+/// the writer took.
 pub fn forward<R: Read + Drop, W: Write>(from: R, to: &mut W) -> io::Result<(Given<R>, usize)>
     ensures asks { IfOk result (λ r. r.0.asks ≡ 1) }
     ensures wrote { IfOk result (λ r. Appends (W.contents to.old) (W.contents to.new) (take r.1 r.0.gave)) }

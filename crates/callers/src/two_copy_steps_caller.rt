@@ -7,8 +7,8 @@ use council_core::Register;
 use std::alloc::Global;
 use two_copy_steps::{Event, Notes, RunFault, run};
 
-/// Runs a machine with two readers over `events` and returns its outputs. They equal the replies of the sequential
-/// register, and no reader's front falls.
+/// Runs a machine with two readers over `events` and returns its outputs: each answer equals the reply of the
+/// sequential register, and no reader's front falls.
 pub fn outputs_of(alloc: Global, register: Register, events: &[Event]) -> Result<Notes, RunFault>
     ensures replies { OnOk result (TellsReplies register 2 events.now) }
     ensures never_older { IfOk result (λ notes. FrontsNeverFall notes) }

@@ -4,12 +4,13 @@ use Rattle.council_core.specs.Rolls.{Opening}
 use Rattle.board_share.specs.Readers.{IsLegalSheet}
 use Rattle.callers.proofs.board_share_caller.read_twice.Goals as goal
 
--- a legal sheet is one of an equal opening
-legal-along : (a b : Opening) (words : List ℕ) → a ≡ b → IsLegalSheet a words → IsLegalSheet b words
-legal-along a b words e legal = subst (λ o. IsLegalSheet o words) e legal
+-- a legal sheet of an opening is one of an equal opening
+legal-along : {a b : Opening} {words : List ℕ} → a ≡ b → IsLegalSheet a words → IsLegalSheet b words
+legal-along {a} {b} {words} e legal = subst (λ opening. IsLegalSheet opening words) e legal
 
 pub returns-clause-legal : goal.returns-clause-legal
 returns-clause-legal c =
-    let opened : c.in-Some.reader.opening ≡ c.args.register.opening = search rules in
-    (legal-along c.in-Some.reader.opening c.args.register.opening c.read-before.result.sheet opened c.read-before.ensures.sheet,
-     legal-along c.read-before.new.self.opening c.args.register.opening c.read-after.result.sheet (c.read-before.ensures.opening ∙ opened) c.read-after.ensures.sheet)
+    let opened : c.in-Some.reader.opening ≡ c.args.register.opening = search rules in (
+      legal-along opened c.read-before.ensures.sheet,
+      legal-along (c.read-before.ensures.opening ∙ opened) c.read-after.ensures.sheet,
+    )
