@@ -20,7 +20,7 @@ pub fn read_twice(
 {
     let (mut writer, mut readers) = match start(alloc, register, 1) {
         Ok(board) => board,
-        Err((_register, why)) => return Err(why),
+        Err((_, why)) => return Err(why),
     };
     let Some(mut reader) = readers.pop() else {
         unreachable!();

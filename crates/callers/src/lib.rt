@@ -3,6 +3,7 @@
 
 mod board_audits_caller;
 mod board_runs_caller;
+mod board_serve_caller;
 mod board_share_caller;
 mod board_text_caller;
 mod council_core_caller;
@@ -15,6 +16,7 @@ mod two_copy_steps_caller;
 
 pub use board_audits_caller::audit_reader;
 pub use board_runs_caller::replay_slice;
+pub use board_serve_caller::serve_slice;
 pub use board_share_caller::read_twice;
 pub use board_text_caller::first_request;
 pub use council_core_caller::first_sheet;

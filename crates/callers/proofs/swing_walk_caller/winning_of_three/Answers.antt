@@ -16,6 +16,7 @@ unfolding IsDistinct
 returns c =
     let pairs = c.pair_law.ensures.counts c.args.quota 0 ((0, 50) ∷ (1, 49) ∷ []) ((0, 1) ∷ [])
     c.rebuild.new.self c.rebuild-2.new.self
-    (record { slots = search rules; distinct = search rules }) (record { slots = search rules; distinct = search rules })
+    (record { slots = search rules; distinct = search rules })
+    (record { slots = search rules; distinct = search rules })
     c.rebuild.ensures.subsets c.rebuild-2.ensures.subsets in
     record { omega = c.count.ensures.winning ∙ pairs.winning }

@@ -1,0 +1,27 @@
+//! A caller of `board_serve`.
+ghost use Rattle.std.specs.Prelude.{IfOk};
+ghost use Rattle.council_core.specs.declared.limits.TheConstants.{MAX_COMMANDS};
+ghost use Rattle.board_serve.specs.Outcomes.{HasRecords};
+ghost use Rattle.board_serve.specs.Plans.{plan_of};
+
+use board_serve::{FreeGate, Served, serve};
+use board_text::Fault;
+use council_core::MAX_COMMANDS;
+use std::alloc::Global;
+use std::sync::Wait;
+use std::thread::Threads;
+use told_streams::Given;
+
+/// Serves `input` by one writer thread and two reader threads that nothing holds up, and appends its output to `out`.
+pub fn serve_slice<T: Threads + Wait + Sync>(
+    rt: &T,
+    alloc: Global,
+    input: &[u8],
+    out: &mut Vec<u8>,
+) -> Result<Served, Fault>
+    ensures records { IfOk result
+        (λ served. IfOk (plan_of MAX_COMMANDS input.now) (λ plan. HasRecords plan served)) }
+{
+    let mut reader = Given::new(input);
+    serve(rt, alloc, &FreeGate, &mut reader, out, MAX_COMMANDS)
+}
