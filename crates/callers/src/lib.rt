@@ -2,6 +2,7 @@
 #![tactic(auto)]
 
 mod board_audits_caller;
+mod board_report_caller;
 mod board_runs_caller;
 mod board_serve_caller;
 mod board_share_caller;
@@ -15,6 +16,7 @@ mod told_streams_caller;
 mod two_copy_steps_caller;
 
 pub use board_audits_caller::audit_reader;
+pub use board_report_caller::run_words;
 pub use board_runs_caller::replay_slice;
 pub use board_serve_caller::serve_slice;
 pub use board_share_caller::read_twice;
