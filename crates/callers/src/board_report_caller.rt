@@ -1,5 +1,5 @@
 //! A caller of `board_report`.
-ghost use Rattle.std.specs.Prelude.{◌≡◌, [], Some, map};
+ghost use Rattle.std.specs.Prelude.{[], Some, map};
 ghost use Rattle.std.specs.String.{string_bytes};
 ghost use Rattle.board_words.specs.Calls.{Asks};
 ghost use Rattle.board_words.specs.declared.calls.Call.{Call};

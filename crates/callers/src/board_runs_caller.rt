@@ -8,7 +8,7 @@ use board_text::{Fault, Limits};
 use std::alloc::Global;
 use told_streams::Given;
 
-/// Replays `input` and appends its output to `out`.
+/// Replays `input` and appends the output of the run to `out`.
 pub fn replay_slice(
     alloc: Global,
     input: &[u8],

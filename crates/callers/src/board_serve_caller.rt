@@ -12,7 +12,8 @@ use std::sync::Wait;
 use std::thread::Threads;
 use told_streams::Given;
 
-/// Serves `input` by one writer thread and two reader threads that nothing holds up, and appends its output to `out`.
+/// Serves `input` with one writer thread and two reader threads, and appends the output to `out`. The journal, the cuts
+/// and the readings that it returns are legal records.
 pub fn serve_slice<T: Threads + Wait + Sync>(
     rt: &T,
     alloc: Global,

@@ -7,7 +7,8 @@ use council_core::Refusal;
 use half_sums::OrderedSums;
 use std::alloc::Global;
 
-/// Lists the subsets of two chairs, ascending by weight. Out of memory is the only refusal.
+/// Lists the subsets of two chairs with `first` and `second` votes, ascending by weight. Out of memory is the only
+/// refusal.
 pub fn subsets_of_two(alloc: Global, first: u64, second: u64) -> Result<OrderedSums, Refusal>
     requires { first + second ≤ 2 ^ 48 }
     ensures subsets { IfOk result (λ sums. AreSubsets ((0, first) ∷ (1, second) ∷ []) sums) }

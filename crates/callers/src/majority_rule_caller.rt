@@ -1,5 +1,5 @@
 //! A caller of `majority_rule`.
-ghost use Rattle.std.specs.Prelude.{◌≡◌, ◌≤◌, ◌^◌};
+ghost use Rattle.std.specs.Prelude.{◌≡◌};
 ghost use Rattle.majority_rule.specs.Winning.{wins};
 ghost use Rattle.majority_rule.specs.declared.majorities.Majority.TheVariants.{Quorum};
 

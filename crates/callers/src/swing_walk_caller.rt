@@ -8,8 +8,8 @@ use half_sums::HalfSums;
 use std::alloc::Global;
 use swing_walk::{count, pair_law};
 
-/// Counts the coalitions of three chairs with 50, 49 and 1 votes that have at least `quota` votes. Two of the chairs
-/// are in the left half and one is in the right half.
+/// Counts the coalitions with at least `quota` votes among three chairs of 50, 49 and 1 votes. Two of the chairs are in
+/// the left half and one is in the right half.
 pub fn winning_of_three(alloc: Global, quota: u64) -> Result<u64, Refusal>
     ensures omega { IfOk result
         (λ n. n ≡ omega_of (reaching quota 0) (board_of ((0, 50) ∷ (1, 49) ∷ []) ((0, 1) ∷ []))) }
