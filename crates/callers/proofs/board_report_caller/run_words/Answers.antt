@@ -4,7 +4,7 @@ use Rattle.board_words.specs.declared.calls.Call.{Call}
 use Rattle.board_report.specs.Programs.{CallExits, written_streams}
 use Rattle.callers.proofs.board_report_caller.run_words.Goals as goal
 
--- what is written_streams to streams that were empty
+-- the bytes written to streams that were empty
 from-empty : (call : Call) (input : List ℕ) (status : ℕ) (out err says names : List ℕ) → out ≡ [] → err ≡ []
     → CallExits call input status (written_streams (Some out) (Some says) (Some err) (Some names))
     → CallExits call input status (written_streams (Some []) (Some says) (Some []) (Some names))
