@@ -101,7 +101,7 @@ fn show_lack_of_memory(out: &mut [u8]) -> Shown
 
 // Replays an input into memory, and copies its text to `out`.
 fn replay_into(alloc: Global, input: &[u8], limits: Limits, out: &mut [u8]) -> Shown
-    ensures shows { Shows (run_of replay_limits input.now) (length out.old) (take result.count out.new)
+    ensures shows { Shows (run_of limits input.now) (length out.old) (take result.count out.new)
         (answered_number result.end) (record_of result.end) }
     ensures within { result.count ≤ length out.old }
     ensures rest { drop result.count out.new ≡ drop result.count out.old }
