@@ -102,7 +102,7 @@ impl Reader {
     ///
     /// ```rust
     /// let reading = reader.read();
-    /// let front = reading.sheet.front(); // the commands accepted in the version that was read
+    /// let front = reading.sheet.front(); // the number of commands in the version read
     /// ```
     pub fn read(&mut self) -> Reading
         requires rest { self.old.stage ≡ AtRest }

@@ -84,8 +84,8 @@ impl Writer {
     ///
     /// # Errors
     ///
-    /// `Busy` if a reader is found in the middle of a reading. Nothing is published then, and
-    /// readers that were quiescent stay quiescent.
+    /// `Busy` if a reader that isn't quiescent is found in the middle of a reading. Nothing is
+    /// published then; quiescent readers stay so, and those found at rest become quiescent.
     pub fn try_publish(&mut self) -> Result<u32, Busy>
         ensures table { self.new.table ≡ self.old.table }
         ensures ledger { self.new.ledger ≡ self.old.ledger }
@@ -123,9 +123,9 @@ impl Writer {
         publish_all(&mut self.words)
     }
 
-    /// Publishes all accepted commands and returns their number, by `try_publish` until it
-    /// succeeds. It waits for readers that are in the middle of a reading, and waits forever if one
-    /// was dropped there.
+    /// Publishes all accepted commands and returns their number: calls `try_publish` until it
+    /// succeeds, and yields to other threads between the calls. It never returns if a reader that
+    /// blocks it was dropped in the middle of a reading.
     pub fn publish<R: Wait>(&mut self, rt: &R) -> u32
         ensures table { self.new.table ≡ self.old.table }
         ensures ledger { self.new.ledger ≡ self.old.ledger }

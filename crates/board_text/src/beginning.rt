@@ -40,7 +40,7 @@ pub struct RunStart {
 /// - `Stop::Input` with `TooLong` at 0: the input has more than `INPUT_LIMIT` bytes.
 /// - `Stop::OutOfMemory`.
 ///
-/// After each of the last three some of the input has been read, and none of it is returned.
+/// After the last three some of the input may have been read, and none of it is returned.
 pub fn read_within<R: Read + Drop>(
     alloc: Global,
     input: &mut RecordingReader<R>,
@@ -83,12 +83,12 @@ fn start_register(
 ///
 /// # Errors
 ///
-/// All are `Stop::Input` except the last two; the first fault in the order of the records is
-/// returned.
+/// All are `Stop::Input` except the last two. They are checked in this order; those of the members'
+/// records one record after another.
 ///
 /// - `BadHeader` at 0: there is no first record, or it isn't `member,votes`.
-/// - `BadRecord` at the number of the record: a member's record isn't well formed.
 /// - `TooManyMembers` at 0: there are more than `MAX_MEMBERS` members.
+/// - `BadRecord` at the number of the record: a member's record isn't well formed.
 /// - `NoScript` at 0: the input ends before the record `script`.
 /// - `BadLimit` at 0: the journal limit is out of range; `DuplicateMember` at 0: two members have
 ///   the same code.

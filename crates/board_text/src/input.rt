@@ -21,8 +21,8 @@ pub const INPUT_LIMIT: usize = 4_194_304;
 /// The most interrupted reads, and the most interrupted writes, that are retried in one run.
 pub const INTERRUPTIONS: u32 = 1000;
 
-/// The most reads of a run. Each read except the last returns a byte or is interrupted, and no read
-/// follows a failed one.
+/// The most reads of a run. Each read except the last returns at least one byte or is interrupted,
+/// and no read follows a failed one.
 pub const READS: u32 = INPUT_LIMIT as u32 + INTERRUPTIONS + 1;
 
 // One read: the number of bytes returned, or `None` if the read was interrupted and may be retried.

@@ -31,8 +31,8 @@ impl<'a> Model for Script<'a> {
 }
 
 impl<'a> Script<'a> {
-    /// A script over the records of `text`. The first record is returned like any other, and
-    /// records may differ in their number of fields.
+    /// A script over the records of `text`, without a byte order mark at its start. The first record
+    /// is returned like any other, and records may differ in their number of fields.
     ///
     /// ```rust
     /// let mut script = Script::new(alloc, b"member,votes\nAAA,10\nscript\n");

@@ -157,9 +157,8 @@ impl Refusal {
         first_of_code(&Self::ALL, code)
     }
 
-    /// The refusal's number, from 1 to 33. Numbers 1 to 9 refuse a command, 10 is out of memory,
-    /// and the others are refusals of other calls and faults of runs. `TooManyMembers`,
-    /// `MemberExists` and `MemberSeated` refuse a command, too.
+    /// The refusal's number, from 1 to 33. Numbers 1 to 9, 12, 25 and 26 refuse a command, and 10 is
+    /// out of memory. The others belong to other calls and to runs.
     pub fn code(&self) -> u8
         ensures number { result ≡ code_of self.now }
     {

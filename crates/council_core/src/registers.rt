@@ -363,8 +363,8 @@ impl Register {
         }
     }
 
-    /// Returns the refusal that `apply` would return for this command, except out of memory. The
-    /// register does not change.
+    /// Checks a command without carrying it out. After `Ok`, `apply` can fail only with
+    /// `OutOfMemory`.
     ///
     /// # Errors
     ///

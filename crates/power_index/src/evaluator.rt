@@ -56,9 +56,8 @@ impl Evaluator {
     /// whose words differ from the previous sheet: 0, 1 or 2. The total and the front belong to
     /// neither block.
     ///
-    /// Independently of the chairs' numbers, the first half of the open chairs, including the
-    /// middle one of an odd number, make one list, and the other open chairs make the other. A list
-    /// is rebuilt if its weights differ from the previous ones.
+    /// The open chairs, in the order of their numbers, are split in the middle into two lists; an
+    /// odd one belongs to the first. A list is rebuilt if its weights differ from the previous ones.
     pub fn set(&mut self, sheet: &Sheet) -> u8
         ensures changed { result ≡ changed_halves self.old sheet.now }
         ensures held { self.new ≡ sheet.now }

@@ -41,7 +41,7 @@ pub struct ChairPower {
 /// The indices of a sheet under a majority.
 ///
 /// Names and fractions are those of Felsenthal and Machover (1998). Votes are at most 2^48, counts
-/// at most 2^32.
+/// at most 2^32, except the denominator of a share, which is at most 2^37.
 #[derive(Debug, PartialEq, Eq, Drop)]
 pub struct Indices {
     /// The majority by which coalitions win.
