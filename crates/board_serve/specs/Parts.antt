@@ -31,7 +31,7 @@ shares_of p = record { writer = p.writer.items; asked = map (λ v. v.items) p.as
 abbrev pub record_count : Shares → ℕ
 record_count s = length s.writer + sum_by length s.asked
 
--- appends an item to the list at this index appends one order
+-- appends an item to the list at this index
 abbrev pub add_at : {A : Type 0} → ℕ → A → List (List A) → List (List A)
 add_at index a [] = []
 add_at zero a (list ∷ lists) = (list ++ a ∷ []) ∷ lists

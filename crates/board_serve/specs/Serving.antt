@@ -24,7 +24,7 @@ WritesOutcome old new legal (Err stop.WriteFault) ls = AppendsFront old new (tex
 WritesOutcome old new legal (Err (stop.Input f)) ls =
     (legal ≡ false) × (f ≡ fault_at why.Mismatch 0) × Appends old new (text_of ls)
 
--- the threads carried out the plan, and yet some reading is none that the register gives
+-- the results match the plan, but the readings are not legal records
 abbrev pub Differs : Planned → Type 0
 Differs p = (s : Served) × IsServed p s × (ServedLegalRecords p s → ⊥)
 

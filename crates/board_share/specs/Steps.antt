@@ -21,7 +21,7 @@ use Rattle.board_share.specs.declared.views.History.{History}
 use Rattle.board_share.specs.Histories.{Adds, KnowsAfter, handed_over, is_readers, is_writers, known_after, last_reported}
 use Rattle.board_share.specs.Seats.{seat_of_reader}
 
--- the seat with this view and no slot
+-- a seat of the shared table with this view and nothing else
 abbrev pub bare_seat : View → Me Unit View
 bare_seat v = (v, [])
 

@@ -11,8 +11,8 @@ use Rattle.power_index.specs.Halves.{AreHalves, open_chair_place}
 abbrev pub etas : Rule → List Chair → List ℕ
 etas wins board = map (λ c. eta_of wins c board) board
 
--- counts of a sheet by a quota and a least size: omega, and at each seat a count that meets the
--- requirements of `swings`, from which it computes the swings of the open chair at that seat
+-- counts of a sheet by a quota and a least size: omega, and at each place a count that meets the
+-- requirements of `swings`, from which it computes the swings of the open chair at that place
 pub record AreCounts (quota least_size : ℕ) (words : List ℕ) (winning : ℕ) (with_chair : ℕ → ℕ)
     : Type 0 where
   pub omega : winning ≡ omega_of (threshold_rule quota least_size) (open_chairs words)

@@ -33,12 +33,12 @@ pub record AreHalves (words : List ℕ) (left right : List Entry) : Type 0 where
   pub left_half : AreSubsets (chairs_from_slot 0 (left_weights words)) left
   pub right_half : AreSubsets (chairs_from_slot 0 (right_weights words)) right
 
--- the seat of an open chair with `before` open chairs before it, if `on_left` chairs are on the
--- left: its slot on the left, or 16 plus its slot on the right
+-- the place in the counts of an open chair with `before` open chairs before it, if `on_left` chairs
+-- are on the left: its slot on the left, or 16 plus its slot on the right
 abbrev pub seat : ℕ → ℕ → ℕ
 seat on_left before = if nat_lt before on_left then before else SLOTS + (before - on_left)
 
--- the seat of the open chair of a sheet with `before` open chairs before it
+-- the place in the counts of the open chair of a sheet with `before` open chairs before it
 abbrev pub open_chair_place : List ℕ → ℕ → ℕ
 open_chair_place words before = seat (left_count (length (open_chairs words))) before
 

@@ -10,8 +10,7 @@ use Rattle.std.specs.Io.KnownBytes.{Consumes, IsAtEnd}
 abbrev pub is_last : List ℕ → ℕ → Bool
 is_last room count = nat_eq count 0 && nat_lt 0 (length room)
 
--- the number of vain calls, 1 or 0, that a call moving `count` bytes is: a call is vain if it moves
--- no byte
+-- 1 if a call that moves `count` bytes moves none, and so is in vain, else 0
 abbrev pub vain_of : ℕ → ℕ
 vain_of count = if nat_eq count 0 then 1 else 0
 
