@@ -38,7 +38,8 @@ pub(crate) fn sheet_of(words: &[u64]) -> Result<Sheet, Refusal>
 // weight that does not fit in a word, are refused.
 pub(crate) fn words_at(weights: &[u64], total: u64) -> Result<[u64; SHEET_WORDS], Refusal>
     ensures same { IfOk result (λ words. words ≡ words_of_weights weights.now total) }
-    ensures refused { IfErr result (λ why. (why ≡ BadSheet) × (IsSheetInRange (words_of_weights weights.now total) → ⊥)) }
+    ensures refused { IfErr result
+        (λ why. (why ≡ BadSheet) × (IsSheetInRange (words_of_weights weights.now total) → ⊥)) }
 {
     if weights.len() > CHAIRS {
         return Err(Refusal::BadSheet);

@@ -172,9 +172,11 @@ pub extern "C" fn board_replay(
         result place.new }
     ensures within { written.new ≤ length out.old }
     ensures rest { drop written.new out.new ≡ drop written.new out.old }
-    ensures done { result ≡ DONE → IsWhole (run_of (replay_limits readers journal) input.now) (take written.new out.new) }
+    ensures done { result ≡ DONE → IsWhole
+        (run_of (replay_limits readers journal) input.now) (take written.new out.new) }
     ensures reads { result ≢ code_of ReadFault }
-    ensures writes { result ≡ code_of WriteFault → IsLonger (run_of (replay_limits readers journal) input.now) (length out.old) }
+    ensures writes { result ≡ code_of WriteFault → IsLonger
+        (run_of (replay_limits readers journal) input.now) (length out.old) }
 {
     let shown = replay_into(alloc, input, limits_of(readers, journal), out);
     *written = shown.count as u64;

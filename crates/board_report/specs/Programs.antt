@@ -22,8 +22,10 @@ program_limits readers journal = record { readers = readers; journal = journal }
 
 -- the call over these bytes ended in this result, and its lines were written
 abbrev pub CallEnds : Call → List ℕ → Option (List ℕ) → Option (List ℕ) → Result ⊤ Fault → Type 0
-CallEnds (Replay readers journal) bytes old new ended = Replays old new ended (run_of (program_limits readers journal) bytes)
-CallEnds (Trace readers journal) bytes old new ended = Replays old new ended (trace_of (program_limits readers journal) bytes)
+CallEnds (Replay readers journal) bytes old new ended =
+    Replays old new ended (run_of (program_limits readers journal) bytes)
+CallEnds (Trace readers journal) bytes old new ended =
+    Replays old new ended (trace_of (program_limits readers journal) bytes)
 CallEnds (Serve journal) bytes old new (Ok done) =
     (served : Served) × Serves old new (Ok served) (plan_of journal bytes)
 CallEnds (Serve journal) bytes old new (Err f) = Serves old new (Err f) (plan_of journal bytes)

@@ -30,7 +30,8 @@ output_lines m events = flat_map note_lines (notes m events)
 
 -- the machine takes the events of an act, and its outputs are printed
 abbrev pub act_turn : Limits → MachineState → Act → Turn MachineState
-act_turn lim m a = if is_scheduled lim a then Ok (output_lines m (events_of a), state_after_events m (events_of a)) else Err BadReader
+act_turn lim m a =
+    if is_scheduled lim a then Ok (output_lines m (events_of a), state_after_events m (events_of a)) else Err BadReader
 
 abbrev pub acted_on : Limits → MachineState → Option Act → Turn MachineState
 acted_on lim m None = Err BadRecord

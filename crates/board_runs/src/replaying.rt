@@ -43,7 +43,8 @@ fn write_reading<W: Write>(
     majority: Majority,
     out: &mut Output<'_, W>,
 ) -> Result<(), Stop>
-    ensures wrote { Plays out.old.held out.new.held result (printed_run (reading_lines reader majority (published_sheet desk.old))) }
+    ensures wrote { Plays out.old.held out.new.held result
+        (printed_run (reading_lines reader majority (published_sheet desk.old))) }
     ensures state { desk.new ≡ desk.old }
     ensures continues { GoesOn out.old out.new }
 {

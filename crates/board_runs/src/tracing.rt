@@ -52,7 +52,8 @@ fn take_all<W: Write>(
     count: u32,
     out: &mut Output<'_, W>,
 ) -> Result<(), Stop>
-    ensures wrote { Plays out.old.held out.new.held result (printed_run (output_lines machine.old (replicate count event.now))) }
+    ensures wrote { Plays out.old.held out.new.held result
+        (printed_run (output_lines machine.old (replicate count event.now))) }
     ensures state { OnOk result (machine.new ≡ state_after_events machine.old (replicate count event.now)) }
     ensures continues { GoesOn out.old out.new }
 {

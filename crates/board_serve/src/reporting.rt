@@ -17,7 +17,8 @@ use std::io::Write;
 
 // Writes the lines of these answers.
 fn write_answers<W: Write>(out: &mut Output<'_, W>, answers: &[Answer]) -> Result<(), Stop>
-    ensures wrote { Plays out.old.held out.new.held result (printed_run (map (λ a. reply_line (reply_of a)) answers.now)) }
+    ensures wrote { Plays out.old.held out.new.held result
+        (printed_run (map (λ a. reply_line (reply_of a)) answers.now)) }
     ensures continues { GoesOn out.old out.new }
     ensures only { IsOkUnless result stop.WriteFault }
 {

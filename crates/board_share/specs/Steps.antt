@@ -69,7 +69,8 @@ pub record WriterActed (list : Option (List Command)) (found : ℕ) (before afte
     : Type 0 where
   pub adds : Adds is_writers (begin_events list v ++ Writer ∷ []) before after
   pub knows : KnowsAfter after w
-  pub reported : last_reported after ≡ Some (step_note (writer_begun_with list v).state (writer_begun_with list v).state.phase found)
+  pub reported : last_reported after
+      ≡ Some (step_note (writer_begun_with list v).state (writer_begun_with list v).state.phase found)
 
 -- the writer took its step, and began to publish these commands before it, if any
 abbrev pub write_then : Option (List Command) → Step Unit → Me Unit View → ℕ → Me Unit View → Type 0

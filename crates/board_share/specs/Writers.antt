@@ -102,7 +102,8 @@ pub record IsWriter (table seat : TableId) (me : Me Unit View) (d : WriterSeen) 
 pub record Wrote (before after : WriterSeen) (found : ℕ) : Type 0 where
   pub table : after.table ≡ before.table
   pub adds : Adds is_writers (begin_events before.due before.held ++ Writer ∷ []) before.history after.history
-  pub reported : last_reported after.history ≡ Some (step_note (known_at before).state (known_at before).state.phase found)
+  pub reported : last_reported after.history
+      ≡ Some (step_note (known_at before).state (known_at before).state.phase found)
   pub ledger : after.ledger ≡ before.ledger
   pub due : after.due ≡ None
   pub knows : known_at after ≡ (writer_action (sheet before.ledger.opening) (known_at before)).after found

@@ -56,7 +56,8 @@ command_of _ = None
 
 -- a reading by a numbered reader at a majority
 abbrev pub reading_of : Row → Option Request
-reading_of (word ∷ a ∷ b ∷ []) = if bytes_eq word (codes "read") then pair_of ask.Read (number_of_digits a) (majority_of b)
+reading_of (word ∷ a ∷ b ∷ []) =
+    if bytes_eq word (codes "read") then pair_of ask.Read (number_of_digits a) (majority_of b)
     else None
 reading_of _ = None
 

@@ -105,7 +105,8 @@ in_range lim =
 unfoldable pub begun_of : Limits → List ℕ → Result Begun Fault
 begun_of lim bytes =
     if in_range lim
-    then if nat_le (length bytes) INPUT_LIMIT then run_begun_with lim (opened_of (records default_config (strip_bom bytes)))
+    then if nat_le (length bytes) INPUT_LIMIT
+    then run_begun_with lim (opened_of (records default_config (strip_bom bytes)))
     else Err (fault_at TooLong 0)
     else Err (fault_at BadLimit 0)
 

@@ -29,7 +29,8 @@ published_sheet s = sheet s.ledger.opening (take s.published s.ledger.journal)
 
 -- the state and the reply after a submitted command; a refused command changes nothing
 abbrev pub submit_response : Sequential → Command → Result ⊤ Refusal → Sequential × Reply
-submit_response s command (Ok u) = (record s { ledger = ledger_with s.ledger command }, accepted (length s.ledger.journal + 1))
+submit_response s command (Ok u) =
+    (record s { ledger = ledger_with s.ledger command }, accepted (length s.ledger.journal + 1))
 submit_response s command (Err e) = (s, refused e)
 
 -- the next state and the reply

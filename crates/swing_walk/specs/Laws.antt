@@ -21,11 +21,13 @@ SwingLaw = (wins : Rule) (before after : List Chair) (chair : Chair) → IsRule 
 pub three_omega : omega_of (threshold_rule 51 0) three_chairs ≡ 3
 three_omega = refl
 
-pub three_with : (omega_with (threshold_rule 51 0) 0 three_chairs ≡ 3) × (omega_with (threshold_rule 51 0) 1 three_chairs ≡ 2)
+pub three_with : (omega_with (threshold_rule 51 0) 0 three_chairs ≡ 3)
+    × (omega_with (threshold_rule 51 0) 1 three_chairs ≡ 2)
     × (omega_with (threshold_rule 51 0) 2 three_chairs ≡ 2)
 three_with = (refl, refl, refl)
 
-pub three_eta : (eta_of (threshold_rule 51 0) (0, 50) three_chairs ≡ 3) × (eta_of (threshold_rule 51 0) (1, 49) three_chairs ≡ 1)
+pub three_eta : (eta_of (threshold_rule 51 0) (0, 50) three_chairs ≡ 3)
+    × (eta_of (threshold_rule 51 0) (1, 49) three_chairs ≡ 1)
     × (eta_of (threshold_rule 51 0) (2, 1) three_chairs ≡ 1)
 three_eta = (refl, refl, refl)
 
@@ -37,8 +39,10 @@ unfolding lib.Count.ones
 three_pairs = (refl, refl, refl, refl)
 
 -- worked example: the same chairs, quota 50 and least size 2
-pub three_large : (omega_of (threshold_rule 50 2) three_chairs ≡ 4) × (eta_of (threshold_rule 50 2) (0, 50) three_chairs ≡ 2)
-    × (eta_of (threshold_rule 50 2) (2, 1) three_chairs ≡ 2) × (large_pairs 50 2 (entries_of three_chairs) (entries_of []) ≡ 4)
+pub three_large : (omega_of (threshold_rule 50 2) three_chairs ≡ 4)
+    × (eta_of (threshold_rule 50 2) (0, 50) three_chairs ≡ 2)
+    × (eta_of (threshold_rule 50 2) (2, 1) three_chairs ≡ 2)
+    × (large_pairs 50 2 (entries_of three_chairs) (entries_of []) ≡ 4)
 unfolding lib.Count.ones
 three_large = (refl, refl, refl, refl)
 

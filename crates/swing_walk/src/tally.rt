@@ -32,7 +32,8 @@ impl MaskTally {
     pub(crate) fn add(&mut self, mask: u16, amount: u64)
         requires even { IsEven self.old }
         requires room { tally_total self.old + amount < 2 ^ 64 }
-        ensures marked { (slot : ℕ) → slot_amount slot self.new ≡ slot_amount slot self.old + bit_at mask slot * amount }
+        ensures marked { (slot : ℕ)
+            → slot_amount slot self.new ≡ slot_amount slot self.old + bit_at mask slot * amount }
         ensures total { tally_total self.new ≡ tally_total self.old + amount }
         ensures even { IsEven self.new }
     {
@@ -45,7 +46,8 @@ impl MaskTally {
         requires even { IsEven self.old }
         requires other_even { IsEven other.now }
         requires room { tally_total self.old + tally_total other.now < 2 ^ 64 }
-        ensures marked { (slot : ℕ) → slot_amount slot self.new ≡ slot_amount slot self.old + slot_amount slot other.now }
+        ensures marked { (slot : ℕ)
+            → slot_amount slot self.new ≡ slot_amount slot self.old + slot_amount slot other.now }
         ensures total { tally_total self.new ≡ tally_total self.old + tally_total other.now }
         ensures even { IsEven self.new }
     {

@@ -119,7 +119,8 @@ module _ (sheet : List Command → List ℕ) where
       record {
         word = pin r;
         becomes = λ found. found;
-        after = λ found. if found == 0 then writing_with_quiescent w (slice_set w.seen_out r true) else record w { phase = Idle };
+        after = λ found. if found == 0 then writing_with_quiescent w (slice_set w.seen_out r true)
+            else record w { phase = Idle };
       }
   phase_action w (Filling k) =
       record {

@@ -207,4 +207,5 @@ NotesLaw = (m : MachineState) (events more : List Event)
 -- the machine after both lists is the machine after the second, from the machine with which the
 -- first ended
 abbrev pub AfterLaw : Type 0
-AfterLaw = (m : MachineState) (events more : List Event) → state_after_events m (events ++ more) ≡ state_after_events (state_after_events m events) more
+AfterLaw = (m : MachineState) (events more : List Event)
+    → state_after_events m (events ++ more) ≡ state_after_events (state_after_events m events) more

@@ -17,7 +17,8 @@ abbrev pub machine_after : Ledger → ℕ → List Event → MachineState
 machine_after ledger readers events = state_after_events (machine_at_start ledger readers) events
 
 abbrev pub auxiliary_after : Ledger → ℕ → List Event → Auxiliary
-auxiliary_after ledger readers events = auxiliary_steps (machine_at_start ledger readers) (auxiliary_start ledger readers) events
+auxiliary_after ledger readers events =
+    auxiliary_steps (machine_at_start ledger readers) (auxiliary_start ledger readers) events
 
 -- every output that answers a call equals the sequential register's reply at the call's
 -- linearization point
@@ -43,7 +44,8 @@ KeepsRecordsReported ledger readers events reported =
 -- the event at this index can need memory, in a run from this machine
 abbrev pub WantsMemoryFrom : MachineState → List Event → ℕ → Type 0
 WantsMemoryFrom m events place =
-    (event : Event) × (slice_get events place ≡ Some event) × WantsMemory (state_after_events m (take place events)) event
+    (event : Event) × (slice_get events place ≡ Some event)
+    × WantsMemory (state_after_events m (take place events)) event
 
 -- memory for the outputs ran out before any event, or the next event can need memory
 abbrev pub RunsOutOfMemory : Ledger → ℕ → List Event → ℕ → Type 0

@@ -55,7 +55,8 @@ ledger_and_note ledger command (Ok u) = (ledger_with ledger command, Accepted (l
 ledger_and_note ledger command (Err refusal) = (ledger, Refused refusal)
 
 abbrev pub machine_and_note : MachineState → Command → Result ⊤ Refusal → MachineState × Note
-machine_and_note m command v = let after = ledger_and_note m.ledger command v in (record m { ledger = after.0 }, after.1)
+machine_and_note m command v =
+    let after = ledger_and_note m.ledger command v in (record m { ledger = after.0 }, after.1)
 
 -- a publication of the whole journal begins, if commands are pending
 abbrev pub published_by : MachineState → Bool → MachineState × Note

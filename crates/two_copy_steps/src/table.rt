@@ -80,7 +80,8 @@ impl Table {
         requires within { accessed_place access < length self.old }
         requires low { accessed_place access < WORDS }
         ensures words { self.new
-            ≡ slice_set self.old (accessed_place access) (left_by access (slice_index self.old (accessed_place access))) }
+            ≡ slice_set self.old (accessed_place access)
+            (left_by access (slice_index self.old (accessed_place access))) }
         ensures found { result ≡ left_by access (slice_index self.old (accessed_place access)) }
     {
         match access {
