@@ -388,7 +388,7 @@ def check_long(place: Place) -> None:
 
 FILES = [
     ("it.csv", "label,commands\nAAA more,\"votes,AAA,+30%\"\ntwo,open,4\n,open;4\nx,\n\"40\",\"votes,AAA,40%\"\n", [
-        "it.csv: line 3: 3 cells, and not a label and commands: commands with a comma stand in quotes",
+        "it.csv: line 3: 3 cells, and not a label and commands: put commands with a comma in quotes",
         "it.csv: line 4: a scenario without a label",
         "it.csv: line 5: the scenario 'x' has no command",
         "it.csv: line 6: 'votes,AAA,40%': say 40% of total for a share",

@@ -62,7 +62,7 @@ BAD = {
     "no votes": (HEAD + "AAA,,1\n", ["line 2, votes: '' is no whole number"]),
     "a sign": (HEAD + "AAA,-5,1\n", ["line 2, votes: '-5' is no whole number"]),
     "more than 2^40 votes": (HEAD + "AAA,1099511627777,1\n", ["line 2, votes: '1099511627777' is more than 2^40"]),
-    "a code twice": (HEAD + "AAA,1,1\nBBB,1,1\naaa,1,1\n", ["line 4: the code AAA stands on line 2 already"]),
+    "a code twice": (HEAD + "AAA,1,1\nBBB,1,1\naaa,1,1\n", ["line 4: the code AAA is on line 2 already"]),
     "marks that differ": (HEAD + 'AAA,"1\'000,000",1\n', ['line 2, votes: "1\'000,000" is no whole number']),
     "a point between thousands, with commas": (HEAD + "AAA,40.000,1\n", ["line 2, votes: '40.000' is no whole"]),
     "a comma that cuts a number": (HEAD + "AAA,40,000,1\n", ["line 2: 4 cells under a header of 3"]),
@@ -180,7 +180,7 @@ READ: dict[str, tuple[list[str], bytes, str, list[str]]] = {
             "Rows above the header were skipped: 3",
             "The table was read as cp1252: look at letters with accents, such as those of 'Nölland'",
             "Marks between thousands were passed over in 7 rows",
-            "Chairs stand there by name: they were numbered in the order in which they come: "
+            "Chairs have names: they were numbered in the order in which they appear: "
             "1 J. Alland; 2 A. Bélland; 3 D. Delland",
             "Line 13 (Total, 103.000 votes), which equals the sum of the others, was left out as a total",
             "Merged cells: the chair was filled down in 3 rows",
@@ -322,7 +322,7 @@ BAD_WITH_WORDS: dict[str, tuple[list[str], bytes, list[str]]] = {
     "a number among chairs by name": (
         [],
         HEAD.encode() + b"AAA,1,Hills\nBBB,1,Plains\nCCC,1,3\n",
-        ["line 4: '3' is no chair: the other chairs stand there by name"],
+        ["line 4: '3' is no chair: the other chairs have names"],
     ),
     "a name among numbered chairs": ([], HEAD.encode() + b"AAA,1,1\nBBB,1,Plains\n", ["line 3: 'Plains' is no chair"]),
     "a chair's name in two spellings": (

@@ -32,8 +32,8 @@ def check_changed(place: Place) -> None:
     """A number that is off by a little is found, also where it fits the others."""
     good = place.board((TOP / "examples" / "three-chairs.csv").read_bytes())
     for old, new, message in [
-        (b",half,3,51,", b",half,3,50,", b"the quota are 50 in the output and 51 counted anew"),
-        (b",half,", b",70,", b"the quota are 51 in the output and 70 counted anew"),
+        (b",half,3,51,", b",half,3,50,", b"the quota are 50 in the output and 51 counted again"),
+        (b",half,", b",70,", b"the quota are 51 in the output and 70 counted again"),
     ]:
         done = place.script("board_recount", given=good.replace(old, new))
         expect(done.returncode == 1 and message in done.stdout, done.stdout.decode())

@@ -18,7 +18,7 @@ def add_figure_words(parser: argparse.ArgumentParser) -> None:
     """Adds the arguments for figures in separate files."""
     figures = "write each chart of the page as SVG and PDF, too, into this folder, which must be there"
     parser.add_argument("--figures", metavar="FOLDER", type=Path, help=figures)
-    titles = "whether their titles stand in these files, or in their metadata alone (default: %(default)s)"
+    titles = "whether their titles are in these files, or in their metadata alone (default: %(default)s)"
     parser.add_argument("--figure-titles", choices=["in", "out"], default="in", help=titles)
 
 

@@ -118,7 +118,7 @@ def warnings_of(output: Output) -> str:
 def figures_page(output: Output, names: Mapping[int, str], title: str, beside: str, lines: Sequence[str]) -> str:
     """The whole page of an output, with the lines of its provenance."""
     about = (
-        "<p>Each reading of an output of <code>board replay</code>: the votes of the chairs beside their voting power, "
+        "<p>Each reading of an output of <code>board replay</code>: the votes of the chairs next to their voting power, "
         "counted over all coalitions of open chairs. The same numbers, a row for each reading and chair, are in "
         f"<code>{html.escape(beside)}</code>.</p>\n"
     )

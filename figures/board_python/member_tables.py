@@ -80,7 +80,7 @@ def conversions_of(rows: Sequence[Row], names: Sequence[str]) -> list[str]:
         f"Numbers such as 1.0 were taken as whole numbers in {counted(zeros, 'row')}": zeros,
         f"Marks between thousands were passed over in {counted(marks, 'row')}": marks,
         f"Small letters of codes were taken as capitals in {counted(small, 'row')}": small,
-        f"Chairs stand there by name: they were numbered in the order in which they come: {numbered}": len(names),
+        f"Chairs have names: they were numbered in the order in which they appear: {numbered}": len(names),
     }
     return [sentence for sentence, count in sentences.items() if count]
 
@@ -193,7 +193,7 @@ class TableReader:
         votes = self.read(row.line, ", votes", votes_of, row.votes, self.marks)
         chair = self.read(row.line, "", chair_number, row.chair)
         if code in self.lines:
-            self.refuse(row.line, f"line {row.line}: the code {code} stands on line {self.lines[code]} already")
+            self.refuse(row.line, f"line {row.line}: the code {code} is on line {self.lines[code]} already")
         if code is not None:
             self.lines.setdefault(code, row.line)
             self.table.members.append(Member(row.line, code, votes or 0, chair, row.name))
@@ -205,7 +205,7 @@ class TableReader:
         if not name:
             return None
         if not is_name(name):
-            raise ValueError(f"{name!r} is no chair: the other chairs stand there by name")
+            raise ValueError(f"{name!r} is no chair: the other chairs have names")
         key = " ".join(name.split()).casefold()
         number, spelled = self.numbers.setdefault(key, (len(self.numbers) + 1, name))
         if spelled != name:

@@ -27,7 +27,7 @@ ROUNDING = f"""
 <p>Whole numbers are those that <code>board replay</code> printed. Each fraction is exact and not reduced: the numerator
 of a share of votes is the chair's votes, that of each power its swings, and the denominators have columns of their own.
 The decimals are this page's: each is its exact fraction, rounded once, half to even: percentages and percentage points
-to {PERCENT_PLACES} places, other decimals to {PAGE_PLACES}, those of the table beside this page to {TABLE_PLACES}. So
+to {PERCENT_PLACES} places, other decimals to {PAGE_PLACES}, those of the table next to this page to {TABLE_PLACES}. So
 rounded numbers needn't add up to just 100. A cell is empty where a number is missing.</p>
 """
 POWER_HEADERS = ["Votes", "Share of votes, %", "Share of power, %", "Banzhaf measure", "To prevent", "To initiate"]

@@ -66,5 +66,5 @@ def differences_of(reading: Reading) -> list[str]:
     found = [("the quota", reading.quota, least_quota(reading)), ("the winning coalitions", reading.winning, omega)]
     found += [(f"the swings of chair {it.chair}", it.swings, own) for it, own in zip(reading.chairs, swings)]
     return [
-        f"{what} are {printed} in the output and {own} counted anew" for what, printed, own in found if printed != own
+        f"{what} are {printed} in the output and {own} counted again" for what, printed, own in found if printed != own
     ]

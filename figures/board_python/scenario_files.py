@@ -21,7 +21,7 @@ Row = tuple[str, Callable[[], Scenario]]
 def csv_scenario(cells: list[str]) -> Scenario:
     """The scenario of a row."""
     if len(cells) < len(HEADER) or any(cells[len(HEADER) :]):
-        raise BadInput(f"{len(cells)} cells, and not a label and commands: commands with a comma stand in quotes")
+        raise BadInput(f"{len(cells)} cells, and not a label and commands: put commands with a comma in quotes")
     return labelled(*cells[: len(HEADER)])
 
 

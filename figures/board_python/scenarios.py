@@ -106,7 +106,7 @@ def sweep_of(text: str) -> Sweep:
     if not found:
         raise BadInput(
             f"--sweep {text!r} isn't of the form 'WHO FROM..TO by STEP %', where WHO is a member's code, codes joined "
-            "by +, or a chair such as 'chair 17'; 'from LABEL:' may stand before it"
+            "by +, or a chair such as 'chair 17'; 'from LABEL:' may precede it"
         )
     start, who, *numbers = found.groups()
     head = f"from {start}: " if start else ""

@@ -39,7 +39,7 @@ def base_picture(study: Study, measure: Measure) -> Picture | None:
     order = [chair.chair for chair in by_votes(readings[0])]
     if not order:
         return None
-    title = f"Base: {measure.name} at {', '.join(study.majorities)} beside the share of the votes"
+    title = f"Base: {measure.name} at {', '.join(study.majorities)} next to the share of the votes"
     text = (
         f"Dot plot of {len(order)} chairs, the one with the most votes on top. The tables below have all its numbers."
     )

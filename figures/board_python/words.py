@@ -21,7 +21,7 @@ MEANINGS = {
 
 LAYOUT = """The script says on standard error what it read, chose and converted. It asks, and stops:
 - about merged cells, where two or more rows have a blank chair under a filled one, and either most filled chairs have
-  a blank one right below, or no chair stands in two rows;
+  a blank one right below, or no chair is in two rows;
 - about a total, where the votes of a row equal the sum of the others', in a table of more than two rows."""
 
 
@@ -43,7 +43,7 @@ def add_table_words(parser: argparse.ArgumentParser) -> None:
         "--thousands",
         metavar="MARK",
         type=thousands_mark,
-        help="what parts thousands, beside apostrophe and blank (default: a comma; with semicolons, a point)",
+        help="what separates thousands, in addition to apostrophe and blank (default: a comma; with semicolons, a point)",
     )
     add_layout_words(parser)
 

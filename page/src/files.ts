@@ -44,7 +44,7 @@ async function takeScript(app: App, given: string, name: string): Promise<void> 
   const text = given.replace(/^\ufeff/, "").replace(/\r\n/g, "\n");
   const { members, base, commands, majorities, isOwn } = readScript(recordsOf(text), text);
   const choices = isOwn ? [] : [
-    "The script has another form than this page's: its readings stand here behind the base and behind all its " +
+    "The script has another form than this page's: its readings are listed here after the base and after all its " +
       "commands.",
   ];
   const changes = commands.map((what, at) => ({ id: at + 1, on: true, what }));
@@ -65,7 +65,7 @@ async function takeBeside(app: App, json: string, script: string | null): Promis
   takeData(app, data);
   await app.counting;
   if (script !== null && app.shown?.counted.script !== script) refuse(
-    "The script and the file beside it are not of one study: the file's study is shown.",
+    "The script and the file next to it are not of one study: the file's study is shown.",
   );
 }
 
@@ -108,7 +108,7 @@ export async function readFiles(app: App, files: readonly File[]): Promise<void>
   const script = read.find((it) => isScript(it.text));
   if (dataFile && script) await takeBeside(app, dataFile.text, script.text).catch((why) => refuse(wordsOf(why)));
   else if (read.length > 1) refuse(
-    "Several files: a script and the file beside it can come together, others one by one.",
+    "Several files: a script and the file next to it can be dropped together, others one by one.",
   );
   else if (read[0]) await readText(app, read[0].text, read[0].name, read[0].notices);
 }

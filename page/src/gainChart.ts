@@ -62,7 +62,7 @@ function begun(target: Element, model: PowerModel, look: Look): Frame {
   const votes = { words: "votes", draw: (at: Selection) => void legendBar(at).attr("fill", look.palette.bar) };
   const items = [...(model.measure === "share" ? [votes] : []), ...majorityItems(model.majorities)];
   const { label } = MEASURE[model.measure];
-  const name = `What is added to ${label} of ${model.rows.length} chairs; the table behind this chart has its numbers`;
+  const name = `What is added to ${label} of ${model.rows.length} chairs; the table of this chart has its numbers`;
   const frame = framed(target, look, items, name);
   hatches(frame.root, model.majorities, look);
   return frame;

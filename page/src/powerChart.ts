@@ -126,7 +126,7 @@ export function drawPower(place: Element, model: PowerModel, look: Look): void {
   const { left, head } = labelRoom(model.rows, look);
   const height = head + VOTES + LANE * model.majorities.length + SPACE;
   const { label } = MEASURE[model.measure];
-  const name = `${label} of ${model.rows.length} chairs; the table behind this chart has its numbers`;
+  const name = `${label} of ${model.rows.length} chairs; the table of this chart has its numbers`;
   const frame = framed(place, look, legend(model), name);
   const scale = scales(model, left, look.width - 18);
   const start = frame.top + 36;

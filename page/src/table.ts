@@ -109,7 +109,7 @@ function checkQuotes(text: string, delimiter: string): void {
   const at = bare.search(new RegExp(`(^|${delimiter})"`, "m"));
   if (at < 0) return;
   const row = bare.slice(0, at).split(/\r\n|\r|\n/).length;
-  throw new Error(`row ${row}: a quoted cell isn't closed, or something stands behind its quotes`);
+  throw new Error(`row ${row}: a quoted cell isn't closed, or something follows its quotes`);
 }
 
 /** The separators of thousands: a comma or a point, apostrophes and blanks. */
@@ -367,7 +367,7 @@ class Reader {
 
   /** Numbers chairs in the order in which their names appear. */
   #numberOf(row: number, cell: string): number | null {
-    if (!isName(cell)) return this.#refuse(row, "chair", "no chair: the other chairs stand there by name");
+    if (!isName(cell)) return this.#refuse(row, "chair", "no chair: the other chairs have names");
     // Small letters, then capitals: so `ß` and `SS` are the same, as in Python's casefold.
     const key = cell.split(/\s+/).join(" ").toLowerCase().toUpperCase();
     const [number, name] = this.#numbered.get(key) ?? [this.#numbered.size + 1, cell];
@@ -402,7 +402,7 @@ function noticesOf(sheet: Sheet, header: number, rows: readonly Row[], reader: R
     ...(marks ? [`Marks between thousands were passed over in ${counted(marks, "row")}`] : []),
     ...(small ? [`Small letters of codes were taken as capitals in ${counted(small, "row")}`] : []),
     ...(chairs.length
-      ? [`Chairs stand there by name: they were numbered in the order in which they come: ${chairs.join("; ")}`]
+      ? [`Chairs have names: they were numbered in the order in which they appear: ${chairs.join("; ")}`]
       : []),
   ];
 }

@@ -75,7 +75,7 @@ REFUSED: dict[str, tuple[str, dict[int, str]]] = {
     "chairs with decimals": (HEAD + 'AAA,5,"2,5"\nBBB,6,1.5\n', {2: "'2,5': BadChair", 3: "'1.5': BadChair"}),
     "a number among chairs by name": (
         HEAD + "AAA,5,Hills\nBBB,6,Plains\nCCC,7,3\n",
-        {4: "'3': no chair: the other chairs stand there by name"},
+        {4: "'3': no chair: the other chairs have names"},
     ),
     "a chair in two spellings": (
         HEAD + "AAA,5,Hills\nBBB,6,hills\nCCC,7,STRASSE\nDDD,8,Straße\n",

@@ -244,6 +244,6 @@ local({
   # If it is sourced with chdir = TRUE, this is the folder R itself.
   places <- file.path(c(dirname(tail(sourced, 1)[[1]]), "."), "..", "inst", "libboard.so")
   there <- Filter(file.exists, places)
-  if (length(there) == 0) stop("libboard.so isn't in the folder inst beside R: a release has it there")
+  if (length(there) == 0) stop("libboard.so isn't in the folder inst next to R: a release has it there")
   dyn.load(there[1])
 })

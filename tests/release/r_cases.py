@@ -41,7 +41,7 @@ def check_sourced(room: Path) -> None:
     shutil.copy(file, alone)
     source = "tryCatch(source('R/board.R'), error = function(it) cat(conditionMessage(it)))"
     output = ran(["Rscript", "-e", source], alone.parent)
-    assert output == "libboard.so isn't in the folder inst beside R: a release has it there", output
+    assert output == "libboard.so isn't in the folder inst next to R: a release has it there", output
 
 
 def check_answers(room: Path) -> None:

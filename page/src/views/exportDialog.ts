@@ -133,7 +133,7 @@ function exporter(app: App, said: HTMLElement) {
 
 const SCRIPT_WORDS =
   "The script gives board replay the base, the changes and the readings; what it prints is, byte for byte, what this " +
-  "page shows. A script has no comments, so its version, commit and hashes, and the names, stand in a file beside it.";
+  "page shows. A script has no comments, so its version, commit and hashes, and the names, are in a file next to it.";
 
 /** Opens the list of exports. */
 export function openExports(app: App): void {
@@ -150,7 +150,7 @@ export function openExports(app: App): void {
     h("p", { class: "note" }, SCRIPT_WORDS),
     row(
       make("Script", "export-script", () => saveScript(app)),
-      make("File beside the script", "export-beside", () => saveBeside(app)),
+      make("File next to the script", "export-beside", () => saveBeside(app)),
     ),
     h("h3", {}, "Table"),
     row(

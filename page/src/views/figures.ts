@@ -108,7 +108,7 @@ function readout(app: App, chart: HTMLElement, rows: readonly ChairRow[]): HTMLE
   const box = h(
     "div",
     { id: "readout", class: "readout", role: "status" },
-    "Point at a row, or use the arrow keys: its exact fractions stand here.",
+    "Point at a row, or use the arrow keys: its exact fractions appear here.",
   );
   let at = -1;
   const show = (next: number) => {
@@ -146,7 +146,7 @@ function paintChart(app: App, rows: readonly ChairRow[], draw: typeof drawPower)
     { class: "chart", tabindex: 0, role: "group", "aria-label": "Chart of the chairs; arrow keys go through its rows" },
   );
   const box = readout(app, chart, rows);
-  const tableBox = h("details", { id: "behind", open: isTableOpen }, h("summary", {}, "The table behind this chart"));
+  const tableBox = h("details", { id: "behind", open: isTableOpen }, h("summary", {}, "The table of this chart"));
   const fill = () => {
     isTableOpen = tableBox.open;
     if (tableBox.open && tableBox.childElementCount === 1) tableBox.append(chairTable(app, rows));

@@ -127,7 +127,7 @@ export function openSeal(app: App): void {
       h(
         "p",
         {},
-        `The module runs in ${app.replays.place === "worker" ? "a worker beside the page" : "the page itself"}.`,
+        `The module runs in ${app.replays.place === "worker" ? "a worker" : "the page itself"}.`,
       ),
       h(
         "p",
