@@ -13,6 +13,11 @@ use Rattle.board_serve.specs.Outcomes.{omegas_by}
 use Rattle.board_serve.specs.Plans.{Planned, work_lines}
 use Rattle.board_serve.specs.Serving.{Differs, EndsAfter, WritesOutcome}
 use Rattle.board_serve.specs.Work.{IsHeldUp, IsRising, cuts_of}
+use Rattle.board_serve.specs.declared.parts.TheConstants.{SERVED_READERS}
+
+-- the number of readers of `serve`, so that a changed constant is rejected
+readers : SERVED_READERS ≡ 2
+readers = refl
 
 -- one reading is asked of the first of two readers, over a register of one member
 abbrev register : Sequential

@@ -11,7 +11,9 @@ use Rattle.board_text.specs.Output.{Fails, IsBadLimit, IsBroken, Plays, Starts}
 use Rattle.board_text.specs.Text.{fault_at, printed_run, stopped_run}
 use Rattle.board_text.specs.declared.bounds.Limits.{Limits}
 use Rattle.board_text.specs.declared.faults.Fault.{Fault}
+use Rattle.council_core.specs.declared.limits.TheConstants.{CHAIRS}
 use Rattle.board_text.specs.declared.input.TheConstants.{INTERRUPTIONS, READS}
+use Rattle.board_text.specs.declared.schedules.TheConstants.{MAX_STEPS}
 use Rattle.board_text.specs.declared.stops.Stop.TheVariants as stop
 use Rattle.board_text.specs.Requests.{member_of, request_of}
 use Rattle.board_text.specs.Lines.{accepted_line, refused_line, published_line, chair_line}
@@ -232,9 +234,15 @@ stopped_by_another h = let e : fault_at BadRecord 5 ≡ fault_at BadRecord 6 = l
 line_left_out : Plays (Some []) (Some []) (Ok tt) (printed_run (codes "began" ∷ [])) → ⊥
 line_left_out h = let e = h.1 in cc e
 
--- the limits of a run's reads and retries by number
+-- the limits of chairs, reads, retries and steps by number, so that a changed constant is rejected
+chairs : CHAIRS ≡ 32
+chairs = refl
+
 retries : INTERRUPTIONS ≡ 1000
 retries = refl
+
+steps : MAX_STEPS ≡ 1000
+steps = refl
 
 reads : READS ≡ 4195305
 reads = refl
