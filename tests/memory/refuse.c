@@ -5,15 +5,12 @@
  * library on its behalf, as for a new thread. A realloc counts even if it asks for no more than before. Memory that the C
  * library takes from the kernel by itself, as a thread's stack, is no growth, and nor is memory requested before main.
  *
- * - While a block of 77,777,777 bytes is held every growth is refused. When it is given back, standard error gets a line with the
- *   number of refused growths.
- * - If a block of 77,000,000 + N bytes is given, N from 1 to 700,000, the Nth growth after it is refused, once; giving the
- *   block back ends this.
+ * - After a request for 77,000,000 + N bytes, N from 1 to 2,000, the Nth growth is refused, once.
  * - If the environment has REFUSE_GROWTH=N, the Nth growth of the whole run is refused, once.
  *
- * Each of the last two writes a line to descriptor 99, if it is open, when it refuses.
+ * A refusal writes a line to descriptor 99, if it is open.
  *
- * If the environment has TELL_KEPT, standard error gets a line at the end of main: the number of blocks given minus those
+ * If the environment has COUNT_KEPT, standard error gets a line at the end of main: the number of blocks given minus those
  * given back since main began. */
 #define _GNU_SOURCE
 #include <dlfcn.h>
@@ -22,12 +19,10 @@
 #include <stddef.h>
 #include <stdio.h>
 #include <stdlib.h>
-#include <unistd.h>
 
-#define REFUSING 77777777
 #define COUNTING 77000000
-#define MOST 700000
-#define TOLD 99
+#define MOST 2000
+#define REPORTS 99
 
 void *__libc_malloc(size_t);
 void *__libc_realloc(void *, size_t);
@@ -35,13 +30,8 @@ void *__libc_calloc(size_t, size_t);
 void __libc_free(void *);
 
 static atomic_bool in_main;
-/* The block that makes all growth refused while it is held, and the number of refused growths. */
-static _Atomic(void *) refusing;
-static atomic_long refused;
-/* The block that counts, and the number of the growth that is refused, counted from now: 1 is the next, 0 or less is none. */
-static _Atomic(void *) counting;
+/* The number of the growth that is refused, counted from now: 1 is the next, 0 or less is none. */
 static atomic_long until;
-
 /* The number of blocks given minus the number given back since main began. */
 static atomic_long kept;
 
@@ -50,36 +40,18 @@ static void *given(void *block) {
     return block;
 }
 
-static void tell(void) {
-    static const char line[] = "a growth was refused\n";
-    ssize_t written = write(TOLD, line, sizeof line - 1);
-    (void)written;
-}
-
 /* Whether this growth is refused; if so, the error is that of a malloc that has no memory. */
 static int refuses(void) {
-    if (!atomic_load(&in_main)) return 0;
-    if (atomic_load(&refusing)) {
-        atomic_fetch_add(&refused, 1);
-    } else {
-        if (atomic_load(&until) <= 0 || atomic_fetch_sub(&until, 1) != 1) return 0;
-        tell();
-    }
+    if (!atomic_load(&in_main) || atomic_load(&until) <= 0 || atomic_fetch_sub(&until, 1) != 1) return 0;
+    dprintf(REPORTS, "a growth was refused\n");
     errno = ENOMEM;
     return 1;
 }
 
 void *malloc(size_t size) {
     if (refuses()) return NULL;
-    void *block = given(__libc_malloc(size));
-    if (block && size == REFUSING) {
-        atomic_store(&refused, 0);
-        atomic_store(&refusing, block);
-    } else if (block && COUNTING < size && size <= COUNTING + MOST) {
-        atomic_store(&counting, block);
-        atomic_store(&until, (long)(size - COUNTING));
-    }
-    return block;
+    if (COUNTING < size && size <= COUNTING + MOST) atomic_store(&until, (long)(size - COUNTING));
+    return given(__libc_malloc(size));
 }
 
 void *realloc(void *block, size_t size) {
@@ -90,19 +62,14 @@ void *realloc(void *block, size_t size) {
 void *calloc(size_t count, size_t size) { return refuses() ? NULL : given(__libc_calloc(count, size)); }
 
 void free(void *block) {
-    if (block && block == atomic_load(&refusing)) {
-        atomic_store(&refusing, NULL);
-        fprintf(stderr, "growths refused: %ld\n", atomic_load(&refused));
-    }
-    if (block && block == atomic_load(&counting)) {
-        atomic_store(&counting, NULL);
-        atomic_store(&until, 0);
-    }
     if (block && atomic_load(&in_main)) atomic_fetch_sub(&kept, 1);
     __libc_free(block);
 }
 
-static int (*program)(int, char **, char **);
+typedef int Main(int, char **, char **);
+typedef int Start(Main *, int, char **, void (*)(void), void (*)(void), void (*)(void), void *);
+
+static Main *program;
 
 /* The program's main; growths count from its beginning to its end. */
 static int counted(int words, char **texts, char **environment) {
@@ -111,16 +78,14 @@ static int counted(int words, char **texts, char **environment) {
     atomic_store(&in_main, 1);
     int status = program(words, texts, environment);
     atomic_store(&in_main, 0);
-    if (getenv("TELL_KEPT")) fprintf(stderr, "blocks kept: %ld\n", atomic_load(&kept));
+    if (getenv("COUNT_KEPT")) fprintf(stderr, "blocks kept: %ld\n", atomic_load(&kept));
     return status;
 }
 
 /* The C library's first call, which is passed main. */
-int __libc_start_main(int (*main)(int, char **, char **), int words, char **texts, void (*begin)(void), void (*end)(void),
-                      void (*unload)(void), void *stack) {
-    int (*start)(int (*)(int, char **, char **), int, char **, void (*)(void), void (*)(void), void (*)(void), void *) =
-        (int (*)(int (*)(int, char **, char **), int, char **, void (*)(void), void (*)(void), void (*)(void), void *))dlsym(
-            RTLD_NEXT, "__libc_start_main");
+int __libc_start_main(Main *main, int words, char **texts, void (*begin)(void), void (*end)(void), void (*unload)(void),
+                      void *stack) {
+    Start *start = (Start *)dlsym(RTLD_NEXT, "__libc_start_main");
     program = main;
     return start(counted, words, texts, begin, end, unload, stack);
 }

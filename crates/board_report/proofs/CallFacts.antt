@@ -3,10 +3,10 @@ use Rattle.std.proofs.Common.{◌≡◌, ◌≤◌, ◌+◌, ℕ, inl, inr, Resu
 use Rattle.recording_io.specs.Tapes.{Giving}
 use Rattle.board_text.specs.Inputs.{InterruptedAtMost, RunRetriesAtMost}
 use Rattle.board_text.specs.declared.faults.Fault.{Fault}
-use Rattle.board_words.specs.Calls.{IsAnswered}
-use Rattle.board_words.specs.declared.calls.Call.{Call}
+use Rattle.board_report.specs.Calls.{IsAnswered}
+use Rattle.board_report.specs.declared.calls.Invocation.{Invocation}
 
-pub answered-as : (given call : Call) → IsAnswered (Ok given) call → given ≡ call
+pub answered-as : (given call : Invocation) → IsAnswered (Ok given) call → given ≡ call
 answered-as given call (inl same) = cc
 answered-as given call (inr lacks) = cc lacks
 

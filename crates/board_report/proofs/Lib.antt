@@ -1,2 +1,4 @@
 mod CallFacts
+mod WordCases
+mod WordFacts
 mod WorkedCases

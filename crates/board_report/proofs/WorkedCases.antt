@@ -6,9 +6,9 @@ use Rattle.board_text.specs.Output.{AppendsFront}
 use Rattle.board_text.specs.Text.{begun_of, fault_at, stopped_run}
 use Rattle.board_text.specs.declared.faults.Fault.{Fault}
 use Rattle.board_runs.specs.Replays.{run_of}
-use Rattle.board_words.proofs.WorkedCases.{plain, replay_asks_no_text, replay_has_no_fault}
-use Rattle.board_words.specs.declared.calls.Call.{Call}
-use Rattle.board_words.specs.declared.calls.Call.TheVariants.{Replay}
+use Rattle.board_report.proofs.WordCases.{plain, replay_asks_no_text, replay_has_no_fault}
+use Rattle.board_report.specs.declared.calls.Invocation.{Invocation}
+use Rattle.board_report.specs.declared.calls.Invocation.TheVariants.{Replay}
 use Rattle.board_report.specs.Programs.{AnswersWords, CallExits, LacksMemory, Written, failure_text, program_limits, written_streams}
 
 abbrev one : List ℕ
@@ -40,7 +40,7 @@ refusal_to_output words (inr (inl refused)) = let e = refused.1 in cc e
 refusal_to_output words (inr (inr lacks)) = let e = lacks.status_is in cc e
 
 -- a run that ends well leaves standard error as it is
-good_end_to_error : (call : Call) (bytes : List ℕ) → CallExits call bytes 0 to_error → ⊥
+good_end_to_error : (call : Invocation) (bytes : List ℕ) → CallExits call bytes 0 to_error → ⊥
 good_end_to_error call bytes (inl well) = let e = well.2 in cc e
 good_end_to_error call bytes (inr (inl fault)) = let e = fault.0 in cc e
 good_end_to_error call bytes (inr (inr lacks)) = let e = lacks.status_is in cc e

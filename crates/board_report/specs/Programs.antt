@@ -3,9 +3,9 @@ use Rattle.std.specs.Prelude.{◌≡◌, ℕ, ◌⊎◌, ⊤, List, [], ◌∷�
 use Rattle.std.specs.Io.KnownBytes.{Keeps}
 use Rattle.council_core.specs.Refusals.{code_of}
 use Rattle.council_core.specs.declared.refusals.Refusal.TheVariants.{OutOfMemory}
-use Rattle.board_words.specs.Calls.{AskText, HaveFault}
-use Rattle.board_words.specs.declared.calls.Call.{Call}
-use Rattle.board_words.specs.declared.calls.Call.TheVariants.{Replay, Trace, Serve}
+use Rattle.board_report.specs.Calls.{AskText, HaveFault}
+use Rattle.board_report.specs.declared.calls.Invocation.{Invocation}
+use Rattle.board_report.specs.declared.calls.Invocation.TheVariants.{Replay, Trace, Serve}
 use Rattle.board_text.specs.Lines.{fault_name}
 use Rattle.board_text.specs.Output.{AppendsFront}
 use Rattle.board_text.specs.declared.bounds.Limits.{Limits}
@@ -15,13 +15,13 @@ use Rattle.board_runs.specs.Replays.{run_of}
 use Rattle.board_runs.specs.Traces.{trace_of}
 use Rattle.board_serve.specs.Plans.{plan_of}
 use Rattle.board_serve.specs.Serving.{Serves}
-use Rattle.board_serve.specs.declared.served.Served.{Served}
+use Rattle.board_serve.specs.declared.serving.Served.{Served}
 
 abbrev pub program_limits : ℕ → ℕ → Limits
 program_limits readers journal = record { readers = readers; journal = journal }
 
 -- the call over these bytes ended in this result, and its lines were written
-abbrev pub CallEnds : Call → List ℕ → Option (List ℕ) → Option (List ℕ) → Result ⊤ Fault → Type 0
+abbrev pub CallEnds : Invocation → List ℕ → Option (List ℕ) → Option (List ℕ) → Result ⊤ Fault → Type 0
 CallEnds (Replay readers journal) bytes old new ended =
     Replays old new ended (run_of (program_limits readers journal) bytes)
 CallEnds (Trace readers journal) bytes old new ended =
@@ -65,7 +65,7 @@ no_text = codes "error: the arguments are not text" ++ 10 ∷ []
 
 -- status 0: the call over these bytes returned Ok; status 1: it returned a fault, and a prefix of
 -- that fault's text went to standard error; or out of memory before the call
-abbrev pub CallExits : Call → List ℕ → ℕ → Written → Type 0
+abbrev pub CallExits : Invocation → List ℕ → ℕ → Written → Type 0
 CallExits call bytes status s =
     ((status ≡ 0) × CallEnds call bytes s.out_old s.out_new (Ok tt) × Keeps s.err_old s.err_new)
     ⊎ ((status ≡ 1)

@@ -4,20 +4,20 @@ ghost use Rattle.recording_io.specs.Tapes.{OfInput};
 ghost use Rattle.std.specs.String.{string_bytes};
 ghost use Rattle.council_core.specs.Refusals.{code_of};
 ghost use Rattle.council_core.specs.declared.refusals.Refusal.TheVariants.{OutOfMemory};
-ghost use Rattle.board_words.specs.Calls.{AreNotTaken, Asks, Explains};
-ghost use Rattle.board_words.specs.declared.calls.Call.{Call};
-ghost use Rattle.board_words.specs.declared.calls.Call.TheVariants.{Serve};
-ghost use Rattle.board_words.specs.declared.calls.NoCall.TheVariants as none;
+ghost use Rattle.board_report.specs.Calls.{AreNotTaken, Asks, Explains};
+ghost use Rattle.board_report.specs.declared.calls.Invocation.{Invocation};
+ghost use Rattle.board_report.specs.declared.calls.Invocation.TheVariants.{Serve};
+ghost use Rattle.board_report.specs.declared.calls.NoCall.TheVariants as none;
 ghost use Rattle.board_report.specs.Programs.{AnswersWords, CallEnds, CallExits, LacksMemory, failure_text};
 ghost use Rattle.board_report.specs.Programs.{no_text, written_streams};
 ghost use Rattle.board_text.specs.Inputs.{InterruptedAtMost, RunRetriesAtMost, WastesAtMost};
 ghost use Rattle.board_text.specs.Output.{AppendsFront};
 
+use crate::calls::{Invocation, NoCall};
 use crate::streams::Streams;
 use board_runs::{replay, trace};
 use board_serve::{FreeGate, serve};
 use board_text::{Fault, INTERRUPTIONS, Limits, Line, READS, say};
-use board_words::{Call, NoCall};
 use council_core::Refusal;
 use recording_io::RecordingReader;
 use std::alloc::Global;
@@ -92,7 +92,7 @@ fn run_serve<T: Threads + Wait + Sync, R: Read + Drop, W: Write>(
 fn run<T: Threads + Wait + Sync, R: Read + Drop, W: Write>(
     rt: &T,
     alloc: Global,
-    call: Call,
+    call: Invocation,
     input: &mut RecordingReader<R>,
     out: &mut W,
 ) -> Result<(), Fault>
@@ -103,9 +103,13 @@ fn run<T: Threads + Wait + Sync, R: Read + Drop, W: Write>(
     ensures retried { RunRetriesAtMost INTERRUPTIONS input.old input.new result }
 {
     match call {
-        Call::Replay { readers, journal } => replay(alloc, input, out, Limits { readers, journal }),
-        Call::Trace { readers, journal } => trace(alloc, input, out, Limits { readers, journal }),
-        Call::Serve { journal } => run_serve(rt, alloc, journal, input, out),
+        Invocation::Replay { readers, journal } => {
+            replay(alloc, input, out, Limits { readers, journal })
+        }
+        Invocation::Trace { readers, journal } => {
+            trace(alloc, input, out, Limits { readers, journal })
+        }
+        Invocation::Serve { journal } => run_serve(rt, alloc, journal, input, out),
     }
 }
 
@@ -141,7 +145,7 @@ pub fn program<T: Threads + Wait + Sync, R: Read + Drop, W: Write + Drop, E: Wri
     streams: &mut Streams<R, W, E>,
 ) -> u8
     ensures status { result ≤ 2 }
-    ensures calls { (call : Call) → Asks (map string_bytes words.now) call
+    ensures calls { (call : Invocation) → Asks (map string_bytes words.now) call
         → OfInput streams.old.input streams.new.input (λ bytes. CallExits call bytes result
         (written_streams (W.contents streams.old.out) (W.contents streams.new.out) (E.contents streams.old.err)
         (E.contents streams.new.err))) }
@@ -155,7 +159,7 @@ pub fn program<T: Threads + Wait + Sync, R: Read + Drop, W: Write + Drop, E: Wri
     ensures retried { result ≡ 0 → InterruptedAtMost INTERRUPTIONS streams.old.input streams.new.input }
     ensures interrupted { InterruptedAtMost (INTERRUPTIONS + 1) streams.old.input streams.new.input }
 {
-    let call = match Call::from_words(alloc, words) {
+    let call = match Invocation::from_words(alloc, words) {
         Ok(call) => call,
         Err(why) => return explain(&why, &mut streams.out, &mut streams.err),
     };

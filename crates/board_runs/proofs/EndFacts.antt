@@ -10,14 +10,13 @@ use Rattle.council_core.specs.Refusals.{code_of}
 use Rattle.council_core.specs.Sequential.{Sequential}
 use Rattle.council_core.specs.declared.refusals.Refusal.{Refusal}
 use Rattle.council_core.specs.declared.refusals.Refusal.TheVariants.{BadHeader, BadLimit, BadReader, BadRecord, DuplicateMember, NoScript, TooLong, TooManyMembers}
-use Rattle.board_text.specs.Lines.{Line}
 use Rattle.board_text.specs.Requests.{Row, request_of, is_mark, is_header, member_of}
-use Rattle.board_text.specs.Text.{Begun, Opened, Run, begun_of, run_begun_with, in_range, is_served, member_then, opened_of, opening_of, started_with}
+use Rattle.board_text.specs.Text.{Begun, Opened, Run, begun_of, run_begun_with, in_range, is_served, member_then, opened_of, opening_of, request_within, started_with, valid_or_refused}
 use Rattle.board_text.specs.declared.bounds.Limits.{Limits}
 use Rattle.board_text.specs.declared.faults.Fault.{Fault}
 use Rattle.board_text.specs.declared.requests.Request.{Request}
 use Rattle.board_runs.specs.Replays.{replay_start, replay_step, reply_to, run_of}
-use Rattle.board_runs.specs.Scripts.{Turn, begun_run, run_of_script, run_step, script_run}
+use Rattle.board_runs.specs.Scripts.{Turn, begun_run, run_of_script, run_step, script_run, turn_of}
 
 -- the numbers of the faults that an input may have
 abbrev pub is_of_input : ℕ → Bool
@@ -82,13 +81,17 @@ begun-errs lim bytes =
     (either (nat_le (length bytes) 4194304) _ _ (begun_with-errs lim _ (opened-errs (records default_config (strip_bom bytes)))) refl)
     refl
 
-reply-errs : (lim : Limits) (s : Sequential) (q : Option Request) → IfErr (reply_to lim s q) (λ why. IsTrue (is_of_input (code_of why)))
-reply-errs lim s None = refl
-reply-errs lim s (Some q) = served (is_served lim q) _
+request-errs : (fits : Request → Bool) (q : Option Request) → IfErr (valid_or_refused fits q) (λ why. IsTrue (is_of_input (code_of why)))
+request-errs fits None = refl
+request-errs fits (Some q) = served (fits q)
   where
-    served : (b : Bool) (answer : List Line × Sequential) → IfErr (if b then Ok answer else Err BadReader) (λ why. IsTrue (is_of_input (code_of why)))
-    served true answer = tt
-    served false answer = refl
+    served : (b : Bool) → IfErr (if b then Ok q else Err BadReader) (λ why. IsTrue (is_of_input (code_of why)))
+    served true = tt
+    served false = refl
+
+turn-errs : (s : Sequential) (r : Result Request Refusal) → IfErr r (λ why. IsTrue (is_of_input (code_of why))) → IfErr (turn_of (reply_to s) r) (λ why. IsTrue (is_of_input (code_of why)))
+turn-errs s (Ok q) p = tt
+turn-errs s (Err why) p = p
 
 step-ends : (k : ℕ) (turn : Turn Sequential) (more : Sequential → Run) → IfErr turn (λ why. IsTrue (is_of_input (code_of why))) → ((s : Sequential) → EndsByInput (more s).end) → EndsByInput (run_step k turn more).end
 step-ends k (Err why) more is rest = is
@@ -97,7 +100,7 @@ step-ends k (Ok p) more is rest = rest p.1
 script_run-ends : (lim : Limits) (s : Sequential) (k : ℕ) (rs : List Row) → EndsByInput (script_run (replay_step lim) s k rs).end
 unfolding script_run
 script_run-ends lim s k [] = tt
-script_run-ends lim s k (r ∷ rs) = step-ends k (replay_step lim s r) _ (reply-errs lim s (request_of r)) (λ t. script_run-ends lim t (k + 1) rs)
+script_run-ends lim s k (r ∷ rs) = step-ends k (replay_step lim s r) _ (turn-errs s (request_within lim r) (request-errs (is_served lim) (request_of r))) (λ t. script_run-ends lim t (k + 1) rs)
 
 begun_run-ends : (lim : Limits) (begun : Result Begun Fault) → ErrsByInput begun → EndsByInput (begun_run (run_of_script replay_start replay_step lim) begun).end
 begun_run-ends lim (Err f) p = p

@@ -1,10 +1,14 @@
 -- The run of a script, one record at a time.
-use Rattle.std.proofs.Common.{◌≡◌, ◌+◌, IfOk, ℕ, List, [], ◌∷◌, Option, Ok, Err, refl, sym, ap}
+use Rattle.std.proofs.Common.{◌≡◌, ◌+◌, IfOk, ℕ, List, [], ◌∷◌, Option, Result, Ok, Err, refl, sym, ap, ◌∙◌}
+use Rattle.std.proofs.KnownBytes.{Appends-nil}
 use Rattle.board_text.specs.Requests.{Row}
-use Rattle.board_text.specs.Text.{Run, with_lines, printed_run}
-use Rattle.board_runs.specs.Scripts.{Turn, run_step, script_run, step_run}
-use Rattle.board_text.specs.Output.{Plays}
+use Rattle.board_text.specs.Text.{Run, fault_at, with_lines, printed_run}
+use Rattle.board_runs.specs.Scripts.{Turn, run_step, script_run, step_run, turn_of}
+use Rattle.board_text.specs.Lines.{Line}
+use Rattle.board_text.specs.Output.{Plays, at_record}
 use Rattle.board_text.specs.declared.stops.Stop.{Stop}
+use Rattle.board_text.specs.declared.stops.Stop.TheVariants as stop
+use Rattle.council_core.specs.declared.refusals.Refusal.{Refusal}
 use Rattle.board_text.proofs.PlayFacts.{PlayedTo, plays-more}
 
 -- the error of a record's run stops the run
@@ -25,3 +29,14 @@ script-ends step s k rs e = rw e refl
 pub script-goes : {S : Type 0} (step : S → Row → Turn S) (s : S) (k : ℕ) (rs ss : List Row) (r : Row) → rs ≡ r ∷ ss → script_run step s k rs ≡ run_step k (step s r) (λ x. script_run step x (k + 1) ss)
 unfolding script_run
 script-goes step s k rs ss r e = rw e refl
+
+module _ {S A : Type 0} (k : ℕ) (effect : A → List Line × S) where
+  -- a record that asks for this takes the turn of it
+  pub turn-valid : (r : Result A Refusal) (a : A) → Ok a ≡ at_record k r → turn_of effect r ≡ Ok (effect a)
+  turn-valid (Ok b) a is = let same : a ≡ b = cc is in ap (λ x. Ok (effect x)) (sym same)
+  turn-valid (Err why) a is = cc is
+
+  -- a record that is refused stops the run, and nothing is written
+  pub turn-refused : (r : Result A Refusal) (held : Option (List ℕ)) (e d : Stop) → Err e ≡ at_record k r → d ≡ e → Plays held held (Err d) (step_run k (turn_of effect r))
+  turn-refused (Ok b) held e d is same = cc is
+  turn-refused (Err why) held e d is same = let fault : e ≡ stop.Input (fault_at why k) = cc is in rw (same ∙ fault) (refl, Appends-nil held)

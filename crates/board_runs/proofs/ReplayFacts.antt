@@ -1,6 +1,7 @@
 -- The run of a whole input, and its end.
-use Rattle.std.proofs.Common.{◌≡◌, ◌≤◌, inl, inr, ℕ, true, List, [], ◌∷◌, ◌++◌, length, Option, Some, None, Result, Err, refl, sym, ap, ◌∙◌, subst}
+use Rattle.std.proofs.Common.{◌≡◌, ◌≤◌, inl, inr, ℕ, true, List, [], ◌∷◌, ◌++◌, length, Option, Some, None, Result, Ok, Err, refl, sym, ap, ◌∙◌, subst}
 use Rattle.std.proofs.KnownBytes.{Appends-nil}
+use Rattle.std.proofs.lemmas.List.{append-nil}
 use Rattle.std.specs.Io.KnownBytes.{Appends}
 use Rattle.csv.specs.Reading.{default_config, records, strip_bom}
 use Rattle.recording_io.specs.Tapes.{Giving, OfInput}
@@ -8,7 +9,7 @@ use Rattle.council_core.specs.declared.refusals.Refusal.TheVariants as why
 use Rattle.board_text.specs.Lines.{Line, fault_line}
 use Rattle.board_text.specs.Text.{Begun, Run, begun_of, run_begun_with, end_lines, fault_at, in_range, opened_of, output, text_of}
 use Rattle.board_runs.specs.Scripts.{begun_run}
-use Rattle.board_text.specs.Output.{AppendsFront, AppendsLines, Ends, Fails, IsBroken, IsFrontOf, Plays, StopsIn, fault_of}
+use Rattle.board_text.specs.Output.{AppendsFront, AppendsLines, Ends, EndsRun, EndsStopped, Fails, IsBroken, IsFrontOf, Plays, StopsIn, fault_of}
 use Rattle.board_runs.specs.Ended.{Replays}
 use Rattle.board_text.specs.declared.bounds.Limits.{Limits}
 use Rattle.board_text.specs.declared.faults.Fault.{Fault}
@@ -16,7 +17,7 @@ use Rattle.board_text.specs.declared.stops.Stop.{Stop}
 use Rattle.board_text.specs.declared.stops.Stop.TheVariants as stop
 use Rattle.board_text.proofs.PlayFacts.{appends-same, front-before, front-none, text-after}
 use Rattle.board_text.proofs.BeginningFacts.{begun-records}
-use Rattle.board_text.proofs.PlayFacts.{FaultReported, front-then, line-then}
+use Rattle.board_text.proofs.PlayFacts.{front-then, line-then}
 
 nothing-written : (a : Option (List ℕ)) (lines : List Line) → AppendsLines a a lines
 nothing-written a lines = ([], front-none lines, Appends-nil a)
@@ -73,23 +74,26 @@ reported-ends a b c f g run reported p (inr e) =
     inr (inr (e.0, (output run, inl refl, subst P (sym same) (front-then a b c run.lines (fault_line f) p e.1))))
 
 -- a run that was stopped, and the line of its fault
-ended-run : (a b c : Option (List ℕ)) (s : Stop) (f g : Fault) (run : Run) → StopsIn a b s run → fault_of s ≡ Some f → Ends b c f g → Replays a c (Err g) run
-ended-run a b c stop.OutOfMemory f g run p e q = let same : f ≡ fault_at why.OutOfMemory 0 = cc in broken-ends a b c f g run (inl same) p q
-ended-run a b c stop.ReadFault f g run p e q = let same : f ≡ fault_at why.ReadFault 0 = cc in broken-ends a b c f g run (inr same) p q
-ended-run a b c stop.WriteFault f g run p e q = cc e
-ended-run a b c (stop.Input h) f g run p e q = reported-ends a b c f g run (p.0 ∙ e) p.1 q
+stopped-run : (a b c : Option (List ℕ)) (s : Stop) (r : Result (Unit {0}) Fault) (run : Run) → StopsIn a b s run → EndsStopped b c (fault_of s) r → Replays a c r run
+stopped-run a b c stop.OutOfMemory (Err g) run p e = broken-ends a b c _ g run (inl refl) p e
+stopped-run a b c stop.ReadFault (Err g) run p e = broken-ends a b c _ g run (inr refl) p e
+stopped-run a b c stop.WriteFault (Err g) run p e = rw (e.0, e.1) (cut-run a b run p)
+stopped-run a b c (stop.Input h) (Err g) run p e = reported-ends a b c h g run p.0 p.1 e
+stopped-run a b c stop.OutOfMemory (Ok u) run p e = absurd e
+stopped-run a b c stop.ReadFault (Ok u) run p e = absurd e
+stopped-run a b c stop.WriteFault (Ok u) run p e = absurd e
+stopped-run a b c (stop.Input h) (Ok u) run p e = absurd e
 
--- the same of an input
-pub replayed : (from to : Giving) (a b c : Option (List ℕ)) (s : Stop) (g : Fault) (run : List ℕ → Run) → OfInput from to (λ bytes. Plays a b (Err s) (run bytes)) → FaultReported b c s g
-    → OfInput from to (λ bytes. Replays a c (Err g) (run bytes))
-replayed from to a b c s g run p reported = λ bytes is. ended-run a b c s reported.fault g (run bytes) (p bytes is) reported.stopped_by reported.ends
+whole-run : (a b c : Option (List ℕ)) (r : Result (Unit {0}) Fault) (run : Run) → Plays a b (Ok tt) run → EndsRun b c (Ok tt) r → Replays a c r run
+whole-run a b c r run p e =
+    let same : output run ≡ text_of run.lines = ap (λ x. text_of (run.lines ++ end_lines x)) p.0 ∙ ap text_of (append-nil run.lines) in
+    rw (e.0, e.1) (p.0, appends-same a b _ _ (sym same) p.1)
 
-cut-by : (a b : Option (List ℕ)) (s : Stop) (run : Run) → fault_of s ≡ None → StopsIn a b s run → Replays a b (Err (fault_at why.WriteFault 0)) run
-cut-by a b stop.OutOfMemory run e p = cc e
-cut-by a b stop.ReadFault run e p = cc e
-cut-by a b stop.WriteFault run e p = cut-run a b run p
-cut-by a b (stop.Input f) run e p = cc e
+ended-run : (a b c : Option (List ℕ)) (carried : Result (Unit {0}) Stop) (r : Result (Unit {0}) Fault) (run : Run) → Plays a b carried run → EndsRun b c carried r → Replays a c r run
+ended-run a b c (Ok u) r run p e = whole-run a b c r run p e
+ended-run a b c (Err s) r run p e = stopped-run a b c s r run p e
 
-pub replay-cut : (from to : Giving) (a b : Option (List ℕ)) (s : Stop) (g : Fault) (run : List ℕ → Run) → OfInput from to (λ bytes. Plays a b (Err s) (run bytes)) → fault_of s ≡ None
-    → g ≡ fault_at why.WriteFault 0 → OfInput from to (λ bytes. Replays a b (Err g) (run bytes))
-replay-cut from to a b s g run p e w = λ bytes is. rw w (cut-by a b s (run bytes) e (p bytes is))
+-- a run of an input that ended
+pub replayed : (from to : Giving) (a b c : Option (List ℕ)) (carried : Result (Unit {0}) Stop) (r : Result (Unit {0}) Fault) (run : List ℕ → Run)
+    → OfInput from to (λ bytes. Plays a b carried (run bytes)) → EndsRun b c carried r → OfInput from to (λ bytes. Replays a c r (run bytes))
+replayed from to a b c carried r run p e = λ bytes is. ended-run a b c carried r (run bytes) (p bytes is) e

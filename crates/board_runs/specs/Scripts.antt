@@ -14,6 +14,11 @@ use Rattle.board_text.specs.Text.{Begun, Run, with_lines, begun_of, fault_at, pr
 abbrev pub Turn : Type 0 → Type 0
 Turn S = Result (List Line × S) Refusal
 
+-- the turn of a record that asks for `a`, or that is refused
+abbrev pub turn_of : {S A : Type 0} → (A → List Line × S) → Result A Refusal → Turn S
+turn_of effect (Ok a) = Ok (effect a)
+turn_of effect (Err why) = Err why
+
 -- the run of record number k, followed by the rest of the run
 abbrev pub run_step : {S : Type 0} → ℕ → Turn S → (S → Run) → Run
 run_step k (Err why) more = stopped_run (fault_at why k)

@@ -1,9 +1,7 @@
 -- The effect of a schedule's records on the two-copy machine.
-use Rattle.std.specs.Prelude.{ℕ, List, [], ◌∷◌, Option, Some, None, Ok, Err, replicate}
-use Rattle.std.specs.Prelude.{if◌then◌else◌}
+use Rattle.std.specs.Prelude.{ℕ, List, [], ◌∷◌, replicate}
 use Rattle.std.specs.List.{flat_map}
 use Rattle.council_core.specs.Ledgers.{Ledger}
-use Rattle.council_core.specs.declared.refusals.Refusal.TheVariants.{BadReader, BadRecord}
 use Rattle.two_copy_steps.specs.Transitions.{MachineState, state_after_events, notes}
 use Rattle.two_copy_steps.specs.Transitions as machine
 use Rattle.two_copy_steps.specs.declared.events.Event.{Event}
@@ -11,11 +9,11 @@ use Rattle.two_copy_steps.specs.declared.events.Event.TheVariants as event
 use Rattle.board_text.specs.Lines.{Line, note_lines}
 use Rattle.board_text.specs.Requests.{Row}
 use Rattle.board_text.specs.Text.{Run}
-use Rattle.board_runs.specs.Scripts.{Turn, interpreted_run}
+use Rattle.board_runs.specs.Scripts.{Turn, interpreted_run, turn_of}
 use Rattle.board_text.specs.declared.bounds.Limits.{Limits}
 use Rattle.board_text.specs.declared.schedules.Act.{Act}
 use Rattle.board_text.specs.declared.schedules.Act.TheVariants as act
-use Rattle.board_text.specs.Schedules.{act_of, is_scheduled}
+use Rattle.board_text.specs.Schedules.{act_within}
 
 -- the machine's events for an act
 abbrev pub events_of : Act → List Event
@@ -29,17 +27,12 @@ abbrev pub output_lines : MachineState → List Event → List Line
 output_lines m events = flat_map note_lines (notes m events)
 
 -- the machine takes the events of an act, and its outputs are printed
-abbrev pub act_turn : Limits → MachineState → Act → Turn MachineState
-act_turn lim m a =
-    if is_scheduled lim a then Ok (output_lines m (events_of a), state_after_events m (events_of a)) else Err BadReader
-
-abbrev pub acted_on : Limits → MachineState → Option Act → Turn MachineState
-acted_on lim m None = Err BadRecord
-acted_on lim m (Some a) = act_turn lim m a
+abbrev pub machine_turn : MachineState → Act → List Line × MachineState
+machine_turn m a = (output_lines m (events_of a), state_after_events m (events_of a))
 
 -- the effect of one record of a schedule
 abbrev pub trace_step : Limits → MachineState → Row → Turn MachineState
-trace_step lim m row = acted_on lim m (act_of row)
+trace_step lim m row = turn_of (machine_turn m) (act_within lim row)
 
 -- the machine over a register at its start
 abbrev pub trace_start : Limits → Ledger → MachineState

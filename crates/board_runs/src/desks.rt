@@ -42,15 +42,13 @@ impl Desk {
         ensures memory { IsOkUnless result stop.OutOfMemory }
     {
         let shown = register.sheet();
-        match Evaluator::new(alloc) {
-            Ok(evaluator) => Ok(Desk {
-                register,
-                shown,
-                evaluator,
-                counted: None,
-            }),
-            Err(_) => Err(Stop::OutOfMemory),
-        }
+        let evaluator = Evaluator::new(alloc)?;
+        Ok(Desk {
+            register,
+            shown,
+            evaluator,
+            counted: None,
+        })
     }
 
     // Submits a command, and publishes nothing.

@@ -18,10 +18,10 @@ ghost use Rattle.board_text.specs.declared.bounds.Limits.{Limits};
 ghost use Rattle.board_text.specs.declared.stops.Stop.TheVariants as stop;
 
 use board_text::{
-    Fault, INPUT_LIMIT, INTERRUPTIONS, Limits, Output, READS, Script, Stop, begin, end_with,
-    line_of_fault, read_within,
+    Fault, INPUT_LIMIT, INTERRUPTIONS, Limits, Output, READS, Script, Stop, begin, end_run,
+    read_within,
 };
-use council_core::{Refusal, Register};
+use council_core::Register;
 use csv::ByteRecord;
 use recording_io::RecordingReader;
 use std::alloc::Global;
@@ -120,30 +120,6 @@ fn interpret_input<I: Interpreter, R: Read + Drop, W: Write>(
     interpret_text::<I, W>(alloc, text.as_slice(), limits, out)
 }
 
-// Interprets the input and writes the line of a fault.
-fn interpret_all<I: Interpreter, R: Read + Drop, W: Write>(
-    alloc: Global,
-    input: &mut RecordingReader<R>,
-    out: &mut Output<'_, W>,
-    limits: Limits,
-) -> Result<(), Fault>
-    ensures wrote { OfInput input.old input.new
-        (λ bytes. Replays out.old.held out.new.held result (interpreted_run I.opened I.step limits bytes)) }
-    ensures limits_first { in_range limits ≡ false → IsBadLimit result × (input.new ≡ input.old) }
-    ensures asks { input.new.asks ≤ input.old.asks + READS }
-    ensures vain { WastesAtMost 1 input.old input.new }
-    ensures retried { RunRetriesAtMost INTERRUPTIONS input.old input.new result }
-    ensures continues { GoesOn out.old out.new }
-{
-    let Err(stop) = interpret_input::<I, R, W>(alloc, input, out, limits) else {
-        return Ok(());
-    };
-    let Some(fault) = stop.to_fault() else {
-        return Err(Fault::new(Refusal::WriteFault, 0));
-    };
-    Err(end_with(out, fault))
-}
-
 // Interprets the input and writes all lines to a writer.
 pub(crate) fn interpret<I: Interpreter, R: Read + Drop, W: Write>(
     alloc: Global,
@@ -160,7 +136,8 @@ pub(crate) fn interpret<I: Interpreter, R: Read + Drop, W: Write>(
     ensures retried { RunRetriesAtMost INTERRUPTIONS input.old input.new result }
 {
     let mut output = Output::new(out);
-    let result = interpret_all::<I, R, W>(alloc, input, &mut output, limits);
+    let carried = interpret_input::<I, R, W>(alloc, input, &mut output, limits);
+    let result = end_run(&mut output, carried);
     let _out = output.finish();
     result
 }

@@ -14,10 +14,10 @@ ghost use Rattle.board_runs.specs.Replays.{replay_start, replay_step, run_of};
 use crate::desks::Desk;
 use crate::interpreters::{Interpreter, interpret};
 use board_text::{
-    Fault, INTERRUPTIONS, Limits, Output, READS, Request, Stop, is_served, line_of_answer,
-    line_of_chair, line_of_reading, request_in,
+    Fault, INTERRUPTIONS, Limits, Output, READS, Request, Stop, line_of_answer, line_of_chair,
+    line_of_reading, request_in,
 };
-use council_core::{Refusal, Register};
+use council_core::Register;
 use csv::ByteRecord;
 use majority_rule::Majority;
 use power_index::ChairPower;
@@ -97,12 +97,7 @@ impl Interpreter for Desk {
         number: u32,
         out: &mut Output<'_, W>,
     ) -> Result<(), Stop> {
-        let Some(request) = request_in(row) else {
-            return Err(Stop::of_fault(Refusal::BadRecord, number));
-        };
-        if !is_served(limits, &request) {
-            return Err(Stop::of_fault(Refusal::BadReader, number));
-        }
+        let request = request_in(limits, row, number)?;
         replay_request(self, request, out)
     }
 }

@@ -12,10 +12,8 @@ ghost use Rattle.board_runs.specs.Traces.{events_of, output_lines, trace_of, tra
 ghost use Rattle.board_text.specs.Schedules.{is_scheduled};
 
 use crate::interpreters::{Interpreter, interpret};
-use board_text::{
-    Act, Fault, INTERRUPTIONS, Limits, Output, READS, Stop, act_in, is_scheduled, line_of_note,
-};
-use council_core::{Refusal, Register};
+use board_text::{Act, Fault, INTERRUPTIONS, Limits, Output, READS, Stop, act_in, line_of_note};
+use council_core::Register;
 use csv::ByteRecord;
 use recording_io::RecordingReader;
 use std::alloc::Global;
@@ -39,10 +37,7 @@ fn take<W: Write>(machine: &mut Machine, event: Event, out: &mut Output<'_, W>) 
     ensures state { OnOk result (machine.new ≡ (transition machine.old event).0) }
     ensures continues { GoesOn out.old out.new }
 {
-    let Ok(note) = machine.step(event) else {
-        return Err(Stop::OutOfMemory);
-    };
-    write_note(note, out)
+    write_note(machine.step(event)?, out)
 }
 
 // Takes the machine through an event `count` times.
@@ -102,12 +97,7 @@ impl Interpreter for Machine {
         number: u32,
         out: &mut Output<'_, W>,
     ) -> Result<(), Stop> {
-        let Some(act) = act_in(row) else {
-            return Err(Stop::of_fault(Refusal::BadRecord, number));
-        };
-        if !is_scheduled(limits, &act) {
-            return Err(Stop::of_fault(Refusal::BadReader, number));
-        }
+        let act = act_in(limits, row, number)?;
         act_on(self, limits, act, out)
     }
 }

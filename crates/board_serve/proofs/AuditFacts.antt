@@ -8,7 +8,7 @@ use Rattle.board_audits.specs.AuditLaws.{AuditLaw}
 use Rattle.board_audits.specs.Audits.{AnswersFinding, Finding, audit_of, cut_sheet, cuts_finding, fault_at_place, first_fault, journal_finding, readings_finding, start_finding, unread_place}
 use Rattle.board_audits.specs.declared.audits.AuditFault.{AuditFault}
 use Rattle.board_audits.specs.declared.audits.AuditFault.TheVariants as found
-use Rattle.board_serve.specs.Findings.{CanBeFound}
+use Rattle.board_serve.specs.Outcomes.{CanBeFound}
 
 -- no finding, or one of a reading
 abbrev pub IsOfReadings : Finding → Type 0

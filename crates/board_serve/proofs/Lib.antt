@@ -1,4 +1,3 @@
-pub mod PartFacts
 pub mod PlanFacts
 pub mod CutFacts
 pub mod WorkFacts

@@ -1,148 +1,154 @@
 -- What `serve` has written, at each of its ends.
-use Rattle.std.proofs.Common.{◌≡◌, inl, inr, ℕ, Bool, true, false, List, [], ◌∷◌, ◌++◌, map, Option, Some, None, Result, Ok, Err, refl, sym, ap, subst}
+use Rattle.std.proofs.Common.{◌≡◌, inl, inr, ℕ, Bool, true, false, List, [], ◌∷◌, ◌++◌, length, map, Option, Some, None, Result, Ok, Err, refl, sym, ap, ◌∙◌, subst, append_assoc}
 use Rattle.std.proofs.KnownBytes.{Appends-nil}
+use Rattle.std.proofs.lemmas.List.{append-nil}
 use Rattle.std.specs.Io.KnownBytes.{Appends}
+use Rattle.council_core.specs.Sequential.{Reply}
 use Rattle.council_core.specs.declared.refusals.Refusal.TheVariants as why
+use Rattle.board_text.specs.Lines.{Line, audit_line, fault_line, reply_line}
+use Rattle.board_text.specs.Output.{AppendsFront, Ends, EndsRun, EndsStopped, Fails, IsBroken, IsFrontOf, Plays, Writes, fault_of}
 use Rattle.board_text.specs.Replies.{reply_of}
-use Rattle.board_text.specs.Lines.{Line, fault_line, reply_line}
-use Rattle.board_serve.specs.Outcomes.{ServedLegalRecords, IsServed}
-use Rattle.board_text.specs.Output.{AppendsFront, Ends, Fails, IsBroken, IsFrontOf, Plays, Writes, fault_of}
-use Rattle.board_serve.specs.Plans.{Planned, lines_of_work, work_lines}
-use Rattle.board_text.specs.Lines.{audit_line, reader_line}
-use Rattle.board_serve.specs.Serving.{Differs, EndsAfter, Serves, ServesTo, StopsServe, WritesOutcome}
-use Rattle.board_text.specs.Text.{fault_at, line_text, printed_run, text_of}
-use Rattle.board_serve.specs.Work.{IsHeldUp}
+use Rattle.board_text.specs.Text.{Run, end_lines, fault_at, line_text, output, printed_run, stopped_run, text_of, with_lines}
 use Rattle.board_text.specs.declared.faults.Fault.{Fault}
 use Rattle.board_text.specs.declared.replies.Answer.{Answer}
-use Rattle.board_serve.specs.declared.served.Served.{Served}
 use Rattle.board_text.specs.declared.stops.Stop.{Stop}
 use Rattle.board_text.specs.declared.stops.Stop.TheVariants as stop
-use Rattle.board_text.proofs.PlayFacts.{front-before, plays-after, plays-more, text-after}
-use Rattle.board_text.proofs.PlayFacts.{FaultReported, front-then, line-then}
+use Rattle.board_text.proofs.PlayFacts.{front-before, front-then, line-then, plays-after, plays-more, plays-passed, plays-spelled, text-after}
+use Rattle.board_serve.specs.Outcomes.{IsServed, ServedLegalRecords, reported_by}
+use Rattle.board_serve.specs.Plans.{Planned}
+use Rattle.board_serve.specs.Serving.{Differs, IsReportStop, IsServeRun, Serves, ServesTo, StopsServe, audited_run, count_lines, lines_of_work, work_lines}
+use Rattle.board_serve.specs.Work.{IsHeldUp}
+use Rattle.board_serve.specs.declared.serving.Served.{Served}
+
+abbrev answer_line : Answer → Line
+answer_line a = reply_line (reply_of a)
 
 -- the line of an answer is that of the reply
-pub mapped : (answers : List Answer) → map (λ a. reply_line (reply_of a)) answers ≡ map reply_line (map reply_of answers)
+mapped : (answers : List Answer) → map reply_line (map reply_of answers) ≡ map answer_line answers
 mapped [] = refl
-mapped (a ∷ more) = ap (λ (ls : List Line). reply_line (reply_of a) ∷ ls) (mapped more)
+mapped (a ∷ more) = ap (λ (ls : List Line). answer_line a ∷ ls) (mapped more)
 
-module _ (a b : Option (List ℕ)) (answers : List Answer) (n m : ℕ) where
-  spelled : (z : Option (List ℕ)) (r : Result (Unit {0}) Stop) → Plays a z r (printed_run (map (λ x. reply_line (reply_of x)) answers ++ reader_line 1 n ∷ reader_line 2 m ∷ [])) → Plays a z r (printed_run (lines_of_work (map reply_of answers) (n ∷ m ∷ [])))
-  spelled z r p = subst (λ (ls : List Line). Plays a z r (printed_run (ls ++ reader_line 1 n ∷ reader_line 2 m ∷ []))) (mapped answers) p
+-- a report is the lines of the answers, those of the counts, and the result of the audit
+module _ (answers : List Answer) (counts : List ℕ) (legal : Bool) where
+  abbrev pub report_run : Run
+  report_run = with_lines (lines_of_work (map reply_of answers) counts) (audited_run legal)
 
-  -- the answers' lines were stopped
-  pub work-answers : (e d : Stop) → d ≡ e → Plays a b (Err e) (printed_run (map (λ x. reply_line (reply_of x)) answers)) → Plays a b (Err d) (printed_run (lines_of_work (map reply_of answers) (n ∷ m ∷ [])))
-  work-answers e d same p =
-      let P : Stop → Type 0 = λ s. Plays a b (Err s) (printed_run (lines_of_work (map reply_of answers) (n ∷ m ∷ []))) in
-      subst P (sym same) (spelled b (Err e) (plays-more a b e (map (λ x. reply_line (reply_of x)) answers) (printed_run (reader_line 1 n ∷ reader_line 2 m ∷ [])) p))
+  abbrev counted : Run
+  counted = with_lines (count_lines 1 counts) (audited_run legal)
 
-  -- the line of the first reader was stopped
-  pub work-count : (c : Option (List ℕ)) (u : Unit {0}) (e d : Stop) → d ≡ e → Plays a b (Ok u) (printed_run (map (λ x. reply_line (reply_of x)) answers)) → Plays b c (Err e) (printed_run (reader_line 1 n ∷ []))
-      → Plays a c (Err d) (printed_run (lines_of_work (map reply_of answers) (n ∷ m ∷ [])))
-  work-count c u e d same p q =
-      let P : Stop → Type 0 = λ s. Plays a c (Err s) (printed_run (lines_of_work (map reply_of answers) (n ∷ m ∷ []))) in
-      subst P (sym same) (spelled c (Err e) (plays-after a b c (map (λ x. reply_line (reply_of x)) answers) (Err e) (printed_run (reader_line 1 n ∷ reader_line 2 m ∷ [])) p.1
-      (plays-more b c e (reader_line 1 n ∷ []) (printed_run (reader_line 2 m ∷ [])) q)))
+  in-parts : with_lines (map answer_line answers) counted ≡ report_run
+  in-parts =
+      let tail = audited_run legal in
+      let run : List Line → Run = λ ls. record { lines = ls; end = tail.end } in
+      ap run (sym (append_assoc (map answer_line answers) (count_lines 1 counts) tail.lines)
+      ∙ ap (λ (ls : List Line). (ls ++ count_lines 1 counts) ++ tail.lines) (sym (mapped answers)))
 
-  -- the line of the second reader was written, or stopped
-  pub work-counts : (c z : Option (List ℕ)) (u v : Unit {0}) (r : Result (Unit {0}) Stop) → Plays a b (Ok u) (printed_run (map (λ x. reply_line (reply_of x)) answers)) → Plays b c (Ok v) (printed_run (reader_line 1 n ∷ []))
-      → Plays c z r (printed_run (reader_line 2 m ∷ [])) → Plays a z r (printed_run (lines_of_work (map reply_of answers) (n ∷ m ∷ [])))
-  work-counts c z u v r p q s =
-      spelled z r (plays-after a b z (map (λ x. reply_line (reply_of x)) answers) r (printed_run (reader_line 1 n ∷ reader_line 2 m ∷ [])) p.1
-      (plays-after b c z (reader_line 1 n ∷ []) r (printed_run (reader_line 2 m ∷ [])) q.1 s))
+  as-parts : (a b : Option (List ℕ)) (r : Result (Unit {0}) Stop) → Plays a b r (with_lines (map answer_line answers) counted) → Plays a b r report_run
+  as-parts a b r p = let P : Run → Type 0 = λ run. Plays a b r run in subst P in-parts p
 
--- the lines of the work were cut
-pub reports-cut : (a b : Option (List ℕ)) (legal : Bool) (e d : Stop) (ls : List Line) → d ≡ e → e ≡ stop.WriteFault → Plays a b (Err e) (printed_run ls) → WritesOutcome a b legal (Err d) ls
-reports-cut a b legal stop.WriteFault d ls same only p =
-    let P : Stop → Type 0 = λ s. WritesOutcome a b legal (Err s) ls in
-    let Q : List ℕ → Type 0 = λ t. IsFrontOf p.0 t in
-    subst P (sym same) (p.0, subst Q (sym (text-after ls (audit_line ∷ []))) (front-before p.0 (text_of ls) (text_of (audit_line ∷ [])) p.1), p.2)
-reports-cut a b legal stop.OutOfMemory d ls same only p = cc only
-reports-cut a b legal stop.ReadFault d ls same only p = cc only
-reports-cut a b legal (stop.Input f) d ls same only p = cc only
+  -- a line of the answers was stopped
+  pub answers-stop : (a b : Option (List ℕ)) (e d : Stop) → d ≡ e → Plays a b (Err e) (printed_run (map answer_line answers)) → Plays a b (Err d) report_run
+  answers-stop a b e d same p = plays-passed a b e d report_run same (as-parts a b (Err e) (plays-more a b e (map answer_line answers) counted p))
 
--- the line of an audit that found the records legal
-pub record AuditLine (legal : Bool) : Type 0 where
-  pub line : Line
-  pub found_legal : legal ≡ true
-  pub spelled : line ≡ audit_line
+  -- a line of the counts was stopped
+  pub counts-stop : (a b c : Option (List ℕ)) (u : Unit {0}) (e d : Stop) → d ≡ e → Plays a b (Ok u) (printed_run (map answer_line answers)) → Plays b c (Err e) (printed_run (count_lines 1 counts))
+      → Plays a c (Err d) report_run
+  counts-stop a b c u e d same p q =
+      plays-passed a c e d report_run same
+      (as-parts a c (Err e) (plays-after a b c (map answer_line answers) (Err e) counted p.1 (plays-more b c e (count_lines 1 counts) (audited_run legal) q)))
 
--- the audit's line was written, or cut
-pub reports-audit : (a b c : Option (List ℕ)) (legal : Bool) (u : Unit {0}) (r : Result (Unit {0}) Stop) (ls : List Line) (audit : AuditLine legal) → Plays a b (Ok u) (printed_run ls) → Writes b c r (line_text audit.line)
-    → WritesOutcome a c legal r ls
-reports-audit a b c legal u (Ok v) ls audit p w = (audit.found_legal, line-then a b c ls audit_line p.1 (subst (λ (x : Line). Appends b c (line_text x)) audit.spelled w))
-reports-audit a b c legal u (Err stop.WriteFault) ls audit p w = front-then a b c ls audit_line p.1 (subst (λ (x : Line). AppendsFront b c (line_text x)) audit.spelled w.1)
-reports-audit a b c legal u (Err stop.OutOfMemory) ls audit p w = cc w.0
-reports-audit a b c legal u (Err stop.ReadFault) ls audit p w = cc w.0
-reports-audit a b c legal u (Err (stop.Input f)) ls audit p w = cc w.0
+  -- all lines before the result of the audit were written
+  pub audit-then : (a b c z : Option (List ℕ)) (u v : Unit {0}) (r : Result (Unit {0}) Stop) → Plays a b (Ok u) (printed_run (map answer_line answers)) → Plays b c (Ok v) (printed_run (count_lines 1 counts))
+      → Plays c z r (audited_run legal) → Plays a z r report_run
+  audit-then a b c z u v r p q s = as-parts a z r (plays-after a b z (map answer_line answers) r counted p.1 (plays-after b c z (count_lines 1 counts) r (audited_run legal) q.1 s))
+
+-- the result of the audit: a mismatch, or its line
+pub mismatch-plays : (a : Option (List ℕ)) (legal : Bool) (e : Stop) → legal ≡ false → e ≡ stop.Input (fault_at why.Mismatch 0) → Plays a a (Err e) (audited_run legal)
+mismatch-plays a legal e broken same = rw (broken, same) (refl, Appends-nil a)
+
+pub audit-plays : (a b : Option (List ℕ)) (legal : Bool) (r : Result (Unit {0}) Stop) (line : Line) → legal ≡ true → line ≡ audit_line → Writes a b r (line_text line) → Plays a b r (audited_run legal)
+audit-plays a b legal r line sound spelled w = rw sound (plays-spelled a b r line audit_line spelled w)
 
 -- out of memory, or a failed read, before anything is written
-broken-after : (spec : Result Planned Fault) (f : Fault) → IsBroken f → EndsAfter spec [] f
-broken-after (Err g) f h = (refl, inr h)
-broken-after (Ok p) f h = inl (refl, inl h)
+broken-run : (spec : Result Planned Fault) (f : Fault) → IsBroken f → IsServeRun spec (stopped_run f)
+broken-run (Err g) f h = (refl, inr h)
+broken-run (Ok p) f h = inl (refl, inl h)
 
--- nothing came of the input
-pub fails-serve : (a : Option (List ℕ)) (e : Stop) (spec : Result Planned Fault) → Fails e spec → ServesTo a a (Err e) spec
-fails-serve a stop.OutOfMemory spec p = ([], broken-after spec _ (inl refl), Appends-nil a)
-fails-serve a stop.ReadFault spec p = ([], broken-after spec _ (inr refl), Appends-nil a)
-fails-serve a stop.WriteFault spec p = absurd p
-fails-serve a (stop.Input f) spec p = rw p ([], (refl, inl refl), Appends-nil a)
+-- the input gave no plan
+pub fails-serve : (a : Option (List ℕ)) (e d : Stop) (spec : Result Planned Fault) → d ≡ e → Fails e spec → ServesTo a a (Err d) spec
+fails-serve a stop.OutOfMemory d spec same p = rw same (stopped_run (fault_at why.OutOfMemory 0), broken-run spec _ (inl refl), (refl, Appends-nil a))
+fails-serve a stop.ReadFault d spec same p = rw same (stopped_run (fault_at why.ReadFault 0), broken-run spec _ (inr refl), (refl, Appends-nil a))
+fails-serve a stop.WriteFault d spec same p = absurd p
+fails-serve a (stop.Input f) d spec same p = rw (same, p) (stopped_run f, (refl, inl refl), (refl, Appends-nil a))
 
--- some work was held up
-held-serve : (a : Option (List ℕ)) (e : Stop) (p : Planned) → IsHeldUp e → ServesTo a a (Err e) (Ok p)
-held-serve a e p (inl memory) = rw memory ([], inl (refl, inl (inl refl)), Appends-nil a)
-held-serve a e p (inr closed) = rw closed ([], inl (refl, inr refl), Appends-nil a)
+-- a thread was held up
+pub held-serve : (a : Option (List ℕ)) (e d : Stop) (p : Planned) → d ≡ e → IsHeldUp e → ServesTo a a (Err d) (Ok p)
+held-serve a e d p same (inl memory) = rw (same, memory) (stopped_run (fault_at why.OutOfMemory 0), inl (refl, inl (inl refl)), (refl, Appends-nil a))
+held-serve a e d p same (inr closed) = rw (same, closed) (stopped_run (fault_at why.GateClosed 0), inl (refl, inr refl), (refl, Appends-nil a))
 
--- the lines of the work, and what the audit found, were written, or stopped
-reported-serve : (a b : Option (List ℕ)) (legal : Bool) (e : Stop) (p : Planned) → (legal ≡ false → Differs p) → WritesOutcome a b legal (Err e) (work_lines p) → ServesTo a b (Err e) (Ok p)
-reported-serve a b legal stop.OutOfMemory p differs t = absurd t
-reported-serve a b legal stop.ReadFault p differs t = absurd t
-reported-serve a b legal stop.WriteFault p differs t = (text_of (work_lines p ++ audit_line ∷ []), inl (p, refl, refl), t)
-reported-serve a b legal (stop.Input f) p differs t = (work_lines p, inr (refl, t.1, differs t.0), t.2)
+-- the run of a plan that was carried out
+abbrev pub done_run : Planned → Bool → Run
+done_run p legal = with_lines (work_lines p) (audited_run legal)
 
-ended : (a b c : Option (List ℕ)) (f g : Fault) (spec : Result Planned Fault) → StopsServe a b (Some f) spec → Ends b c f g → Serves a c (Err g) spec
-ended a b c f g spec p (inl h) = rw h.0 (inl (p.0, p.1, line-then a b c p.0 (fault_line f) p.2 h.1))
-ended a b c f g spec p (inr h) = inr (h.0, (text_of (p.0 ++ fault_line f ∷ []), inr (p.0, f, p.1, refl), front-then a b c p.0 (fault_line f) p.2 h.1))
+is-run : (p : Planned) (legal : Bool) → (legal ≡ false → Differs p) → IsServeRun (Ok p) (done_run p legal)
+is-run p true differs = refl
+is-run p false differs = inr (append-nil (work_lines p), refl, differs refl)
 
--- the line of the fault, after what was written
-pub ended-serve : (a b c : Option (List ℕ)) (s : Stop) (g : Fault) (spec : Result Planned Fault) → StopsServe a b (fault_of s) spec → FaultReported b c s g → Serves a c (Err g) spec
-ended-serve a b c s g spec p reported = ended a b c reported.fault g spec (subst (λ (x : Option Fault). StopsServe a b x spec) reported.stopped_by p) reported.ends
+-- a prefix of the lines is a prefix of the output
+cut-output : (a b : Option (List ℕ)) (run : Run) → AppendsFront a b (text_of run.lines) → AppendsFront a b (output run)
+cut-output a b run t =
+    let P : List ℕ → Type 0 = λ text. IsFrontOf t.0 text in
+    (t.0, subst P (sym (text-after run.lines (end_lines run.end))) (front-before t.0 (text_of run.lines) (text_of (end_lines run.end)) t.1), t.2)
 
-pub cut-serve : (a b : Option (List ℕ)) (s : Stop) (g : Fault) (spec : Result Planned Fault) → StopsServe a b (fault_of s) spec → fault_of s ≡ None → g ≡ fault_at why.WriteFault 0 → Serves a b (Err g) spec
-cut-serve a b s g spec p e w = inr (w, subst (λ (x : Option Fault). StopsServe a b x spec) e p)
+-- the report was written
+whole : (a b : Option (List ℕ)) (legal : Bool) (u : Unit {0}) (p : Planned) (s : Served) → IsServed p s → (legal ≡ true → ServedLegalRecords p s) → Plays a b (Ok u) (done_run p legal) → ServesTo a b (Ok s) (Ok p)
+whole a b true u p s served records t = (p, refl, served, records refl, t.1)
+whole a b false u p s served records t = cc t.0
 
--- an error that is passed on is the error that stopped the work
-pub serves-passed : (a b : Option (List ℕ)) (e d : Stop) (spec : Result Planned Fault) → d ≡ e → ServesTo a b (Err e) spec → ServesTo a b (Err d) spec
-serves-passed a b e d spec same p = let P : Stop → Type 0 = λ s. ServesTo a b (Err s) spec in subst P (sym same) p
+-- the report was stopped, or found a mismatch
+report-serve : (a b : Option (List ℕ)) (legal : Bool) (e : Stop) (p : Planned) → IsReportStop e → (legal ≡ false → Differs p) → Plays a b (Err e) (done_run p legal) → ServesTo a b (Err e) (Ok p)
+report-serve a b legal stop.WriteFault p causes differs t = (done_run p legal, is-run p legal differs, cut-output a b (done_run p legal) t)
+report-serve a b legal (stop.Input f) p causes differs t = (done_run p legal, is-run p legal differs, t)
+report-serve a b legal stop.OutOfMemory p (inl e) differs t = cc e
+report-serve a b legal stop.OutOfMemory p (inr e) differs t = cc e
+report-serve a b legal stop.ReadFault p (inl e) differs t = cc e
+report-serve a b legal stop.ReadFault p (inr e) differs t = cc e
 
--- some work was held up, so nothing is written
-pub held-input : (a : Option (List ℕ)) (e : Stop) (spec : Result Planned Fault) (p : Planned) → IsHeldUp e → spec ≡ Ok p → ServesTo a a (Err e) spec
-held-input a e spec p held found =
-    let P : Result Planned Fault → Type 0 = λ s. ServesTo a a (Err e) s in
-    subst P (sym found) (held-serve a e p held)
-
--- what the input asks, and the lines of its work
-pub record WorkAsked (spec : Result Planned Fault) (ls : List Line) : Type 0 where
-  pub plan : Planned
-  pub found : spec ≡ Ok plan
-  pub spelled : ls ≡ work_lines plan
-
--- what the threads did of a plan, and what the audit found of it
-pub record WorkAudited (p : Planned) (s : Served) (legal : Bool) : Type 0 where
+-- what the threads did of a plan, what the audit found of it, and what is reported
+pub record Audited (p : Planned) (s : Served) (legal : Bool) (answers : List Answer) (counts : List ℕ) : Type 0 where
   pub served : IsServed p s
   pub records : legal ≡ true → ServedLegalRecords p s
   pub differs : legal ≡ false → ServedLegalRecords p s → ⊥
+  pub answered : map reply_of answers ≡ reported_by p
+  pub counted : counts ≡ map length p.shares.asked
 
--- the lines of the work were stopped, and so was the text of the run
-pub reported-input : (a b : Option (List ℕ)) (legal : Bool) (e : Stop) (s : Served) (spec : Result Planned Fault) (ls : List Line) (asked : WorkAsked spec ls)
-    → WorkAudited asked.plan s legal → WritesOutcome a b legal (Err e) ls → ServesTo a b (Err e) spec
-reported-input a b legal e s spec ls asked done t =
-    let P : List Line → Type 0 = λ l. WritesOutcome a b legal (Err e) l in
-    let Q : Result Planned Fault → Type 0 = λ r. ServesTo a b (Err e) r in
-    subst Q (sym asked.found) (reported-serve a b legal e asked.plan (λ no. (s, done.served, done.differs no)) (subst P asked.spelled t))
+module _ (a b : Option (List ℕ)) (p : Planned) (s : Served) (legal : Bool) (answers : List Answer) (counts : List ℕ) (done : Audited p s legal answers counts) where
+  as-done : (r : Result (Unit {0}) Stop) → Plays a b r (report_run answers counts legal) → Plays a b r (done_run p legal)
+  as-done r t =
+      let P : List Line → Type 0 = λ ls. Plays a b r (with_lines ls (audited_run legal)) in
+      subst P (ap (λ (rs : List Reply). lines_of_work rs counts) done.answered ∙ ap (lines_of_work (reported_by p)) done.counted) t
 
--- all was written
-pub whole-input : (a b : Option (List ℕ)) (legal : Bool) (u : Unit {0}) (s : Served) (spec : Result Planned Fault) (ls : List Line) (asked : WorkAsked spec ls)
-    → WorkAudited asked.plan s legal → WritesOutcome a b legal (Ok u) ls → ServesTo a b (Ok s) spec
-whole-input a b legal u s spec ls asked done t =
-    let P : List Line → Type 0 = λ l. Appends a b (text_of (l ++ audit_line ∷ [])) in
-    (asked.plan, asked.found, done.served, done.records t.0, subst P asked.spelled t.1)
+  pub stopped-serve : (e d : Stop) → d ≡ e → IsReportStop e → Plays a b (Err e) (report_run answers counts legal) → ServesTo a b (Err d) (Ok p)
+  stopped-serve e d same causes t = rw same (report-serve a b legal e p causes (λ broken. (s, done.served, done.differs broken)) (as-done (Err e) t))
+
+  pub whole-serve : (u : Unit {0}) → Plays a b (Ok u) (report_run answers counts legal) → ServesTo a b (Ok s) (Ok p)
+  whole-serve u t = whole a b legal u p s done.served done.records (as-done (Ok u) t)
+
+ended : (a b c : Option (List ℕ)) (f g : Fault) (spec : Result Planned Fault) (run : Run) → IsServeRun spec run → StopsServe a b (Some f) run → Ends b c f g → Serves a c (Err g) spec
+ended a b c f g spec run is t (inl h) =
+    let P : Option Fault → Type 0 = λ end. Appends a c (text_of (run.lines ++ end_lines end)) in
+    rw h.0 (run, is, inl (t.0, subst P (sym t.0) (line-then a b c run.lines (fault_line f) t.1 h.1)))
+ended a b c f g spec run is t (inr h) =
+    let P : Option Fault → Type 0 = λ end. AppendsFront a c (text_of (run.lines ++ end_lines end)) in
+    (run, is, inr (h.0, subst P (sym t.0) (front-then a b c run.lines (fault_line f) t.1 h.1)))
+
+-- the end of a run that was stopped, after what was written
+ended-stop : (a b c : Option (List ℕ)) (f : Option Fault) (r : Result Served Fault) (spec : Result Planned Fault) (run : Run) → IsServeRun spec run → StopsServe a b f run → EndsStopped b c f r → Serves a c r spec
+ended-stop a b c None (Err g) spec run is t e = let P : Option (List ℕ) → Type 0 = λ x. AppendsFront a x (output run) in (run, is, inr (e.0, subst P (sym e.1) t))
+ended-stop a b c (Some f) (Err g) spec run is t e = ended a b c f g spec run is t e
+ended-stop a b c None (Ok s) spec run is t e = absurd e
+ended-stop a b c (Some f) (Ok s) spec run is t e = absurd e
+
+pub ended-serve : (a b c : Option (List ℕ)) (carried : Result Served Stop) (r : Result Served Fault) (spec : Result Planned Fault) → ServesTo a b carried spec → EndsRun b c carried r → Serves a c r spec
+ended-serve a b c (Ok s) r spec p e = rw (e.0, e.1) p
+ended-serve a b c (Err d) r spec p e = ended-stop a b c (fault_of d) r spec p.0 p.1 p.2 e

@@ -5,7 +5,6 @@ use Rattle.std.proofs.lemmas.List.Elements.{All-append, All-cons, All-nil}
 use Rattle.std.proofs.lemmas.Grind.{flat_map-append}
 use Rattle.std.specs.Prelude.{⊤}
 use Rattle.council_core.specs.Ledgers.{verdict_of}
-use Rattle.council_core.specs.Rolls.{IsLegal, Opening}
 use Rattle.council_core.specs.Sequential.{Sequential, Call, Reply, publish, read, response_to, replies_of, state_after, submit, submit_response}
 use Rattle.council_core.specs.declared.commands.Command.{Command}
 use Rattle.council_core.specs.declared.refusals.Refusal.{Refusal}
@@ -20,16 +19,14 @@ use Rattle.board_share.specs.Histories.{Adds, is_readers}
 use Rattle.board_share.specs.Readers.{IsLegalSheet, TookSteps, last_front_of, number_of}
 use Rattle.board_share.proofs.Histories.{longer_none}
 use Rattle.board_share.proofs.Prefixes.{adds_then}
-use Rattle.board_share.proofs.WholeReadings.{front_is}
 use Rattle.board_share.specs.Writers.{Publisher}
 use Rattle.board_text.specs.Replies.{reply_of}
-use Rattle.board_serve.specs.Parts.{call_of_order}
-use Rattle.board_serve.specs.Work.{HasNoneRead, IsRead, IsReadFrom, IsRising, IsWritten, cuts_of, cuts_of_reply, omega_at, omegas, register_of}
-use Rattle.board_serve.specs.declared.orders.Order.{Order}
-use Rattle.board_serve.specs.declared.readings.Readings.{Readings}
 use Rattle.board_text.specs.declared.replies.Answer.{Answer}
-use Rattle.board_serve.specs.declared.written.Written.{Written}
 use Rattle.board_text.proofs.IndexFacts.{StandsAt, first-more}
+use Rattle.board_serve.specs.Work.{CanAsk, IsRead, IsReadFrom, IsRising, IsWritten, call_of_order, cuts_of, cuts_of_reply, omega_at, omegas, register_of}
+use Rattle.board_serve.specs.declared.plan.Order.{Order}
+use Rattle.board_serve.specs.declared.reader_work.ReaderWork.{ReaderWork}
+use Rattle.board_serve.specs.declared.writer_work.WriterWork.{WriterWork}
 
 -- the replies to one call more
 replies-more : (s : Sequential) (calls : List Call) (call : Call) → replies_of s (calls ++ call ∷ []) ≡ replies_of s calls ++ (response_to (state_after s calls) call).1 ∷ []
@@ -41,19 +38,19 @@ state-more s [] call = refl
 state-more s (c ∷ cs) call = state-more (response_to s c).0 cs call
 
 -- the order at this index was carried out, and its answer kept
-pub record CarriedOut (orders : List Order) (i : ℕ) (order : Order) (after next : Publisher) (w v : Written) : Type 0 where
+pub record CarriedOut (orders : List Order) (i : ℕ) (order : Order) (after next : WriterWork) : Type 0 where
   pub answer : Answer
   pub stands : StandsAt orders i order
-  pub replied : reply_of answer ≡ (response_to (register_of after) (call_of_order order)).1
-  pub register : register_of next ≡ (response_to (register_of after) (call_of_order order)).0
-  pub table : next.table ≡ after.table
-  pub answers : v.answers.items ≡ w.answers.items ++ answer ∷ []
-  pub cuts : v.cuts.items ≡ w.cuts.items ++ cuts_of_reply (reply_of answer)
+  pub replied : reply_of answer ≡ (response_to (register_of after.writer) (call_of_order order)).1
+  pub register : register_of next.writer ≡ (response_to (register_of after.writer) (call_of_order order)).0
+  pub table : next.writer.table ≡ after.writer.table
+  pub answers : next.answers.items ≡ after.answers.items ++ answer ∷ []
+  pub cuts : next.cuts.items ≡ after.cuts.items ++ cuts_of_reply (reply_of answer)
 
 -- one order more was carried out
-pub written-more : (before after next : Publisher) (orders : List Order) (i : ℕ) (o : Order) (w v : Written)
-    → IsWritten before (take i orders) after w → CarriedOut orders i o after next w v → IsWritten before (take (i + 1) orders) next v
-written-more before after next orders i o w v done one =
+pub written-more : (before : Publisher) (orders : List Order) (i : ℕ) (o : Order) (after next : WriterWork)
+    → IsWritten before (take i orders) after → CarriedOut orders i o after next → IsWritten before (take (i + 1) orders) next
+written-more before orders i o after next done one =
     let a = one.answer in
     let s = register_of before in
     let calls = map call_of_order (take i orders) in
@@ -62,7 +59,7 @@ written-more before after next orders i o w v done one =
     let now : reply_of a ≡ (response_to (state_after s calls) call).1 = one.replied ∙ ap (λ (t : Sequential). (response_to t call).1) done.register in
     let all : replies_of s (map call_of_order (take (i + 1) orders)) ≡ replies_of s calls ++ reply_of a ∷ [] =
     ap (replies_of s) more ∙ replies-more s calls call ∙ ap (λ (r : Reply). replies_of s calls ++ r ∷ []) (sym now) in
-    let kept : map reply_of v.answers.items ≡ map reply_of w.answers.items ++ reply_of a ∷ [] = ap (map reply_of) one.answers ∙ map-append reply_of w.answers.items (a ∷ []) in
+    let kept : map reply_of next.answers.items ≡ map reply_of after.answers.items ++ reply_of a ∷ [] = ap (map reply_of) one.answers ∙ map-append reply_of after.answers.items (a ∷ []) in
     record {
       answers = kept ∙ ap (λ (rs : List Reply). rs ++ reply_of a ∷ []) done.answers ∙ sym all;
       register = one.register ∙ ap (λ (t : Sequential). (response_to t call).0) done.register ∙ sym (state-more s calls call) ∙ ap (state_after s) (sym more);
@@ -93,14 +90,15 @@ rising-more low [] w r above = (above, tt)
 rising-more low (x ∷ xs) w r above = (r.0, rising-more (front_of x) xs w r.1 above)
 
 -- one sheet more was read: it is of some legal list, and not older than the one before
-pub record SheetRead (after next : AnalystSeen) : Type 0 where
-  pub table : next.reader.table ≡ after.reader.table
-  pub number : number_of next.reader ≡ number_of after.reader
-  pub steps : TookSteps reading_steps after.reader next.reader
-  pub opening : next.reader.opening ≡ after.reader.opening
-  pub grown : next.reader.readings ≡ after.reader.readings ++ next.sheet ∷ []
-  pub legal : IsLegalSheet after.reader.opening next.sheet
-  pub not_older : last_front_of after.reader ≤ front_of next.sheet
+pub record SheetRead (after next : ReaderWork) : Type 0 where
+  pub table : next.analyst.reader.table ≡ after.analyst.reader.table
+  pub number : number_of next.analyst.reader ≡ number_of after.analyst.reader
+  pub steps : TookSteps reading_steps after.analyst.reader next.analyst.reader
+  pub opening : next.analyst.reader.opening ≡ after.analyst.reader.opening
+  pub grown : next.analyst.reader.readings ≡ after.analyst.reader.readings ++ next.analyst.sheet ∷ []
+  pub legal : IsLegalSheet after.analyst.reader.opening next.analyst.sheet
+  pub not_older : last_front_of after.analyst.reader ≤ front_of next.analyst.sheet
+  pub sheets : next.sheets.items ≡ after.sheets.items ++ next.analyst.sheet ∷ []
 
 -- the steps of the readings of some sheets, and of one sheet more
 steps-more : (n : ℕ) (sheets more : List (List ℕ)) (words : List ℕ) → more ≡ sheets ++ words ∷ []
@@ -110,36 +108,39 @@ steps-more n sheets more words is =
     replicate-append-replicate (length sheets * reading_steps) reading_steps (Reader n) ∙ ap (λ (k : ℕ). replicate k (Reader n)) (omega arith)
 
 -- no reading was asked for yet
-pub none-read : (before : AnalystSeen) (readings : Readings) → HasNoneRead readings → IsReadFrom before before readings
-none-read before readings empty =
+pub none-read : (work : ReaderWork) → CanAsk work → IsReadFrom work.analyst work
+none-read work ready =
+    let p = work.analyst.reader in
     record {
       table = refl;
       number = refl;
-      steps = rw empty.0 record { events = []; longer_by = sym (longer_none before.reader.history); own_are = refl };
+      steps = rw ready.no_sheets record { events = []; longer_by = sym (longer_none p.history); own_are = refl };
       opening = refl;
-      grown = rw empty.0 (sym (append-nil before.reader.readings));
-      legal = rw empty.0 (All-nil (IsLegalSheet before.reader.opening));
-      rising = rw empty.0 tt;
+      grown = rw ready.no_sheets (sym (append-nil p.readings));
+      legal = rw ready.no_sheets (All-nil (IsLegalSheet p.opening));
+      rising = rw ready.no_sheets tt;
     }
 
 -- one sheet more was read and kept
-pub read-more : (before after next : AnalystSeen) (r v : Readings) → IsReadFrom before after r → SheetRead after next → v.sheets.items ≡ r.sheets.items ++ next.sheet ∷ [] → IsReadFrom before next v
-read-more before after next r v done one sheets =
-    let above : last_front 0 after.reader.readings ≤ front_of next.sheet = subst (λ (n : ℕ). n ≤ front_of next.sheet) (sym (front_is 0 after.reader.readings)) one.not_older in
-    let low : last_front (last_front 0 before.reader.readings) r.sheets.items ≡ last_front 0 after.reader.readings =
-    sym (last-more 0 before.reader.readings r.sheets.items) ∙ ap (last_front 0) (sym done.grown) in
+pub read-more : (before : AnalystSeen) (after next : ReaderWork) → IsReadFrom before after → SheetRead after next → IsReadFrom before next
+read-more before after next done one =
+    let old = after.analyst.reader in
+    let words = next.analyst.sheet in
+    let above : last_front 0 old.readings ≤ front_of words = one.not_older in
+    let low : last_front (last_front 0 before.reader.readings) after.sheets.items ≡ last_front 0 old.readings =
+    sym (last-more 0 before.reader.readings after.sheets.items) ∙ ap (last_front 0) (sym done.grown) in
     let n : ℕ = number_of before.reader in
-    let own : Adds (is_readers n) (replicate reading_steps (Reader n)) after.reader.history next.reader.history =
-    subst (λ (m : ℕ). Adds (is_readers m) (replicate reading_steps (Reader m)) after.reader.history next.reader.history) done.number one.steps.adds in
+    let own : Adds (is_readers n) (replicate reading_steps (Reader n)) old.history next.analyst.reader.history =
+    subst (λ (m : ℕ). Adds (is_readers m) (replicate reading_steps (Reader m)) old.history next.analyst.reader.history) done.number one.steps.adds in
     record {
       table = one.table ∙ done.table;
       number = one.number ∙ done.number;
-      steps = subst (λ (l : List Event). Adds (is_readers n) l before.reader.history next.reader.history) (steps-more n r.sheets.items v.sheets.items next.sheet sheets)
-          (adds_then (is_readers n) before.reader.history after.reader.history next.reader.history _ _ done.steps own);
+      steps = subst (λ (l : List Event). Adds (is_readers n) l before.reader.history next.analyst.reader.history) (steps-more n after.sheets.items next.sheets.items words one.sheets)
+          (adds_then (is_readers n) before.reader.history old.history next.analyst.reader.history _ _ done.steps own);
       opening = one.opening ∙ done.opening;
-      grown = one.grown ∙ ap (λ (l : List (List ℕ)). l ++ next.sheet ∷ []) done.grown ∙ append_assoc before.reader.readings r.sheets.items (next.sheet ∷ []) ∙ ap (λ (l : List (List ℕ)). before.reader.readings ++ l) (sym sheets);
-      legal = rw sheets (All-append (IsLegalSheet before.reader.opening) r.sheets.items (next.sheet ∷ []) done.legal (All-cons (IsLegalSheet before.reader.opening) next.sheet [] (rw done.opening at one.legal) (All-nil (IsLegalSheet before.reader.opening))));
-      rising = rw sheets (rising-more (last_front 0 before.reader.readings) r.sheets.items next.sheet done.rising (rw low above));
+      grown = one.grown ∙ ap (λ (l : List (List ℕ)). l ++ words ∷ []) done.grown ∙ append_assoc before.reader.readings after.sheets.items (words ∷ []) ∙ ap (λ (l : List (List ℕ)). before.reader.readings ++ l) (sym one.sheets);
+      legal = rw one.sheets (All-append (IsLegalSheet before.reader.opening) after.sheets.items (words ∷ []) done.legal (All-cons (IsLegalSheet before.reader.opening) words [] (rw done.opening at one.legal) (All-nil (IsLegalSheet before.reader.opening))));
+      rising = rw one.sheets (rising-more (last_front 0 before.reader.readings) after.sheets.items words done.rising (rw low above));
     }
 
 omegas-more : (ms : List Majority) (sheets : List (List ℕ)) (m : Majority) (words : List ℕ) → length sheets ≡ length ms → omegas (ms ++ m ∷ []) (sheets ++ words ∷ []) ≡ omegas ms sheets ++ omega_at m words ∷ []
@@ -149,23 +150,23 @@ omegas-more (k ∷ ms) [] m words e = cc
 omegas-more (k ∷ ms) (w ∷ ws) m words e = ap (λ (l : List ℕ). omega_at k w ∷ l) (omegas-more ms ws m words (omega (arith, e)))
 
 -- the record at this index was answered, and the sheet and the number kept
-pub record Answered (asked : List Majority) (i : ℕ) (majority : Majority) (r v : Readings) : Type 0 where
+pub record Answered (asked : List Majority) (i : ℕ) (majority : Majority) (after next : ReaderWork) : Type 0 where
   pub words : List ℕ
   pub number : ℕ
   pub stands : StandsAt asked i majority
   pub counted : number ≡ omega_at majority words
-  pub sheets : v.sheets.items ≡ r.sheets.items ++ words ∷ []
-  pub winning : v.winning.items ≡ r.winning.items ++ number ∷ []
+  pub sheets : next.sheets.items ≡ after.sheets.items ++ words ∷ []
+  pub winning : next.winning.items ≡ after.winning.items ++ number ∷ []
 
 -- one record more was answered
-pub answered-more : (asked : List Majority) (i : ℕ) (m : Majority) (r v : Readings) → IsRead (take i asked) r → Answered asked i m r v → IsRead (take (i + 1) asked) v
-answered-more asked i m r v done one =
+pub answered-more : (asked : List Majority) (i : ℕ) (m : Majority) (after next : ReaderWork) → IsRead (take i asked) after → Answered asked i m after next → IsRead (take (i + 1) asked) next
+answered-more asked i m after next done one =
     let words = one.words in
     let sheets = one.sheets in
     let at = one.stands in
     let more : take (i + 1) asked ≡ take i asked ++ m ∷ [] = take_more asked i m at.within ∙ ap (λ y. take i asked ++ (y ∷ [])) (sym at.here) in
     let old = done.count in
     record {
-      count = rw (sheets, more) (omega (arith, old, length-append r.sheets.items (words ∷ []), length-append (take i asked) (m ∷ [])));
-      winning = rw (sheets, more) (one.winning ∙ ap (λ (ns : List ℕ). ns ++ one.number ∷ []) done.winning ∙ ap (λ k. omegas (take i asked) r.sheets.items ++ k ∷ []) one.counted ∙ sym (omegas-more (take i asked) r.sheets.items m words old));
+      count = rw (sheets, more) (omega (arith, old, length-append after.sheets.items (words ∷ []), length-append (take i asked) (m ∷ [])));
+      winning = rw (sheets, more) (one.winning ∙ ap (λ (ns : List ℕ). ns ++ one.number ∷ []) done.winning ∙ ap (λ k. omegas (take i asked) after.sheets.items ++ k ∷ []) one.counted ∙ sym (omegas-more (take i asked) after.sheets.items m words old));
     }

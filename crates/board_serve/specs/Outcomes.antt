@@ -1,15 +1,17 @@
 -- The results of the work of all threads.
 use Rattle.std.specs.Prelude.{◌≡◌, ℕ, List, [], ◌∷◌, length, map, All}
 use Rattle.council_core.specs.Rolls.{IsLegal}
-use Rattle.council_core.specs.Sequential.{AreLegalRecords, state_after}
+use Rattle.council_core.specs.Sequential.{AreLegalRecords, Call, Reply, replies_of, state_after}
 use Rattle.majority_rule.specs.declared.majorities.Majority.{Majority}
+use Rattle.board_audits.specs.declared.audits.AuditFault.{AuditFault}
+use Rattle.board_audits.specs.declared.audits.AuditFault.TheVariants as found
 use Rattle.board_share.specs.Readers.{IsLegalSheet}
 use Rattle.board_text.specs.Replies.{reply_of}
-use Rattle.board_serve.specs.Plans.{Planned, calls_of, reported_by}
-use Rattle.board_serve.specs.Work.{IsRising, cuts_of, omegas}
-use Rattle.board_serve.specs.declared.jobs.Jobs.{Jobs}
-use Rattle.board_serve.specs.declared.outcomes.Outcome.{Outcome}
-use Rattle.board_serve.specs.declared.served.Served.{Served}
+use Rattle.board_text.specs.declared.replies.Answer.{Answer}
+use Rattle.board_serve.specs.Plans.{Planned}
+use Rattle.board_serve.specs.Work.{IsRising, call_of_order, cuts_of, omegas}
+use Rattle.board_serve.specs.declared.serving.Served.{Served}
+use Rattle.board_serve.specs.declared.threads.AllWork.{AllWork}
 
 -- by reader, the sheets that it read
 abbrev pub sheets_of : Served → List (List (List ℕ))
@@ -20,13 +22,21 @@ abbrev pub winning_of : Served → List (List ℕ)
 winning_of s = map (λ v. v.items) s.winning.items
 
 -- the results of the threads, combined; the journal is the writer's
-pub record IsBrought (done : Jobs) (o : Outcome) : Type 0 where
-  pub answers : o.answers.items ≡ done.writer.room.answers.items
-  pub journal : o.served.journal.items ≡ done.writer.writer.ledger.journal
-  pub legal : IsLegal done.writer.writer.ledger.opening o.served.journal.items
-  pub cuts : o.served.cuts.items ≡ done.writer.room.cuts.items
-  pub readings : sheets_of o.served ≡ map (λ j. j.room.sheets.items) done.readers
-  pub winning : winning_of o.served ≡ map (λ j. j.room.winning.items) done.readers
+pub record IsBrought (done : AllWork) (answers : List Answer) (s : Served) : Type 0 where
+  pub answered : answers ≡ done.writer.answers.items
+  pub journal : s.journal.items ≡ done.writer.writer.ledger.journal
+  pub legal : IsLegal done.writer.writer.ledger.opening s.journal.items
+  pub cuts : s.cuts.items ≡ done.writer.cuts.items
+  pub readings : sheets_of s ≡ done.first.sheets.items ∷ done.second.sheets.items ∷ []
+  pub winning : winning_of s ≡ done.first.winning.items ∷ done.second.winning.items ∷ []
+
+-- the sequential register's calls for the writer's records
+abbrev pub calls_of : Planned → List Call
+calls_of p = map call_of_order p.shares.orders
+
+-- the sequential register's replies to the writer's records
+abbrev pub reported_by : Planned → List Reply
+reported_by p = replies_of p.start (calls_of p)
 
 -- by reader, omega of each sheet at its record's majority
 abbrev pub omegas_by : List (List Majority) → List (List (List ℕ)) → List (List ℕ)
@@ -38,19 +48,28 @@ omegas_by (ms ∷ mss) (words ∷ sheets) = omegas ms words ∷ omegas_by mss sh
 -- each reader has one sheet for each of its records, each the sheet after some legal list of
 -- commands, with fronts that never decrease, and omega of it at the record's majority
 pub record IsServed (p : Planned) (s : Served) : Type 0 where
-  pub journal : s.journal.items ≡ (state_after p.0 (calls_of p)).ledger.journal
-  pub legal_journal : IsLegal p.0.ledger.opening s.journal.items
+  pub journal : s.journal.items ≡ (state_after p.start (calls_of p)).ledger.journal
+  pub legal_journal : IsLegal p.start.ledger.opening s.journal.items
   pub cuts : s.cuts.items ≡ cuts_of (reported_by p)
-  pub counts : map length (sheets_of s) ≡ map length p.1.asked
-  pub legal : All (λ sheets. All (IsLegalSheet p.0.ledger.opening) sheets) (sheets_of s)
+  pub counts : map length (sheets_of s) ≡ map length p.shares.asked
+  pub legal : All (λ sheets. All (IsLegalSheet p.start.ledger.opening) sheets) (sheets_of s)
   pub rising : All (IsRising 0) (sheets_of s)
-  pub winning : winning_of s ≡ omegas_by p.1.asked (sheets_of s)
-
--- IsServed holds, and the answers are the sequential register's replies
-pub record IsOutcome (p : Planned) (o : Outcome) : Type 0 where
-  pub answers : map reply_of o.answers.items ≡ reported_by p
-  pub served : IsServed p o.served
+  pub winning : winning_of s ≡ omegas_by p.shares.asked (sheets_of s)
 
 -- the journal, the cuts, with the start's cut 0 before them, and the readings are legal records
 abbrev pub ServedLegalRecords : Planned → Served → Type 0
-ServedLegalRecords p s = AreLegalRecords p.0.ledger.opening s.journal.items (0 ∷ s.cuts.items) (sheets_of s)
+ServedLegalRecords p s = AreLegalRecords p.start.ledger.opening s.journal.items (0 ∷ s.cuts.items) (sheets_of s)
+
+-- the faults that an audit can find in records whose journal is legal and whose cuts are in order:
+-- a mismatched reading, or out of memory
+abbrev pub CanBeFound : AuditFault → Type 0
+CanBeFound (found.Start why) = ⊥
+CanBeFound (found.BadJournal place) = ⊥
+CanBeFound (found.BadCuts place) = ⊥
+CanBeFound (found.Mismatch reader place) = Unit {0}
+CanBeFound found.OutOfMemory = Unit {0}
+
+-- the answers are the sequential register's replies, and IsServed holds
+pub record IsOutcome (p : Planned) (answers : List Answer) (s : Served) : Type 0 where
+  pub answered : map reply_of answers ≡ reported_by p
+  pub served : IsServed p s

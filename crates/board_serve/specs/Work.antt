@@ -1,10 +1,11 @@
 -- The work of the threads of a run.
-use Rattle.std.specs.Prelude.{◌≡◌, ℕ, ◌≤◌, ◌*◌, ◌⊎◌, ◌++◌, List, [], ◌∷◌, length, map, replicate, All}
+use Rattle.std.specs.Prelude.{◌≡◌, ℕ, ◌≤◌, ◌<◌, ◌^◌, ◌*◌, ◌⊎◌, ◌++◌, List, [], ◌∷◌, length, map, replicate, All}
+use Rattle.std.specs.Prelude.{vec_len, Result, Ok, Err}
 use Rattle.std.specs.List.{flat_map}
 use Rattle.std.specs.Vec.{vec_capacity}
 use Rattle.council_core.specs.Coalitions.{omega_of}
-use Rattle.council_core.specs.Sequential.{Sequential, Reply, accepted, refused, published, reading, replies_of}
-use Rattle.council_core.specs.Sequential.{state_after}
+use Rattle.council_core.specs.Sequential.{Call, Sequential, Reply, accepted, refused, published, publish, reading}
+use Rattle.council_core.specs.Sequential.{replies_of, state_after, submit}
 use Rattle.council_core.specs.Sheets.{front_of, open_chairs}
 use Rattle.council_core.specs.declared.refusals.Refusal.TheVariants as why
 use Rattle.majority_rule.specs.Winning.{rule_of}
@@ -17,17 +18,23 @@ use Rattle.board_share.specs.Histories.{Adds, is_readers}
 use Rattle.board_share.specs.Readers.{IsLegalSheet, number_of}
 use Rattle.board_share.specs.Writers.{Publisher}
 use Rattle.board_text.specs.Replies.{reply_of}
-use Rattle.board_serve.specs.Parts.{call_of_order}
 use Rattle.board_text.specs.Text.{fault_at}
-use Rattle.board_serve.specs.declared.orders.Order.{Order}
-use Rattle.board_serve.specs.declared.readings.Readings.{Readings}
 use Rattle.board_text.specs.declared.stops.Stop.{Stop}
 use Rattle.board_text.specs.declared.stops.Stop.TheVariants as stop
-use Rattle.board_serve.specs.declared.written.Written.{Written}
+use Rattle.board_serve.specs.declared.plan.Order.{Order}
+use Rattle.board_serve.specs.declared.plan.Order.TheVariants as order
+use Rattle.board_serve.specs.declared.reader_work.ReaderWork.{ReaderWork}
+use Rattle.board_serve.specs.declared.threads.AllWork.{AllWork}
+use Rattle.board_serve.specs.declared.writer_work.WriterWork.{WriterWork}
 
 -- a writer as a sequential register
 abbrev pub register_of : Publisher → Sequential
 register_of p = record { ledger = p.ledger; published = length p.published }
+
+-- the sequential register's call for an order
+abbrev pub call_of_order : Order → Call
+call_of_order (order.Submit c) = submit c
+call_of_order order.Publish = publish
 
 -- the number that a reply returns, if it is the reply to a publication
 abbrev pub cuts_of_reply : Reply → List ℕ
@@ -48,30 +55,35 @@ IsClosed e = e ≡ stop.Input (fault_at why.GateClosed 0)
 abbrev pub IsHeldUp : Stop → Type 0
 IsHeldUp e = (e ≡ stop.OutOfMemory) ⊎ IsClosed e
 
--- no answer is stored yet
-abbrev pub HasNoneWritten : Written → Type 0
-HasNoneWritten w = (w.answers.items ≡ []) × (w.cuts.items ≡ [])
-
--- room for n answers and cuts
-abbrev pub HasRoomToWrite : Written → ℕ → Type 0
-HasRoomToWrite w n = (n ≤ vec_capacity w.answers) × (n ≤ vec_capacity w.cuts)
+-- nothing is stored yet, and there is room for each of the orders
+pub record CanWrite (work : WriterWork) : Type 0 where
+  pub bound : vec_len work.orders < 2 ^ 32
+  pub no_answers : work.answers.items ≡ []
+  pub no_cuts : work.cuts.items ≡ []
+  pub answers_fit : vec_len work.orders ≤ vec_capacity work.answers
+  pub cuts_fit : vec_len work.orders ≤ vec_capacity work.cuts
 
 -- a writer carried out these orders: its answers are the sequential register's replies to them, its
 -- register and published commands are those after them, the cuts are the numbers that its
 -- publications returned, and its table is the same
-pub record IsWritten (before : Publisher) (orders : List Order) (after : Publisher) (written : Written) : Type 0 where
-  pub answers : map reply_of written.answers.items ≡ replies_of (register_of before) (map call_of_order orders)
-  pub register : register_of after ≡ state_after (register_of before) (map call_of_order orders)
-  pub cuts : written.cuts.items ≡ cuts_of (replies_of (register_of before) (map call_of_order orders))
-  pub table : after.table ≡ before.table
+pub record IsWritten (before : Publisher) (orders : List Order) (done : WriterWork) : Type 0 where
+  pub answers : map reply_of done.answers.items ≡ replies_of (register_of before) (map call_of_order orders)
+  pub register : register_of done.writer ≡ state_after (register_of before) (map call_of_order orders)
+  pub cuts : done.cuts.items ≡ cuts_of (replies_of (register_of before) (map call_of_order orders))
+  pub table : done.writer.table ≡ before.table
 
--- no sheet is stored yet
-abbrev pub HasNoneRead : Readings → Type 0
-HasNoneRead r = (r.sheets.items ≡ []) × (r.winning.items ≡ [])
+-- the orders were carried out, or the writer was stopped by a closed gate or lack of memory
+abbrev pub HasWritten : WriterWork → Result WriterWork Stop → Type 0
+HasWritten work (Ok done) = IsWritten work.writer work.orders.items done
+HasWritten work (Err e) = IsHeldUp e
 
--- room for n sheets and numbers
-abbrev pub HasRoomToRead : Readings → ℕ → Type 0
-HasRoomToRead r n = (n ≤ vec_capacity r.sheets) × (n ≤ vec_capacity r.winning)
+-- nothing is stored yet, and there is room for each of the readings
+pub record CanAsk (work : ReaderWork) : Type 0 where
+  pub bound : vec_len work.asked < 2 ^ 32
+  pub no_sheets : work.sheets.items ≡ []
+  pub no_winning : work.winning.items ≡ []
+  pub sheets_fit : vec_len work.asked ≤ vec_capacity work.sheets
+  pub winning_fit : vec_len work.asked ≤ vec_capacity work.winning
 
 -- the number of winning coalitions of a sheet at a majority
 abbrev pub omega_at : Majority → List ℕ → ℕ
@@ -91,18 +103,40 @@ IsRising low (words ∷ sheets) = (low ≤ front_of words) × IsRising (front_of
 -- a reader of one table took one whole reading for each sheet and no other step: its record grew by
 -- exactly these sheets, each the sheet after some legal list of commands, with fronts that never
 -- decrease
-pub record IsReadFrom (before after : AnalystSeen) (readings : Readings) : Type 0 where
-  pub table : after.reader.table ≡ before.reader.table
-  pub number : number_of after.reader ≡ number_of before.reader
+pub record IsReadFrom (before : AnalystSeen) (done : ReaderWork) : Type 0 where
+  pub table : done.analyst.reader.table ≡ before.reader.table
+  pub number : number_of done.analyst.reader ≡ number_of before.reader
   pub steps : Adds (is_readers (number_of before.reader))
-      (replicate (length readings.sheets.items * reading_steps) (Reader (number_of before.reader)))
-      before.reader.history after.reader.history
-  pub opening : after.reader.opening ≡ before.reader.opening
-  pub grown : after.reader.readings ≡ before.reader.readings ++ readings.sheets.items
-  pub legal : All (IsLegalSheet before.reader.opening) readings.sheets.items
-  pub rising : IsRising (last_front 0 before.reader.readings) readings.sheets.items
+      (replicate (length done.sheets.items * reading_steps) (Reader (number_of before.reader)))
+      before.reader.history done.analyst.reader.history
+  pub opening : done.analyst.reader.opening ≡ before.reader.opening
+  pub grown : done.analyst.reader.readings ≡ before.reader.readings ++ done.sheets.items
+  pub legal : All (IsLegalSheet before.reader.opening) done.sheets.items
+  pub rising : IsRising (last_front 0 before.reader.readings) done.sheets.items
 
 -- one sheet for each record, and omega of it at the record's majority
-pub record IsRead (asked : List Majority) (readings : Readings) : Type 0 where
-  pub count : length readings.sheets.items ≡ length asked
-  pub winning : readings.winning.items ≡ omegas asked readings.sheets.items
+pub record IsRead (asked : List Majority) (done : ReaderWork) : Type 0 where
+  pub count : length done.sheets.items ≡ length asked
+  pub winning : done.winning.items ≡ omegas asked done.sheets.items
+
+-- the reader took one reading for each record, with omega at the record's majority
+pub record AreRead (work done : ReaderWork) : Type 0 where
+  pub grown : IsReadFrom work.analyst done
+  pub read : IsRead work.asked.items done
+
+-- the readings were taken, or a gate was closed
+abbrev pub HasAsked : ReaderWork → Result ReaderWork Stop → Type 0
+HasAsked work (Ok done) = AreRead work done
+HasAsked work (Err e) = IsClosed e
+
+-- the work of all threads can be done
+pub record AreReady (work : AllWork) : Type 0 where
+  pub writer : CanWrite work.writer
+  pub first : CanAsk work.first
+  pub second : CanAsk work.second
+
+-- the work of all threads is done
+pub record AreDone (work done : AllWork) : Type 0 where
+  pub written : IsWritten work.writer.writer work.writer.orders.items done.writer
+  pub first : AreRead work.first done.first
+  pub second : AreRead work.second done.second

@@ -1,21 +1,12 @@
 //! Carries out a script with one writer thread and two reader threads, and audits what they read.
 #![tactic(auto)]
 
-mod audits;
 mod gates;
-mod jobs;
-mod orders;
-mod outcomes;
-mod parts;
-mod plans;
-mod readings;
-mod reporting;
-mod seats;
-mod served;
+mod plan;
+mod reader_work;
 mod serving;
 mod threads;
-mod written;
+mod writer_work;
 
 pub use gates::{FreeGate, Gate, GateClosed, Place};
-pub use served::Served;
-pub use serving::serve;
+pub use serving::{Served, serve};

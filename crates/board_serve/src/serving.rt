@@ -1,52 +1,179 @@
 //! Serves an input with one writer thread and two reader threads.
-ghost use Rattle.std.specs.Prelude.{◌≡◌, ◌≤◌, ◌+◌, true, false, IfOk, IfErr, IsErrOf};
+ghost use Rattle.std.specs.Prelude.{◌≡◌, ◌≢◌, ◌≤◌, ◌+◌, ◌∷◌, [], Ok, true, false, map};
+ghost use Rattle.std.specs.Prelude.{IfOk, IfErr, IsErrOf, IsOkUnless, OnOk};
+ghost use Rattle.recording_io.specs.Tapes.{OfInput};
+ghost use Rattle.council_core.specs.Ledgers.{start_verdict};
+ghost use Rattle.council_core.specs.Rolls.{IsLegal};
+ghost use Rattle.council_core.specs.Sequential.{AreCuts, AreLegalRecords};
 ghost use Rattle.council_core.specs.declared.refusals.Refusal.TheVariants as why;
 ghost use Rattle.board_text.specs.Inputs.{RetriesAtMost, RunRetriesAtMost, WastesAtMost};
-ghost use Rattle.board_text.specs.Output.{IsBadLimit};
-ghost use Rattle.board_text.specs.Text.{fault_at, in_range};
-ghost use Rattle.recording_io.specs.Tapes.{OfInput};
-ghost use Rattle.board_serve.specs.Outcomes.{ServedLegalRecords, IsOutcome, IsServed};
+ghost use Rattle.board_text.specs.Lines.{reply_line};
+ghost use Rattle.board_text.specs.Output.{IsBadLimit, Plays};
+ghost use Rattle.board_text.specs.Replies.{reply_of};
 ghost use Rattle.board_text.specs.Sinks.{GoesOn};
+ghost use Rattle.board_text.specs.Text.{fault_at, in_range, printed_run, with_lines};
+ghost use Rattle.board_text.specs.declared.stops.Stop.TheVariants as stop;
+ghost use Rattle.board_audits.specs.declared.audits.AuditFault.TheVariants.{OutOfMemory as LacksMemory};
+ghost use Rattle.board_serve.specs.Outcomes.{CanBeFound, IsOutcome, IsServed, ServedLegalRecords, sheets_of};
 ghost use Rattle.board_serve.specs.Plans.{IsSound, plan_of, plan_shown, two_readers};
-ghost use Rattle.board_serve.specs.Serving.{Serves, ServesTo};
+ghost use Rattle.board_serve.specs.Serving.{IsReportStop, Serves, ServesTo, audited_run, count_lines, lines_of_work};
 ghost use Rattle.board_serve.specs.Work.{IsHeldUp};
 
-use crate::audits::are_legal;
 use crate::gates::Gate;
-use crate::outcomes::{Outcome, carry_out};
-use crate::plans::{Plan, read_plan};
-use crate::reporting::report;
-use crate::served::Served;
-use board_text::{Fault, INTERRUPTIONS, Output, READS, RunStart, Stop, end_with};
-use council_core::Refusal;
+use crate::plan::{Plan, SERVED_READERS, read_plan};
+use crate::threads::{put_together, run_all, seat_all};
+use board_share::{AuditFault, audit, audit_law};
+use board_text::{
+    Answer, Fault, INTERRUPTIONS, Output, READS, RunStart, Stop, end_run, line_of_answer,
+    line_of_audit, line_of_count,
+};
+use council_core::{Command, MAX_COMMANDS, MemberCode, Refusal, Sheet, Votes};
 use recording_io::RecordingReader;
 use std::alloc::Global;
 use std::io::{Read, Write};
 use std::sync::Wait;
 use std::thread::Threads;
 
-// Carries out a plan, and checks whether the results are legal records.
+/// The result of a run with threads: the journal, the cuts and the readings, which the audit found
+/// to be legal records.
+#[derive(Debug, Drop)]
+pub struct Served {
+    /// The accepted commands, in order.
+    pub journal: Vec<Command>,
+    /// For each publication, in order, the number of commands published.
+    pub cuts: Vec<u32>,
+    /// For each reader, the sheets that it read, in order.
+    pub readings: Vec<Vec<Sheet>>,
+    /// For each reader and each of its sheets, the number of winning coalitions at the majority of
+    /// that reading.
+    pub winning: Vec<Vec<u64>>,
+}
+
+// The result of an audit fault for records whose journal is legal and whose cuts are in order: not
+// legal, or out of memory.
+fn is_mismatch(fault: AuditFault) -> Result<bool, Stop>
+    requires { CanBeFound fault }
+    ensures legal { IfOk result (λ legal. legal ≡ false) }
+    ensures mismatch { OnOk result (fault ≢ LacksMemory) }
+    ensures memory { IsOkUnless result stop.OutOfMemory }
+{
+    match fault {
+        AuditFault::Mismatch { .. } => Ok(false),
+        AuditFault::OutOfMemory => Err(Stop::OutOfMemory),
+        _ => unreachable!(),
+    }
+}
+
+// Whether the results of a run are legal records.
+fn are_legal(alloc: Global, members: &[(MemberCode, Votes)], served: &Served) -> Result<bool, Stop>
+    requires starts { start_verdict members.now MAX_COMMANDS ≡ Ok tt }
+    requires legal { IsLegal members.now served.now.journal.items }
+    requires in_order { AreCuts served.now.journal.items (0 ∷ served.now.cuts.items) }
+    ensures legal { IfOk result
+        (λ legal. legal ≡ true
+        → AreLegalRecords members.now served.now.journal.items (0 ∷ served.now.cuts.items) (sheets_of served.now)) }
+    ensures broken { IfOk result
+        (λ legal. legal ≡ false
+        → AreLegalRecords members.now served.now.journal.items (0 ∷ served.now.cuts.items) (sheets_of served.now)
+        → ⊥) }
+    ensures memory { IsOkUnless result stop.OutOfMemory }
+{
+    audit_law();
+    let journal = served.journal.as_slice();
+    let cuts = served.cuts.as_slice();
+    match audit(alloc, members, journal, cuts, served.readings.as_slice()) {
+        Ok(()) => Ok(true),
+        Err(fault) => is_mismatch(fault),
+    }
+}
+
+// Carries out a plan, each thread's records in a separate thread, and checks whether the results
+// are legal records.
 fn perform<G: Gate, R: Threads + Wait + Sync>(
     rt: &R,
     alloc: Global,
     gate: &G,
     plan: Plan,
-) -> Result<(Outcome, bool), Stop>
+) -> Result<(Vec<Answer>, Served, bool), Stop>
     requires sound { IsSound plan }
-    ensures done { IfOk result (λ r. IsOutcome (plan_shown plan) r.0) }
-    ensures records { IfOk result (λ r. r.1 ≡ true → ServedLegalRecords (plan_shown plan) r.0.served) }
-    ensures differs { IfOk result (λ r. r.1 ≡ false → ServedLegalRecords (plan_shown plan) r.0.served → ⊥) }
+    ensures done { IfOk result (λ r. IsOutcome (plan_shown plan) r.0.items r.1) }
+    ensures records { IfOk result (λ r. r.2 ≡ true → ServedLegalRecords (plan_shown plan) r.1) }
+    ensures differs { IfOk result (λ r. r.2 ≡ false → ServedLegalRecords (plan_shown plan) r.1 → ⊥) }
     ensures causes { IfErr result IsHeldUp }
 {
-    let Plan { begun, parts } = plan;
+    let Plan { begun, records } = plan;
     let RunStart {
         register,
         members,
         ..
     } = begun;
-    let outcome = carry_out(rt, alloc, gate, register, parts)?;
-    let legal = are_legal(alloc, members.as_slice(), &outcome.served)?;
-    Ok((outcome, legal))
+    let work = seat_all(alloc, register, records)?;
+    let done = run_all(rt, gate, work)?;
+    let (answers, served) = put_together(alloc, done)?;
+    let legal = are_legal(alloc, members.as_slice(), &served)?;
+    Ok((answers, served, legal))
+}
+
+// Writes the lines of these answers.
+fn write_answers<W: Write>(out: &mut Output<'_, W>, answers: &[Answer]) -> Result<(), Stop>
+    ensures wrote { Plays out.old.held out.new.held result
+        (printed_run (map (λ a. reply_line (reply_of a)) answers.now)) }
+    ensures continues { GoesOn out.old out.new }
+    ensures only { IsOkUnless result stop.WriteFault }
+{
+    for answer in answers {
+        out.write_line(line_of_answer(*answer))?;
+    }
+    Ok(())
+}
+
+// Writes the number of readings of each reader.
+fn write_counts<W: Write>(out: &mut Output<'_, W>, counts: (u64, u64)) -> Result<(), Stop>
+    ensures wrote { Plays out.old.held out.new.held result
+        (printed_run (count_lines 1 (counts.0 ∷ counts.1 ∷ []))) }
+    ensures continues { GoesOn out.old out.new }
+    ensures only { IsOkUnless result stop.WriteFault }
+{
+    out.write_line(line_of_count(1, counts.0))?;
+    out.write_line(line_of_count(2, counts.1))
+}
+
+// Writes the answers, the number of readings of each reader, and the result of the audit.
+fn report<W: Write>(
+    out: &mut Output<'_, W>,
+    answers: &[Answer],
+    counts: (u64, u64),
+    legal: bool,
+) -> Result<(), Stop>
+    ensures wrote { Plays out.old.held out.new.held result
+        (with_lines (lines_of_work (map reply_of answers.now) (counts.0 ∷ counts.1 ∷ [])) (audited_run legal)) }
+    ensures causes { IfErr result IsReportStop }
+    ensures continues { GoesOn out.old out.new }
+{
+    write_answers(out, answers)?;
+    write_counts(out, counts)?;
+    if !legal {
+        return Err(Stop::of_fault(Refusal::Mismatch, 0));
+    }
+    out.write_line(line_of_audit())
+}
+
+// Carries out a plan and writes its lines.
+fn serve_plan<G: Gate, T: Threads + Wait + Sync, W: Write>(
+    rt: &T,
+    alloc: Global,
+    gate: &G,
+    plan: Plan,
+    out: &mut Output<'_, W>,
+) -> Result<Served, Stop>
+    requires sound { IsSound plan }
+    ensures wrote { ServesTo out.old.held out.new.held result (Ok (plan_shown plan)) }
+    ensures continues { GoesOn out.old out.new }
+{
+    let counts = plan.records.counts();
+    let (answers, served, legal) = perform(rt, alloc, gate, plan)?;
+    report(out, answers.as_slice(), counts, legal)?;
+    Ok(served)
 }
 
 // Serves the input, without the line of a fault.
@@ -68,38 +195,7 @@ fn serve_to<G: Gate, T: Threads + Wait + Sync, R: Read + Drop, W: Write>(
     ensures continues { GoesOn out.old out.new }
 {
     let plan = read_plan(alloc, input, journal_limit)?;
-    let counts = plan.parts.counts();
-    let (outcome, legal) = perform(rt, alloc, gate, plan)?;
-    report(out, outcome.answers.as_slice(), counts, legal)?;
-    Ok(outcome.served)
-}
-
-// Serves the input and writes the line of a fault.
-fn serve_all<G: Gate, T: Threads + Wait + Sync, R: Read + Drop, W: Write>(
-    rt: &T,
-    alloc: Global,
-    gate: &G,
-    input: &mut RecordingReader<R>,
-    out: &mut Output<'_, W>,
-    journal_limit: u32,
-) -> Result<Served, Fault>
-    ensures wrote { OfInput input.old input.new
-        (λ bytes. Serves out.old.held out.new.held result (plan_of journal_limit bytes)) }
-    ensures limits_first { in_range (two_readers journal_limit) ≡ false
-        → IsBadLimit result × (input.new ≡ input.old) }
-    ensures asks { input.new.asks ≤ input.old.asks + READS }
-    ensures vain { WastesAtMost 1 input.old input.new }
-    ensures retried { RunRetriesAtMost INTERRUPTIONS input.old input.new result }
-    ensures continues { GoesOn out.old out.new }
-{
-    let stop = match serve_to(rt, alloc, gate, input, out, journal_limit) {
-        Ok(served) => return Ok(served),
-        Err(stop) => stop,
-    };
-    let Some(fault) = stop.to_fault() else {
-        return Err(Fault::new(Refusal::WriteFault, 0));
-    };
-    Err(end_with(out, fault))
+    serve_plan(rt, alloc, gate, plan, out)
 }
 
 /// Serves an input: reads it whole, checks all records of its script, and then carries them out by
@@ -153,7 +249,8 @@ pub fn serve<G: Gate, T: Threads + Wait + Sync, R: Read + Drop, W: Write>(
         (λ s. OfInput input.old input.new (λ bytes. IfOk (plan_of journal_limit bytes) (λ p. ServedLegalRecords p s))) }
 {
     let mut output = Output::new(out);
-    let result = serve_all(rt, alloc, gate, input, &mut output, journal_limit);
+    let carried = serve_to(rt, alloc, gate, input, &mut output, journal_limit);
+    let result = end_run(&mut output, carried);
     let _out = output.finish();
     result
 }

@@ -1,33 +1,108 @@
-//! Starts the threads of a run and waits for them.
-ghost use Rattle.std.specs.Prelude.{◌≡◌, ◌∷◌, [], Ok, Err, map, IfOk, IfErr, IsOkUnless};
-ghost use Rattle.board_serve.specs.Jobs.{AreDone, AreReady, CanAsk, CanWrite, HasAsked, HasWritten};
-ghost use Rattle.board_serve.specs.Work.{IsClosed, IsHeldUp};
+//! Starts the threads of a run, waits for them, and combines their results.
+ghost use Rattle.std.specs.Prelude.{◌≡◌, ◌<◌, ◌^◌, ◌∷◌, [], Ok, Err, length, IfOk, IfErr, IsOkUnless};
+ghost use Rattle.board_share.specs.Openings.{beginning_of, new_readers, new_publisher};
 ghost use Rattle.board_text.specs.declared.stops.Stop.TheVariants as stop;
+ghost use Rattle.board_serve.specs.Outcomes.{IsBrought};
+ghost use Rattle.board_serve.specs.Plans.{record_count, shares_of};
+ghost use Rattle.board_serve.specs.Work.{AreDone, AreReady, CanAsk, CanWrite, HasAsked, HasWritten, IsClosed, IsHeldUp};
 
 use crate::gates::Gate;
-use crate::jobs::{Jobs, ReaderJob, WriterJob};
-use crate::parts::SERVED_READERS;
-use crate::readings::ask_all;
-use crate::written::write_all;
-use board_text::Stop;
+use crate::plan::{Order, Records, SERVED_READERS};
+use crate::reader_work::ReaderWork;
+use crate::serving::Served;
+use crate::writer_work::WriterWork;
+use board_share::{Reader, start};
+use board_text::{Answer, Stop};
+use council_core::Register;
+use majority_rule::Majority;
+use std::alloc::{AllocError, Global};
 use std::snapshot::Snapshot;
 use std::sync::Wait;
 use std::thread;
 use std::thread::{Promise, PromisedHandle, Scope, Threads};
 
-// The writer's thread returns its job, done.
+// The work of all threads.
 #[derive(Drop)]
-struct WillWrite(Snapshot<WriterJob>);
+pub(crate) struct AllWork {
+    pub(crate) writer: WriterWork,
+    pub(crate) first: ReaderWork,
+    pub(crate) second: ReaderWork,
+}
 
-impl Promise<Result<WriterJob, Stop>> for WillWrite {
+// The two readers.
+fn pair(mut readers: Vec<Reader>) -> (Reader, Reader)
+    requires two { length readers.items ≡ SERVED_READERS }
+    ensures both { readers.items ≡ result.0 ∷ result.1 ∷ [] }
+{
+    let Some(second) = readers.pop() else {
+        unreachable!();
+    };
+    let Some(first) = readers.pop() else {
+        unreachable!();
+    };
+    (first, second)
+}
+
+// The records of the writer, of reader 1 and of reader 2.
+fn apart(records: Records) -> (Vec<Order>, Vec<Majority>, Vec<Majority>)
+    ensures orders { result.0 ≡ records.orders }
+    ensures asked { records.asked ≡ result.1 ∷ result.2 ∷ [] }
+{
+    let Records {
+        orders,
+        asked: [first, second],
+    } = records;
+    (orders, first, second)
+}
+
+// Starts a board over a register, and gives the writer and each reader their records.
+pub(crate) fn seat_all(alloc: Global, register: Register, records: Records) -> Result<AllWork, Stop>
+    requires bound { record_count (shares_of records) < 2 ^ 32 }
+    ensures ready { IfOk result AreReady }
+    ensures memory { IsOkUnless result stop.OutOfMemory }
+
+    // The writer and each reader are those of the board's start, and have their records.
+    ensures writer { IfOk result (λ w. w.writer.writer ≡ new_publisher w.writer.writer.table register SERVED_READERS) }
+    ensures orders { IfOk result (λ w. w.writer.orders ≡ records.orders) }
+    ensures readers { IfOk result
+        (λ w. w.first.analyst.reader ∷ w.second.analyst.reader ∷ []
+        ≡ new_readers w.writer.writer.table (beginning_of register SERVED_READERS) SERVED_READERS) }
+    ensures asked { IfOk result (λ w. w.first.asked ∷ w.second.asked ∷ [] ≡ records.asked) }
+{
+    let Ok((writer, readers)) = start(alloc, register, SERVED_READERS as u8) else {
+        return Err(Stop::OutOfMemory);
+    };
+    let (first, second) = pair(readers);
+    let (orders, of_first, of_second) = apart(records);
+    let Ok(writer) = WriterWork::new(alloc, writer, orders) else {
+        return Err(Stop::OutOfMemory);
+    };
+    let Ok(first) = ReaderWork::new(alloc, first, of_first) else {
+        return Err(Stop::OutOfMemory);
+    };
+    let Ok(second) = ReaderWork::new(alloc, second, of_second) else {
+        return Err(Stop::OutOfMemory);
+    };
+    Ok(AllWork {
+        writer,
+        first,
+        second,
+    })
+}
+
+// The writer's thread returns its work, done.
+#[derive(Drop)]
+struct WillWrite(Snapshot<WriterWork>);
+
+impl Promise<Result<WriterWork, Stop>> for WillWrite {
     ghost kept_by = { λ p r. HasWritten p.0.value r };
 }
 
-// A reader's thread returns its job, done.
+// A reader's thread returns its work, done.
 #[derive(Drop)]
-struct WillAsk(Snapshot<ReaderJob>);
+struct WillAsk(Snapshot<ReaderWork>);
 
-impl Promise<Result<ReaderJob, Stop>> for WillAsk {
+impl Promise<Result<ReaderWork, Stop>> for WillAsk {
     ghost kept_by = { λ p r. HasAsked p.0.value r };
 }
 
@@ -36,18 +111,18 @@ fn start_writer<'s, E, G: Gate, R: Wait + Sync>(
     scope: &Scope<'s, E>,
     rt: &'s R,
     gate: &'s G,
-    job: WriterJob,
-) -> Result<PromisedHandle<Result<WriterJob, Stop>, WillWrite>, Stop>
-    requires ready { CanWrite job }
-    ensures promise { IfOk result (λ h. h.promise.0.value ≡ job) }
+    work: WriterWork,
+) -> Result<PromisedHandle<Result<WriterWork, Stop>, WillWrite>, Stop>
+    requires ready { CanWrite work }
+    ensures promise { IfOk result (λ h. h.promise.0.value ≡ work) }
     ensures memory { IsOkUnless result stop.OutOfMemory }
 {
-    let promise = WillWrite(Snapshot::of(&job));
-    let work = move || -> Result<WriterJob, Stop>
-        requires ready { CanWrite job }
-        ensures written { HasWritten job result }
-    { write_all(rt, gate, job) };
-    match scope.spawn_with(promise, work) {
+    let promise = WillWrite(Snapshot::of(&work));
+    let written = move || -> Result<WriterWork, Stop>
+        requires ready { CanWrite work }
+        ensures written { HasWritten work result }
+    { work.run(rt, gate) };
+    match scope.spawn_with(promise, written) {
         Ok(handle) => Ok(handle),
         Err(_) => Err(Stop::OutOfMemory),
     }
@@ -57,52 +132,46 @@ fn start_writer<'s, E, G: Gate, R: Wait + Sync>(
 fn start_reader<'s, E, G: Gate>(
     scope: &Scope<'s, E>,
     gate: &'s G,
-    job: ReaderJob,
-) -> Result<PromisedHandle<Result<ReaderJob, Stop>, WillAsk>, Stop>
-    requires ready { CanAsk job }
-    ensures promise { IfOk result (λ h. h.promise.0.value ≡ job) }
+    work: ReaderWork,
+) -> Result<PromisedHandle<Result<ReaderWork, Stop>, WillAsk>, Stop>
+    requires ready { CanAsk work }
+    ensures promise { IfOk result (λ h. h.promise.0.value ≡ work) }
     ensures memory { IsOkUnless result stop.OutOfMemory }
 {
-    let promise = WillAsk(Snapshot::of(&job));
-    let work = move || -> Result<ReaderJob, Stop>
-        requires ready { CanAsk job }
-        ensures asked { HasAsked job result }
-    { ask_all(gate, job) };
-    match scope.spawn_with(promise, work) {
+    let promise = WillAsk(Snapshot::of(&work));
+    let asked = move || -> Result<ReaderWork, Stop>
+        requires ready { CanAsk work }
+        ensures asked { HasAsked work result }
+    { work.run(gate) };
+    match scope.spawn_with(promise, asked) {
         Ok(handle) => Ok(handle),
         Err(_) => Err(Stop::OutOfMemory),
     }
 }
 
-// The jobs of all threads if all are done, or else the first error, in this order.
+// The work of all threads if all have done theirs, or else the first error, in this order.
 fn all_done(
-    writer: Result<WriterJob, Stop>,
-    first: Result<ReaderJob, Stop>,
-    second: Result<ReaderJob, Stop>,
-) -> Result<Jobs, Stop>
+    writer: Result<WriterWork, Stop>,
+    first: Result<ReaderWork, Stop>,
+    second: Result<ReaderWork, Stop>,
+) -> Result<AllWork, Stop>
     requires writer { IfErr writer IsHeldUp }
     requires first { IfErr first IsClosed }
     requires second { IfErr second IsClosed }
     ensures writer { IfOk result (λ d. writer ≡ Ok d.writer) }
-    ensures readers { IfOk result (λ d. first ∷ second ∷ [] ≡ map Ok d.readers) }
+    ensures first { IfOk result (λ d. first ≡ Ok d.first) }
+    ensures second { IfOk result (λ d. second ≡ Ok d.second) }
     ensures causes { IfErr result IsHeldUp }
     ensures memory_first { writer ≡ Err stop.OutOfMemory → result ≡ Err stop.OutOfMemory }
 {
     let writer = writer?;
     let first = first?;
     let second = second?;
-    Ok(Jobs {
+    Ok(AllWork {
         writer,
-        readers: [first, second],
+        first,
+        second,
     })
-}
-
-// The jobs of the two readers.
-pub(crate) fn apart(readers: [ReaderJob; SERVED_READERS]) -> (ReaderJob, ReaderJob)
-    ensures both { readers ≡ result.0 ∷ result.1 ∷ [] }
-{
-    let [first, second] = readers;
-    (first, second)
 }
 
 // Starts all threads and waits for them. If one can't be started, the scope waits for those that
@@ -111,16 +180,15 @@ fn run_in<'s, E, G: Gate, R: Threads + Wait + Sync>(
     scope: &Scope<'s, E>,
     rt: &'s R,
     gate: &'s G,
-    jobs: Jobs,
-) -> Result<Jobs, Stop>
-    requires ready { AreReady jobs }
-    ensures done { IfOk result (AreDone jobs) }
+    work: AllWork,
+) -> Result<AllWork, Stop>
+    requires ready { AreReady work }
+    ensures done { IfOk result (AreDone work) }
     ensures causes { IfErr result IsHeldUp }
 {
-    let writer = start_writer(scope, rt, gate, jobs.writer);
-    let (first, second) = apart(jobs.readers);
-    let first = start_reader(scope, gate, first);
-    let second = start_reader(scope, gate, second);
+    let writer = start_writer(scope, rt, gate, work.writer);
+    let first = start_reader(scope, gate, work.first);
+    let second = start_reader(scope, gate, work.second);
     all_done(writer?.join(rt), first?.join(rt), second?.join(rt))
 }
 
@@ -129,19 +197,49 @@ fn run_in<'s, E, G: Gate, R: Threads + Wait + Sync>(
 pub(crate) fn run_all<G: Gate, R: Threads + Wait + Sync>(
     rt: &R,
     gate: &G,
-    jobs: Jobs,
-) -> Result<Jobs, Stop>
-    requires ready { AreReady jobs }
-    ensures done { IfOk result (AreDone jobs) }
+    work: AllWork,
+) -> Result<AllWork, Stop>
+    requires ready { AreReady work }
+    ensures done { IfOk result (AreDone work) }
     ensures causes { IfErr result IsHeldUp }
 {
     thread::scope(
         thread::scope_env(),
         rt,
-        |scope| -> Result<Jobs, Stop>
-            requires ready { AreReady jobs }
-            ensures done { IfOk result (AreDone jobs) }
+        |scope| -> Result<AllWork, Stop>
+            requires ready { AreReady work }
+            ensures done { IfOk result (AreDone work) }
             ensures causes { IfErr result IsHeldUp }
-        { run_in(scope, rt, gate, jobs) },
+        { run_in(scope, rt, gate, work) },
     )
+}
+
+// Combines the results of the threads: the writer's answers, journal and cuts, and the readings of
+// each reader.
+pub(crate) fn put_together(
+    alloc: Global,
+    done: AllWork,
+) -> Result<(Vec<Answer>, Served), AllocError>
+    ensures brought { IfOk result (λ r. IsBrought done r.0.items r.1) }
+{
+    let AllWork {
+        writer: work,
+        first,
+        second,
+    } = done;
+    let WriterWork {
+        writer,
+        answers,
+        cuts,
+        ..
+    } = work;
+    let mut journal = Vec::new(alloc);
+    journal.extend_from_slice(writer.journal())?;
+    let served = Served {
+        journal,
+        cuts,
+        readings: Vec::from_array(alloc, [first.sheets, second.sheets])?,
+        winning: Vec::from_array(alloc, [first.winning, second.winning])?,
+    };
+    Ok((answers, served))
 }

@@ -1,23 +1,19 @@
 -- One access of a seat to the words, and the action that it does.
 use Rattle.std.proofs.Common.{◌≡◌, ℕ}
-use mathlib.Core.Option as maybe
-use Rattle.atomic_table.specs.Table.{Step, step}
 use Rattle.two_copy_steps.specs.Actions.{Action}
 
--- the table's step, its word, what that word becomes, and what the step returns to the seat, both
--- by the number found there
+-- the word, what it becomes, and what the access returns to the seat, both by the number found there
 pub record SeatAccess : Type 0 where
-  pub staged : Step Unit
   pub word : ℕ
   pub becomes : ℕ → ℕ
   pub reported : ℕ → ℕ
 
 -- a load returns the number that it found, and a store the number that it stored
-abbrev pub load_of : ℕ → ℕ → SeatAccess
-load_of slots i = record { staged = step slots i 0 0 maybe.none; word = i; becomes = λ n. n; reported = λ n. n }
+abbrev pub load_of : ℕ → SeatAccess
+load_of i = record { word = i; becomes = λ n. n; reported = λ n. n }
 
-abbrev pub store_of : ℕ → ℕ → ℕ → SeatAccess
-store_of slots i x = record { staged = step slots i x 0 maybe.none; word = i; becomes = λ _. x; reported = λ _. x }
+abbrev pub store_of : ℕ → ℕ → SeatAccess
+store_of i x = record { word = i; becomes = λ _. x; reported = λ _. x }
 
 -- an access does what an action does: its word becomes the same, and the number returned leads to
 -- the same view as the number found

@@ -1,6 +1,7 @@
 -- The machine after a longer history.
 use Rattle.std.proofs.Common.{◌≡◌, ℕ, zero, suc, ◌<◌, ◌≤◌, Bool, true, false, cond, ◌&&◌, List, [], ◌∷◌, ◌++◌, map, length, Option, None, Some, slice_get, Result, Ok, Err, is_ok, IsTrue, refl, sym, ap, ◌∙◌, subst, arith, length-set, length-append, append_assoc, append-nil, ne_eqb}
 use Rattle.std.specs.Prelude.{⊤}
+use Rattle.std.specs.List.{last_or}
 use Rattle.std.proofs.lemmas.Bool.{lt-ltb}
 use Rattle.std.proofs.lemmas.Option.{none-some, same_Some}
 use Rattle.std.proofs.lemmas.List.{length-replicate}
@@ -12,7 +13,6 @@ use Rattle.council_core.specs.Rolls as rolls
 use Rattle.council_core.specs.Ledgers.{Ledger, roll_of, room_of, verdict, verdict_of, ledger_with}
 use Rattle.two_copy_steps.specs.declared.events.Event.{Event}
 use Rattle.two_copy_steps.specs.declared.events.Event.TheVariants.{Submit, Publish, Writer, Reader}
-use Rattle.two_copy_steps.specs.declared.events.Note.{Note}
 use Rattle.two_copy_steps.specs.declared.events.Note.TheVariants.{Skipped}
 use Rattle.two_copy_steps.specs.declared.views.ReaderView.{ReaderView}
 use Rattle.two_copy_steps.specs.declared.views.Stage.{Stage}
@@ -26,7 +26,7 @@ use Rattle.two_copy_steps.proofs.Journals.{IsAccepted}
 use Rattle.two_copy_steps.proofs.TransitionFacts.{reader_is}
 use Rattle.two_copy_steps.proofs.TransitionSteps.{view_at}
 use Rattle.board_share.specs.declared.views.History.{History}
-use Rattle.board_share.specs.Histories.{machine_of, known_after, last_note, last_reported, history_with}
+use Rattle.board_share.specs.Histories.{machine_of, known_after, last_reported, history_with}
 
 -- the cuts and records after one list of events and then another
 pub auxiliary_append : (events more : List Event) (m : MachineState) (p : Auxiliary) → auxiliary_steps m p (events ++ more) ≡ auxiliary_steps (state_after_events m events) (auxiliary_steps m p events) more
@@ -75,18 +75,17 @@ pub known_longer : (h : History) (events : List Event) → known_after (history_
 known_longer h events =
     (λ i. state_of (machine_longer h events i) (auxiliary_append h.events events (machine_at_start h.begun.register h.begun.readers) (auxiliary_start h.begun.register h.begun.readers) i))
 
--- the last of some notes
-last_pushed : (reported : List Note) (note : Note) → last_note (reported ++ note ∷ []) ≡ Some note
-last_pushed [] note = refl
-last_pushed (x ∷ []) note = refl
-last_pushed (x ∷ y ∷ reported) note = last_pushed (y ∷ reported) note
+-- the last item of a list with one more
+pub last_pushed : {A : Type 0} (o : Option A) (items : List A) (last : A) → last_or o (items ++ last ∷ []) ≡ Some last
+last_pushed o [] last = refl
+last_pushed o (x ∷ items) last = last_pushed (Some x) items last
 
 pub reported_last : (h : History) (events : List Event) (event : Event) → last_reported (history_with h (events ++ event ∷ [])) ≡ Some (transition (state_after_events (machine_of h) events) event).1
 reported_last h events event =
     let m = machine_at_start h.begun.register h.begun.readers in
-    ap (λ (l : List Event). last_note (notes m l)) (sym (append_assoc h.events events (event ∷ [])))
-    ∙ (ap last_note (notes_append (h.events ++ events) (event ∷ []) m)
-    ∙ (last_pushed (notes m (h.events ++ events)) (transition (state_after_events m (h.events ++ events)) event).1
+    ap (λ (l : List Event). last_or None (notes m l)) (sym (append_assoc h.events events (event ∷ [])))
+    ∙ (ap (last_or None) (notes_append (h.events ++ events) (event ∷ []) m)
+    ∙ (last_pushed None (notes m (h.events ++ events)) (transition (state_after_events m (h.events ++ events)) event).1
     ∙ ap (λ (n : MachineState). Some (transition n event).1) (machine_longer h events)))
 
 pub longer_none : (h : History) → history_with h [] ≡ h

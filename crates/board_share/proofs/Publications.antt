@@ -1,33 +1,49 @@
 -- A publication, step by step.
-use Rattle.std.proofs.Common.{◌≡◌, ℕ, zero, suc, eqb, ◌+◌, ◌<◌, Bool, true, false, cond, List, [], ◌∷◌, ◌++◌, length, take, set, replicate, Option, None, Some, slice_get, refl, sym, ap, ◌∙◌, subst, arith, append-nil, append_assoc}
+use Rattle.std.proofs.Common.{◌≡◌, ℕ, zero, suc, eqb, ◌+◌, ◌<◌, Bool, true, false, cond, List, [], ◌∷◌, ◌++◌, length, take, set, replicate, Option, None, Some, slice_get, refl, sym, ap, ◌∙◌, subst, arith, append-nil, append_assoc, ne_eqb}
 use Rattle.std.proofs.lemmas.Option.{none-some}
 use Rattle.std.proofs.lemmas.List.{replicate-append-replicate}
+use Rattle.atomic_table.specs.Table.{Me}
+use Rattle.atomic_table.specs.Seated.{TableId}
+use Rattle.council_core.specs.Rolls.{Opening, sheet}
+use Rattle.council_core.specs.Ledgers.{Ledger}
 use Rattle.council_core.specs.declared.commands.Command.{Command}
 use Rattle.two_copy_steps.specs.declared.events.Event.{Event}
 use Rattle.two_copy_steps.specs.declared.events.Event.TheVariants.{Writer}
 use Rattle.two_copy_steps.specs.declared.events.Note.{Note}
-use Rattle.two_copy_steps.specs.declared.events.Note.TheVariants.{Busy, Moved}
+use Rattle.two_copy_steps.specs.declared.events.Note.TheVariants.{Busy, Moved, Published}
 use Rattle.two_copy_steps.specs.declared.views.WriterView.{WriterView}
+use Rattle.two_copy_steps.specs.declared.views.Writing.{Writing}
 use Rattle.two_copy_steps.specs.declared.views.Phase.{Phase}
-use Rattle.two_copy_steps.specs.declared.views.Phase.TheVariants.{Idle, Seeing, Filling}
-use Rattle.two_copy_steps.specs.Actions.{all_true, filled_writing, first_false, writing_with_quiescent}
+use Rattle.two_copy_steps.specs.declared.views.Phase.TheVariants.{Idle, Seeing, Filling, Swapping}
+use Rattle.two_copy_steps.specs.Actions.{Action, all_true, first_false, writer_action, writing_with_quiescent}
 use Rattle.two_copy_steps.specs.Publications.{StaySeen}
-use Rattle.board_share.specs.declared.views.History.{History}
-use Rattle.board_share.specs.Histories.{Adds, is_writers, last_reported}
-use Rattle.board_share.specs.Steps.{begin_events, step_note}
-use Rattle.board_share.specs.Writers.{WriterSeen, known_at, WroteSteps, Wrote, Underway, Filled, IsFilling, IsIdle, IsSeeing, unseen_count}
-use Rattle.board_share.proofs.Prefixes.{adds_then}
-use Rattle.board_share.proofs.WriterSeats.{action_in}
+use Rattle.two_copy_steps.specs.Transitions.{is_idle}
+use Rattle.two_copy_steps.specs.declared.table.TheConstants.{COPY_WORDS}
+use Rattle.board_share.specs.declared.views.View.{View}
+use Rattle.board_share.specs.Histories.{Adds, KnowsAfter, is_writers}
+use Rattle.board_share.specs.Steps.{begin_events, step_note, with_writer, writer_begun_with}
+use Rattle.board_share.specs.Writers.{IsWriter, MayBegin, MayPublish, MayWrite, Publishing, SeatStepped, WriterTook, due_at, filling_phase, held_by, next_action, published_view, publishing_view, seeing_phase, unseen_count, writer_or}
+use Rattle.board_share.proofs.Prefixes.{adds_none, adds_then}
 
 -- the quiescent readers, one by one
-pub first_at : (bs : List Bool) (r : ℕ) → slice_get bs r ≡ Some false → all_true (take r bs) ≡ true → (first_false bs ≡ r) × (all_true bs ≡ false)
+pub first_at : (bs : List Bool) (r : ℕ) → slice_get bs r ≡ Some false → all_true (take r bs) ≡ true
+    → (first_false bs ≡ r) × (all_true bs ≡ false)
 first_at [] r e h = absurd (none-some false e)
 first_at (true ∷ bs) zero e h = absurd cc
 first_at (false ∷ bs) zero e h = (refl, refl)
 first_at (true ∷ bs) (suc r) e h = let f = first_at bs r e h in (ap suc f.0, f.1)
 first_at (false ∷ bs) (suc r) e h = absurd cc
 
-pub one_set_out : (bs : List Bool) (r : ℕ) → r < length bs → all_true (take r bs) ≡ true → all_true (take (suc r) (set bs r true)) ≡ true
+pub one_more_out : (bs : List Bool) (r : ℕ) → slice_get bs r ≡ Some true → all_true (take r bs) ≡ true
+    → all_true (take (suc r) bs) ≡ true
+one_more_out [] r e h = refl
+one_more_out (true ∷ bs) zero e h = refl
+one_more_out (false ∷ bs) zero e h = absurd cc
+one_more_out (true ∷ bs) (suc r) e h = one_more_out bs r e h
+one_more_out (false ∷ bs) (suc r) e h = absurd cc
+
+pub one_set_out : (bs : List Bool) (r : ℕ) → r < length bs → all_true (take r bs) ≡ true
+    → all_true (take (suc r) (set bs r true)) ≡ true
 one_set_out [] r l h = absurd (omega arith)
 one_set_out (b ∷ bs) zero l h = refl
 one_set_out (true ∷ bs) (suc r) l h = one_set_out bs r (omega arith) h
@@ -46,129 +62,213 @@ all_there (true ∷ bs) zero e h = refl
 all_there (true ∷ bs) (suc q) e h = all_there bs q e (omega arith)
 all_there (false ∷ bs) q e h = absurd cc
 
--- what the writer knows after its step from a phase
-pub knows_after : (d d' : WriterSeen) (found : ℕ) (p : Phase) → Wrote d d' found → (known_at d).state.phase ≡ p → known_at d' ≡ (action_in d.ledger.opening (known_at d) p).after found
-knows_after d d' found p w e = w.knows ∙ ap (λ (q : Phase). (action_in d.ledger.opening (known_at d) q).after found) e
-
-pub way_on : (a b c : WriterSeen) → Underway a b → Underway b c → Underway a c
-way_on a b c x y = record { table = y.table ∙ x.table; ledger = y.ledger ∙ x.ledger; side = y.side ∙ x.side; published = y.published ∙ x.published; staged = y.staged ∙ x.staged; cuts = y.cuts ∙ x.cuts }
-
--- a step that leaves side, lists and cuts
-way : (d d' : WriterSeen) (found : ℕ) (v : WriterView) → Wrote d d' found → known_at d' ≡ v → v.state.side ≡ (known_at d).state.side → v.state.published ≡ (known_at d).state.published → v.state.staged ≡ (known_at d).state.staged
-    → v.cuts ≡ (known_at d).cuts → Underway d d'
-way d d' found v w e a b c k =
-    record {
-      table = w.table;
-      ledger = w.ledger;
-      side = ap (λ (x : WriterView). x.state.side) e ∙ a;
-      published = ap (λ (x : WriterView). x.state.published) e ∙ b;
-      staged = ap (λ (x : WriterView). x.state.staged) e ∙ c;
-      cuts = ap (λ (x : WriterView). x.cuts) e ∙ k;
-    }
-
--- a pin was loaded
-abbrev looked : WriterView → Bool → WriterView
-looked v b = record { state = cond b (writing_with_quiescent v.state (set v.state.seen_out (first_false v.state.seen_out) true)) (record v.state { phase = Idle }); cuts = v.cuts }
-
-module _ (d d' : WriterSeen) (found : ℕ) (w : Wrote d d' found) (e : (known_at d).state.phase ≡ Seeing) (out : Bool) (is : out ≡ eqb found 0) where
-  after_look : known_at d' ≡ looked (known_at d) out
-  after_look = knows_after d d' found Seeing w e ∙ ap (looked (known_at d)) (sym is)
-
-  look_at : (b : Bool) → out ≡ b → known_at d' ≡ looked (known_at d) b
-  look_at b h = after_look ∙ ap (looked (known_at d)) h
-
-  -- it was at 0
-  pub out_way : out ≡ true → Underway d d'
-  out_way h = way d d' found (looked (known_at d) true) w (look_at true h) refl refl refl refl
-
-  pub out_is : out ≡ true → (known_at d').state.seen_out ≡ set (known_at d).state.seen_out (first_false (known_at d).state.seen_out) true
-  out_is h = ap (λ (x : WriterView). x.state.seen_out) (look_at true h)
-
-  pub out_seeing : out ≡ true → IsSeeing d → IsSeeing d'
-  out_seeing h s =
-      record {
-        staged = (out_way h).staged ∙ (s.staged ∙ ap (λ l. l.journal) (sym w.ledger));
-        phase = ap (λ (x : WriterView). x.state.phase) (look_at true h) ∙ ap (λ (o : List Bool). cond (all_true o) (Filling 0) Seeing) (sym (out_is h));
-      }
-
-  -- it was at 1
-  pub in_way : out ≡ false → Underway d d'
-  in_way h = way d d' found (looked (known_at d) false) w (look_at false h) refl refl refl refl
-
-  pub in_is : out ≡ false → (known_at d').state.seen_out ≡ (known_at d).state.seen_out
-  in_is h = ap (λ (x : WriterView). x.state.seen_out) (look_at false h)
-
-  pub in_idle : out ≡ false → IsIdle d'
-  in_idle h = record { due = w.due; phase = ap (λ (x : WriterView). x.state.phase) (look_at false h) }
-
--- if some reader is not quiescent, a pin is loaded next
-pub seeing_next : (d : WriterSeen) → IsSeeing d → all_true (known_at d).state.seen_out ≡ false → (known_at d).state.phase ≡ Seeing
-seeing_next d s e = s.phase ∙ ap (λ (b : Bool). cond b (Filling 0) Seeing) e
-
--- the steps from one moment to a later one
-pub wrote_on : (n : ℕ) (a b : WriterSeen) → a.due ≡ None → b.due ≡ None → Adds is_writers (replicate n Writer) a.history b.history → WroteSteps n a b
-wrote_on n a b e f adds =
-    record {
-      own = replicate n Writer;
-      adds = adds;
-      whole = ap (λ (x : Option (List Command)). replicate n Writer ++ begin_events x b.held) f ∙ (append-nil (replicate n Writer) ∙ sym (ap (λ (x : Option (List Command)). begin_events x a.held ++ replicate n Writer) e));
-    }
-
-pub wrote_from : (n : ℕ) (a a' b : WriterSeen) → a ≡ a' → a.due ≡ None → b.due ≡ None → Adds is_writers (replicate n Writer) a.history b.history → WroteSteps n a' b
-wrote_from n a a' b is e f adds = subst (λ (d : WriterSeen). WroteSteps n d b) is (wrote_on n a b e f adds)
-
-pub wrote_one : (d d' : WriterSeen) (found : ℕ) → Wrote d d' found → WroteSteps 1 d d'
-wrote_one d d' found w =
-    let own : List Event = begin_events d.due d.held ++ Writer ∷ [] in
-    record { own = own; adds = w.adds; whole = ap (λ (x : Option (List Command)). own ++ begin_events x d'.held) w.due ∙ append-nil own }
-
-pub wrote_then : (m n : ℕ) (a b c : WriterSeen) → WroteSteps m a b → WroteSteps n b c → WroteSteps (m + n) a c
-wrote_then m n a b c x y =
-    record {
-      own = x.own ++ y.own;
-      adds = adds_then is_writers a.history b.history c.history x.own y.own x.adds y.adds;
-      whole = append_assoc x.own y.own (begin_events c.due c.held)
-          ∙ (ap (λ (l : List Event). x.own ++ l) y.whole
-          ∙ (sym (append_assoc x.own (begin_events b.due b.held) (replicate n Writer))
-          ∙ (ap (λ (l : List Event). l ++ replicate n Writer) x.whole
-          ∙ (append_assoc (begin_events a.due a.held) (replicate m Writer) (replicate n Writer) ∙ ap (λ (l : List Event). begin_events a.due a.held ++ l) (replicate-append-replicate m n Writer)))));
-    }
-
--- the first word was stored
-pub filled_first : (d d' : WriterSeen) (found : ℕ) → Wrote d d' found → IsFilling d 0 → Filled 0 1 d d'
-filled_first d d' found w f =
-    let e = knows_after d d' found (Filling 0) w f.phase in
-    let on = way d d' found (record { state = filled_writing (known_at d).state 0; cuts = (known_at d).cuts }) w e refl refl refl refl in
-    record {
-      way = on;
-      seen = ap (λ (x : WriterView). x.state.seen_out) e;
-      due = w.due;
-      stored = record { staged = on.staged ∙ (f.staged ∙ ap (λ l. l.journal) (sym w.ledger)); phase = ap (λ (x : WriterView). x.state.phase) e };
-      steps = wrote_one d d' found w;
-    }
-
--- the steps of a publication that began at rest
-pub from_rest : (n : ℕ) (rest begun after : WriterSeen) (events : List Event) → begun.history ≡ rest.history → begin_events begun.due begun.held ≡ events → after.due ≡ None → WroteSteps n begun after
-    → Adds is_writers (events ++ replicate n Writer) rest.history after.history
-from_rest n rest begun after events same is none wrote =
-    let own : wrote.own ≡ events ++ replicate n Writer =
-    sym (append-nil wrote.own) ∙ (ap (λ (x : Option (List Command)). wrote.own ++ begin_events x after.held) (sym none) ∙ (wrote.whole ∙ ap (λ (l : List Event). l ++ replicate n Writer) is)) in
-    subst (λ (h : History). Adds is_writers (events ++ replicate n Writer) h after.history) same (subst (λ (l : List Event). Adds is_writers l begun.history after.history) own wrote.adds)
-
 -- one more reader is quiescent
-pub unseen_set : (bs : List Bool) (r : ℕ) → slice_get bs r ≡ Some false → unseen_count (set bs r true) + 1 ≡ unseen_count bs
+pub unseen_set : (bs : List Bool) (r : ℕ) → slice_get bs r ≡ Some false
+    → unseen_count (set bs r true) + 1 ≡ unseen_count bs
 unseen_set [] r e = absurd (none-some false e)
 unseen_set (true ∷ bs) zero e = absurd cc
-unseen_set (false ∷ bs) zero e = let out : unseen_count (true ∷ bs) ≡ unseen_count bs = refl in let not_out : unseen_count (false ∷ bs) ≡ suc (unseen_count bs) = refl in omega arith
+unseen_set (false ∷ bs) zero e = let out : unseen_count (true ∷ bs) ≡ unseen_count bs = refl in
+    let not_out : unseen_count (false ∷ bs) ≡ suc (unseen_count bs) = refl in omega arith
 unseen_set (true ∷ bs) (suc r) e = unseen_set bs r e
-unseen_set (false ∷ bs) (suc r) e = let h = unseen_set bs r e in let more : unseen_count (false ∷ set bs r true) ≡ suc (unseen_count (set bs r true)) = refl in let not_out : unseen_count (false ∷ bs) ≡ suc (unseen_count bs) = refl in omega arith
+unseen_set (false ∷ bs) (suc r) e = let h = unseen_set bs r e in
+    let more : unseen_count (false ∷ set bs r true) ≡ suc (unseen_count (set bs r true)) = refl in
+    let not_out : unseen_count (false ∷ bs) ≡ suc (unseen_count bs) = refl in omega arith
 
 pub none_unseen : (bs : List Bool) → all_true bs ≡ true → unseen_count bs ≡ 0
 none_unseen [] e = refl
 none_unseen (true ∷ bs) e = none_unseen bs e
 none_unseen (false ∷ bs) e = absurd cc
 
--- the blocking reader is reported
-pub reported_busy : (d d' : WriterSeen) (found : ℕ) (out : Bool) → Wrote d d' found → (known_at d).state.phase ≡ Seeing → out ≡ eqb found 0 → out ≡ false → last_reported d'.history ≡ Some (Busy (suc (first_false (known_at d).state.seen_out)))
-reported_busy d d' found out w e is was_in =
-    w.reported ∙ (ap (λ (p : Phase). Some (step_note (known_at d).state p found)) e ∙ ap (λ (b : Bool). Some (let n : Note = cond b Moved (Busy (suc (first_false (known_at d).state.seen_out))) in n)) (sym is ∙ was_in))
+seeing_busy : (out : List Bool) → is_idle (seeing_phase out) ≡ false
+seeing_busy out = elim (all_true out) as (λ b. is_idle (cond b (Filling 0) Seeing) ≡ false)
+    [ true ↦ refl | false ↦ refl ]
+
+filling_busy : (k : ℕ) → is_idle (filling_phase k) ≡ false
+filling_busy k = elim (eqb k COPY_WORDS) as (λ b. is_idle (cond b Swapping (Filling k)) ≡ false)
+    [ true ↦ refl | false ↦ refl ]
+
+-- a publication begins with the next step of the writer's seat
+pub begins : (table seat : TableId) (me : Me Unit View) (l : Ledger) (side : ℕ) (out : List Bool)
+    → IsWriter table seat me l side out → MayPublish me.0.history l.opening (held_by me.0) l.journal
+    → Publishing l me me 0 out (seeing_phase out)
+begins table seat me l side out h may =
+    let v = held_by me.0 in
+    let due : due_at me l.journal ≡ Some l.journal =
+    ap (λ (p : Phase). cond (is_idle p) (Some l.journal) None) h.idle in
+    record {
+      writes = h.writes;
+      bare = h.bare;
+      view = ap (λ (d : Option (List Command)). writer_begun_with d v) due
+          ∙ ap (λ (o : List Bool). publishing_view v l.journal o (seeing_phase o)) h.out_is;
+      may_begin = subst (MayBegin me.0.history l.opening v) (sym due) may;
+      own = [];
+      adds = adds_none is_writers me.0.history;
+      whole = ap (λ (d : Option (List Command)). begin_events d v) due
+          ∙ sym (append-nil (begin_events (Some l.journal) v));
+    }
+
+-- a publication goes on after its steps
+goes_on : (l : Ledger) (start me : Me Unit View) (steps : ℕ) (out : List Bool) (phase : Phase) (note : Note)
+    → is_idle phase ≡ false → WriterTook l start me steps (publishing_view (held_by start.0) l.journal out phase) note
+    → Publishing l start me steps out phase
+goes_on l start me steps out phase note busy t =
+    let own : List Event = begin_events (Some l.journal) (held_by start.0) ++ replicate steps Writer in
+    let held : held_by me.0 ≡ publishing_view (held_by start.0) l.journal out phase =
+    ap (λ (w : Option (Opening × WriterView)). (writer_or w).1) t.writes in
+    let none : due_at me l.journal ≡ None =
+    ap (λ (v : WriterView). cond (is_idle v.state.phase) (Some l.journal) None) held
+    ∙ ap (λ (b : Bool). cond b (Some l.journal) None) busy in
+    record {
+      writes = t.writes ∙ ap (λ (v : WriterView). Some (l.opening, v)) (sym held);
+      bare = t.bare;
+      view = ap (λ (d : Option (List Command)). writer_begun_with d (held_by me.0)) none ∙ held;
+      may_begin = subst (MayBegin me.0.history l.opening (held_by me.0)) (sym none) tt;
+      own = own;
+      adds = t.adds;
+      whole = ap (λ (d : Option (List Command)). own ++ begin_events d (held_by me.0)) none ∙ append-nil own;
+    }
+
+-- the phase at which a pin is loaded, and a word stored
+pub seeing_at : (l : Ledger) (start me : Me Unit View) (steps : ℕ) (out : List Bool) (r : ℕ)
+    → Publishing l start me steps out (seeing_phase out) → slice_get out r ≡ Some false → all_true (take r out) ≡ true
+    → Publishing l start me steps out Seeing
+seeing_at l start me steps out r p e h =
+    subst (λ (b : Bool). Publishing l start me steps out (cond b (Filling 0) Seeing)) (first_at out r e h).1 p
+
+pub filling_at : (l : Ledger) (start me : Me Unit View) (steps : ℕ) (out : List Bool) (k : ℕ) → k < COPY_WORDS
+    → Publishing l start me steps out (filling_phase k) → Publishing l start me steps out (Filling k)
+filling_at l start me steps out k short p =
+    subst (λ (b : Bool). Publishing l start me steps out (cond b Swapping (Filling k)))
+    (ne_eqb k COPY_WORDS (λ e. absurd (omega arith))) p
+
+-- no publication begins with the store of side
+pub not_due : (l : Ledger) (start me : Me Unit View) (steps : ℕ) (out : List Bool)
+    → Publishing l start me steps out Swapping → None ≡ due_at me l.journal
+not_due l start me steps out p = by_idle (is_idle (held_by me.0).state.phase) p.view
+  where
+    not_swapping : (b : Bool) → cond b (Filling 0) Seeing ≡ Swapping → ⊥
+    not_swapping true e = cc
+    not_swapping false e = cc
+
+    by_idle : (b : Bool) → writer_begun_with (cond b (Some l.journal) None) (held_by me.0) ≡ publishing_view
+        (held_by start.0) l.journal out Swapping → None ≡ cond b (Some l.journal) None
+    by_idle true e = absurd (not_swapping (all_true (held_by me.0).state.seen_out)
+        (ap (λ (v : WriterView). v.state.phase) e))
+    by_idle false e = refl
+
+-- the next step of a publication
+module _ (l : Ledger) (start me : Me Unit View) (steps : ℕ) (out : List Bool) (phase : Phase)
+    (p : Publishing l start me steps out phase) (list : Option (List Command)) (due : list ≡ due_at me l.journal) where
+  abbrev view : WriterView
+  view = publishing_view (held_by start.0) l.journal out phase
+
+  abbrev action : Action WriterView
+  action = writer_action (sheet l.opening) view
+
+  who : writer_or me.0.writer ≡ (l.opening, held_by me.0)
+  who = ap writer_or p.writes
+
+  begun : writer_begun_with list (held_by me.0) ≡ view
+  begun = ap (λ (d : Option (List Command)). writer_begun_with d (held_by me.0)) due ∙ p.view
+
+  action_is : next_action list me ≡ action
+  action_is = ap (λ (o : Opening). writer_action (sheet o) (writer_begun_with list (held_by me.0)))
+      (ap (λ (x : Opening × WriterView). x.0) who) ∙ ap (writer_action (sheet l.opening)) begun
+
+  pub may : (table seat : TableId) (i : ℕ) → seat ≡ table → i < table.words → i ≡ action.word
+      → MayWrite table seat me list i
+  may table seat i same wide at = record {
+    same = same;
+    within = wide;
+    writes = p.writes ∙ ap (λ (x : Opening × WriterView). Some x) (sym who);
+    bare = p.bare;
+    may_begin = subst (λ (x : Opening × WriterView). MayBegin me.0.history x.0 x.1 list) (sym who)
+        (subst (MayBegin me.0.history l.opening (held_by me.0)) (sym due) p.may_begin);
+    word = at ∙ ap (λ (d : Action WriterView). d.word) (sym action_is);
+  }
+
+  pub becomes : (f : ℕ → ℕ) → ((n : ℕ) → f n ≡ action.becomes n) → (n : ℕ) → f n ≡ (next_action list me).becomes n
+  becomes f t n = t n ∙ ap (λ (d : Action WriterView). d.becomes n) (sym action_is)
+
+  pub alike : (x : ℕ) → ((n : ℕ) → action.after x ≡ action.after n) → (n : ℕ)
+      → (next_action list me).after x ≡ (next_action list me).after n
+  alike x t n = subst (λ (d : Action WriterView). d.after x ≡ d.after n) (sym action_is) (t n)
+
+  -- once it is taken
+  module _ (seat seat' : TableId) (me' : Me Unit View) (found : ℕ)
+      (step : SeatStepped list found seat seat' me me') where
+    pub took : WriterTook l start me' (steps + 1) (action.after found) (step_note view.state phase found)
+    took =
+        let v = held_by me.0 in
+        let begin : List Event = begin_events (Some l.journal) (held_by start.0) in
+        let is : me' ≡ (with_writer me.0 l.opening (action.after found) me'.0.history, []) = step.next
+        ∙ (λ i. (with_writer me.0 (who i).0 ((action_is i).after found) me'.0.history, p.bare i)) in
+        let events : p.own ++ (begin_events list v ++ Writer ∷ []) ≡ begin ++ replicate (steps + 1) Writer =
+        sym (append_assoc p.own (begin_events list v) (Writer ∷ []))
+        ∙ (ap (λ (e : List Event). e ++ Writer ∷ [])
+        (ap (λ (d : Option (List Command)). p.own ++ begin_events d v) due ∙ p.whole)
+        ∙ (append_assoc begin (replicate steps Writer) (Writer ∷ [])
+        ∙ ap (λ (e : List Event). begin ++ e) (replicate-append-replicate steps 1 Writer))) in
+        record {
+          writes = ap (λ (m : Me Unit View). m.0.writer) is;
+          bare = ap (λ (m : Me Unit View). m.1) is;
+          adds = subst (λ (e : List Event). Adds is_writers e start.0.history me'.0.history) events
+              (adds_then is_writers start.0.history me.0.history me'.0.history _ _ p.adds step.acted.adds);
+          knows = subst (KnowsAfter me'.0.history) (ap (λ (m : Me Unit View). held_by m.0) is) step.acted.knows;
+          reported = step.acted.reported ∙ ap (λ (x : WriterView). Some (step_note x.state x.state.phase found)) begun;
+        }
+
+-- a pin was loaded: it was 0, or 1
+module _ (l : Ledger) (start me : Me Unit View) (steps : ℕ) (out : List Bool)
+    (p : Publishing l start me steps out Seeing) (list : Option (List Command)) (due : list ≡ due_at me l.journal)
+    (seat seat' : TableId) (me' : Me Unit View) (found : ℕ) (step : SeatStepped list found seat seat' me me') where
+  abbrev state : Writing
+  state = (publishing_view (held_by start.0) l.journal out Seeing).state
+
+  looked : (b : Bool) → eqb found 0 ≡ b
+      → WriterTook l start me' (steps + 1)
+      (record {
+        state = cond b (writing_with_quiescent state (set out (first_false out) true))
+            (record state { phase = Idle });
+        cuts = (held_by start.0).cuts;
+      })
+      (cond b Moved (Busy (suc (first_false out))))
+  looked b e =
+      subst
+      (λ (b : Bool). WriterTook l start me' (steps + 1)
+      (record {
+        state = cond b (writing_with_quiescent state (set out (first_false out) true))
+            (record state { phase = Idle });
+        cuts = (held_by start.0).cuts;
+      })
+      (cond b Moved (Busy (suc (first_false out)))))
+      e (took l start me steps out Seeing p list due seat seat' me' found step)
+
+  pub looked_out : (out' : List Bool) → eqb found 0 ≡ true → set out (first_false out) true ≡ out'
+      → Publishing l start me' (steps + 1) out' (seeing_phase out')
+  looked_out out' e is = subst (λ (o : List Bool). Publishing l start me' (steps + 1) o (seeing_phase o)) is
+      (goes_on l start me' (steps + 1) (set out (first_false out) true)
+      (seeing_phase (set out (first_false out) true)) Moved (seeing_busy (set out (first_false out) true))
+      (looked true e))
+
+  pub looked_in : eqb found 0 ≡ false
+      → WriterTook l start me' (steps + 1) (publishing_view (held_by start.0) l.journal out Idle)
+      (Busy (suc (first_false out)))
+  looked_in e = looked false e
+
+-- a word was stored, and side
+pub stored : (l : Ledger) (start me : Me Unit View) (steps : ℕ) (out : List Bool) (k : ℕ)
+    (p : Publishing l start me steps out (Filling k)) (list : Option (List Command)) (due : list ≡ due_at me l.journal)
+    (seat seat' : TableId) (me' : Me Unit View) (found : ℕ) (step : SeatStepped list found seat seat' me me')
+    → Publishing l start me' (steps + 1) out (filling_phase (k + 1))
+stored l start me steps out k p list due seat seat' me' found step =
+    goes_on l start me' (steps + 1) out (filling_phase (k + 1)) _ (filling_busy (k + 1))
+    (took l start me steps out (Filling k) p list due seat seat' me' found step)
+
+pub swapped : (l : Ledger) (start me : Me Unit View) (steps : ℕ) (out : List Bool)
+    (p : Publishing l start me steps out Swapping) (list : Option (List Command)) (due : list ≡ due_at me l.journal)
+    (seat seat' : TableId) (me' : Me Unit View) (found : ℕ) (step : SeatStepped list found seat seat' me me')
+    → WriterTook l start me' (steps + 1) (published_view (held_by start.0) l.journal (length out))
+    (Published (length l.journal))
+swapped l start me steps out p list due seat seat' me' found step =
+    took l start me steps out Swapping p list due seat seat' me' found step

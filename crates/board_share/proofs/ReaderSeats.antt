@@ -1,8 +1,7 @@
 -- What a reader's seat knows after a step.
 use Rattle.std.proofs.Common.{◌<◌, take, arith, ◌≡◌, ℕ, zero, suc, Bool, cond, eq-eqb, ne_eqb, length, List, Some, refl, sym, ap, ◌∙◌, subst}
 use Rattle.std.proofs.lemmas.List.{take_all, length-take-le}
-use mathlib.Core.Option as maybe
-use Rattle.atomic_table.specs.Table.{Me, step, Allows}
+use Rattle.atomic_table.specs.Table.{Me, Allows}
 use Rattle.atomic_table.specs.Seated.{TableId}
 use Rattle.council_core.specs.Rolls.{Opening}
 use Rattle.two_copy_steps.specs.declared.views.ReaderView.{ReaderView}
@@ -15,7 +14,7 @@ use Rattle.board_share.specs.declared.views.View.{View}
 use Rattle.board_share.specs.declared.views.Beginning.{Beginning}
 use Rattle.board_share.specs.Seats.{Part, lone_part, seat_of_reader}
 use Rattle.board_share.specs.Rule.{RuleHolds}
-use Rattle.board_share.specs.Steps.{bare_seat, read_then}
+use Rattle.board_share.specs.Steps.{IsStepOn, bare_seat}
 use Rattle.board_share.specs.Readers.{ReaderSeen, known_by, TookStep, sole_part, reader_at, IsReader, Stepped}
 use Rattle.board_share.proofs.Accesses.{load_of, store_of}
 use Rattle.board_share.proofs.ReaderSteps.{reads_allows}
@@ -26,22 +25,22 @@ sole_only (suc r) x = sole_only r x
 
 module _ (begun : Beginning) (table seat : TableId) (me : Me Unit View) (p : ReaderSeen) (h : IsReader table seat me p) (slots id : ℕ) where
   pub loads : (i : ℕ) → i ≡ (reader_action p.index (known_by p)).word → ((n : ℕ) → n ≡ (reader_action p.index (known_by p)).becomes n)
-      → Allows (RuleHolds begun) slots id me i (λ n. n) (read_then (step slots i 0 0 maybe.none) me)
+      → Allows (RuleHolds begun) slots id me i (λ n. n) (IsStepOn me)
   loads i at_word becomes =
-      subst (λ (z : Me Unit View). Allows (RuleHolds begun) slots id z i (λ n. n) (read_then (step slots i 0 0 maybe.none) z)) (sym h.alone)
-      (reads_allows begun slots id p.index p.history p.opening (known_by p) (load_of slots i) at_word record { becomes = becomes; leads = λ n. refl })
+      subst (λ (z : Me Unit View). Allows (RuleHolds begun) slots id z i (λ n. n) (IsStepOn z)) (sym h.alone)
+      (reads_allows begun slots id p.index p.history p.opening (known_by p) (load_of i) at_word record { becomes = becomes; leads = λ n. refl })
 
   pub stores : (i x : ℕ) → i ≡ (reader_action p.index (known_by p)).word → ((n : ℕ) → x ≡ (reader_action p.index (known_by p)).becomes n)
       → ((n : ℕ) → (reader_action p.index (known_by p)).after x ≡ (reader_action p.index (known_by p)).after n)
-      → Allows (RuleHolds begun) slots id me i (λ _. x) (λ _. read_then (step slots i x 0 maybe.none) me x)
+      → Allows (RuleHolds begun) slots id me i (λ _. x) (λ _. IsStepOn me x)
   stores i x at_word becomes alike =
-      subst (λ (z : Me Unit View). Allows (RuleHolds begun) slots id z i (λ _. x) (λ _. read_then (step slots i x 0 maybe.none) z x)) (sym h.alone)
-      (reads_allows begun slots id p.index p.history p.opening (known_by p) (store_of slots i x) at_word record { becomes = becomes; leads = alike })
+      subst (λ (z : Me Unit View). Allows (RuleHolds begun) slots id z i (λ _. x) (λ _. IsStepOn z x)) (sym h.alone)
+      (reads_allows begun slots id p.index p.history p.opening (known_by p) (store_of i x) at_word record { becomes = becomes; leads = alike })
 
 -- a reader's seat took its step: which seat it is now, what it knows, and how far the reader is
 pub record ReaderMoved (p : ReaderSeen) (seat seat' : TableId) (me me' : Me Unit View) (found : ℕ) (stage : Stage) : Type 0 where
   pub same : seat' ≡ seat
-  pub next : read_then (step 0 0 0 0 maybe.none) me found me'
+  pub next : IsStepOn me found me'
   pub stage_is : stage ≡ ((reader_action p.index (known_by p)).after found).stage
 
 -- what a step leaves

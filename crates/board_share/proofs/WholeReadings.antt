@@ -1,7 +1,8 @@
 -- A reading, step by step.
 use Rattle.std.proofs.Common.{◌≡◌, ℕ, zero, suc, eqb, ◌+◌, ◌≤◌, true, false, cond, take, length-take, List, [], ◌∷◌, ◌++◌, Option, None, Some, IfSome, refl, sym, ap, ◌∙◌, subst, arith}
 use Rattle.std.proofs.lemmas.Option.{none-some, same_Some}
-use Rattle.std.specs.Option.{option_map, option_map_or}
+use Rattle.std.specs.List.{last_or}
+use Rattle.std.specs.Option.{option_map}
 use Rattle.std.specs.Prelude.{IsTrue, is_ok, ◌&&◌}
 use Rattle.council_core.specs.Rolls.{Opening, Roll, opening_roll, next_roll, step, all_accepted, sheet}
 use Rattle.council_core.specs.Sheets.{front_of}
@@ -14,32 +15,17 @@ use Rattle.two_copy_steps.specs.Actions.{readings_after, stage_action}
 use Rattle.two_copy_steps.specs.Lawful.{last_front}
 use Rattle.two_copy_steps.specs.Stages.{IsReadable, sheet_read, steps_taken, last_step}
 use Rattle.two_copy_steps.specs.States.{EndsWith}
-use Rattle.board_share.specs.declared.readings.Reading as reading
+use Rattle.board_share.specs.declared.readers.Reading as reading
 use Rattle.two_copy_steps.proofs.StageFacts as stages
-use Rattle.board_share.specs.Readers.{ReaderSeen, TookStep, HasLegalRecord, IsLegalSheet, last_of, last_read}
+use Rattle.board_share.proofs.Histories.{last_pushed}
+use Rattle.board_share.specs.Readers.{ReaderSeen, TookStep, HasLegalRecord, IsLegalSheet, last_of}
 
 -- the steps are counted one by one
 pub counted : (p p' : ReaderSeen) → TookStep p p' → IsReadable p.stage → steps_taken p'.stage ≡ cond (eqb (steps_taken p.stage) last_step) 0 (steps_taken p.stage + 1)
 counted p p' t h = ap (λ (v : ReaderView). steps_taken v.stage) t.knows ∙ stages.counted p.index t.found p.stage h
 
--- the last of some readings, with one more
-pub last_pushed : (before : List (List ℕ)) (words : List ℕ) → last_read (before ++ words ∷ []) ≡ Some words
-last_pushed [] words = refl
-last_pushed (x ∷ []) words = refl
-last_pushed (x ∷ y ∷ rest) words = last_pushed (y ∷ rest) words
-
-pub last_is : (readings before : List (List ℕ)) (words : List ℕ) → readings ≡ before ++ words ∷ [] → last_read readings ≡ Some words
-last_is readings before words e = ap last_read e ∙ last_pushed before words
-
--- its front
-pub front_is : (low : ℕ) (readings : List (List ℕ)) → last_front low readings ≡ option_map_or front_of (last_read readings) low
-front_is low [] = refl
-front_is low (x ∷ []) = refl
-front_is low (x ∷ y ∷ rest) = front_after low (front_of x) y rest
-  where
-    front_after : (a b : ℕ) (z : List ℕ) (more : List (List ℕ)) → last_front (front_of z) more ≡ option_map_or front_of (last_read (z ∷ more)) a
-    front_after a b z [] = refl
-    front_after a b z (u ∷ more) = front_after a b u more
+pub last_is : (readings before : List (List ℕ)) (words : List ℕ) → readings ≡ before ++ words ∷ [] → last_or None readings ≡ Some words
+last_is readings before words e = ap (last_or None) e ∙ last_pushed None before words
 
 -- what is answered is the last sheet of the record
 ended_at : (r : ℕ) (st : Stage) (found : ℕ) (readings : List (List ℕ)) (words : List ℕ) → sheet_read st ≡ Some words → EndsWith readings st
@@ -54,7 +40,7 @@ pub ended : (p p' : ReaderSeen) (answer : Option reading.Reading) → TookStep p
 ended p p' None t e h = tt
 ended p p' (Some x) t e h =
     let f = ended_at p.index p.stage t.found p.readings x.sheet (sym e) h in
-    ap last_read (ap (λ (v : ReaderView). v.readings) t.knows ∙ f.1) ∙ last_pushed f.0 x.sheet
+    last_is p'.readings f.0 x.sheet (ap (λ (v : ReaderView). v.readings) t.knows ∙ f.1)
 
 last_above : (opening : Opening) (list : List Command) (cuts : List ℕ) (low : ℕ) (before : List (List ℕ)) (words : List ℕ) → IsRecordFrom opening list cuts low (before ++ words ∷ [])
     → last_front low before ≤ front_of words
@@ -62,9 +48,8 @@ last_above opening list cuts low [] words h = h.1
 last_above opening list cuts low (x ∷ xs) words h = last_above opening list cuts (front_of x) xs words h.2
 
 -- the last sheet of a legal record has no lower front than the one before
-pub above : (p : ReaderSeen) (before : List (List ℕ)) (words : List ℕ) → HasLegalRecord p → p.readings ≡ before ++ words ∷ [] → option_map_or front_of (last_read before) 0 ≤ front_of words
-above p before words h e =
-    subst (λ (n : ℕ). n ≤ front_of words) (front_is 0 before) (last_above p.opening h.0 h.1 0 before words (subst (λ (x : List (List ℕ)). IsRecordFrom p.opening h.0 h.1 0 x) e h.2.readings.0))
+pub above : (p : ReaderSeen) (before : List (List ℕ)) (words : List ℕ) → HasLegalRecord p → p.readings ≡ before ++ words ∷ [] → last_front 0 before ≤ front_of words
+above p before words h e = last_above p.opening h.0 h.1 0 before words (subst (λ (x : List (List ℕ)). IsRecordFrom p.opening h.0 h.1 0 x) e h.2.readings.0)
 
 -- the first commands of a legal list are one
 accepted_take : (r : Roll) (k : ℕ) (list : List Command) → IsTrue (all_accepted r list) → IsTrue (all_accepted r (take k list))

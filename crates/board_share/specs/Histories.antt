@@ -1,7 +1,7 @@
 -- The history of a board: its start, and the events of all seats since.
-use Rattle.std.specs.Prelude.{◌≡◌, ℕ, ◌==◌, Bool, true, false, List, [], ◌∷◌, ◌++◌, map, drop, length}
-use Rattle.std.specs.Prelude.{Option, None, Some}
-use Rattle.std.specs.List.{filter}
+use Rattle.std.specs.Prelude.{◌≡◌, ℕ, ◌==◌, Bool, true, false, List, [], ◌++◌, map, drop, length}
+use Rattle.std.specs.Prelude.{Option, None}
+use Rattle.std.specs.List.{filter, last_or}
 use Rattle.council_core.specs.declared.commands.Command.{Command}
 use Rattle.two_copy_steps.specs.declared.events.Event.{Event}
 use Rattle.two_copy_steps.specs.declared.events.Event.TheVariants.{Submit, Publish, Writer, Reader}
@@ -31,15 +31,9 @@ pub record KnowsAfter (h : History) (v : WriterView) : Type 0 where
 abbrev pub reported_in : History → List Note
 reported_in h = notes (machine_at_start h.begun.register h.begun.readers) h.events
 
--- the last of these outputs
-abbrev pub last_note : List Note → Option Note
-last_note [] = None
-last_note (note ∷ []) = Some note
-last_note (note ∷ more ∷ rest) = last_note (more ∷ rest)
-
 -- the output of the last event
 abbrev pub last_reported : History → Option Note
-last_reported h = last_note (reported_in h)
+last_reported h = last_or None (reported_in h)
 
 -- the history at the start, with no events
 abbrev pub first_history : Beginning → History

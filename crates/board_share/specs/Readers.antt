@@ -1,11 +1,10 @@
 -- The state of a reader in contracts, and how its seat holds it.
 use Rattle.std.specs.Prelude.{◌≡◌, ℕ, suc, ◌<◌, ◌++◌, List, [], ◌∷◌, Option, None, Some}
 use Rattle.std.specs.Prelude.{replicate, slice_get}
-use Rattle.std.specs.Option.{option_map_or}
+use Rattle.std.specs.List.{last_or}
 use Rattle.atomic_table.specs.Table.{Me}
 use Rattle.atomic_table.specs.Seated.{TableId}
 use Rattle.council_core.specs.Rolls.{Opening, IsLegal, sheet}
-use Rattle.council_core.specs.Sheets.{front_of}
 use Rattle.council_core.specs.Sequential.{AreLegalRecords}
 use Rattle.council_core.specs.declared.commands.Command.{Command}
 use Rattle.two_copy_steps.specs.declared.events.Event.TheVariants.{Reader}
@@ -14,6 +13,7 @@ use Rattle.two_copy_steps.specs.declared.views.ReaderView.{ReaderView}
 use Rattle.two_copy_steps.specs.declared.views.Stage.{Stage}
 use Rattle.two_copy_steps.specs.declared.views.Stage.TheVariants.{AtRest}
 use Rattle.two_copy_steps.specs.Actions.{pin, reader_action}
+use Rattle.two_copy_steps.specs.Lawful.{last_front}
 use Rattle.two_copy_steps.specs.Stages.{reading_steps}
 use Rattle.two_copy_steps.specs.States.{IsKnown}
 use Rattle.two_copy_steps.specs.Transitions.{stage_note}
@@ -71,23 +71,23 @@ pub record TookSteps (steps : ℕ) (before after : ReaderSeen) : Type 0 where
 abbrev pub WasReported : ReaderSeen → List ℕ → Type 0
 WasReported p words = last_reported p.history ≡ Some (Read (number_of p) words)
 
--- the last of these readings, if any
-abbrev pub last_read : List (List ℕ) → Option (List ℕ)
-last_read [] = None
-last_read (words ∷ []) = Some words
-last_read (words ∷ more ∷ rest) = last_read (more ∷ rest)
-
 -- the sheet that the reader read last, if any
 abbrev pub last_of : ReaderSeen → Option (List ℕ)
-last_of p = last_read p.readings
+last_of p = last_or None p.readings
 
 -- the front of the sheet that the reader read last, or 0 if there is none
 abbrev pub last_front_of : ReaderSeen → ℕ
-last_front_of p = option_map_or front_of (last_of p) 0
+last_front_of p = last_front 0 p.readings
 
--- the readings are a legal record, of some legal list and its cuts
+-- sheets that one reader can read of some legal list of commands and its cuts: each is the sheet of
+-- a cut, and fronts never decrease
+abbrev pub IsLegalRecord : Opening → List (List ℕ) → Type 0
+IsLegalRecord opening sheets =
+    (list : List Command) × (cuts : List ℕ) × AreLegalRecords opening list cuts (sheets ∷ [])
+
+-- the readings are a legal record
 abbrev pub HasLegalRecord : ReaderSeen → Type 0
-HasLegalRecord p = (list : List Command) × (cuts : List ℕ) × AreLegalRecords p.opening list cuts (p.readings ∷ [])
+HasLegalRecord p = IsLegalRecord p.opening p.readings
 
 -- the sheet after some legal list of commands
 abbrev pub IsLegalSheet : Opening → List ℕ → Type 0

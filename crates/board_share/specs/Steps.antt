@@ -1,7 +1,7 @@
 -- The effect of a step on the seat that takes it.
 use Rattle.std.specs.Prelude.{◌≡◌, ℕ, suc, ◌==◌, List, [], ◌∷◌, ◌++◌, length, slice_get}
 use Rattle.std.specs.Prelude.{if◌then◌else◌, Option, Some, None}
-use Rattle.atomic_table.specs.Table.{Me, Step}
+use Rattle.atomic_table.specs.Table.{Me}
 use Rattle.council_core.specs.declared.commands.Command.{Command}
 use Rattle.council_core.specs.Rolls.{Opening, sheet}
 use Rattle.two_copy_steps.specs.declared.events.Event.{Event}
@@ -38,9 +38,6 @@ IsStepOn me found me' =
     → let w = (reader_action r v).after found in
     (h' : History) × (me' ≡ bare_seat (seat_of_reader h' r (opening, w))) × IsKnown opening w × ReaderActed r h h' v w
 
-abbrev pub read_then : Step Unit → Me Unit View → ℕ → Me Unit View → Type 0
-read_then st me found me' = IsStepOn me found me'
-
 -- the writer begins to publish these commands, if any
 abbrev pub writer_begun_with : Option (List Command) → WriterView → WriterView
 writer_begun_with None v = v
@@ -73,8 +70,8 @@ pub record WriterActed (list : Option (List Command)) (found : ℕ) (before afte
       ≡ Some (step_note (writer_begun_with list v).state (writer_begun_with list v).state.phase found)
 
 -- the writer took its step, and began to publish these commands before it, if any
-abbrev pub write_then : Option (List Command) → Step Unit → Me Unit View → ℕ → Me Unit View → Type 0
-write_then list st me found me' =
+abbrev pub write_then : Option (List Command) → Me Unit View → ℕ → Me Unit View → Type 0
+write_then list me found me' =
     (opening : Opening) (v : WriterView) → me.0.writer ≡ Some (opening, v)
     → let w = (writer_action (sheet opening) (writer_begun_with list v)).after found in
     (me' ≡ (with_writer me.0 opening w me'.0.history, me.1))

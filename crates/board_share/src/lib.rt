@@ -3,13 +3,10 @@
 #![tactic(auto)]
 
 mod analysts;
-mod busy;
 mod laws;
 mod opening;
-mod publishing;
 mod reader_steps;
 mod readers;
-mod readings;
 mod rule;
 mod views;
 mod writer_steps;
@@ -17,11 +14,9 @@ mod writers;
 
 pub use analysts::Analyst;
 pub use board_audits::{AuditFault, audit, audit_fault_laws, audit_law};
-pub use busy::Busy;
 pub use laws::{order_laws, rule_laws, seat_laws};
 pub use opening::start;
-pub use readers::Reader;
-pub use readings::Reading;
+pub use readers::{Reader, Reading};
 pub use rule::{Board, TwoCopies};
 pub use views::{Beginning, Members, View};
-pub use writers::Writer;
+pub use writers::{Busy, Writer};

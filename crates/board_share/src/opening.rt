@@ -8,7 +8,6 @@ ghost use Rattle.board_share.specs.Openings.{IsSplitting, beginning_of, new_read
 use crate::readers::Reader;
 use crate::rule::{Board, SplitOff};
 use crate::views::{Beginning, View};
-use crate::writer_steps::WordWriter;
 use crate::writers::Writer;
 use atomic_table::{Seat, Table};
 use council_core::{Refusal, Register};
@@ -52,8 +51,7 @@ pub fn start(
     match seat_all(alloc, &begun) {
         Ok((board, seat, all)) => {
             let Beginning { register, .. } = begun;
-            let words = WordWriter::new(board, seat, register, readers);
-            Ok((Writer::new(words), all))
+            Ok((Writer::new(board, seat, register, readers), all))
         }
         Err(_) => {
             let Beginning { register, .. } = begun;

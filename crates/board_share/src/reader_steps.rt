@@ -7,7 +7,7 @@ ghost use Rattle.two_copy_steps.specs.Stages.{sheet_read};
 ghost use Rattle.board_share.specs.Steps.{IsStepOn};
 ghost use Rattle.board_share.specs.Readers.{IsReader, Stepped, HasRead, reader_at};
 
-use crate::readings::Reading;
+use crate::readers::Reading;
 use crate::rule::{Board, Reads};
 use crate::views::View;
 use atomic_table::Seat;

@@ -10,13 +10,20 @@ ghost use Rattle.board_share.specs.Readers.{HasLegalRecord, IsLegalSheet, IsRead
 ghost use Rattle.board_share.specs.Readers.{TookSteps, WasReported, number_of, reader_at};
 
 use crate::reader_steps::{advance, read_all};
-use crate::readings::Reading;
 use crate::rule::Board;
 use crate::views::View;
 use atomic_table::Seat;
+use council_core::Sheet;
 use std::marker::Model;
 use std::sync::Arc;
 use two_copy_steps::{READERS, ReaderStage};
+
+/// The result of one reading.
+#[derive(Clone, Copy)]
+pub struct Reading {
+    /// The sheet of the register, as it was published.
+    pub sheet: Sheet,
+}
 
 /// A reader of a board. It reads one sheet after another, each in 37 steps. It never waits for the
 /// writer, and may move to another thread.

@@ -1,5 +1,7 @@
 //! The writer of a board.
-ghost use Rattle.std.specs.Prelude.{◌≡◌, ℕ, suc, true, false, length, None, Some, IfOk, IfErr, OnOk, OnErr, IsOk};
+ghost use Rattle.std.specs.Prelude.{◌≡◌, ℕ, suc, ◌≤◌, true, false, length, None, Some, IfOk, IfErr, OnOk, OnErr, IsOk};
+ghost use Rattle.std.specs.Prelude.{replicate};
+ghost use Rattle.std.specs.Arc.{arc_value};
 ghost use Rattle.std.specs.List.{last_or};
 ghost use Rattle.std.specs.List.Sorted.{IsStrictlyIncreasing};
 ghost use Rattle.council_core.specs.Rolls.{IsLegal};
@@ -10,41 +12,76 @@ ghost use Rattle.two_copy_steps.specs.declared.events.Note.TheVariants.{Busy as 
 ghost use Rattle.two_copy_steps.specs.Actions.{all_true, first_false};
 ghost use Rattle.two_copy_steps.specs.Publications.{StaySeen, seen_out_at};
 ghost use Rattle.board_share.specs.Histories.{last_reported};
-ghost use Rattle.board_share.specs.Writers.{IsPrefix, IsIdle, TookTries, TookTry, cuts_after, has_pending, look_count};
-ghost use Rattle.board_share.specs.Writers.{publication_steps, publisher_of, seen_out_after};
+ghost use Rattle.board_share.specs.Writers.{IsPrefix, IsWriter, TookTries, TookTry, cuts_after, has_pending, look_count};
+ghost use Rattle.board_share.specs.Writers.{publication_steps, publisher_at, seen_out_after};
 
-use crate::busy::Busy;
-use crate::publishing::publish_all;
-use crate::writer_steps::WordWriter;
-use council_core::{Command, Refusal};
+use crate::rule::Board;
+use crate::views::View;
+use crate::writer_steps::publish_all;
+use atomic_table::Seat;
+use council_core::{Command, Refusal, Register};
 use std::marker::Model;
-use std::sync::Wait;
+use std::sync::{Arc, Wait};
 use std::thread;
+use thiserror::Error;
+use two_copy_steps::{Flags, READERS};
+
+/// The publication was abandoned because a reader is in the middle of a reading.
+#[derive(Clone, Copy, Debug, PartialEq, Eq, Error)]
+#[error("reader {reader} is in the middle of a reading")]
+pub struct Busy {
+    /// The number of the blocking reader, counted from 1: the first whose pin was found at 1.
+    pub reader: u8,
+}
 
 /// The writer of a board: it submits commands to the register and publishes those that were
 /// accepted. Between its calls no publication is in progress.
 #[derive(Drop)]
 pub struct Writer {
-    words: WordWriter,
+    board: Arc<Board>,
+    seat: Seat<(), View>,
+    register: Register,
+    side: u64,
+    published: u32,
+    seen_out: Flags,
 }
 
 impl Model for Writer {
-    ghost use Rattle.board_share.specs.Writers.{Publisher, IsIdle, publisher_of};
+    ghost use Rattle.board_share.specs.Writers.{Publisher, IsWriter, held_by, publisher_at};
+    ghost use Rattle.std.specs.Arc.{arc_value};
+    ghost use Rattle.std.specs.Prelude.{◌≡◌, length};
 
     ghost Value = { Publisher };
 
-    ghost view = { λ w. publisher_of w.words };
+    ghost view = { λ w. publisher_at (arc_value w.board).shared.table_id w.register w.seat.me.0 };
 
-    ghost invariant = { λ w. IsIdle w.words };
+    ghost invariant = { λ w. IsWriter (arc_value w.board).shared.table_id w.seat.table_id w.seat.me w.register w.side
+        w.seen_out × (w.published ≡ length (held_by w.seat.me.0).state.published) };
 }
 
 impl Writer {
-    // A writer with no publication in progress.
-    pub(crate) fn new(words: WordWriter) -> Writer
-        requires { IsIdle words }
-        ensures { result ≡ publisher_of words }
+    // The writer of a seat with the view of a board's start.
+    pub(crate) fn new(
+        board: Arc<Board>,
+        seat: Seat<(), View>,
+        register: Register,
+        readers: u8,
+    ) -> Writer
+        requires bound { readers ≤ READERS }
+        requires seat { IsWriter (arc_value board).shared.table_id seat.table_id seat.me register 0
+            (replicate readers true) }
+        requires published { (publisher_at (arc_value board).shared.table_id register seat.me.0).published
+            ≡ register.journal }
+        ensures { result ≡ publisher_at (arc_value board).shared.table_id register seat.me.0 }
     {
-        Writer { words }
+        Writer {
+            board,
+            seat,
+            side: 0,
+            published: register.accepted(),
+            seen_out: Flags::start(readers),
+            register,
+        }
     }
 
     /// Submits a command to the register and returns the number of commands accepted so far,
@@ -69,7 +106,7 @@ impl Writer {
         ensures seen_out { self.new.seen_out ≡ self.old.seen_out }
         ensures history { self.new.history ≡ self.old.history }
     {
-        self.words.submit(command)
+        self.register.apply(command)
     }
 
     /// Publishes all accepted commands and returns their number. Does not wait for readers. With
@@ -117,10 +154,21 @@ impl Writer {
             → IfOk result (λ n. last_reported self.new.history ≡ Some (Published n)) }
         ensures blocking { IfErr result (λ b. last_reported self.new.history ≡ Some (BusyAt b.reader)) }
     {
-        if self.words.register().accepted() <= self.words.published() {
-            return Ok(self.words.published());
+        let front = self.register.journal().len() as u32;
+        if front <= self.published {
+            return Ok(self.published);
         }
-        publish_all(&mut self.words)
+        publish_all(
+            &self.board,
+            &mut self.seat,
+            &self.register,
+            self.side,
+            &mut self.seen_out,
+        )?;
+        self.side = 1 - self.side;
+        self.published = front;
+        self.seen_out.clear();
+        Ok(front)
     }
 
     /// Publishes all accepted commands and returns their number: calls `try_publish` until it
@@ -153,7 +201,7 @@ impl Writer {
         ensures commands { result.now ≡ self.now.ledger.journal }
         ensures legal { IsLegal self.now.ledger.opening self.now.ledger.journal }
     {
-        self.words.register().journal()
+        self.register.journal()
     }
 
     /// The number of published commands: the last cut.
@@ -163,7 +211,7 @@ impl Writer {
         ensures ascending { IsStrictlyIncreasing self.now.cuts }
         ensures last_cut { last_or None self.now.cuts ≡ Some result }
     {
-        self.words.published()
+        self.published
     }
 
     /// Whether the reader of this number, counted from 1, is quiescent: since the last publication
@@ -172,6 +220,6 @@ impl Writer {
     pub fn seen_out(&self, reader: u8) -> bool
         ensures same { result ≡ seen_out_at self.now.seen_out reader }
     {
-        self.words.has_seen_out(reader)
+        self.seen_out.has(reader)
     }
 }

@@ -1,16 +1,16 @@
-//! Tests of the program and of its calls through their public names.
+//! Tests of the program and of its calls over streams in memory.
 #![tactic(auto)]
 
 #[cfg(test)]
-mod calls;
+mod devices;
+#[cfg(test)]
+mod gates;
 #[cfg(test)]
 mod inputs;
 #[cfg(test)]
-mod places;
-#[cfg(test)]
 mod programs;
 #[cfg(test)]
-mod serving;
+mod runs;
 #[cfg(test)]
 mod streams;
 #[cfg(test)]

@@ -11,7 +11,6 @@ use Rattle.board_text.specs.declared.faults.Fault.{Fault}
 use Rattle.board_text.specs.declared.stops.Stop.{Stop}
 use Rattle.board_text.specs.declared.stops.Stop.TheVariants as stop
 use Rattle.board_text.proofs.IndexFacts.{StandsAt, first-more, found-at, split-at}
-use Rattle.board_text.specs.Output.{Ends, fault_of}
 
 pub front-none : {A : Type 0} (xs : List A) → IsFrontOf [] xs
 front-none xs = (xs, refl)
@@ -175,9 +174,3 @@ front-then a b c ls l p q =
     let P : List ℕ → Type 0 = λ t. IsFrontOf (text_of ls ++ q.0) t in
     let whole : text_of (ls ++ l ∷ []) ≡ text_of ls ++ line_text l = text-after ls (l ∷ []) ∙ ap (λ t. text_of ls ++ t) (append-nil (line_text l)) in
     (text_of ls ++ q.0, subst P (sym whole) (front-after (text_of ls) q.0 (line_text l) q.1), Appends-trans a b c _ _ p q.2)
-
--- what stopped a run has a fault, and its line was written, or cut
-pub record FaultReported (b c : Option (List ℕ)) (s : Stop) (g : Fault) : Type 0 where
-  pub fault : Fault
-  pub stopped_by : fault_of s ≡ Some fault
-  pub ends : Ends b c fault g

@@ -1,22 +1,13 @@
 -- How often a run asks for a read, by how its input was read.
-use Rattle.std.proofs.Common.{◌≡◌, ◌≤◌, ◌+◌, ◌⊎◌, inl, inr, ℕ, List, Option, Some, None, Result, Ok, Err, sym, ◌∙◌, arith}
+use Rattle.std.proofs.Common.{◌≡◌, ◌≤◌, ◌+◌, inl, inr, ℕ, List, Option, Result, Ok, Err, arith}
 use Rattle.recording_io.specs.Tapes.{Giving}
 use Rattle.council_core.specs.declared.refusals.Refusal.TheVariants as why
 use Rattle.board_text.specs.Inputs.{InterruptedAtMost, NoReadInVain, RetriesAtMost, RunRetriesAtMost, WastesAtMost}
-use Rattle.board_text.specs.Output.{Ends, fault_of}
+use Rattle.board_text.specs.Output.{EndsRun, EndsStopped, fault_of}
 use Rattle.board_text.specs.Text.{fault_at}
 use Rattle.board_text.specs.declared.faults.Fault.{Fault}
 use Rattle.board_text.specs.declared.stops.Stop.{Stop}
 use Rattle.board_text.specs.declared.stops.Stop.TheVariants as stop
-use Rattle.board_text.proofs.PlayFacts.{FaultReported}
-
-some : {f g : Fault} → Some f ≡ Some g → f ≡ g
-some e = cc e
-
--- what is answered where a fault's line is written: that fault, or that of the writer
-answered : (a b : Option (List ℕ)) (f g : Fault) → Ends a b f g → (g ≡ f) ⊎ (g ≡ fault_at why.WriteFault 0)
-answered a b f g (inl e) = inl e.0
-answered a b f g (inr e) = inr e.0
 
 module _ (from to : Giving) where
   -- one read at most gave no byte
@@ -53,18 +44,25 @@ module _ (from to : Giving) where
       retries-passed stop.WriteFault d same p = rw same p
       retries-passed (stop.Input f) d same p = rw same p
 
-      -- a run that a failed write ended
-      pub retries-cut : (e : Stop) (g : Fault) → g ≡ fault_at why.WriteFault 0 → RetriesAtMost {A = A} count from to (Err e) → RunRetriesAtMost {A = B} count from to (Err g)
+    module _ (A : Type 0) (a b : Option (List ℕ)) where
+      retries-cut : (e : Stop) (g : Fault) → g ≡ fault_at why.WriteFault 0 → RetriesAtMost {A = A} count from to (Err e) → RunRetriesAtMost {A = A} count from to (Err g)
       retries-cut e g cut p = inr (inr cut, retries-any A e p)
 
-      retries-ended : (e : Stop) (f g : Fault) → fault_of e ≡ Some f → (g ≡ f) ⊎ (g ≡ fault_at why.WriteFault 0) → RetriesAtMost {A = A} count from to (Err e)
-          → RunRetriesAtMost {A = B} count from to (Err g)
-      retries-ended e f g is (inr cut) p = retries-cut e g cut p
-      retries-ended stop.ReadFault f g is (inl same) p = inr (inl (same ∙ sym (some is)), p)
-      retries-ended stop.OutOfMemory f g is (inl same) p = inl p
-      retries-ended stop.WriteFault f g is (inl same) p = cc is
-      retries-ended (stop.Input h) f g is (inl same) p = inl p
+      -- a run that ended in the fault of what stopped it, or where its line could not be written
+      retries-stopped : (e : Stop) (r : Result A Fault) → EndsStopped a b (fault_of e) r → RetriesAtMost {A = A} count from to (Err e) → RunRetriesAtMost count from to r
+      retries-stopped stop.ReadFault (Ok x) ends p = absurd ends
+      retries-stopped stop.OutOfMemory (Ok x) ends p = absurd ends
+      retries-stopped stop.WriteFault (Ok x) ends p = absurd ends
+      retries-stopped (stop.Input h) (Ok x) ends p = absurd ends
+      retries-stopped stop.ReadFault (Err g) (inl e) p = inr (inl e.0, p)
+      retries-stopped stop.ReadFault (Err g) (inr e) p = retries-cut stop.ReadFault g e.0 p
+      retries-stopped stop.OutOfMemory (Err g) (inl e) p = inl p
+      retries-stopped stop.OutOfMemory (Err g) (inr e) p = retries-cut stop.OutOfMemory g e.0 p
+      retries-stopped stop.WriteFault (Err g) e p = retries-cut stop.WriteFault g e.0 p
+      retries-stopped (stop.Input h) (Err g) (inl e) p = inl p
+      retries-stopped (stop.Input h) (Err g) (inr e) p = retries-cut (stop.Input h) g e.0 p
 
-      -- a run that ended in the line of its fault, or where that could not be written
-      pub retries-reported : (a b : Option (List ℕ)) (e : Stop) (g : Fault) → FaultReported a b e g → RetriesAtMost {A = A} count from to (Err e) → RunRetriesAtMost {A = B} count from to (Err g)
-      retries-reported a b e g reported p = retries-ended e reported.fault g reported.stopped_by (answered a b reported.fault g reported.ends) p
+      -- a run that ended
+      pub retries-ended : (carried : Result A Stop) (r : Result A Fault) → EndsRun a b carried r → RetriesAtMost count from to carried → RunRetriesAtMost count from to r
+      retries-ended (Ok x) r ends p = rw ends.0 p
+      retries-ended (Err e) r ends p = retries-stopped e r ends p

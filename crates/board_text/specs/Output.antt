@@ -72,6 +72,16 @@ Starts lim members (Err stop.WriteFault) = ⊥
 Starts lim members (Err (stop.Input f)) = (e : Refusal) × (start_verdict members lim.journal ≡ Err e)
     × (f ≡ fault_at e 0)
 
+-- the stop of a refusal that ends a run: out of memory, or a fault of the input at 0
+abbrev pub stop_of : Refusal → Stop
+stop_of why.OutOfMemory = stop.OutOfMemory
+stop_of why = stop.Input (fault_at why 0)
+
+-- the stop of a record that is refused: a fault at the record's number
+abbrev pub at_record : {A : Type 0} → ℕ → Result A Refusal → Result A Stop
+at_record number (Ok a) = Ok a
+at_record number (Err why) = Err (stop.Input (fault_at why number))
+
 -- the fault whose line is to be written; none after a failed write
 abbrev pub fault_of : Stop → Option Fault
 fault_of stop.OutOfMemory = Some (fault_at why.OutOfMemory 0)
@@ -88,6 +98,17 @@ abbrev pub Ends : Option (List ℕ) → Option (List ℕ) → Fault → Fault �
 Ends old new f result =
     ((result ≡ f) × Appends old new (line_text (fault_line f)))
     ⊎ ((result ≡ fault_at why.WriteFault 0) × AppendsFront old new (line_text (fault_line f)))
+
+-- the end of a run that stopped, by the fault of its stop
+abbrev pub EndsStopped : {A : Type 0} → Option (List ℕ) → Option (List ℕ) → Option Fault → Result A Fault → Type 0
+EndsStopped old new f (Ok a) = ⊥
+EndsStopped old new None (Err g) = (g ≡ fault_at why.WriteFault 0) × (new ≡ old)
+EndsStopped old new (Some f) (Err g) = Ends old new f g
+
+-- the end of a run: its value, and nothing more is written; or its fault, and that fault's line
+abbrev pub EndsRun : {A : Type 0} → Option (List ℕ) → Option (List ℕ) → Result A Stop → Result A Fault → Type 0
+EndsRun old new (Ok a) result = (result ≡ Ok a) × (new ≡ old)
+EndsRun old new (Err e) result = EndsStopped old new (fault_of e) result
 
 -- the limits are out of range: the fault is BadLimit, or WriteFault if its line could not be
 -- written

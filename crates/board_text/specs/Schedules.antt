@@ -1,11 +1,12 @@
 -- The meaning of the records of a schedule.
-use Rattle.std.specs.Prelude.{ℕ, List, [], ◌∷◌, Bool, true, Option, Some, None}
+use Rattle.std.specs.Prelude.{ℕ, List, [], ◌∷◌, Bool, true, Option, Some, None, Result}
 use Rattle.std.specs.Prelude.{if◌then◌else◌, option_map, codes}
 use Rattle.std.specs.Option.{option_and_then}
 use Rattle.std.specs.Str.{bytes_eq}
+use Rattle.council_core.specs.declared.refusals.Refusal.{Refusal}
 use Rattle.board_text.specs.Numbers.{number_of_digits}
 use Rattle.board_text.specs.Requests.{Row, command_of}
-use Rattle.board_text.specs.Text.{is_reader}
+use Rattle.board_text.specs.Text.{is_reader, valid_or_refused}
 use Rattle.board_text.specs.Words.{pair_of, number_within}
 use Rattle.board_text.specs.declared.bounds.Limits.{Limits}
 use Rattle.board_text.specs.declared.schedules.Act.{Act}
@@ -36,3 +37,7 @@ is_scheduled lim (act.Reader number count) = is_reader lim number
 is_scheduled lim (act.Submit c) = true
 is_scheduled lim act.Publish = true
 is_scheduled lim (act.Writer count) = true
+
+-- the act of a record, if it is well formed and its reader number is in range
+abbrev pub act_within : Limits → Row → Result Act Refusal
+act_within lim row = valid_or_refused (is_scheduled lim) (act_of row)

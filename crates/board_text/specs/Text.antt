@@ -9,11 +9,11 @@ use Rattle.council_core.specs.Rolls.{Opening}
 use Rattle.council_core.specs.Sequential.{Sequential}
 use Rattle.council_core.specs.declared.limits.TheConstants.{MAX_COMMANDS, MAX_MEMBERS}
 use Rattle.council_core.specs.declared.refusals.Refusal.{Refusal}
-use Rattle.council_core.specs.declared.refusals.Refusal.TheVariants.{BadHeader, BadLimit, BadRecord}
+use Rattle.council_core.specs.declared.refusals.Refusal.TheVariants.{BadHeader, BadLimit, BadReader, BadRecord}
 use Rattle.council_core.specs.declared.refusals.Refusal.TheVariants.{NoScript, TooLong, TooManyMembers}
 use Rattle.two_copy_steps.specs.declared.table.TheConstants.{READERS}
 use Rattle.board_text.specs.Lines.{Line, fault_line}
-use Rattle.board_text.specs.Requests.{Row, is_header, is_mark, member_of}
+use Rattle.board_text.specs.Requests.{Row, is_header, is_mark, member_of, request_of}
 use Rattle.board_text.specs.declared.bounds.Limits.{Limits}
 use Rattle.board_text.specs.declared.faults.Fault.{Fault}
 use Rattle.board_text.specs.declared.requests.Request.{Request}
@@ -55,6 +55,15 @@ abbrev pub is_served : Limits → Request → Bool
 is_served lim (ask.Read reader m) = is_reader lim reader
 is_served lim (ask.Submit c) = true
 is_served lim ask.Publish = true
+
+-- what a record asks for: refused if the record isn't well formed, or if its reader number is out of range
+abbrev pub valid_or_refused : {A : Type 0} → (A → Bool) → Option A → Result A Refusal
+valid_or_refused fits None = Err BadRecord
+valid_or_refused fits (Some a) = if fits a then Ok a else Err BadReader
+
+-- the request of a record, if it is well formed and its reader number is in range
+abbrev pub request_within : Limits → Row → Result Request Refusal
+request_within lim row = valid_or_refused (is_served lim) (request_of row)
 
 -- the contents of the records before the script: the members, the number of the script's first
 -- record, and its records

@@ -71,11 +71,7 @@ fn start_register(
     ensures started { Starts limits members.now result }
     ensures starts { OnOk result (start_verdict members.now MAX_COMMANDS ≡ Ok tt) }
 {
-    match Register::start(alloc, members, limits.journal) {
-        Ok(register) => Ok(register),
-        Err(Refusal::OutOfMemory) => Err(Stop::OutOfMemory),
-        Err(why) => Err(Stop::of_fault(why, 0)),
-    }
+    Ok(Register::start(alloc, members, limits.journal)?)
 }
 
 /// Reads the header and the members' records, and starts the register. The next record of `script`

@@ -1,21 +1,46 @@
-//! The end of a run that a fault stopped.
-ghost use Rattle.board_text.specs.Output.{Ends};
+//! The end of a run.
+ghost use Rattle.board_text.specs.Output.{Ends, EndsRun};
 ghost use Rattle.board_text.specs.Sinks.{GoesOn};
 
 use crate::faults::Fault;
 use crate::lines::line_of_fault;
 use crate::output::Output;
+use crate::stops::Stop;
 use council_core::Refusal;
 use std::io::Write;
 
-/// Writes the line of a fault and returns that fault, or `WriteFault` at 0 if the line could not be
-/// written.
-pub fn end_with<W: Write>(out: &mut Output<'_, W>, fault: Fault) -> Fault
+// Writes the line of a fault and returns that fault, or `WriteFault` at 0 if the line could not be
+// written.
+fn end_with<W: Write>(out: &mut Output<'_, W>, fault: Fault) -> Fault
     ensures ends { Ends out.old.held out.new.held fault result }
     ensures continues { GoesOn out.old out.new }
 {
     match out.write_line(line_of_fault(fault)) {
         Ok(()) => return fault,
         Err(_) => return Fault::new(Refusal::WriteFault, 0),
+    }
+}
+
+/// Ends a run: writes the line of the fault that stopped it, if one did. After a failed write no
+/// line is written.
+///
+/// # Errors
+///
+/// The fault of the stop, or `WriteFault` at 0 if a write had failed or the line could not be
+/// written.
+pub fn end_run<T: Drop, W: Write>(
+    out: &mut Output<'_, W>,
+    carried: Result<T, Stop>,
+) -> Result<T, Fault>
+    ensures ends { EndsRun out.old.held out.new.held carried result }
+    ensures continues { GoesOn out.old out.new }
+{
+    let stop = match carried {
+        Ok(done) => return Ok(done),
+        Err(stop) => stop,
+    };
+    match stop.to_fault() {
+        Some(fault) => Err(end_with(out, fault)),
+        None => Err(Fault::new(Refusal::WriteFault, 0)),
     }
 }

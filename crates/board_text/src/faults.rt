@@ -4,6 +4,8 @@ ghost use Rattle.board_text.specs.Lines.{fault_name};
 ghost use Rattle.board_text.specs.Text.{fault_at};
 
 use council_core::Refusal;
+use std::error::Error;
+use std::fmt;
 
 /// The error that ended a run.
 #[derive(Clone, Copy, Debug, PartialEq, Eq)]
@@ -37,3 +39,19 @@ impl Fault {
         }
     }
 }
+
+impl fmt::Display for Fault {
+    /// Writes the reason in words, and the number of the record at fault, if any.
+    fn fmt<W: fmt::Write>(&self, f: &mut fmt::Formatter<W>) -> fmt::Result {
+        match Refusal::from_code(self.code) {
+            Some(why) => why.fmt(f)?,
+            None => write!(f, "fault {}", self.code)?,
+        }
+        if self.place == 0 {
+            return Ok(());
+        }
+        write!(f, ", at record {}", self.place)
+    }
+}
+
+impl Error for Fault {}

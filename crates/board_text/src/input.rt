@@ -76,9 +76,7 @@ pub(crate) fn read_input<R: Read + Drop>(
                 if n > INPUT_LIMIT - text.len() {
                     return Err(Stop::of_fault(Refusal::TooLong, 0));
                 }
-                if text.extend_from_slice(&piece[..n]).is_err() {
-                    return Err(Stop::OutOfMemory);
-                }
+                text.extend_from_slice(&piece[..n])?;
             }
         }
     }

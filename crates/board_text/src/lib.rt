@@ -22,7 +22,7 @@ mod stops;
 
 pub use beginning::{RunStart, begin, read_within};
 pub use bounds::Limits;
-pub use endings::end_with;
+pub use endings::end_run;
 pub use faults::Fault;
 pub use input::{INPUT_LIMIT, INTERRUPTIONS, READS};
 pub use line::{LINE, Line};
@@ -32,7 +32,7 @@ pub use lines::{
 };
 pub use output::{Output, say};
 pub use replies::Answer;
-pub use requests::{Request, is_served, request_in};
-pub use schedules::{Act, MAX_STEPS, act_in, is_scheduled};
+pub use requests::{Request, request_in};
+pub use schedules::{Act, MAX_STEPS, act_in};
 pub use script::Script;
 pub use stops::Stop;

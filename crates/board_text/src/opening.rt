@@ -45,9 +45,7 @@ pub(crate) fn read_opening(
         let Some(member) = member_in(row) else {
             return Err(Stop::of_fault(Refusal::BadRecord, number));
         };
-        let Ok(()) = members.push(member) else {
-            return Err(Stop::OutOfMemory);
-        };
+        members.push(member)?;
         number += 1;
     }
 }

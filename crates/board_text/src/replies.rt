@@ -2,7 +2,7 @@
 use council_core::Refusal;
 
 /// The register's answer to a command or to a publication.
-#[derive(Clone, Copy)]
+#[derive(Clone, Copy, Debug)]
 pub enum Answer {
     /// The command was accepted; the number of commands accepted so far.
     Accepted(u32),

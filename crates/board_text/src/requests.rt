@@ -1,23 +1,25 @@
 //! Parses the records of an input.
-ghost use Rattle.std.specs.Prelude.{◌≡◌};
+ghost use Rattle.std.specs.Prelude.{◌≡◌, true, IfOk};
 ghost use Rattle.csv.specs.Records.{fields_of};
 ghost use Rattle.board_text.specs.Requests.{command_of_one, command_of_two, is_header, is_mark, member_of};
 ghost use Rattle.board_text.specs.Requests.{request_of};
 ghost use Rattle.board_text.specs.Numbers.{number_of_digits};
 ghost use Rattle.board_text.specs.declared.requests.Request.TheVariants.{Read};
-ghost use Rattle.board_text.specs.Text.{is_served};
+ghost use Rattle.board_text.specs.Text.{is_served, request_within};
+ghost use Rattle.board_text.specs.Output.{at_record};
 ghost use Rattle.board_text.specs.Words.{pair_of, chair_of, code_of_member, majority_of, target_chair, votes_of};
 
 use crate::bounds::Limits;
 use crate::fields::{Fields, fields_in, is_word};
 use crate::majorities::majority_in;
 use crate::numbers::number_of_field;
-use council_core::{ChairId, Command, MemberCode, Votes};
+use crate::stops::Stop;
+use council_core::{ChairId, Command, MemberCode, Refusal, Votes};
 use csv::ByteRecord;
 use majority_rule::Majority;
 
 /// A request of one record of the script.
-#[derive(Clone, Copy)]
+#[derive(Clone, Copy, Debug)]
 pub enum Request {
     /// Submit this command to the register.
     Submit(Command),
@@ -113,8 +115,8 @@ fn reading_in(reader: &[u8], majority: &[u8]) -> Option<Request>
     Some(Request::Read(reader, majority))
 }
 
-/// The request of a record, or `None` if the record isn't well formed.
-pub fn request_in(row: &ByteRecord) -> Option<Request>
+// The request of a record, or `None` if the record isn't well formed.
+fn request_of(row: &ByteRecord) -> Option<Request>
     ensures { result ≡ request_of (fields_of row.now) }
 {
     match fields_in(row) {
@@ -164,13 +166,31 @@ pub(crate) fn member_in(row: &ByteRecord) -> Option<(MemberCode, Votes)>
     }
 }
 
-/// Whether the reader number of a request is in range. A request that isn't a reading always
-/// passes.
-pub fn is_served(limits: Limits, request: &Request) -> bool
+// Whether the reader number of a request is in range. A request that isn't a reading always passes.
+fn is_served(limits: Limits, request: &Request) -> bool
     ensures known { result ≡ is_served limits request.now }
 {
     match request {
         Request::Read(reader, _) => limits.has_reader(*reader),
         _ => true,
     }
+}
+
+/// The request of record number `number` of a script.
+///
+/// # Errors
+///
+/// `Stop::Input` at `number`: `BadRecord` if the record isn't well formed, `BadReader` if its reader
+/// number isn't from 1 to `limits.readers`.
+pub fn request_in(limits: Limits, row: &ByteRecord, number: u32) -> Result<Request, Stop>
+    ensures same { result ≡ at_record number (request_within limits (fields_of row.now)) }
+    ensures served { IfOk result (λ q. is_served limits q ≡ true) }
+{
+    let Some(request) = request_of(row) else {
+        return Err(Stop::of_fault(Refusal::BadRecord, number));
+    };
+    if !is_served(limits, &request) {
+        return Err(Stop::of_fault(Refusal::BadReader, number));
+    }
+    Ok(request)
 }

@@ -1,8 +1,9 @@
 //! Parses the records of a schedule for the two-copy machine.
-ghost use Rattle.std.specs.Prelude.{◌≡◌};
+ghost use Rattle.std.specs.Prelude.{◌≡◌, true, IfOk};
 ghost use Rattle.csv.specs.Records.{fields_of};
 ghost use Rattle.board_text.specs.Numbers.{number_of_digits};
-ghost use Rattle.board_text.specs.Schedules.{act_of, count_of, is_scheduled};
+ghost use Rattle.board_text.specs.Output.{at_record};
+ghost use Rattle.board_text.specs.Schedules.{act_of, act_within, count_of, is_scheduled};
 ghost use Rattle.board_text.specs.Words.{pair_of};
 ghost use Rattle.board_text.specs.declared.schedules.Act.TheVariants.{Reader};
 
@@ -10,14 +11,15 @@ use crate::bounds::Limits;
 use crate::fields::{Fields, fields_in, is_word};
 use crate::numbers::number_of_field;
 use crate::requests::{command_of_one, command_of_two};
-use council_core::Command;
+use crate::stops::Stop;
+use council_core::{Command, Refusal};
 use csv::ByteRecord;
 
 /// The most steps that one record of a schedule asks for.
 pub const MAX_STEPS: u64 = 1000;
 
 /// A request of one record of a schedule.
-#[derive(Clone, Copy)]
+#[derive(Clone, Copy, Debug)]
 pub enum Act {
     /// Submit this command to the writer.
     Submit(Command),
@@ -50,8 +52,8 @@ fn steps_in(reader: &[u8], count: &[u8]) -> Option<Act>
     Some(Act::Reader(reader, count))
 }
 
-/// The request of a record, or `None` if the record isn't well formed.
-pub fn act_in(row: &ByteRecord) -> Option<Act>
+// The act of a record, or `None` if the record isn't well formed.
+fn act_of(row: &ByteRecord) -> Option<Act>
     ensures { result ≡ act_of (fields_of row.now) }
 {
     match fields_in(row) {
@@ -68,12 +70,31 @@ pub fn act_in(row: &ByteRecord) -> Option<Act>
     }
 }
 
-/// Whether the reader number of an act is in range. An act of the writer always passes.
-pub fn is_scheduled(limits: Limits, act: &Act) -> bool
+// Whether the reader number of an act is in range. An act of the writer always passes.
+fn is_scheduled(limits: Limits, act: &Act) -> bool
     ensures known { result ≡ is_scheduled limits act.now }
 {
     match act {
         Act::Reader(reader, _) => limits.has_reader(*reader),
         _ => true,
     }
+}
+
+/// The act of record number `number` of a schedule.
+///
+/// # Errors
+///
+/// `Stop::Input` at `number`: `BadRecord` if the record isn't well formed, `BadReader` if its reader
+/// number isn't from 1 to `limits.readers`.
+pub fn act_in(limits: Limits, row: &ByteRecord, number: u32) -> Result<Act, Stop>
+    ensures same { result ≡ at_record number (act_within limits (fields_of row.now)) }
+    ensures scheduled { IfOk result (λ a. is_scheduled limits a ≡ true) }
+{
+    let Some(act) = act_of(row) else {
+        return Err(Stop::of_fault(Refusal::BadRecord, number));
+    };
+    if !is_scheduled(limits, &act) {
+        return Err(Stop::of_fault(Refusal::BadReader, number));
+    }
+    Ok(act)
 }

@@ -1,22 +1,29 @@
 //! Errors that end a run, before its fault line is written.
 ghost use Rattle.std.specs.Prelude.{◌≡◌};
-ghost use Rattle.board_text.specs.Output.{fault_of};
+ghost use Rattle.board_text.specs.Output.{fault_of, stop_of};
 ghost use Rattle.board_text.specs.Text.{fault_at};
+ghost use Rattle.board_text.specs.declared.stops.Stop.TheVariants.{OutOfMemory};
 
 use crate::faults::Fault;
 use council_core::Refusal;
+use std::alloc::{AllocError, AllocFailed};
+use thiserror::Error;
 
 /// An error that ends a run: out of memory, a failed device, or a fault of the input.
-#[derive(Clone, Copy, Debug, PartialEq, Eq)]
+#[derive(Clone, Copy, Debug, PartialEq, Eq, Error)]
 pub enum Stop {
     /// Out of memory.
+    #[error("out of memory")]
     OutOfMemory,
     /// A read of the input failed, or was interrupted after the last retry.
+    #[error("the input could not be read")]
     ReadFault,
     /// A write failed, accepted nothing, or was interrupted after the last retry. No fault line is
     /// written after it.
+    #[error("the output could not be written")]
     WriteFault,
     /// A fault of the input, at the number of a record or at 0.
+    #[error("{0}")]
     Input(Fault),
 }
 
@@ -38,6 +45,34 @@ impl Stop {
             Stop::ReadFault => Some(Fault::new(Refusal::ReadFault, 0)),
             Stop::WriteFault => None,
             Stop::Input(fault) => Some(fault),
+        }
+    }
+}
+
+impl From<AllocError> for Stop {
+    ghost from_gives = { λ _ stop. stop ≡ OutOfMemory };
+
+    fn from(_: AllocError) -> Stop {
+        Stop::OutOfMemory
+    }
+}
+
+impl<T: Drop> From<AllocFailed<T>> for Stop {
+    ghost from_gives = { λ _ stop. stop ≡ OutOfMemory };
+
+    fn from(_: AllocFailed<T>) -> Stop {
+        Stop::OutOfMemory
+    }
+}
+
+impl From<Refusal> for Stop {
+    ghost from_gives = { λ why stop. stop ≡ stop_of why };
+
+    /// The stop of a refusal that ends a run: out of memory, or a fault of the input at 0.
+    fn from(why: Refusal) -> Stop {
+        match why {
+            Refusal::OutOfMemory => Stop::OutOfMemory,
+            why => Stop::of_fault(why, 0),
         }
     }
 }

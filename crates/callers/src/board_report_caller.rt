@@ -1,8 +1,8 @@
 //! A caller of `board_report`.
 ghost use Rattle.std.specs.Prelude.{[], Some, map};
 ghost use Rattle.std.specs.String.{string_bytes};
-ghost use Rattle.board_words.specs.Calls.{Asks};
-ghost use Rattle.board_words.specs.declared.calls.Call.{Call};
+ghost use Rattle.board_report.specs.Calls.{Asks};
+ghost use Rattle.board_report.specs.declared.calls.Invocation.{Invocation};
 ghost use Rattle.board_report.specs.Programs.{CallExits, written_streams};
 
 use board_report::{RecordingReader, Streams, program};
@@ -18,7 +18,7 @@ pub fn run_words<T: Threads + Wait + Sync>(
     words: &[String],
     input: &[u8],
 ) -> (u8, Vec<u8>, Vec<u8>)
-    ensures calls { (call : Call) → Asks (map string_bytes words.now) call → CallExits call input.now result.0
+    ensures calls { (call : Invocation) → Asks (map string_bytes words.now) call → CallExits call input.now result.0
         (written_streams (Some []) (Some result.1.items) (Some []) (Some result.2.items)) }
 {
     let mut streams = Streams {

@@ -1,20 +1,13 @@
-//! Tests of the public items of the register, the counts and the indices, with the indices compared
-//! with a plain recursion over all coalitions.
+//! Tests of the register, the halves of a board and the indices.
 #![tactic(auto)]
 
 #[cfg(test)]
-mod indices;
+mod boards;
 #[cfg(test)]
-mod lent;
+mod coalitions;
 #[cfg(test)]
-mod lent_rooms;
-#[cfg(test)]
-mod plain;
+mod halves;
 #[cfg(test)]
 mod registers;
 #[cfg(test)]
-mod sheets;
-#[cfg(test)]
-mod sums;
-#[cfg(test)]
-mod walks;
+mod rows;

@@ -2,6 +2,4 @@
 #![tactic(auto)]
 
 #[cfg(test)]
-mod audits;
-#[cfg(test)]
-mod machine;
+mod worked;

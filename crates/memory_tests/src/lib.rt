@@ -3,14 +3,8 @@
 #![tactic(auto)]
 
 #[cfg(test)]
-mod board_calls;
+mod harness;
 #[cfg(test)]
-mod calls_without_memory;
-#[cfg(test)]
-mod growth_calls;
+mod no_growths;
 #[cfg(test)]
 mod refused_growths;
-#[cfg(test)]
-mod run_calls;
-#[cfg(test)]
-mod seen;

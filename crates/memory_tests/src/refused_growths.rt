@@ -1,299 +1,288 @@
-//! Calls that may run out of memory, with each of their allocations ("growths") refused in turn.
-//! That needs `tests/memory/refuse.c`; where it isn't loaded nothing is refused, and the calls are
-//! compared with themselves.
+//! Calls that can run out of memory. Contracts allow them to answer `OutOfMemory` at any time, so
+//! only these tests find one that answers it where no growth was refused.
 ghost use Rattle.std.specs.Thread.{IsSync};
 
-use crate::board_calls::{Analysing, Auditing, Opening, Submitting};
-use crate::calls_without_memory::{
-    Asking, Evaluating, Listing, Publishing, ReadingWords, Turning, Valuing, Viewing,
-};
-use crate::growth_calls::{Applying, Counting, Halving, Starting, Stepping};
-use crate::run_calls::{Programming, Replaying, Running, Serving, ServingClosed, Tracing};
-use std::alloc::{AllocError, Global};
+use crate::harness::survives;
+use board_report::{Gate, GateClosed, Place, RecordingReader, serve};
+use board_share::{Analyst, AuditFault, Reader, Writer, audit, start};
+use council_core::{ChairId, Command, MemberCode, Refusal, Register, Sheet, Votes};
+use fixtures::{THREE_PUBLICATIONS, member, open, register, seat, set_votes, two_members};
+use half_sums::{HalfSums, OrderedSums};
+use power_index::Evaluator;
+use std::alloc::Global;
 use std::sync::Wait;
 use std::test::Fail;
 use std::thread::Threads;
+use two_copy_steps::{Event, Machine, Note, run};
 
-/// The number of the refusal OutOfMemory.
-pub(crate) const OUT_OF_MEMORY: u8 = 10;
-
-// While a block of this many bytes plus N is held, the Nth growth after it is refused.
-const COUNTING: usize = 77_000_000;
-
-// More growths than any of the calls makes.
-const MOST: usize = 2_000;
-
-/// A call that may run out of memory.
-pub(crate) trait Call {
-    /// The state that the call works on and changes.
-    type State: Drop;
-
-    /// The state before the call.
-    fn prepare(&self, alloc: Global) -> Option<Self::State>;
-
-    /// Makes the call on the state, and returns the number of its refusal, 0 for none.
-    fn call<R: Threads + Wait + Sync>(&self, rt: &R, alloc: Global, state: &mut Self::State) -> u8
-        requires shared { IsSync R.row };
-
-    /// The observable state, as numbers.
-    fn shown(&self, alloc: Global, state: &Self::State) -> Option<Vec<u64>>;
-
-    /// The least number of growths that the call makes.
-    fn growths(&self) -> usize {
-        1
+/// Applies commands in turn.
+pub(crate) fn apply_all(register: &mut Register, commands: &[Command]) -> Result<(), Refusal> {
+    for command in commands {
+        register.apply(*command)?;
     }
+    Ok(())
+}
 
-    /// The number that the call returns with ample memory.
-    fn wanted(&self) -> u8 {
-        0
+/// A register that has accepted this number of commands, at least two: BBB is in chair 1, and the
+/// chairs from 3 up are open. Four commands fill the first room of the journal.
+pub(crate) fn with_commands(alloc: Global, commands: u8) -> Result<Register, Refusal> {
+    let mut register = register(alloc)?;
+    apply_all(&mut register, &[open(1)?, seat("BBB", 1)?])?;
+    for chair in 3..=commands {
+        apply_all(&mut register, &[open(chair)?])?;
     }
+    Ok(register)
+}
 
-    /// Whether `after` is an allowed state following an allocation failure, given the state before
-    /// the call and the state that the call leaves with ample memory.
-    fn may_stand(&self, _alloc: Global, before: &[u64], after: &[u64], _ample: &[u64]) -> bool {
-        before == after
+// Nine members and four commands, which fill the first room of both lists: chairs 1, 3 and 4 are
+// open, and BBB is suspended.
+fn with_four(alloc: Global) -> Result<Register, Refusal> {
+    let mut members = Vec::new(alloc);
+    for code in [
+        "AAA", "BBB", "CCA", "CCB", "CCC", "CCD", "CCE", "CCF", "CCG",
+    ] {
+        members.push(member(code, 1)?)?;
     }
-
-    /// Whether the call, repeated on the state that an allocation failure left, does what it would
-    /// have done at first.
-    fn is_asked_again(&self) -> bool {
-        true
-    }
+    let mut register = Register::start(alloc, members.as_slice(), 100)?;
+    let suspend = Command::Suspend(MemberCode::new(b"BBB")?);
+    apply_all(&mut register, &[open(1)?, open(3)?, open(4)?, suspend])?;
+    Ok(register)
 }
 
-// The state after the call has been made with ample memory.
-fn with_memory<C: Call, R: Threads + Wait + Sync>(
-    rt: &R,
-    alloc: Global,
-    call: &C,
-) -> Option<Vec<u64>> {
-    let mut state = call.prepare(alloc)?;
-    if call.call(rt, alloc, &mut state) != call.wanted() {
-        return None;
-    }
-    call.shown(alloc, &state)
+// Each command, as that register accepts it, with the number of lists that it makes grow.
+fn each_command() -> Result<[(Command, usize); 8], Refusal> {
+    let (first, second) = (MemberCode::new(b"AAA")?, MemberCode::new(b"BBB")?);
+    let admitted = MemberCode::new(b"DDD")?;
+    Ok([
+        (open(2)?, 1),
+        (Command::Close(ChairId::new(1)?), 1),
+        (seat("AAA", 1)?, 1),
+        (set_votes("AAA", 7)?, 1),
+        (Command::Suspend(first), 1),
+        (Command::Restore(second), 1),
+        (Command::Withdraw(second), 1),
+        (Command::Admit(admitted, Votes::new(7)?), 2),
+    ])
 }
 
-// Whether one of `tries` growths is refused.
-fn is_refused(alloc: Global, tries: usize) -> bool {
-    for _ in 0..tries {
-        let tried: Result<Vec<u8>, AllocError> = Vec::with_capacity(alloc, 8);
-        if tried.is_err() {
-            return true;
-        }
-    }
-    false
-}
-
-fn hold(alloc: Global, number: usize) -> Option<Vec<u8>> {
-    Vec::with_capacity(alloc, COUNTING.saturating_add(number)).ok()
-}
-
-// Whether anything refuses growths at all.
-fn can_refuse(alloc: Global) -> Option<bool> {
-    let block = hold(alloc, 1)?;
-    let refused = is_refused(alloc, 1);
-    drop(block);
-    Some(refused)
-}
-
-// Makes a call with one growth refused: its result, and whether it reached that growth. If it did,
-// none of `number` growths after it is refused.
-fn call_refused<C: Call, R: Threads + Wait + Sync>(
-    rt: &R,
-    alloc: Global,
-    call: &C,
-    state: &mut C::State,
-    number: usize,
-) -> Option<(u8, bool)> {
-    let block = hold(alloc, number)?;
-    let answer = call.call(rt, alloc, state);
-    let met = !is_refused(alloc, number);
-    drop(block);
-    Some((answer, met))
-}
-
-// Whether a call that ran out of memory has, repeated with memory, the result that it would have
-// had at first.
-fn is_mended<C: Call, R: Threads + Wait + Sync>(
-    rt: &R,
-    alloc: Global,
-    call: &C,
-    state: &mut C::State,
-    ample: &[u64],
-) -> Option<bool> {
-    if !call.is_asked_again() {
-        return Some(true);
-    }
-    let answer = call.call(rt, alloc, state);
-    let shown = call.shown(alloc, state)?;
-    Some(answer == call.wanted() && shown.as_slice() == ample)
-}
-
-// Whether the result is OutOfMemory and the state after it is allowed, or result and state are
-// those with ample memory.
-fn is_right<C: Call, R: Threads + Wait + Sync>(
-    rt: &R,
-    alloc: Global,
-    call: &C,
-    state: &mut C::State,
-    answer: u8,
-    before: &[u64],
-    ample: &[u64],
-) -> Option<bool> {
-    let after = call.shown(alloc, state)?;
-    if answer != OUT_OF_MEMORY {
-        return Some(answer == call.wanted() && after.as_slice() == ample);
-    }
-    if !call.may_stand(alloc, before, after.as_slice(), ample) {
-        return Some(false);
-    }
-    is_mended(rt, alloc, call, state, ample)
-}
-
-// Makes a call with one growth refused, on a new state: whether result and state are right, whether
-// it reached that growth, and its result.
-fn try_once<C: Call, R: Threads + Wait + Sync>(
-    rt: &R,
-    alloc: Global,
-    call: &C,
-    number: usize,
-    ample: &[u64],
-) -> Option<(bool, bool, u8)> {
-    let mut state = call.prepare(alloc)?;
-    let before = call.shown(alloc, &state)?;
-    let (answer, met) = call_refused(rt, alloc, call, &mut state, number)?;
-    let right = is_right(
-        rt,
-        alloc,
-        call,
-        &mut state,
-        answer,
-        before.as_slice(),
-        ample,
-    )?;
-    Some((right && (met || answer != OUT_OF_MEMORY), met, answer))
-}
-
-// Whether each growth refused in turn gives OutOfMemory and an allowed state, until the call makes
-// no more growths, and whether it makes as many as it should.
-fn is_right_throughout<C: Call, R: Threads + Wait + Sync>(
-    rt: &R,
-    alloc: Global,
-    call: &C,
-) -> Option<bool> {
-    let ample = with_memory(rt, alloc, call)?;
-    if !can_refuse(alloc)? {
-        let (right, _, _) = try_once(rt, alloc, call, 1, ample.as_slice())?;
-        return Some(right);
-    }
-    for number in 1..MOST {
-        let (right, met, answer) = try_once(rt, alloc, call, number, ample.as_slice())?;
-        if !right || !met {
-            return Some(right && number > call.growths());
-        }
-        if answer != OUT_OF_MEMORY {
-            return Some(false);
-        }
-    }
-    Some(false)
-}
-
-/// Whether a call behaves as it should with each of its growths refused, and makes any.
-pub(crate) fn survives<C: Call, R: Threads + Wait + Sync>(rt: &R, alloc: Global, call: &C) -> bool {
-    is_right_throughout(rt, alloc, call).unwrap_or(false)
-}
-
-fn is_right_without<C: Call, R: Threads + Wait + Sync>(
-    rt: &R,
-    alloc: Global,
-    call: &C,
-) -> Option<bool> {
-    let ample = with_memory(rt, alloc, call)?;
-    let (right, met, _) = try_once(rt, alloc, call, 1, ample.as_slice())?;
-    Some(right && (!met || !can_refuse(alloc)?))
-}
-
-/// Whether a call makes no growth, and has the usual result while the next growth would be refused.
-pub(crate) fn asks_for_none<C: Call, R: Threads + Wait + Sync>(
-    rt: &R,
-    alloc: Global,
-    call: &C,
-) -> bool {
-    is_right_without(rt, alloc, call).unwrap_or(false)
-}
-
-// Catches a `start` or `apply` that returns OutOfMemory though nothing was refused, or that doesn't
-// succeed when it is repeated with memory. Contracts allow OutOfMemory at any time.
+// Catches a `start`, or an `apply` of one kind of command, that answers OutOfMemory with memory.
 #[test]
 fn register_calls(rt: HostRuntime) -> Result<(), Fail> {
-    assert!(rt; survives(&rt, rt.alloc(), &Starting));
-    for place in 0..8 {
+    let alloc = rt.alloc();
+    let begin = |_: &mut ()| Ok(Register::start(alloc, &two_members()?, 100)?.accepted());
+    assert!(rt; survives(alloc, 2, |_| Ok(()), begin, Ok(0))?);
+    for (command, growths) in each_command()? {
+        let apply = |register: &mut Register| register.apply(command);
         assert!(rt;
-            survives(&rt, rt.alloc(), &Applying { place }),
-            "command {place}"
+            survives(alloc, growths, with_four, apply, Ok(5))?,
+            "{command:?}"
         );
     }
     Ok(())
 }
 
-// Catches a `Machine::step` or `run` that returns OutOfMemory though nothing was refused.
+// A register, and the number of events that a run over it has done.
+#[derive(Drop)]
+struct Ran {
+    register: Option<Register>,
+    done: usize,
+}
+
+// Runs the events that are left, and returns the number of accepted commands.
+fn run_rest(alloc: Global, ran: &mut Ran, events: &[Event]) -> Result<u32, Refusal> {
+    let register = ran.register.take().ok_or(Refusal::BadLimit)?;
+    let (_, rest) = events.split_at_checked(ran.done).ok_or(Refusal::BadLimit)?;
+    match run(alloc, register, 2, rest) {
+        Ok(log) => Ok(log.machine.register().accepted()),
+        Err(fault) => {
+            ran.register = Some(fault.register);
+            ran.done = fault.done;
+            Err(fault.why)
+        }
+    }
+}
+
+// Catches a `step` or a `run` that answers OutOfMemory with memory, also a `run` of the events that
+// are left after memory ran out.
 #[test]
 fn machine_calls(rt: HostRuntime) -> Result<(), Fail> {
-    assert!(rt; survives(&rt, rt.alloc(), &Stepping));
-    assert!(rt; survives(&rt, rt.alloc(), &Running));
+    let alloc = rt.alloc();
+    let submit = Event::Submit(open(5)?);
+    let machine = |alloc| Machine::start(with_commands(alloc, 4)?, 2).map_err(|(_, why)| why);
+    let step = |machine: &mut Machine| machine.step(submit);
+    assert!(rt; survives(alloc, 1, machine, step, Ok(Note::Accepted(5)))?);
+    let events = [Event::Reader(1), submit, Event::Publish];
+    let begun = |alloc| Ok(Ran {
+        register: Some(with_commands(alloc, 4)?),
+        done: 0,
+    });
+    let run = |ran: &mut Ran| run_rest(alloc, ran, &events);
+    assert!(rt; survives(alloc, 2, begun, run, Ok(5))?);
     Ok(())
 }
 
-// Catches a `HalfSums::new` or `Evaluator::new` that returns OutOfMemory though nothing was
-// refused, or never succeeds.
+// Catches a constructor of lists that answers OutOfMemory with memory.
 #[test]
 fn counting_calls(rt: HostRuntime) -> Result<(), Fail> {
-    assert!(rt; survives(&rt, rt.alloc(), &Halving));
-    assert!(rt; survives(&rt, rt.alloc(), &Counting));
+    let alloc = rt.alloc();
+    let ordered = |_: &mut ()| Ok(OrderedSums::new(alloc)?.ascending().len());
+    assert!(rt; survives(alloc, 2, |_| Ok(()), ordered, Ok(1))?);
+    let half = |_: &mut ()| Ok(HalfSums::new(alloc)?.ascending().len());
+    assert!(rt; survives(alloc, 3, |_| Ok(()), half, Ok(1))?);
+    let evaluator = |_: &mut ()| Ok(Evaluator::new(alloc)?.sheet().chairs());
+    assert!(rt; survives(alloc, 4, |_| Ok(()), evaluator, Ok(0))?);
     Ok(())
 }
 
-// Catches a `start`, `submit`, `Analyst::new` or `audit` that returns OutOfMemory though nothing
-// was refused, or that doesn't succeed when it is repeated with memory.
+/// The writer and the readers of a new board over `register`.
+pub(crate) fn board_over(
+    alloc: Global,
+    register: Register,
+    readers: u8,
+) -> Result<(Writer, Vec<Reader>), Refusal> {
+    start(alloc, register, readers).map_err(|(_, why)| why)
+}
+
+/// Submits the command that opens a chair.
+pub(crate) fn submit_open(writer: &mut Writer, chair: u8) -> Result<u32, Refusal> {
+    match open(chair) {
+        Ok(command) => writer.submit(command),
+        Err(why) => Err(why),
+    }
+}
+
+/// The last reader of a new board over `register`, whose number is that of its readers.
+pub(crate) fn last_reader(
+    alloc: Global,
+    register: Register,
+    readers: u8,
+) -> Result<Reader, Refusal> {
+    let (_writer, mut all) = board_over(alloc, register, readers)?;
+    all.pop().ok_or(Refusal::BadReader)
+}
+
+/// An analyst of a reader.
+pub(crate) fn analyst_of(alloc: Global, reader: Reader) -> Result<Analyst, (Reader, Refusal)> {
+    if !reader.at_rest() {
+        return Err((reader, Refusal::BadReader));
+    }
+    Analyst::new(alloc, reader)
+}
+
+// Makes a call that takes a value, and keeps the value that a refusal gives back.
+fn call_with<V: Drop, T: Drop, F: FnOnce(V) -> Result<T, (V, Refusal)>>(
+    kept: &mut Option<V>,
+    call: F,
+) -> Result<T, Refusal>
+    requires { F.IsAlwaysCallable call }
+{
+    match call(kept.take().ok_or(Refusal::BadLimit)?) {
+        Ok(made) => Ok(made),
+        Err((value, why)) => {
+            *kept = Some(value);
+            Err(why)
+        }
+    }
+}
+
+// The number of readers of a board that starts over the kept register.
+fn start_board(alloc: Global, kept: &mut Option<Register>, readers: u8) -> Result<usize, Refusal> {
+    let (_writer, all) = call_with(kept, |register| start(alloc, register, readers))?;
+    Ok(all.len())
+}
+
+// The number of the kept reader, of which an analyst is made.
+fn make_analyst(alloc: Global, kept: &mut Option<Reader>) -> Result<u8, Refusal> {
+    let analyst = call_with(kept, |reader| analyst_of(alloc, reader))?;
+    Ok(analyst.into_reader().number())
+}
+
+// What one reader reads before and after two commands; `older` swaps the two sheets.
+fn two_readings(alloc: Global, older: bool) -> Result<Vec<Vec<Sheet>>, Refusal> {
+    let (before, after) = (register(alloc)?.sheet(), with_commands(alloc, 2)?.sheet());
+    let sheets = if older {
+        [after, before]
+    } else {
+        [before, after]
+    };
+    let mut readings = Vec::new(alloc);
+    readings.push(Vec::from_slice(alloc, &sheets)?)?;
+    Ok(readings)
+}
+
+// What an audit of these readings and the same commands finds.
+fn audit_all(alloc: Global, readings: &[Vec<Sheet>]) -> Result<Option<AuditFault>, Refusal> {
+    let journal = [open(1)?, seat("BBB", 1)?];
+    match audit(alloc, &two_members()?, &journal, &[1, 2], readings) {
+        Ok(()) => Ok(None),
+        Err(AuditFault::OutOfMemory) => Err(Refusal::OutOfMemory),
+        Err(fault) => Ok(Some(fault)),
+    }
+}
+
+// Catches a call of the board that answers OutOfMemory with memory, also if only for some number of
+// readers, and an audit that does.
 #[test]
 fn board_calls(rt: HostRuntime) -> Result<(), Fail> {
-    assert!(rt; survives(&rt, rt.alloc(), &Opening));
-    assert!(rt; survives(&rt, rt.alloc(), &Submitting));
-    assert!(rt; survives(&rt, rt.alloc(), &Analysing));
-    for older in [false, true] {
-        assert!(rt; survives(&rt, rt.alloc(), &Auditing { older }), "{older}");
+    let alloc = rt.alloc();
+    for readers in 1..=4u8 {
+        let kept = |alloc| Ok(Some(register(alloc)?));
+        let begin = |kept: &mut Option<Register>| start_board(alloc, kept, readers);
+        assert!(rt; survives(alloc, 3, kept, begin, Ok(usize::from(readers)))?);
+        let last = |alloc| Ok(Some(last_reader(alloc, register(alloc)?, readers)?));
+        let analyse = |kept: &mut Option<Reader>| make_analyst(alloc, kept);
+        assert!(rt; survives(alloc, 4, last, analyse, Ok(readers))?);
+    }
+    let board = |alloc| board_over(alloc, register(alloc)?, 2);
+    let submit = |board: &mut (Writer, Vec<Reader>)| submit_open(&mut board.0, 1);
+    assert!(rt; survives(alloc, 1, board, submit, Ok(1))?);
+    let mismatch = AuditFault::Mismatch {
+        reader: 1,
+        place: 2,
+    };
+    for (older, found) in [(false, None), (true, Some(mismatch))] {
+        let readings = |alloc| two_readings(alloc, older);
+        let check = |readings: &mut Vec<Vec<Sheet>>| audit_all(alloc, readings.as_slice());
+        assert!(rt; survives(alloc, 4, readings, check, Ok(found))?);
     }
     Ok(())
 }
 
-// Catches a run that returns OutOfMemory though nothing was refused, or another result after a
-// refused growth.
+// A gate that is closed to the first reader.
+struct ClosedGate;
+
+impl Gate for ClosedGate {
+    fn pass(&self, at: Place) -> Result<(), GateClosed> {
+        match at {
+            Place::BeforeReading(1, _) => Err(GateClosed),
+            _ => Ok(()),
+        }
+    }
+}
+
+// Serves with that gate. Returns the fault.
+fn serve_closed<R: Threads + Wait + Sync>(
+    rt: &R,
+    alloc: Global,
+    out: &mut Vec<u8>,
+) -> Result<(), Refusal>
+    requires shared { IsSync R.row }
+{
+    let mut input = RecordingReader::new(THREE_PUBLICATIONS.input.as_bytes());
+    out.clear();
+    match serve(rt, alloc, &ClosedGate, &mut input, out, 1_000) {
+        Ok(_served) => Ok(()),
+        Err(fault) => Err(Refusal::from_code(fault.code).unwrap_or(Refusal::BadLimit)),
+    }
+}
+
+// Catches a `serve` that answers GateClosed though a thread could not be started, or the other way
+// round: its contract allows both. The built program has no gate, so `tests/memory` can't.
 #[test]
 fn whole_runs(rt: HostRuntime) -> Result<(), Fail> {
-    assert!(rt; survives(&rt, rt.alloc(), &Replaying));
-    assert!(rt; survives(&rt, rt.alloc(), &Tracing));
-    assert!(rt; survives(&rt, rt.alloc(), &Serving));
-    assert!(rt; survives(&rt, rt.alloc(), &ServingClosed));
-    assert!(rt; survives(&rt, rt.alloc(), &Programming));
-    Ok(())
-}
-
-// Catches a call that allocates: no contract states that a call needs no memory.
-#[test]
-fn calls_without_memory(rt: HostRuntime) -> Result<(), Fail> {
-    assert!(rt; asks_for_none(&rt, rt.alloc(), &Valuing));
-    for commands in [2, 4, 5] {
-        assert!(rt;
-            asks_for_none(&rt, rt.alloc(), &Viewing { commands }),
-            "{commands} commands"
-        );
-    }
-    assert!(rt; asks_for_none(&rt, rt.alloc(), &Evaluating));
-    assert!(rt; asks_for_none(&rt, rt.alloc(), &Listing));
-    assert!(rt; asks_for_none(&rt, rt.alloc(), &Turning));
-    assert!(rt; asks_for_none(&rt, rt.alloc(), &Publishing));
-    assert!(rt; asks_for_none(&rt, rt.alloc(), &ReadingWords));
-    assert!(rt; asks_for_none(&rt, rt.alloc(), &Asking));
+    let alloc = rt.alloc();
+    let room = |alloc| Ok(Vec::with_capacity(alloc, 64)?);
+    let serve = |out: &mut Vec<u8>| serve_closed(&rt, alloc, out);
+    assert!(rt; survives(alloc, 1, room, serve, Err(Refusal::GateClosed))?);
     Ok(())
 }

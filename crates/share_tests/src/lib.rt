@@ -4,4 +4,8 @@
 #[cfg(test)]
 mod boards;
 #[cfg(test)]
+mod rows;
+#[cfg(test)]
+mod schedules;
+#[cfg(test)]
 mod threads;

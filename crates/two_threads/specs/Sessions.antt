@@ -2,11 +2,10 @@
 use Rattle.std.specs.Prelude.{◌≡◌, ℕ, List, [], ◌∷◌, map, All}
 use Rattle.council_core.specs.Rolls.{Opening}
 use Rattle.council_core.specs.Sequential.{AreLegalRecords}
-use Rattle.council_core.specs.declared.commands.Command.{Command}
 use Rattle.majority_rule.specs.declared.majorities.Majority.TheVariants.{EightyFive}
 use Rattle.power_index.specs.Indices.{AreIndices}
 use Rattle.two_copy_steps.specs.declared.views.Stage.TheVariants.{AtRest}
-use Rattle.board_share.specs.Readers.{IsLegalSheet, ReaderSeen}
+use Rattle.board_share.specs.Readers.{IsLegalRecord, IsLegalSheet, ReaderSeen}
 use Rattle.two_threads.specs.declared.sessions.Session.{Session}
 
 -- a reader with no readings
@@ -14,16 +13,10 @@ pub record IsNew (p : ReaderSeen) : Type 0 where
   pub rest : p.stage ≡ AtRest
   pub none : p.readings ≡ []
 
--- sheets that one reader can read of some legal list of commands and its cuts: each is the sheet of
--- a cut, and fronts never decrease
-abbrev pub IsRecord : Opening → List (List ℕ) → Type 0
-IsRecord members sheets =
-    (list : List Command) × (cuts : List ℕ) × AreLegalRecords members list cuts (sheets ∷ [])
-
--- the sheets of each reader are such a record; journal, cuts and all readings together are legal
+-- the sheets of each reader are a legal record; journal, cuts and all readings together are legal
 -- records; and the last answer has the indices of a legal register's sheet
 pub record IsSession (members : Opening) (session : Session) : Type 0 where
-  pub each : All (λ sheets. IsRecord members sheets.items) session.readings.items
+  pub each : All (λ sheets. IsLegalRecord members sheets.items) session.readings.items
   pub together : AreLegalRecords members session.journal.items (0 ∷ session.cuts.items)
       (map (λ sheets. sheets.items) session.readings.items)
   pub legal : IsLegalSheet members session.answer.sheet

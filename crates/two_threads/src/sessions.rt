@@ -1,6 +1,7 @@
 //! A board with its threads, from the start to the audit.
 ghost use Rattle.std.specs.Prelude.{◌≡◌, ◌∷◌, [], length, IfOk};
-ghost use Rattle.two_threads.specs.Sessions.{IsNew, IsRecord, IsSession};
+ghost use Rattle.board_share.specs.Readers.{IsLegalRecord};
+ghost use Rattle.two_threads.specs.Sessions.{IsNew, IsSession};
 
 use crate::faults::SessionFault;
 use crate::work::{
@@ -89,18 +90,18 @@ fn ask_beside<R: Threads + Sync>(
     analyst: Analyst,
 ) -> Result<(Vec<Sheet>, AskedReader), SessionFault>
     requires new { IsNew second × IsNew analyst.reader }
-    ensures second { IfOk result (λ r. IsRecord second.opening r.0.items) }
-    ensures asked { IfOk result (λ r. IsRecord analyst.reader.opening r.1.sheets.items) }
+    ensures second { IfOk result (λ r. IsLegalRecord second.opening r.0.items) }
+    ensures asked { IfOk result (λ r. IsLegalRecord analyst.reader.opening r.1.sheets.items) }
     ensures opening { IfOk result (λ r. r.1.analyst.reader.opening ≡ analyst.reader.opening) }
 {
     let read = move || -> Result<Vec<Sheet>, SessionFault>
         requires { IsNew second }
-        ensures { IfOk result (λ sheets. IsRecord second.opening sheets.items) }
+        ensures { IfOk result (λ sheets. IsLegalRecord second.opening sheets.items) }
     { read_often(alloc, second) };
     let ask = move || -> Result<AskedReader, SessionFault>
         requires { IsNew analyst.reader }
         ensures opening { IfOk result (λ a. a.analyst.reader.opening ≡ analyst.reader.opening) }
-        ensures record { IfOk result (λ a. IsRecord analyst.reader.opening a.sheets.items) }
+        ensures record { IfOk result (λ a. IsLegalRecord analyst.reader.opening a.sheets.items) }
     { ask_often(alloc, analyst) };
     let (sheets, asked) = join(rt, read, ask);
     Ok((sheets?, asked?))
@@ -115,19 +116,19 @@ fn read_beside<R: Threads + Sync>(
     analyst: Analyst,
 ) -> Result<Brought, SessionFault>
     requires new { IsNew first × IsNew second × IsNew analyst.reader }
-    ensures first { IfOk result (λ b. IsRecord first.opening b.first.items) }
-    ensures second { IfOk result (λ b. IsRecord second.opening b.second.items) }
-    ensures asked { IfOk result (λ b. IsRecord analyst.reader.opening b.asked.sheets.items) }
+    ensures first { IfOk result (λ b. IsLegalRecord first.opening b.first.items) }
+    ensures second { IfOk result (λ b. IsLegalRecord second.opening b.second.items) }
+    ensures asked { IfOk result (λ b. IsLegalRecord analyst.reader.opening b.asked.sheets.items) }
     ensures opening { IfOk result (λ b. b.asked.analyst.reader.opening ≡ analyst.reader.opening) }
 {
     let read = move || -> Result<Vec<Sheet>, SessionFault>
         requires { IsNew first }
-        ensures { IfOk result (λ sheets. IsRecord first.opening sheets.items) }
+        ensures { IfOk result (λ sheets. IsLegalRecord first.opening sheets.items) }
     { read_often(alloc, first) };
     let others = move || -> Result<(Vec<Sheet>, AskedReader), SessionFault>
         requires { IsNew second × IsNew analyst.reader }
-        ensures second { IfOk result (λ r. IsRecord second.opening r.0.items) }
-        ensures asked { IfOk result (λ r. IsRecord analyst.reader.opening r.1.sheets.items) }
+        ensures second { IfOk result (λ r. IsLegalRecord second.opening r.0.items) }
+        ensures asked { IfOk result (λ r. IsLegalRecord analyst.reader.opening r.1.sheets.items) }
         ensures opening { IfOk result (λ r. r.1.analyst.reader.opening ≡ analyst.reader.opening) }
     { ask_beside(rt, alloc, second, analyst) };
     let (sheets, rest) = join(rt, read, others);
@@ -149,9 +150,9 @@ fn run_all<R: Threads + Wait + Sync>(
     requires writer { seats.writer.ledger.journal ≡ [] }
     requires new { IsNew seats.first × IsNew seats.second × IsNew seats.analyst.reader }
     ensures journal { IfOk result (λ r. r.0.journal.items ≡ commands.now) }
-    ensures first { IfOk result (λ r. IsRecord seats.first.opening r.1.first.items) }
-    ensures second { IfOk result (λ r. IsRecord seats.second.opening r.1.second.items) }
-    ensures asked { IfOk result (λ r. IsRecord seats.analyst.reader.opening r.1.asked.sheets.items) }
+    ensures first { IfOk result (λ r. IsLegalRecord seats.first.opening r.1.first.items) }
+    ensures second { IfOk result (λ r. IsLegalRecord seats.second.opening r.1.second.items) }
+    ensures asked { IfOk result (λ r. IsLegalRecord seats.analyst.reader.opening r.1.asked.sheets.items) }
     ensures opening { IfOk result (λ r. r.1.asked.analyst.reader.opening ≡ seats.analyst.reader.opening) }
 {
     let Seats {
@@ -166,9 +167,9 @@ fn run_all<R: Threads + Wait + Sync>(
     { write_all(rt, alloc, writer, commands) };
     let read = move || -> Result<Brought, SessionFault>
         requires { IsNew first × IsNew second × IsNew analyst.reader }
-        ensures first { IfOk result (λ b. IsRecord first.opening b.first.items) }
-        ensures second { IfOk result (λ b. IsRecord second.opening b.second.items) }
-        ensures asked { IfOk result (λ b. IsRecord analyst.reader.opening b.asked.sheets.items) }
+        ensures first { IfOk result (λ b. IsLegalRecord first.opening b.first.items) }
+        ensures second { IfOk result (λ b. IsLegalRecord second.opening b.second.items) }
+        ensures asked { IfOk result (λ b. IsLegalRecord analyst.reader.opening b.asked.sheets.items) }
         ensures opening { IfOk result (λ b. b.asked.analyst.reader.opening ≡ analyst.reader.opening) }
     { read_beside(rt, alloc, first, second, analyst) };
     let (written, brought) = join(rt, write, read);

@@ -2,8 +2,8 @@
 ghost use Rattle.std.specs.Prelude.{◌≡◌, [], vec_len, IfOk};
 ghost use Rattle.majority_rule.specs.declared.majorities.Majority.TheVariants.{EightyFive};
 ghost use Rattle.power_index.specs.Indices.{AreIndices};
-ghost use Rattle.board_share.specs.Readers.{IsLegalSheet};
-ghost use Rattle.two_threads.specs.Sessions.{IsNew, IsRecord};
+ghost use Rattle.board_share.specs.Readers.{IsLegalRecord, IsLegalSheet};
+ghost use Rattle.two_threads.specs.Sessions.{IsNew};
 
 use crate::faults::SessionFault;
 use board_share::{Analyst, Reader, Writer};
@@ -62,7 +62,7 @@ pub(crate) fn write_all<R: Wait>(
 // decrease.
 pub(crate) fn read_often(alloc: Global, mut reader: Reader) -> Result<Vec<Sheet>, SessionFault>
     requires new { IsNew reader }
-    ensures record { IfOk result (λ sheets. IsRecord reader.opening sheets.items) }
+    ensures record { IfOk result (λ sheets. IsLegalRecord reader.opening sheets.items) }
     ensures count { IfOk result (λ sheets. vec_len sheets ≡ READINGS) }
 {
     let mut sheets = Vec::new(alloc);
@@ -76,7 +76,7 @@ pub(crate) fn read_often(alloc: Global, mut reader: Reader) -> Result<Vec<Sheet>
 pub(crate) fn ask_often(alloc: Global, mut analyst: Analyst) -> Result<AskedReader, SessionFault>
     requires new { IsNew analyst.reader }
     ensures opening { IfOk result (λ a. a.analyst.reader.opening ≡ analyst.reader.opening) }
-    ensures record { IfOk result (λ a. IsRecord analyst.reader.opening a.sheets.items) }
+    ensures record { IfOk result (λ a. IsLegalRecord analyst.reader.opening a.sheets.items) }
     ensures count { IfOk result (λ a. vec_len a.sheets ≡ READINGS) }
 {
     let mut sheets = Vec::new(alloc);

@@ -1,14 +1,14 @@
-use Rattle.board_share.proofs.Filling.{may_store, word_becomes, same_after, word_stored}
+use Rattle.two_copy_steps.specs.declared.views.Phase.TheVariants.{Filling}
+use Rattle.board_share.proofs.Publications.{becomes, filling_at, stored}
 use Rattle.board_share.proofs.writer_steps.store_word.Goals as goal
 
-pub store-requires-clause-may : goal.store-requires-clause-may
-store-requires-clause-may c = may_store _ _ _ _ _ _ c.requires.fills c.requires.within _ c.place.ensures.same
-
 pub store-requires-clause-becomes : goal.store-requires-clause-becomes
-store-requires-clause-becomes c = word_becomes _ _ _ _ _ _ c.requires.fills c.requires.within _ c.sheet_word.ensures.same
-
-pub store-requires-clause-alike : goal.store-requires-clause-alike
-store-requires-clause-alike c = same_after _ _ _ _ _ _ c.requires.fills c.requires.within _
+store-requires-clause-becomes g c =
+    becomes _ _ _ _ _ (Filling c.args.k)
+    (filling_at _ _ _ _ _ _ c.requires.within c.requires.fills.publishing) g.J.Staged.list c.requires.list
+    (λ n. c.sheet_word.result) (λ n. c.sheet_word.ensures.same)
 
 pub returns-clause-stored : goal.returns-clause-stored
-returns-clause-stored c = word_stored _ _ _ _ _ _ c.requires.fills c.requires.within _ _ _ c.store.ensures.step
+returns-clause-stored g c start steps out p =
+    stored _ _ _ _ _ _ (filling_at _ _ _ _ _ _ c.requires.within p) g.J.Staged.list c.requires.list _ _ _ _
+    c.store.ensures.step

@@ -35,7 +35,7 @@ records-preserved c =
     let fewer = ap length next in
     let long : c.len.result ≡ length c.records.members.items = search rules in
     let not_full : length c.records.members.items ≢ 256 = λ e. c.if-len-eq-MAX_MEMBERS.false (long ∙ e) in
-    let pushed = c.in-Ok.ensures.items in
+    let pushed = c.in_ok-push.ensures.items in
     let whole = opening-member c.records.members.items c.records.number c.records.script _ _ next c.in-Some.member (sym c.if-is_mark_row.ensures) not_full (sym c.in-Some.ensures) in
     record {
       same = c.records.invariant.same ∙ whole ∙ ap (λ ms. opening_of ms (c.records.number + 1) c.next.new.self) (sym pushed);

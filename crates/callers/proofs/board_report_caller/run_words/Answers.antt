@@ -1,11 +1,11 @@
 use Rattle.std.specs.Prelude.{◌≡◌, ℕ, List, [], Some}
 use Rattle.std.proofs.Common.{subst, inl}
-use Rattle.board_words.specs.declared.calls.Call.{Call}
+use Rattle.board_report.specs.declared.calls.Invocation.{Invocation}
 use Rattle.board_report.specs.Programs.{CallExits, written_streams}
 use Rattle.callers.proofs.board_report_caller.run_words.Goals as goal
 
 -- the bytes written to streams that were empty
-from-empty : (call : Call) (input : List ℕ) (status : ℕ) (out err says names : List ℕ) → out ≡ [] → err ≡ []
+from-empty : (call : Invocation) (input : List ℕ) (status : ℕ) (out err says names : List ℕ) → out ≡ [] → err ≡ []
     → CallExits call input status (written_streams (Some out) (Some says) (Some err) (Some names))
     → CallExits call input status (written_streams (Some []) (Some says) (Some []) (Some names))
 from-empty call input status out err says names no_out no_err exits =

@@ -1,7 +1,7 @@
 use Rattle.std.proofs.Common.{◌≡◌, ◌∷◌, [], Vec, Global}
 use Rattle.std.proofs.lemmas.List.Elements.{All-cons, All-nil}
 use Rattle.council_core.specs.declared.sheets.Sheet.{Sheet}
-use Rattle.two_threads.specs.Sessions.{IsRecord}
+use Rattle.board_share.specs.Readers.{IsLegalRecord}
 use Rattle.two_threads.proofs.sessions.hold.Goals as goal
 
 pub returns-clause-session : goal.returns-clause-session
@@ -10,7 +10,7 @@ returns-clause-session g c =
     let read = c.in_ok-written.ensures in
     let brought = c.in_ok-written.brought in
     let last = brought.asked.sheets in
-    let is_record : Vec Sheet Global → Type 0 = λ (sheets : Vec Sheet Global). IsRecord c.args.members.now sheets.items in
+    let is_record : Vec Sheet Global → Type 0 = λ (sheets : Vec Sheet Global). IsLegalRecord c.args.members.now sheets.items in
     record {
       each = rw c.in_ok-readings.ensures.items (All-cons is_record brought.first (brought.second ∷ last ∷ []) (rw openings.first at read.first)
           (All-cons is_record brought.second (last ∷ []) (rw openings.second at read.second)

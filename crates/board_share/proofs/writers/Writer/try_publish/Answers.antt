@@ -1,8 +1,27 @@
-use Rattle.board_share.proofs.Tries.{ended, given_up}
+use Rattle.std.proofs.Common.{◌∙◌, ◌-◌, Bool, List, length, sym, ap, subst}
+use Rattle.std.specs.Arc.{arc_value}
+use Rattle.two_copy_steps.specs.declared.views.WriterView.{WriterView}
+use Rattle.board_share.specs.Writers.{IsWriter}
+use Rattle.board_share.proofs.WriterSeats.{published, gave_up, held, published_seat}
 use Rattle.board_share.proofs.writers.Writer.try_publish.Goals as goal
 
-pub returns-clause-steps : goal.returns-clause-steps
-returns-clause-steps c pending = ended c.self.inside.words _ _ c.self.view_is c.publish_all.ensures.idle c.publish_all.ensures.knows _ c.publish_all.ensures.steps
+pub returns-in_err-publish_all-clause-gave_up : goal.returns-in_err-publish_all-clause-gave_up
+returns-in_err-publish_all-clause-gave_up c =
+    gave_up _ _ _ _ _ _ c.self.invariant.0 _ c.self.view_is _ _ _ c.from_residual.result
+    c.in_err-publish_all.ensures.blocking
 
-pub returns-clause-gave_up : goal.returns-clause-gave_up
-returns-clause-gave_up c = given_up c.self.inside.words _ _ c.self.view_is c.publish_all.ensures.idle c.publish_all.ensures.knows _ c.publish_all.ensures.gave_up
+pub invariant_of-self-2 : goal.invariant_of-self-2
+invariant_of-self-2 c =
+    let e = c.in_ok-publish_all.ensures in
+    let h = c.self.invariant.0 in (
+      subst (λ (out : List Bool). IsWriter
+          (arc_value c.self.inside.board).shared.table_id c.publish_all.new.seat.table_id c.publish_all.new.seat.me
+          c.self.inside.register (1 - c.self.inside.side) out) (sym c.clear.ensures)
+          (published_seat _ _ _ _ _ _ h _ _ c.publish_all.new.seen_out e.table e.published e.count),
+      ap length c.journal.ensures.commands
+          ∙ ap (λ (v : WriterView). length v.state.published) (sym (held _ _ _ _ _ _ h _ _ _ _ e.published)),
+    )
+
+pub returns-clause-steps : goal.returns-clause-steps
+returns-clause-steps c pending =
+    published _ _ _ _ _ _ c.self.invariant.0 _ c.self.view_is _ c.in_ok-publish_all.ensures.published

@@ -1,0 +1,121 @@
+-- Words that ask for each call, with the limits that they say; and words that ask for none.
+use Rattle.std.proofs.Common.{◌≡◌, List, [], ◌∷◌, false, Some, codes, inl, inr, refl, rules}
+use Rattle.clap.proofs.OnLiterals.{clap_on_literals}
+use Rattle.clap.specs.Words.{Row, Text, one_of, subcommand_of, takes}
+use Rattle.std.specs.Option.{option_map_or}
+use Rattle.clap.specs.declared.error.kind.ErrorKind.TheVariants.{DisplayHelp}
+use Rattle.board_report.specs.Calls.{AreNotTaken, AskText, Asks, HaveFault, Says}
+use Rattle.board_report.specs.Commands.{IsTaken, board_app}
+use Rattle.board_report.specs.declared.calls.Invocation.TheVariants.{Replay, Serve, Trace}
+
+abbrev pub plain : Text → List Text
+plain name = codes "board" ∷ name ∷ []
+
+abbrev with_limits : Text → List Text
+with_limits name = codes "board" ∷ name ∷ codes "--readers" ∷ codes "4" ∷ codes "--journal=70" ∷ []
+
+abbrev with_journal : List Text
+with_journal = codes "board" ∷ codes "serve" ∷ codes "--journal" ∷ codes "70" ∷ []
+
+-- what clap finds for the command
+abbrev rows : List Text → List Row
+rows words = option_map_or (λ p. p.1) (subcommand_of board_app words) []
+
+replay_taken : IsTaken (plain (codes "replay")) (codes "replay") (rows (plain (codes "replay")))
+unfolding clap_on_literals
+replay_taken = record { taken = refl; found = refl }
+
+trace_taken : IsTaken (with_limits (codes "trace")) (codes "trace") (rows (with_limits (codes "trace")))
+unfolding clap_on_literals
+trace_taken = record { taken = refl; found = refl }
+
+serve_taken : IsTaken with_journal (codes "serve") (rows with_journal)
+unfolding clap_on_literals
+serve_taken = record { taken = refl; found = refl }
+
+one_reader : one_of (codes "readers") (rows (plain (codes "replay"))) ≡ Some (codes "1")
+unfolding clap_on_literals
+one_reader = refl
+
+whole_journal : one_of (codes "journal") (rows (plain (codes "replay"))) ≡ Some (codes "1000000")
+unfolding clap_on_literals
+whole_journal = refl
+
+four_readers : one_of (codes "readers") (rows (with_limits (codes "trace"))) ≡ Some (codes "4")
+unfolding clap_on_literals
+four_readers = refl
+
+short_journal : one_of (codes "journal") (rows (with_limits (codes "trace"))) ≡ Some (codes "70")
+unfolding clap_on_literals
+short_journal = refl
+
+served_journal : one_of (codes "journal") (rows with_journal) ≡ Some (codes "70")
+unfolding clap_on_literals
+served_journal = refl
+
+no_command : takes board_app (codes "board" ∷ []) ≡ false
+unfolding clap_on_literals
+no_command = refl
+
+five_readers : takes board_app (codes "board" ∷ codes "replay" ∷ codes "--readers" ∷ codes "5" ∷ []) ≡ false
+unfolding clap_on_literals
+five_readers = refl
+
+serve_with_readers : takes board_app (codes "board" ∷ codes "serve" ∷ codes "--readers" ∷ codes "2" ∷ []) ≡ false
+unfolding clap_on_literals
+serve_with_readers = refl
+
+says_one : Says 8 (codes "1") 1
+says_one = record { numeral = search rules; small = search rules; same = refl }
+
+says_four : Says 8 (codes "4") 4
+says_four = record { numeral = search rules; small = search rules; same = refl }
+
+says_seventy : Says 32 (codes "70") 70
+says_seventy = record { numeral = search rules; small = search rules; same = refl }
+
+says_million : Says 32 (codes "1000000") 1000000
+says_million = record { numeral = search rules; small = search rules; same = refl }
+
+replay_asked : Asks (plain (codes "replay")) (Replay 1 1000000)
+unfolding clap_on_literals
+replay_asked = (rows (plain (codes "replay")), replay_taken, record { readers_said = says_one; journal_said = says_million })
+
+trace_asked : Asks (with_limits (codes "trace")) (Trace 4 70)
+unfolding clap_on_literals
+trace_asked = (rows (with_limits (codes "trace")), trace_taken, record { readers_said = says_four; journal_said = says_seventy })
+
+serve_asked : Asks with_journal (Serve 70)
+unfolding clap_on_literals
+serve_asked = (rows with_journal, serve_taken, says_seventy)
+
+help_asked : AskText (codes "board" ∷ codes "--help" ∷ [])
+unfolding clap_on_literals
+help_asked = (DisplayHelp, inl refl, inl refl)
+
+help_not_taken : AreNotTaken (codes "board" ∷ codes "--help" ∷ [])
+unfolding clap_on_literals
+help_not_taken = λ none. cc none
+
+-- words that ask for a call ask for no text, and no fault is in them
+pub replay_asks_no_text : AskText (plain (codes "replay")) → ⊥
+unfolding clap_on_literals
+replay_asks_no_text h = h.1
+
+pub replay_has_no_fault : HaveFault (plain (codes "replay")) → ⊥
+unfolding clap_on_literals
+replay_has_no_fault h = h.1
+
+-- help is no fault, and a wrong word asks for no text
+help_has_no_fault : HaveFault (codes "board" ∷ codes "--help" ∷ []) → ⊥
+unfolding clap_on_literals
+help_has_no_fault (k, inl same, other) = other (inl same)
+help_has_no_fault (k, inr none, other) = none
+
+unknown_word_asks_no_text : AskText (codes "board" ∷ codes "replays" ∷ []) → ⊥
+unfolding clap_on_literals
+unknown_word_asks_no_text (k, inl same, inl help) = cc (same, help)
+unknown_word_asks_no_text (k, inl same, inr version) = cc (same, version)
+unknown_word_asks_no_text (k, inr (inl same), inl help) = cc (same, help)
+unknown_word_asks_no_text (k, inr (inl same), inr version) = cc (same, version)
+unknown_word_asks_no_text (k, inr (inr none), shown) = none

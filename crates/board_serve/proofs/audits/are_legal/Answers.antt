@@ -1,9 +1,0 @@
-use Rattle.board_serve.specs.Outcomes.{sheets_of}
-use Rattle.board_serve.proofs.AuditFacts.{found-reading}
-use Rattle.board_serve.proofs.audits.are_legal.Goals as goal
-
-pub is_mismatch-requires : goal.is_mismatch-requires
-is_mismatch-requires c =
-    let served = c.args.served.now in
-    found-reading c.audit_law.ensures.legal c.args.members.now served.journal.items served.cuts.items (sheets_of served) c.requires.starts c.requires.legal c.requires.in_order c.in-Err.fault
-    (rw (← c.as_slice-journal.ensures.value, ← c.as_slice-cuts.ensures.value, ← c.as_slice.ensures.value) c.in-Err.ensures.finding)

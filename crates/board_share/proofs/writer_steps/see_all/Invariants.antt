@@ -1,0 +1,20 @@
+use Rattle.std.proofs.Common.{◌≡◌, ◌≤◌, ◌-◌, true, length, take}
+use Rattle.two_copy_steps.specs.Actions.{all_true}
+use Rattle.two_copy_steps.specs.Publications.{StaySeen}
+use Rattle.board_share.specs.Writers.{Publishing, due_at, seeing_phase, unseen_count}
+use Rattle.board_share.proofs.writer_steps.see_all.Given as goal
+
+abbrev pub ghosts-load_pin : goal.ghosts-load_pin
+ghosts-load_pin a = record { list = due_at a.seat.now.me a._register.now.journal }
+
+abbrev pub invariant-loop-r : goal.invariant-loop-r
+invariant-loop-r l =
+    record {
+      table : l.seat.table_id ≡ l.fn.seat.table_id;
+      publishing : Publishing l.register l.fn.seat.me l.seat.me
+          (unseen_count l.fn.seen_out - unseen_count l.seen_out) l.seen_out (seeing_phase l.seen_out);
+      unseen_less : unseen_count l.seen_out ≤ unseen_count l.fn.seen_out;
+      stays : StaySeen l.fn.seen_out l.seen_out;
+      count : length l.seen_out ≡ length l.fn.seen_out;
+      first : all_true (take l.r l.seen_out) ≡ true;
+    }

@@ -1,0 +1,65 @@
+//! Runs the program over devices in memory.
+use crate::devices::{BYTE, Device, INTERRUPTED, Plan};
+use board_report::{RecordingReader, Streams, program};
+use std::alloc::{AllocError, Global};
+use std::sync::Wait;
+use std::sync::atomic::{AtomicU64, Ordering};
+use std::thread::Threads;
+
+/// The plan of standard error: all interruptions that are retried, and single bytes.
+pub(crate) const HALTING: Plan<'static> = &[(1_000, INTERRUPTED), (u64::MAX, BYTE)];
+
+/// The status of a run, the bytes that its outputs accepted, and the number of its reads.
+#[derive(Drop)]
+pub(crate) struct Ended {
+    pub(crate) status: u8,
+    pub(crate) out: Vec<u8>,
+    pub(crate) err: Vec<u8>,
+    pub(crate) reads: u64,
+}
+
+impl Ended {
+    /// Whether the run has this status and wrote these texts.
+    pub(crate) fn is(&self, status: u8, out: &str, err: &str) -> bool {
+        self.status == status
+            && self.out.as_slice() == out.as_bytes()
+            && self.err.as_slice() == err.as_bytes()
+    }
+}
+
+// The program's arguments, after its name.
+fn words_of(alloc: Global, texts: &[&str]) -> Result<Vec<String>, AllocError> {
+    let mut words: Vec<String> = Vec::new(alloc);
+    words.push(String::from_str(alloc, "board")?)?;
+    for text in texts {
+        words.push(String::from_str(alloc, text)?)?;
+    }
+    Ok(words)
+}
+
+/// Runs the program with these arguments on this input, which is read by the first plan, and whose
+/// output is written by the second.
+pub(crate) fn run<T: Threads + Wait + Sync>(
+    rt: &T,
+    alloc: Global,
+    texts: &[&str],
+    input: &[u8],
+    reads: Plan<'_>,
+    writes: Plan<'_>,
+) -> Result<Ended, AllocError> {
+    let words = words_of(alloc, texts)?;
+    let (calls, others) = (AtomicU64::new(0), [AtomicU64::new(0), AtomicU64::new(0)]);
+    let mut streams = Streams {
+        input: RecordingReader::new(Device::new(alloc, reads, &calls, input)),
+        out: Device::new(alloc, writes, &others[0], b""),
+        err: Device::new(alloc, HALTING, &others[1], b""),
+    };
+    let status = program(rt, alloc, words.as_slice(), &mut streams);
+    let Streams { out, err, .. } = streams;
+    Ok(Ended {
+        status,
+        out: out.into_taken(),
+        err: err.into_taken(),
+        reads: calls.load(Ordering::SeqCst),
+    })
+}

@@ -1,2 +1,0 @@
-pub mod WordFacts
-pub mod WorkedCases
