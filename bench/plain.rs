@@ -6,6 +6,7 @@
 mod counting;
 
 use counting::Board;
+use std::array::from_fn;
 use std::collections::HashMap;
 use std::fmt::Write as _;
 use std::io::{self, Read, Write};
@@ -83,7 +84,7 @@ impl Evaluator {
         self.words = *words;
     }
 
-    fn evaluate(&self, majority: Majority) -> Indices {
+    fn evaluate(&mut self, majority: Majority) -> Indices {
         let quota = quota_of(majority, &self.words);
         let open: Vec<usize> = (0..32).filter(|&place| self.words[place] > 0).collect();
         let (winning, with_chair) = self.board.count(quota, least_size_of(majority, open.len()));
@@ -115,8 +116,9 @@ impl Evaluator {
 
 // ---------------------------------------------------------------- timing of the indices
 
-/// Sheets recounted in turn, so that branch prediction can't learn them, and rounds through all of them.
+/// Sheets recounted in turn, so that branch prediction can't learn them, the sheets of a sweep, and rounds through all of them.
 const SHEETS: usize = 16;
+const VALUES: u64 = 1_000;
 const ROUNDS: usize = 12;
 
 /// Numbers by xorshift (Marsaglia 2003), the same ones in both programs.
@@ -168,7 +170,7 @@ fn least(sheets: &[Words], by: &[Majority], before: impl Fn(usize) -> Option<Wor
             }
             nanos += start.elapsed().as_nanos();
         }
-        least = least.min(nanos / SHEETS as u128);
+        least = least.min(nanos / sheets.len() as u128);
     }
     (least, sum)
 }
@@ -242,7 +244,8 @@ fn print_counts(name: &str, words: &Words) {
 }
 
 /// Times the recounts of sheets of `chairs` chairs, numbered from 1: all new; with the left half of the first sheet; held;
-/// held, by the quorum; and with one chair's votes changed, by all four majorities.
+/// held, by the quorum; with one chair's votes changed, by all four majorities; and, for 24 chairs, in a sweep of one chair's
+/// votes.
 fn time_sheets(name: &str, chairs: usize, base: u64, span: u64) {
     let mut numbers = Numbers(0x9E37_79B9_7F4A_7C15);
     let sheets: Vec<Words> = (0..SHEETS).map(|turn| numbers.words(chairs, base + turn as u64, span)).collect();
@@ -262,7 +265,10 @@ fn time_sheets(name: &str, chairs: usize, base: u64, span: u64) {
     print("none", least(&sheets, &half, |place| Some(sheets[place])));
     print("quorum", least(&sheets, &[Majority::Quorum], |place| Some(sheets[place])));
     print("one", least(&moved, &ALL, |place| Some(sheets[place])));
-    if span < 1 << 20 && chairs < 32 {
+    if chairs == 24 {
+        let value = |value| totalled(from_fn(|place| if place == 0 { 1 + 400 * value } else if place < 32 { sheets[0][place] } else { 0 }));
+        let sweep: Vec<Words> = (0..VALUES).map(value).collect();
+        print("sweep", least(&sweep, &half, |_| None));
         time_table(name, &sheets[0]);
     }
 }
@@ -272,6 +278,7 @@ fn indices() {
     time_sheets("random32", 32, 1, (1 << 40) - 1);
     time_sheets("votes24", 24, 1, 408_000);
     time_sheets("votes25", 25, 1, 408_000);
+    time_sheets("votes3", 3, 1, 408_000);
 }
 
 // ---------------------------------------------------------------- the input of a long replay
@@ -636,11 +643,11 @@ fn started(list: &[(Code, u64)], limit: usize) -> Result<Register, Fault> {
 fn put_indices<W: Write>(
     lines: &mut Lines<W>,
     reader: u64,
-    evaluator: &Evaluator,
+    evaluator: &mut Evaluator,
     by: (Majority, &str),
 ) -> io::Result<()> {
     let indices = evaluator.evaluate(by.0);
-    let words = &evaluator.words;
+    let words = evaluator.words;
     lines.put(format_args!(
         "reading,{reader},{},{},{},{},{},{},{},{}",
         words[33],
@@ -700,7 +707,7 @@ fn run<W: Write>(
             }
             Record::Read(reader, by) => {
                 evaluator.set(&published);
-                put_indices(lines, reader, &evaluator, by)?;
+                put_indices(lines, reader, &mut evaluator, by)?;
             }
         }
     }

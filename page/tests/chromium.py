@@ -1,16 +1,17 @@
 """Chromium with board.html in it. page/README.md lists the names of the page's parts."""
 from __future__ import annotations
 
-import time
 from collections.abc import Callable
 from pathlib import Path
 from typing import Any
 
 from board_checks.browser_visit import set_width, started
+from selenium.common.exceptions import StaleElementReferenceException
 from selenium.webdriver.common.by import By
 from selenium.webdriver.common.keys import Keys
 from selenium.webdriver.remote.webelement import WebElement
 from selenium.webdriver.support.select import Select
+from selenium.webdriver.support.wait import WebDriverWait
 
 SECONDS = 20.0
 WIDE, NARROW = 1280, 390
@@ -61,11 +62,13 @@ class Page:
 
     def until(self, holds: Callable[[], Any], what: str) -> Any:
         """Waits until a condition holds, and returns its value."""
-        end = time.monotonic() + SECONDS
-        while not (found := holds()):
-            assert time.monotonic() < end, f"it never came: {what}"
-            time.sleep(0.01)
-        return found
+        # Between finding and reading an element, the page may have replaced it: then both are tried again.
+        wait: Any = WebDriverWait(self.driver, SECONDS, 0.01, [StaleElementReferenceException])
+        return wait.until(lambda _: holds(), f"it never came: {what}")
+
+    def again(self, act: Callable[[], Any]) -> Any:
+        """What a function returns, called again while the page replaces the elements that it uses."""
+        return self.until(lambda: [act()], "an element that stays")[0]
 
     def settle(self) -> str:
         """Waits until the figures on the screen are those of the last edit: `ready`, or `fault`."""
@@ -83,13 +86,13 @@ class Page:
         return found[0]
 
     def text(self, place: str) -> str:
-        return self.at(place).text
+        return str(self.again(lambda: self.at(place).text))
 
     def texts(self, place: str) -> list[str]:
-        return [it.text for it in self.all(place)]
+        return list(self.again(lambda: [it.text for it in self.all(place)]))
 
     def click(self, place: str) -> None:
-        self.at(place).click()
+        self.again(lambda: self.at(place).click())
         self.settle()
 
     def choose(self, place: str, value: str) -> None:

@@ -1,11 +1,11 @@
 -- Audits of a register of one member, computed.
 use Rattle.std.proofs.Common.{◌≡◌, ℕ, List, [], ◌∷◌, ◌++◌, replicate, Some, Ok, Err, refl, ⊎_elim}
-use Rattle.council_core.specs.Rolls.{Opening}
+use Rattle.council_core.specs.Rolls.{Opening, IsLegal}
 use Rattle.council_core.specs.declared.commands.Command.{Command}
 use Rattle.council_core.specs.declared.commands.Command.TheVariants.{Open, Move}
 use Rattle.board_audits.specs.Audits.{AnswersFinding, Finding, audit_of}
-use Rattle.board_audits.specs.AuditLaws.{AuditLaw, CutsFaultLaw, IsFirstMismatch, IsFirstRefused, IsFirstStray, JournalFaultLaw, ReadingsFaultLaw}
-use Rattle.council_core.specs.Sequential.{AreLegalRecords}
+use Rattle.board_audits.specs.AuditLaws.{AuditLaw, CutsFaultLaw, IsFirstBreach, IsFirstMismatch, JournalFaultLaw, ReadingsFaultLaw}
+use Rattle.council_core.specs.Sequential.{AreCuts, AreLegalRecords}
 use Rattle.council_core.specs.declared.refusals.Refusal.TheVariants.{DuplicateMember}
 use Rattle.board_audits.specs.declared.audits.AuditFault.TheVariants.{Start, BadJournal, BadCuts, Mismatch, OutOfMemory}
 
@@ -97,10 +97,10 @@ pub legal_by_the_law : AuditLaw → AreLegalRecords one_member seated (0 ∷ 1 �
 legal_by_the_law law = ((law one_member seated (1 ∷ 2 ∷ []) ((none_done ∷ one_done ∷ both_done ∷ []) ∷ (both_done ∷ []) ∷ [])).0 refl).1
 
 -- and each fault found is the first: a command, a cut, a sheet
-pub refused_by_the_law : JournalFaultLaw → IsFirstRefused one_member (Open 1 ∷ Open 1 ∷ []) 2
+pub refused_by_the_law : JournalFaultLaw → IsFirstBreach (IsLegal one_member) (Open 1 ∷ Open 1 ∷ []) 2
 refused_by_the_law law = law one_member (Open 1 ∷ Open 1 ∷ []) [] [] 2 refl
 
-pub stray_by_the_law : CutsFaultLaw → IsFirstStray seated (1 ∷ 3 ∷ []) 2
+pub stray_by_the_law : CutsFaultLaw → IsFirstBreach (λ before. AreCuts seated (0 ∷ before)) (1 ∷ 3 ∷ []) 2
 stray_by_the_law law = (law one_member seated (1 ∷ 3 ∷ []) [] 2 refl).1
 
 pub mismatch_by_the_law : ReadingsFaultLaw → IsFirstMismatch one_member seated (0 ∷ 2 ∷ []) ((one_done ∷ []) ∷ []) 1 1

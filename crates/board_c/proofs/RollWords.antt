@@ -12,7 +12,7 @@ use Rattle.council_core.proofs.AssembleLemmas.{IsSheet-made}
 use Rattle.council_core.proofs.RegisterLemmas.{weight_within}
 use Rattle.council_core.proofs.SheetOfLemmas.{cast_within}
 use Rattle.council_core.specs.declared.commands.Standing.{Standing}
-use Rattle.council_core.specs.Rolls.{Entry, Roll, chair_numbers, chair_word, effective_votes, is_open, total, votes_in, weight, sheet_words}
+use Rattle.council_core.specs.Rolls.{RollEntry, Roll, chair_numbers, chair_word, effective_votes, is_open, total, votes_in, weight, sheet_words}
 use Rattle.board_c.specs.declared.members.BoardMember.{BoardMember}
 use Rattle.board_c.specs.Members.{IsBoard, is_open_by, member_total, member_word, member_words, standing_of}
 use Rattle.board_c.specs.Counts.{IsSheetInRange}
@@ -59,7 +59,7 @@ sheet_of_roll roll small =
     (cast_within roll) small (omega arith)
 
 module _ (members : List BoardMember) (mask : ℕ) where
-  standings_of : (ms : List BoardMember) → map (λ (e : Entry). e.1) (map (λ m. ([], standing_of m)) ms) ≡ map standing_of ms
+  standings_of : (ms : List BoardMember) → map (λ (e : RollEntry). e.1) (map (λ m. ([], standing_of m)) ms) ≡ map standing_of ms
   standings_of [] = refl
   standings_of (m ∷ ms) = ap (λ (ss : List Standing). standing_of m ∷ ss) (standings_of ms)
 

@@ -7,7 +7,7 @@ use Rattle.two_copy_steps.specs.declared.table.TheConstants.{READERS}
 use Rattle.board_text.specs.Text.{begun_of, fault_at, in_range}
 use Rattle.board_text.specs.declared.bounds.Limits.{Limits}
 use Rattle.board_runs.specs.Replays.{replay_start, replay_step, run_of}
-use Rattle.board_runs.specs.Scripts.{begun_run, run_of_script}
+use Rattle.board_text.specs.Scripts.{begun_run, run_of_script}
 
 begun-out_of_range : (lim : Limits) (bytes : List ℕ) → in_range lim ≡ false → begun_of lim bytes ≡ Err (fault_at BadLimit 0)
 unfolding begun_of

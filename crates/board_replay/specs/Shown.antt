@@ -2,13 +2,9 @@
 use Rattle.std.specs.Prelude.{◌≡◌, ◌<◌, ℕ, ◌⊎◌, List, Option, Some, None, length, take, nat_le, if◌then◌else◌}
 use Rattle.council_core.specs.declared.refusals.Refusal.TheVariants.{OutOfMemory, WriteFault}
 use Rattle.board_text.specs.Text.{Run, fault_at, output}
-use Rattle.board_text.specs.declared.bounds.Limits.{Limits}
 use Rattle.board_text.specs.declared.faults.Fault.{Fault}
 use Rattle.board_runs.specs.Ended.{IsBrokenOff}
 use Rattle.board_replay.specs.declared.TheConstants.{DONE}
-
-abbrev pub replay_limits : ℕ → ℕ → Limits
-replay_limits readers journal = record { readers = readers; journal = journal }
 
 -- out of memory: a prefix of the run's lines, each whole, followed by the line of that fault
 abbrev pub ShowsOutOfMemory : Run → List ℕ → Option Fault → Type 0

@@ -5,9 +5,9 @@
 #![tactic(auto)]
 
 ghost use Rattle.std.specs.Prelude.{◌≡◌, ◌≢◌, ◌≤◌, ℕ, List, true, length, take, drop, min};
-ghost use Rattle.board_replay.specs.Shown.{IsLonger, IsWhole, Shows, end_in, replay_limits, answered_number, record_of};
+ghost use Rattle.board_replay.specs.Shown.{IsLonger, IsWhole, Shows, end_in, answered_number, record_of};
 ghost use Rattle.board_runs.specs.Replays.{run_of};
-ghost use Rattle.board_text.specs.Text.{Run};
+ghost use Rattle.board_text.specs.Text.{Run, run_limits};
 ghost use Rattle.council_core.specs.Refusals.{code_of};
 ghost use Rattle.council_core.specs.declared.refusals.Refusal.TheVariants.{ReadFault, WriteFault};
 
@@ -118,7 +118,7 @@ fn replay_into(alloc: Global, input: &[u8], limits: Limits, out: &mut [u8]) -> S
 // The limits with these numbers. A number of readers above 255 becomes 0, which is out of range
 // too.
 fn limits_of(readers: u32, journal: u32) -> Limits
-    ensures same { (bytes : List ℕ) → run_of result bytes ≡ run_of (replay_limits readers journal) bytes }
+    ensures same { (bytes : List ℕ) → run_of result bytes ≡ run_of (run_limits readers journal) bytes }
 {
     let readers = if readers <= u32::from(u8::MAX) {
         readers as u8
@@ -168,15 +168,15 @@ pub extern "C" fn board_replay(
     written: &mut u64,
     place: &mut u32,
 ) -> u8
-    ensures shows { Shows (run_of (replay_limits readers journal) input.now) (length out.old) (take written.new out.new)
+    ensures shows { Shows (run_of (run_limits readers journal) input.now) (length out.old) (take written.new out.new)
         result place.new }
     ensures within { written.new ≤ length out.old }
     ensures rest { drop written.new out.new ≡ drop written.new out.old }
     ensures done { result ≡ DONE → IsWhole
-        (run_of (replay_limits readers journal) input.now) (take written.new out.new) }
+        (run_of (run_limits readers journal) input.now) (take written.new out.new) }
     ensures reads { result ≢ code_of ReadFault }
     ensures writes { result ≡ code_of WriteFault → IsLonger
-        (run_of (replay_limits readers journal) input.now) (length out.old) }
+        (run_of (run_limits readers journal) input.now) (length out.old) }
 {
     let shown = replay_into(alloc, input, limits_of(readers, journal), out);
     *written = shown.count as u64;

@@ -3,13 +3,13 @@ use Rattle.std.proofs.Common.{◌≡◌, ℕ, List, [], ◌∷◌, ◌++◌, get
 use Rattle.council_core.specs.Refusals.{code_of}
 use Rattle.council_core.specs.declared.refusals.Refusal.TheVariants.{BadHeader, BadLimit, BadRecord, OutOfMemory, ReadFault, WriteFault}
 use Rattle.board_text.specs.Output.{AppendsFront}
-use Rattle.board_text.specs.Text.{begun_of, fault_at, stopped_run}
+use Rattle.board_text.specs.Text.{begun_of, fault_at, stopped_run, run_limits}
 use Rattle.board_text.specs.declared.faults.Fault.{Fault}
 use Rattle.board_runs.specs.Replays.{run_of}
 use Rattle.board_report.proofs.WordCases.{plain, replay_asks_no_text, replay_has_no_fault}
 use Rattle.board_report.specs.declared.calls.Invocation.{Invocation}
 use Rattle.board_report.specs.declared.calls.Invocation.TheVariants.{Replay}
-use Rattle.board_report.specs.Programs.{AnswersWords, CallExits, LacksMemory, Written, failure_text, program_limits, written_streams}
+use Rattle.board_report.specs.Programs.{AnswersWords, CallExits, LacksMemory, Written, failure_text, written_streams}
 
 abbrev one : List ℕ
 one = 7 ∷ []
@@ -61,7 +61,7 @@ name_of_a_fault : failure_text (code_of BadRecord) ≡ codes "board: BadRecord" 
 name_of_a_fault = refl
 
 -- with no reader a run stops before it reads
-no_reader : (bytes : List ℕ) → run_of (program_limits 0 1) bytes ≡ stopped_run (fault_at BadLimit 0)
+no_reader : (bytes : List ℕ) → run_of (run_limits 0 1) bytes ≡ stopped_run (fault_at BadLimit 0)
 unfolding begun_of
 no_reader bytes = refl
 

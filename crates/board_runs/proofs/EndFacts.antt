@@ -16,7 +16,7 @@ use Rattle.board_text.specs.declared.bounds.Limits.{Limits}
 use Rattle.board_text.specs.declared.faults.Fault.{Fault}
 use Rattle.board_text.specs.declared.requests.Request.{Request}
 use Rattle.board_runs.specs.Replays.{replay_start, replay_step, reply_to, run_of}
-use Rattle.board_runs.specs.Scripts.{Turn, begun_run, run_of_script, run_step, script_run, turn_of}
+use Rattle.board_text.specs.Scripts.{Turn, begun_run, run_of_script, run_step, script_run, turn_of}
 
 -- the numbers of the faults that an input may have
 abbrev pub is_of_input : ℕ → Bool

@@ -1,10 +1,10 @@
 -- What the definitions of how a run ends take and refuse.
-use Rattle.std.proofs.Common.{◌≡◌, ℕ, inl, inr, List, [], ◌∷◌, ◌++◌, Option, Some, None, Ok, Err, get_or, refl, sym, ap, ◌∙◌, subst, arith}
+use Rattle.std.proofs.Common.{◌≡◌, ℕ, inl, inr, List, [], ◌∷◌, ◌++◌, Option, Some, Ok, Err, get_or, refl, sym, ap, ◌∙◌, subst, arith}
 use Rattle.std.specs.Prelude.{codes}
 use Rattle.std.specs.Fmt.{digits}
 use Rattle.council_core.specs.declared.refusals.Refusal.TheVariants.{BadRecord, OutOfMemory, ReadFault, WriteFault}
-use Rattle.board_text.specs.Lines.{Line, fault_line}
-use Rattle.board_text.specs.Output.{IsBroken, IsFrontOf}
+use Rattle.board_text.specs.Lines.{LineBytes, fault_line}
+use Rattle.board_text.specs.Output.{IsBroken}
 use Rattle.board_text.specs.Text.{Run, fault_at, printed_run, stopped_run, text_of}
 use Rattle.board_text.specs.declared.faults.Fault.{Fault}
 use Rattle.board_runs.specs.Ended.{BreaksOff, CutsOff, EndsAsReported, IsBrokenOff, IsOutputOf, Replays}
@@ -34,13 +34,13 @@ at : (n : ℕ) {a b : List ℕ} → a ≡ b → get_or a n 0 ≡ get_or b n 0
 at n e = ap (λ (bytes : List ℕ). get_or bytes n 0) e
 
 -- Ok is a run without a fault, whose lines are all written
-one_line_replayed : Replays (Some []) (Some its_text) (Ok tt) one_line
+one_line_replayed : Replays {A = Unit {0}} (Some []) (Some its_text) (Ok tt) one_line
 one_line_replayed = (refl, refl)
 
-faulty_run_ends_well : (text : List ℕ) → Replays (Some []) (Some text) (Ok tt) (stopped_run bad_record) → ⊥
+faulty_run_ends_well : (text : List ℕ) → Replays {A = Unit {0}} (Some []) (Some text) (Ok tt) (stopped_run bad_record) → ⊥
 faulty_run_ends_well text h = let e = h.0 in cc e
 
-line_left_out : Replays (Some []) (Some []) (Ok tt) one_line → ⊥
+line_left_out : Replays {A = Unit {0}} (Some []) (Some []) (Ok tt) one_line → ⊥
 line_left_out h = let e = h.1 in cc e
 
 -- a fault of the input is the run's own, and its line is written
@@ -82,7 +82,7 @@ unfolding digits
 cut_line_before_a_fault ([], front, same) = absurd (omega (arith, at 0 same))
 cut_line_before_a_fault (l ∷ ls, front, same) =
     let first : codes "began" ≡ l = let e = front.1 in cc e in
-    let P : Line → Type 0 = λ x. codes "beg" ++ line_of_no_record (codes "OutOfMemory") ≡ text_of ((x ∷ ls) ++ fault_line (fault_at OutOfMemory 0) ∷ []) in
+    let P : LineBytes → Type 0 = λ x. codes "beg" ++ line_of_no_record (codes "OutOfMemory") ≡ text_of ((x ∷ ls) ++ fault_line (fault_at OutOfMemory 0) ∷ []) in
     absurd (omega (arith, at 3 (subst P (sym first) same)))
 
 -- what a run of no lines writes, with the fault's line that breaks it off
@@ -119,7 +119,7 @@ cuts_off_to_seven : CutsOff (Some []) (Some seven) (fault_at WriteFault 0) (prin
 cuts_off_to_seven (reported, (text, written, (front, whole, new))) =
     no_text_with_seven text whole.0 written (begins_with_seven text front whole.0 whole.1 new)
 
-replays_to_seven : Replays (Some []) (Some seven) (Err (fault_at WriteFault 0)) (printed_run []) → ⊥
+replays_to_seven : Replays {A = Unit {0}} (Some []) (Some seven) (Err (fault_at WriteFault 0)) (printed_run []) → ⊥
 replays_to_seven (inl reported) = let e = reported.0 in cc e
 replays_to_seven (inr (inl broken)) = broken_by_a_write broken.0
 replays_to_seven (inr (inr cut)) = cuts_off_to_seven cut

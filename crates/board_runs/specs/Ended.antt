@@ -3,7 +3,7 @@ use Rattle.std.specs.Prelude.{◌≡◌, ℕ, ◌⊎◌, List, [], ◌∷◌, �
 use Rattle.std.specs.Prelude.{Some, None, Result, Ok, Err}
 use Rattle.std.specs.Io.KnownBytes.{Appends}
 use Rattle.council_core.specs.declared.refusals.Refusal.TheVariants as why
-use Rattle.board_text.specs.Lines.{Line, fault_line}
+use Rattle.board_text.specs.Lines.{LineBytes, fault_line}
 use Rattle.board_text.specs.Text.{Run, fault_at, output, text_of}
 use Rattle.board_text.specs.declared.faults.Fault.{Fault}
 use Rattle.board_text.specs.Output.{AppendsFront, IsBroken, IsFrontOf}
@@ -11,7 +11,7 @@ use Rattle.board_text.specs.Output.{AppendsFront, IsBroken, IsFrontOf}
 -- a prefix of the lines of a run, each whole, followed by the line of a fault
 abbrev pub IsBrokenOff : Run → Fault → List ℕ → Type 0
 IsBrokenOff run f text =
-    (front : List Line) × IsFrontOf front run.lines × (text ≡ text_of (front ++ fault_line f ∷ []))
+    (front : List LineBytes) × IsFrontOf front run.lines × (text ≡ text_of (front ++ fault_line f ∷ []))
 
 -- the text of a run whose writes all succeed
 abbrev pub IsOutputOf : Run → List ℕ → Type 0
@@ -31,7 +31,11 @@ CutsOff old new f run = (f ≡ fault_at why.WriteFault 0)
 abbrev pub EndsAsReported : Option (List ℕ) → Option (List ℕ) → Fault → Run → Type 0
 EndsAsReported old new f run = (run.end ≡ Some f) × Appends old new (output run)
 
+-- the three ends of a run in a fault
+abbrev pub EndsIn : Option (List ℕ) → Option (List ℕ) → Fault → Run → Type 0
+EndsIn old new f run = EndsAsReported old new f run ⊎ BreaksOff old new f run ⊎ CutsOff old new f run
+
 -- the text that `replay` wrote and its result
-abbrev pub Replays : Option (List ℕ) → Option (List ℕ) → Result (Unit {0}) Fault → Run → Type 0
+abbrev pub Replays : {A : Type 0} → Option (List ℕ) → Option (List ℕ) → Result A Fault → Run → Type 0
 Replays old new (Ok _) run = (run.end ≡ None) × Appends old new (output run)
-Replays old new (Err f) run = EndsAsReported old new f run ⊎ BreaksOff old new f run ⊎ CutsOff old new f run
+Replays old new (Err f) run = EndsIn old new f run

@@ -1,4 +1,3 @@
-pub mod Scripts
 pub mod Replays
 pub mod Traces
 pub mod Desks

@@ -2,15 +2,15 @@
 use Rattle.std.specs.Prelude.{ℕ, List}
 use Rattle.council_core.specs.Ledgers.{Ledger}
 use Rattle.council_core.specs.Sequential.{Sequential, response_to}
-use Rattle.board_text.specs.Lines.{Line, reply_lines}
+use Rattle.board_text.specs.Lines.{LineBytes, reply_lines}
 use Rattle.board_text.specs.Requests.{Row, call_of}
 use Rattle.board_text.specs.declared.bounds.Limits.{Limits}
 use Rattle.board_text.specs.declared.requests.Request.{Request}
-use Rattle.board_runs.specs.Scripts.{Turn, interpreted_run, turn_of}
+use Rattle.board_text.specs.Scripts.{Turn, interpreted_run, turn_of}
 use Rattle.board_text.specs.Text.{Run, request_within, unpublished_register}
 
 -- a request is a call of the sequential register, and its lines print the reply
-abbrev pub reply_to : Sequential → Request → List Line × Sequential
+abbrev pub reply_to : Sequential → Request → List LineBytes × Sequential
 reply_to s q = (reply_lines q (response_to s (call_of q)).1, (response_to s (call_of q)).0)
 
 -- the effect of one record of the script

@@ -6,10 +6,10 @@ use Rattle.two_copy_steps.specs.Transitions.{MachineState, state_after_events, n
 use Rattle.two_copy_steps.specs.Transitions as machine
 use Rattle.two_copy_steps.specs.declared.events.Event.{Event}
 use Rattle.two_copy_steps.specs.declared.events.Event.TheVariants as event
-use Rattle.board_text.specs.Lines.{Line, note_lines}
+use Rattle.board_text.specs.Lines.{LineBytes, note_lines}
 use Rattle.board_text.specs.Requests.{Row}
 use Rattle.board_text.specs.Text.{Run}
-use Rattle.board_runs.specs.Scripts.{Turn, interpreted_run, turn_of}
+use Rattle.board_text.specs.Scripts.{Turn, interpreted_run, turn_of}
 use Rattle.board_text.specs.declared.bounds.Limits.{Limits}
 use Rattle.board_text.specs.declared.schedules.Act.{Act}
 use Rattle.board_text.specs.declared.schedules.Act.TheVariants as act
@@ -23,11 +23,11 @@ events_of (act.Writer count) = replicate count event.Writer
 events_of (act.Reader number count) = replicate count (event.Reader number)
 
 -- the lines of the outputs of these events
-abbrev pub output_lines : MachineState → List Event → List Line
+abbrev pub output_lines : MachineState → List Event → List LineBytes
 output_lines m events = flat_map note_lines (notes m events)
 
 -- the machine takes the events of an act, and its outputs are printed
-abbrev pub machine_turn : MachineState → Act → List Line × MachineState
+abbrev pub machine_turn : MachineState → Act → List LineBytes × MachineState
 machine_turn m a = (output_lines m (events_of a), state_after_events m (events_of a))
 
 -- the effect of one record of a schedule

@@ -1,14 +1,13 @@
 //! The desk: the register together with the sheet published last, which readers see.
 ghost use Rattle.std.specs.Prelude.{◌≡◌, IfOk, IsOkUnless};
 ghost use Rattle.council_core.specs.Ledgers.{sheet_of};
-ghost use Rattle.council_core.specs.Sequential.{response_to, published_sheet, submit, publish};
+ghost use Rattle.council_core.specs.Sequential.{answered, ordered, published_sheet, response_to, submit};
 ghost use Rattle.power_index.specs.Indices.{indices_of};
 ghost use Rattle.board_runs.specs.Desks.{desk_of};
-ghost use Rattle.board_text.specs.Replies.{reply_of};
 ghost use Rattle.board_text.specs.declared.stops.Stop.TheVariants as stop;
 
-use board_text::{Answer, Stop};
-use council_core::{Command, Refusal, Register, Sheet};
+use board_text::Stop;
+use council_core::{Answer, Command, Order, Refusal, Register, Sheet};
 use majority_rule::Majority;
 use power_index::{Evaluator, Indices};
 use std::alloc::Global;
@@ -52,8 +51,8 @@ impl Desk {
     }
 
     // Submits a command, and publishes nothing.
-    pub(crate) fn submit(&mut self, command: Command) -> Result<Answer, Stop>
-        ensures replied { IfOk result (λ a. reply_of a ≡ (response_to self.old (submit command)).1) }
+    fn submit(&mut self, command: Command) -> Result<Answer, Stop>
+        ensures replied { IfOk result (λ a. answered a ≡ (response_to self.old (submit command)).1) }
         ensures after { IfOk result (λ a. self.new ≡ (response_to self.old (submit command)).0) }
         ensures memory { IsOkUnless result stop.OutOfMemory }
     {
@@ -64,14 +63,20 @@ impl Desk {
         }
     }
 
-    // Publishes all accepted commands.
-    pub(crate) fn publish(&mut self) -> Answer
-        ensures replied { reply_of result ≡ (response_to self.old publish).1 }
-        ensures after { self.new ≡ (response_to self.old publish).0 }
+    // Carries out an order.
+    pub(crate) fn answer(&mut self, order: Order) -> Result<Answer, Stop>
+        ensures replied { IfOk result (λ a. answered a ≡ (response_to self.old (ordered order)).1) }
+        ensures after { IfOk result (λ a. self.new ≡ (response_to self.old (ordered order)).0) }
+        ensures memory { IsOkUnless result stop.OutOfMemory }
     {
-        self.shown = self.register.sheet();
-        self.counted = None;
-        Answer::Published(self.register.accepted())
+        match order {
+            Order::Submit(command) => return self.submit(command),
+            Order::Publish => {
+                self.shown = self.register.sheet();
+                self.counted = None;
+                return Ok(Answer::Published(self.register.accepted()));
+            }
+        }
     }
 
     // The indices of the sheet published last. They are counted only if the indices kept are not

@@ -3,8 +3,8 @@
 #![tactic(auto)]
 
 mod desks;
-mod interpreters;
 mod replaying;
+mod runs;
 mod tracing;
 
 pub use replaying::replay;

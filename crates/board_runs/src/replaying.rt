@@ -12,12 +12,11 @@ ghost use Rattle.recording_io.specs.Tapes.{OfInput};
 ghost use Rattle.board_runs.specs.Replays.{replay_start, replay_step, run_of};
 
 use crate::desks::Desk;
-use crate::interpreters::{Interpreter, interpret};
+use crate::runs::run;
 use board_text::{
-    Fault, INTERRUPTIONS, Limits, Output, READS, Request, Stop, line_of_answer, line_of_chair,
-    line_of_reading, request_in,
+    Fault, INTERRUPTIONS, Interpreter, Limits, Output, READS, Request, RunStart, Stop,
+    line_of_answer, line_of_chair, line_of_reading, request_in,
 };
-use council_core::Register;
 use csv::ByteRecord;
 use majority_rule::Majority;
 use power_index::ChairPower;
@@ -67,12 +66,8 @@ fn replay_request<W: Write>(
     ensures continues { GoesOn out.old out.new }
 {
     match request {
-        Request::Submit(command) => {
-            let answer = desk.submit(command)?;
-            return out.write_line(line_of_answer(answer));
-        }
-        Request::Publish => {
-            let answer = desk.publish();
+        Request::Order(order) => {
+            let answer = desk.answer(order)?;
             return out.write_line(line_of_answer(answer));
         }
         Request::Read(reader, majority) => {
@@ -86,8 +81,10 @@ impl Interpreter for Desk {
 
     ghost step = { replay_step };
 
-    fn open(alloc: Global, register: Register, _limits: Limits) -> Result<Desk, Stop> {
-        Desk::open(alloc, register)
+    ghost kept = { λ number desk. Unit {0} };
+
+    fn open(alloc: Global, begun: RunStart, _limits: Limits) -> Result<Desk, Stop> {
+        Desk::open(alloc, begun.register)
     }
 
     fn carry_out<W: Write>(
@@ -147,5 +144,5 @@ pub fn replay<R: Read + Drop, W: Write>(
     ensures vain { WastesAtMost 1 input.old input.new }
     ensures retried { RunRetriesAtMost INTERRUPTIONS input.old input.new result }
 {
-    interpret::<Desk, R, W>(alloc, input, out, limits)
+    run::<Desk, R, W>(alloc, input, out, limits)
 }

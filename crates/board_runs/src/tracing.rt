@@ -11,13 +11,16 @@ ghost use Rattle.recording_io.specs.Tapes.{OfInput};
 ghost use Rattle.board_runs.specs.Traces.{events_of, output_lines, trace_of, trace_start, trace_step};
 ghost use Rattle.board_text.specs.Schedules.{is_scheduled};
 
-use crate::interpreters::{Interpreter, interpret};
-use board_text::{Act, Fault, INTERRUPTIONS, Limits, Output, READS, Stop, act_in, line_of_note};
-use council_core::Register;
+use crate::runs::run;
+use board_text::{
+    Act, Fault, INTERRUPTIONS, Interpreter, Limits, Output, READS, RunStart, Stop, act_in,
+    line_of_note,
+};
 use csv::ByteRecord;
 use recording_io::RecordingReader;
 use std::alloc::Global;
 use std::io::{Read, Write};
+use std::marker::Model;
 use two_copy_steps::{Event, Machine, Note};
 
 // Writes the line of an output of the machine, if it has one.
@@ -78,14 +81,30 @@ fn act_on<W: Write>(
     }
 }
 
-impl Interpreter for Machine {
+// The machine of a schedule.
+#[derive(Drop)]
+struct Scheduled {
+    machine: Machine,
+}
+
+impl Model for Scheduled {
+    ghost use Rattle.two_copy_steps.specs.Transitions.{MachineState};
+
+    ghost Value = { MachineState };
+
+    ghost view = { λ s. s.machine };
+}
+
+impl Interpreter for Scheduled {
     ghost opened = { trace_start };
 
     ghost step = { trace_step };
 
-    fn open(_alloc: Global, register: Register, limits: Limits) -> Result<Machine, Stop> {
-        match Machine::start(register, limits.readers) {
-            Ok(machine) => Ok(machine),
+    ghost kept = { λ number machine. Unit {0} };
+
+    fn open(_alloc: Global, begun: RunStart, limits: Limits) -> Result<Scheduled, Stop> {
+        match Machine::start(begun.register, limits.readers) {
+            Ok(machine) => Ok(Scheduled { machine }),
             Err(_) => unreachable!(),
         }
     }
@@ -98,7 +117,7 @@ impl Interpreter for Machine {
         out: &mut Output<'_, W>,
     ) -> Result<(), Stop> {
         let act = act_in(limits, row, number)?;
-        act_on(self, limits, act, out)
+        act_on(&mut self.machine, limits, act, out)
     }
 }
 
@@ -133,5 +152,5 @@ pub fn trace<R: Read + Drop, W: Write>(
     ensures vain { WastesAtMost 1 input.old input.new }
     ensures retried { RunRetriesAtMost INTERRUPTIONS input.old input.new result }
 {
-    interpret::<Machine, R, W>(alloc, input, out, limits)
+    run::<Scheduled, R, W>(alloc, input, out, limits)
 }

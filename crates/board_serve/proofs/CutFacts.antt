@@ -5,7 +5,8 @@ use Rattle.std.proofs.lemmas.List.Elements.{All-cons, All-nil}
 use Rattle.std.specs.List.Sorted.{IsNonDecreasing}
 use Rattle.std.specs.Prelude.{⊤}
 use Rattle.council_core.specs.Ledgers.{verdict_of}
-use Rattle.council_core.specs.Sequential.{AreCuts, Call, Sequential, publish, read, replies_of, response_to, state_after, submit, submit_response}
+use Rattle.council_core.specs.Sequential.{AreCuts, Call, Sequential, ordered, read, replies_of, response_to, state_after, submit_response}
+use Rattle.council_core.specs.declared.calls.Order.TheVariants as order
 use Rattle.council_core.specs.declared.commands.Command.{Command}
 use Rattle.council_core.specs.declared.refusals.Refusal.{Refusal}
 use Rattle.board_serve.specs.Work.{cuts_of, cuts_of_reply}
@@ -25,8 +26,8 @@ one-submit s command (Err e) low high rest h more = more low h
 
 one-call : (s : Sequential) (call : Call) (low high : ℕ) (rest : List ℕ) → low ≤ commands_in s
     → ((l : ℕ) → l ≤ commands_in (response_to s call).0 → Rises l high rest) → Rises low high (cuts_of_reply (response_to s call).1 ++ rest)
-one-call s (submit command) low high rest h more = one-submit s command (verdict_of s.ledger command) low high rest h more
-one-call s publish low high rest h more = (h, more (commands_in s) (omega arith))
+one-call s (ordered (order.Submit command)) low high rest h more = one-submit s command (verdict_of s.ledger command) low high rest h more
+one-call s (ordered order.Publish) low high rest h more = (h, more (commands_in s) (omega arith))
 one-call s read low high rest h more = more low h
 
 rises : (s : Sequential) (calls : List Call) (low : ℕ) → low ≤ commands_in s → Rises low (commands_in (state_after s calls)) (cuts_of (replies_of s calls))

@@ -4,19 +4,18 @@ use Rattle.std.proofs.lemmas.List.Elements.{All-cons, All-nil}
 use Rattle.council_core.specs.Ledgers.{Ledger}
 use Rattle.council_core.specs.Rolls.{IsLegal, Opening}
 use Rattle.council_core.specs.declared.commands.Command.{Command}
-use Rattle.council_core.specs.Sequential.{AreCuts, Call, Sequential, replies_of, state_after}
+use Rattle.council_core.specs.Sequential.{AreCuts, Call, Sequential, answered, ordered, replies_of, state_after}
 use Rattle.two_copy_steps.specs.Lawful.{last_front}
 use Rattle.board_share.specs.Openings.{beginning_of, new_publisher, new_readers}
 use Rattle.board_share.specs.Readers.{IsLegalSheet, ReaderSeen, new_reader}
 use Rattle.board_share.specs.Writers.{Publisher}
-use Rattle.board_text.specs.Replies.{reply_of}
 use Rattle.board_text.specs.Text.{unpublished_register}
-use Rattle.board_text.specs.declared.replies.Answer.{Answer}
+use Rattle.council_core.specs.declared.calls.Answer.{Answer}
 use Rattle.board_text.specs.declared.stops.Stop.{Stop}
 use Rattle.board_serve.specs.Outcomes.{IsBrought, IsOutcome, IsServed, calls_of, reported_by}
-use Rattle.board_serve.specs.Plans.{Planned, plan_shown}
-use Rattle.board_serve.specs.Work.{AreDone, AreRead, HasAsked, HasWritten, IsRising, call_of_order, cuts_of, register_of}
-use Rattle.board_serve.specs.declared.plan.Plan.{Plan}
+use Rattle.board_serve.specs.Plans.{Planned, plan_over, shares_of}
+use Rattle.board_serve.specs.Work.{AreDone, AreRead, HasAsked, HasWritten, IsRising, cuts_of, register_of}
+use Rattle.board_serve.specs.declared.plan.Records.{Records}
 use Rattle.board_serve.specs.declared.reader_work.ReaderWork.{ReaderWork}
 use Rattle.board_serve.specs.declared.serving.Served.{Served}
 use Rattle.board_serve.specs.declared.threads.AllWork.{AllWork}
@@ -56,13 +55,13 @@ new-pair register writer a b same =
     ((ap (λ (r : ReaderSeen). r.opening) first, ap (λ (r : ReaderSeen). r.readings) first), (ap (λ (r : ReaderSeen). r.opening) second, ap (λ (r : ReaderSeen). r.readings) second))
 
 -- what the start of a board gave to the threads
-pub seated : (plan : Plan) (work : AllWork) → plan.begun.register.journal ≡ [] → work.writer.writer ≡ new_publisher work.writer.writer.table plan.begun.register 2 → work.writer.orders ≡ plan.records.orders
-    → (work.first.analyst.reader ∷ work.second.analyst.reader ∷ []) ≡ new_readers work.writer.writer.table (beginning_of plan.begun.register 2) 2
-    → (work.first.asked ∷ work.second.asked ∷ []) ≡ plan.records.asked → IsSeated (plan_shown plan) work
-seated plan work none writer orders readers asked =
-    let new = new-pair plan.begun.register work.writer.writer work.first.analyst.reader work.second.analyst.reader readers in
+pub seated : (register : Ledger) (records : Records) (work : AllWork) → register.journal ≡ [] → work.writer.writer ≡ new_publisher work.writer.writer.table register 2 → work.writer.orders ≡ records.orders
+    → (work.first.analyst.reader ∷ work.second.analyst.reader ∷ []) ≡ new_readers work.writer.writer.table (beginning_of register 2) 2
+    → (work.first.asked ∷ work.second.asked ∷ []) ≡ records.asked → IsSeated (plan_over register (shares_of records)) work
+seated register records work none writer orders readers asked =
+    let new = new-pair register work.writer.writer work.first.analyst.reader work.second.analyst.reader readers in
     record {
-      start = new-register work.writer.writer plan.begun.register writer none;
+      start = new-register work.writer.writer register writer none;
       orders = ap (λ v. v.items) orders;
       first = new.0;
       second = new.1;
@@ -80,9 +79,9 @@ two-of P x y p q = All-cons P x (y ∷ []) p (All-cons P y [] q (All-nil P))
 
 pub outcome-of : (p : Planned) (work done : AllWork) (answers : List Answer) (s : Served) → IsSeated p work → AreDone work done → IsBrought done answers s → IsOutcome p answers s
 outcome-of p work done answers s seated ran b =
-    let calls : List Call = map call_of_order work.writer.orders.items in
+    let calls : List Call = map ordered work.writer.orders.items in
     let written = ran.written in
-    let asked : calls ≡ calls_of p = ap (map call_of_order) seated.orders in
+    let asked : calls ≡ calls_of p = ap (map ordered) seated.orders in
     let reported : replies_of (register_of work.writer.writer) calls ≡ reported_by p = ap (λ (s : Sequential). replies_of s calls) seated.start ∙ ap (replies_of p.start) asked in
     let state : register_of done.writer.writer ≡ state_after p.start (calls_of p) = written.register ∙ ap (λ (s : Sequential). state_after s calls) seated.start ∙ ap (state_after p.start) asked in
     let opening : done.writer.writer.ledger.opening ≡ p.start.ledger.opening = ap (λ (s : Sequential). s.ledger.opening) state ∙ opening-kept p.start (calls_of p) in
@@ -93,7 +92,7 @@ outcome-of p work done answers s seated ran b =
     let legal = two-of (λ sheets. All (IsLegalSheet p.start.ledger.opening) sheets) first second (legal-of _ _ _ seated.first ran.first) (legal-of _ _ _ seated.second ran.second) in
     let rising = two-of (IsRising 0) first second (rising-of _ _ _ seated.first ran.first) (rising-of _ _ _ seated.second ran.second) in
     record {
-      answered = ap (map reply_of) b.answered ∙ written.answers ∙ reported;
+      replies = ap (map answered) b.replies ∙ written.answers ∙ reported;
       served = record {
         journal = b.journal ∙ ap (λ (s : Sequential). s.ledger.journal) state;
         legal_journal = subst (λ (l : Opening). IsLegal l s.journal.items) opening b.legal;

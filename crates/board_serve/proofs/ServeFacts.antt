@@ -1,37 +1,37 @@
 -- What `serve` has written, at each of its ends.
 use Rattle.std.proofs.Common.{◌≡◌, inl, inr, ℕ, Bool, true, false, List, [], ◌∷◌, ◌++◌, length, map, Option, Some, None, Result, Ok, Err, refl, sym, ap, ◌∙◌, subst, append_assoc}
-use Rattle.std.proofs.KnownBytes.{Appends-nil}
+use Rattle.std.proofs.KnownBytes.{Appends-nil, Appends-trans}
 use Rattle.std.proofs.lemmas.List.{append-nil}
 use Rattle.std.specs.Io.KnownBytes.{Appends}
-use Rattle.council_core.specs.Sequential.{Reply}
+use Rattle.council_core.specs.Sequential.{Reply, answered}
 use Rattle.council_core.specs.declared.refusals.Refusal.TheVariants as why
-use Rattle.board_text.specs.Lines.{Line, audit_line, fault_line, reply_line}
-use Rattle.board_text.specs.Output.{AppendsFront, Ends, EndsRun, EndsStopped, Fails, IsBroken, IsFrontOf, Plays, Writes, fault_of}
-use Rattle.board_text.specs.Replies.{reply_of}
+use Rattle.board_text.specs.Lines.{LineBytes, audit_line, fault_line, reply_line}
+use Rattle.board_text.specs.Output.{AppendsFront, AppendsLines, Ends, EndsRun, EndsStopped, IsBroken, IsFrontOf, Plays, StopsIn, Writes, fault_of}
 use Rattle.board_text.specs.Text.{Run, end_lines, fault_at, line_text, output, printed_run, stopped_run, text_of, with_lines}
 use Rattle.board_text.specs.declared.faults.Fault.{Fault}
-use Rattle.board_text.specs.declared.replies.Answer.{Answer}
+use Rattle.council_core.specs.declared.calls.Answer.{Answer}
 use Rattle.board_text.specs.declared.stops.Stop.{Stop}
 use Rattle.board_text.specs.declared.stops.Stop.TheVariants as stop
-use Rattle.board_text.proofs.PlayFacts.{front-before, front-then, line-then, plays-after, plays-more, plays-passed, plays-spelled, text-after}
+use Rattle.board_text.proofs.PlayFacts.{appends-same, front-before, front-none, front-then, line-then, plays-after, plays-more, plays-passed, plays-spelled, text-after}
+use Rattle.board_text.proofs.RecordFacts.{fault_in, is-fault}
 use Rattle.board_serve.specs.Outcomes.{IsServed, ServedLegalRecords, reported_by}
 use Rattle.board_serve.specs.Plans.{Planned}
 use Rattle.board_serve.specs.Serving.{Differs, IsReportStop, IsServeRun, Serves, ServesTo, StopsServe, audited_run, count_lines, lines_of_work, work_lines}
 use Rattle.board_serve.specs.Work.{IsHeldUp}
 use Rattle.board_serve.specs.declared.serving.Served.{Served}
 
-abbrev answer_line : Answer → Line
-answer_line a = reply_line (reply_of a)
+abbrev answer_line : Answer → LineBytes
+answer_line a = reply_line (answered a)
 
 -- the line of an answer is that of the reply
-mapped : (answers : List Answer) → map reply_line (map reply_of answers) ≡ map answer_line answers
+mapped : (answers : List Answer) → map reply_line (map answered answers) ≡ map answer_line answers
 mapped [] = refl
-mapped (a ∷ more) = ap (λ (ls : List Line). answer_line a ∷ ls) (mapped more)
+mapped (a ∷ more) = ap (λ (ls : List LineBytes). answer_line a ∷ ls) (mapped more)
 
 -- a report is the lines of the answers, those of the counts, and the result of the audit
 module _ (answers : List Answer) (counts : List ℕ) (legal : Bool) where
   abbrev pub report_run : Run
-  report_run = with_lines (lines_of_work (map reply_of answers) counts) (audited_run legal)
+  report_run = with_lines (lines_of_work (map answered answers) counts) (audited_run legal)
 
   abbrev counted : Run
   counted = with_lines (count_lines 1 counts) (audited_run legal)
@@ -39,23 +39,23 @@ module _ (answers : List Answer) (counts : List ℕ) (legal : Bool) where
   in-parts : with_lines (map answer_line answers) counted ≡ report_run
   in-parts =
       let tail = audited_run legal in
-      let run : List Line → Run = λ ls. record { lines = ls; end = tail.end } in
+      let run : List LineBytes → Run = λ ls. record { lines = ls; end = tail.end } in
       ap run (sym (append_assoc (map answer_line answers) (count_lines 1 counts) tail.lines)
-      ∙ ap (λ (ls : List Line). (ls ++ count_lines 1 counts) ++ tail.lines) (sym (mapped answers)))
+      ∙ ap (λ (ls : List LineBytes). (ls ++ count_lines 1 counts) ++ tail.lines) (sym (mapped answers)))
 
   as-parts : (a b : Option (List ℕ)) (r : Result (Unit {0}) Stop) → Plays a b r (with_lines (map answer_line answers) counted) → Plays a b r report_run
   as-parts a b r p = let P : Run → Type 0 = λ run. Plays a b r run in subst P in-parts p
 
   -- a line of the answers was stopped
-  pub answers-stop : (a b : Option (List ℕ)) (e d : Stop) → d ≡ e → Plays a b (Err e) (printed_run (map answer_line answers)) → Plays a b (Err d) report_run
+  pub answers-stop : (a b : Option (List ℕ)) (e d : Stop) → d ≡ e → StopsIn a b e (printed_run (map answer_line answers)) → StopsIn a b d report_run
   answers-stop a b e d same p = plays-passed a b e d report_run same (as-parts a b (Err e) (plays-more a b e (map answer_line answers) counted p))
 
   -- a line of the counts was stopped
-  pub counts-stop : (a b c : Option (List ℕ)) (u : Unit {0}) (e d : Stop) → d ≡ e → Plays a b (Ok u) (printed_run (map answer_line answers)) → Plays b c (Err e) (printed_run (count_lines 1 counts))
-      → Plays a c (Err d) report_run
+  pub counts-stop : (a b c : Option (List ℕ)) (u : Unit {0}) (e d : Stop) → d ≡ e → Plays a b (Ok u) (printed_run (map answer_line answers)) → StopsIn b c e (printed_run (count_lines 1 counts))
+      → StopsIn a c d report_run
   counts-stop a b c u e d same p q =
       plays-passed a c e d report_run same
-      (as-parts a c (Err e) (plays-after a b c (map answer_line answers) (Err e) counted p.1 (plays-more b c e (count_lines 1 counts) (audited_run legal) q)))
+      (as-parts a c (Err e) (plays-after {A = Unit {0}} a b c (map answer_line answers) (Err e) counted p.1 (plays-more b c e (count_lines 1 counts) (audited_run legal) q)))
 
   -- all lines before the result of the audit were written
   pub audit-then : (a b c z : Option (List ℕ)) (u v : Unit {0}) (r : Result (Unit {0}) Stop) → Plays a b (Ok u) (printed_run (map answer_line answers)) → Plays b c (Ok v) (printed_run (count_lines 1 counts))
@@ -63,10 +63,10 @@ module _ (answers : List Answer) (counts : List ℕ) (legal : Bool) where
   audit-then a b c z u v r p q s = as-parts a z r (plays-after a b z (map answer_line answers) r counted p.1 (plays-after b c z (count_lines 1 counts) r (audited_run legal) q.1 s))
 
 -- the result of the audit: a mismatch, or its line
-pub mismatch-plays : (a : Option (List ℕ)) (legal : Bool) (e : Stop) → legal ≡ false → e ≡ stop.Input (fault_at why.Mismatch 0) → Plays a a (Err e) (audited_run legal)
+pub mismatch-plays : (a : Option (List ℕ)) (legal : Bool) (e : Stop) → legal ≡ false → e ≡ stop.Input (fault_at why.Mismatch 0) → StopsIn a a e (audited_run legal)
 mismatch-plays a legal e broken same = rw (broken, same) (refl, Appends-nil a)
 
-pub audit-plays : (a b : Option (List ℕ)) (legal : Bool) (r : Result (Unit {0}) Stop) (line : Line) → legal ≡ true → line ≡ audit_line → Writes a b r (line_text line) → Plays a b r (audited_run legal)
+pub audit-plays : (a b : Option (List ℕ)) (legal : Bool) (r : Result (Unit {0}) Stop) (line : LineBytes) → legal ≡ true → line ≡ audit_line → Writes a b r (line_text line) → Plays a b r (audited_run legal)
 audit-plays a b legal r line sound spelled w = rw sound (plays-spelled a b r line audit_line spelled w)
 
 -- out of memory, or a failed read, before anything is written
@@ -74,12 +74,35 @@ broken-run : (spec : Result Planned Fault) (f : Fault) → IsBroken f → IsServ
 broken-run (Err g) f h = (refl, inr h)
 broken-run (Ok p) f h = inl (refl, inl h)
 
--- the input gave no plan
-pub fails-serve : (a : Option (List ℕ)) (e d : Stop) (spec : Result Planned Fault) → d ≡ e → Fails e spec → ServesTo a a (Err d) spec
-fails-serve a stop.OutOfMemory d spec same p = rw same (stopped_run (fault_at why.OutOfMemory 0), broken-run spec _ (inl refl), (refl, Appends-nil a))
-fails-serve a stop.ReadFault d spec same p = rw same (stopped_run (fault_at why.ReadFault 0), broken-run spec _ (inr refl), (refl, Appends-nil a))
-fails-serve a stop.WriteFault d spec same p = absurd p
-fails-serve a (stop.Input f) d spec same p = rw (same, p) (stopped_run f, (refl, inl refl), (refl, Appends-nil a))
+front-of-none : {A : Type 0} (front rest : List A) → [] ≡ front ++ rest → front ≡ []
+front-of-none [] rest is = refl
+front-of-none (x ∷ front) rest is = cc is
+
+-- lines before a fault that is out of memory or a failed read: none, where the run has none
+no-lines-before : (a b : Option (List ℕ)) (f : Fault) (run : Run) (spec : Result Planned Fault) → IsBroken f → run.lines ≡ [] → AppendsLines a b run.lines
+    → (r : Run) × IsServeRun spec r × StopsServe a b (Some f) r
+no-lines-before a b f run spec broken none p =
+    let front : p.0 ≡ [] = front-of-none p.0 p.1.0 (sym none ∙ p.1.1) in
+    (stopped_run f, broken-run spec f broken, (refl, appends-same a b _ _ (ap text_of front) p.2))
+
+-- the input gave no plan, and its run has no lines
+pub fails-serve : (a b : Option (List ℕ)) (e d : Stop) (run : Run) (spec : Result Planned Fault) → d ≡ e → run.lines ≡ [] → run.end ≡ fault_in spec → StopsIn a b e run → ServesTo a b (Err d) spec
+fails-serve a b stop.OutOfMemory d run spec same none end p = rw same (no-lines-before a b _ run spec (inl refl) none p)
+fails-serve a b stop.ReadFault d run spec same none end p = rw same (no-lines-before a b _ run spec (inr refl) none p)
+fails-serve a b stop.WriteFault d run spec same none end p =
+    let front : p.0 ≡ [] = front-of-none p.0 p.1.0 (sym (ap text_of none) ∙ p.1.1) in
+    rw same (stopped_run (fault_at why.OutOfMemory 0), broken-run spec _ (inl refl), ([], front-none _, appends-same a b _ _ front p.2))
+fails-serve a b (stop.Input f) d run spec same none end p =
+    rw (same, is-fault spec f (sym end ∙ p.0)) (stopped_run f, (refl, inl refl), (refl, appends-same a b _ _ (ap text_of none) p.1))
+
+-- nothing was written before
+pub after-nothing : (a b c : Option (List ℕ)) (r : Result Served Stop) (spec : Result Planned Fault) → Appends a b [] → ServesTo b c r spec → ServesTo a c r spec
+after-nothing a b c (Ok s) spec nothing p = (p.0, p.1, p.2, p.3, Appends-trans a b c [] _ nothing p.4)
+after-nothing a b c (Err e) spec nothing p = (p.0, p.1, stops-on (fault_of e) p.2)
+  where
+    stops-on : (f : Option Fault) → StopsServe b c f p.0 → StopsServe a c f p.0
+    stops-on None t = (t.0, t.1, Appends-trans a b c [] _ nothing t.2)
+    stops-on (Some f) t = (t.0, Appends-trans a b c [] _ nothing t.1)
 
 -- a thread was held up
 pub held-serve : (a : Option (List ℕ)) (e d : Stop) (p : Planned) → d ≡ e → IsHeldUp e → ServesTo a a (Err d) (Ok p)
@@ -106,7 +129,7 @@ whole a b true u p s served records t = (p, refl, served, records refl, t.1)
 whole a b false u p s served records t = cc t.0
 
 -- the report was stopped, or found a mismatch
-report-serve : (a b : Option (List ℕ)) (legal : Bool) (e : Stop) (p : Planned) → IsReportStop e → (legal ≡ false → Differs p) → Plays a b (Err e) (done_run p legal) → ServesTo a b (Err e) (Ok p)
+report-serve : (a b : Option (List ℕ)) (legal : Bool) (e : Stop) (p : Planned) → IsReportStop e → (legal ≡ false → Differs p) → StopsIn a b e (done_run p legal) → ServesTo a b (Err e) (Ok p)
 report-serve a b legal stop.WriteFault p causes differs t = (done_run p legal, is-run p legal differs, cut-output a b (done_run p legal) t)
 report-serve a b legal (stop.Input f) p causes differs t = (done_run p legal, is-run p legal differs, t)
 report-serve a b legal stop.OutOfMemory p (inl e) differs t = cc e
@@ -119,16 +142,16 @@ pub record Audited (p : Planned) (s : Served) (legal : Bool) (answers : List Ans
   pub served : IsServed p s
   pub records : legal ≡ true → ServedLegalRecords p s
   pub differs : legal ≡ false → ServedLegalRecords p s → ⊥
-  pub answered : map reply_of answers ≡ reported_by p
+  pub replies : map answered answers ≡ reported_by p
   pub counted : counts ≡ map length p.shares.asked
 
 module _ (a b : Option (List ℕ)) (p : Planned) (s : Served) (legal : Bool) (answers : List Answer) (counts : List ℕ) (done : Audited p s legal answers counts) where
   as-done : (r : Result (Unit {0}) Stop) → Plays a b r (report_run answers counts legal) → Plays a b r (done_run p legal)
   as-done r t =
-      let P : List Line → Type 0 = λ ls. Plays a b r (with_lines ls (audited_run legal)) in
-      subst P (ap (λ (rs : List Reply). lines_of_work rs counts) done.answered ∙ ap (lines_of_work (reported_by p)) done.counted) t
+      let P : List LineBytes → Type 0 = λ ls. Plays a b r (with_lines ls (audited_run legal)) in
+      subst P (ap (λ (rs : List Reply). lines_of_work rs counts) done.replies ∙ ap (lines_of_work (reported_by p)) done.counted) t
 
-  pub stopped-serve : (e d : Stop) → d ≡ e → IsReportStop e → Plays a b (Err e) (report_run answers counts legal) → ServesTo a b (Err d) (Ok p)
+  pub stopped-serve : (e d : Stop) → d ≡ e → IsReportStop e → StopsIn a b e (report_run answers counts legal) → ServesTo a b (Err d) (Ok p)
   stopped-serve e d same causes t = rw same (report-serve a b legal e p causes (λ broken. (s, done.served, done.differs broken)) (as-done (Err e) t))
 
   pub whole-serve : (u : Unit {0}) → Plays a b (Ok u) (report_run answers counts legal) → ServesTo a b (Ok s) (Ok p)

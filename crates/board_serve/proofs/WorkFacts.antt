@@ -5,7 +5,7 @@ use Rattle.std.proofs.lemmas.List.Elements.{All-append, All-cons, All-nil}
 use Rattle.std.proofs.lemmas.Grind.{flat_map-append}
 use Rattle.std.specs.Prelude.{⊤}
 use Rattle.council_core.specs.Ledgers.{verdict_of}
-use Rattle.council_core.specs.Sequential.{Sequential, Call, Reply, publish, read, response_to, replies_of, state_after, submit, submit_response}
+use Rattle.council_core.specs.Sequential.{Sequential, Call, Reply, answered, ordered, read, response_to, replies_of, state_after, submit_response}
 use Rattle.council_core.specs.declared.commands.Command.{Command}
 use Rattle.council_core.specs.declared.refusals.Refusal.{Refusal}
 use Rattle.council_core.specs.Sheets.{front_of}
@@ -20,11 +20,11 @@ use Rattle.board_share.specs.Readers.{IsLegalSheet, TookSteps, last_front_of, nu
 use Rattle.board_share.proofs.Histories.{longer_none}
 use Rattle.board_share.proofs.Prefixes.{adds_then}
 use Rattle.board_share.specs.Writers.{Publisher}
-use Rattle.board_text.specs.Replies.{reply_of}
-use Rattle.board_text.specs.declared.replies.Answer.{Answer}
+use Rattle.council_core.specs.declared.calls.Answer.{Answer}
 use Rattle.board_text.proofs.IndexFacts.{StandsAt, first-more}
-use Rattle.board_serve.specs.Work.{CanAsk, IsRead, IsReadFrom, IsRising, IsWritten, call_of_order, cuts_of, cuts_of_reply, omega_at, omegas, register_of}
-use Rattle.board_serve.specs.declared.plan.Order.{Order}
+use Rattle.board_serve.specs.Work.{CanAsk, IsRead, IsReadFrom, IsRising, IsWritten, cuts_of, cuts_of_reply, omega_at, omegas, register_of}
+use Rattle.council_core.specs.declared.calls.Order.{Order}
+use Rattle.council_core.specs.declared.calls.Order.TheVariants as order
 use Rattle.board_serve.specs.declared.reader_work.ReaderWork.{ReaderWork}
 use Rattle.board_serve.specs.declared.writer_work.WriterWork.{WriterWork}
 
@@ -41,11 +41,11 @@ state-more s (c ∷ cs) call = state-more (response_to s c).0 cs call
 pub record CarriedOut (orders : List Order) (i : ℕ) (order : Order) (after next : WriterWork) : Type 0 where
   pub answer : Answer
   pub stands : StandsAt orders i order
-  pub replied : reply_of answer ≡ (response_to (register_of after.writer) (call_of_order order)).1
-  pub register : register_of next.writer ≡ (response_to (register_of after.writer) (call_of_order order)).0
+  pub replied : answered answer ≡ (response_to (register_of after.writer) (ordered order)).1
+  pub register : register_of next.writer ≡ (response_to (register_of after.writer) (ordered order)).0
   pub table : next.writer.table ≡ after.writer.table
   pub answers : next.answers.items ≡ after.answers.items ++ answer ∷ []
-  pub cuts : next.cuts.items ≡ after.cuts.items ++ cuts_of_reply (reply_of answer)
+  pub cuts : next.cuts.items ≡ after.cuts.items ++ cuts_of_reply (answered answer)
 
 -- one order more was carried out
 pub written-more : (before : Publisher) (orders : List Order) (i : ℕ) (o : Order) (after next : WriterWork)
@@ -53,18 +53,18 @@ pub written-more : (before : Publisher) (orders : List Order) (i : ℕ) (o : Ord
 written-more before orders i o after next done one =
     let a = one.answer in
     let s = register_of before in
-    let calls = map call_of_order (take i orders) in
-    let call = call_of_order o in
-    let more = first-more call_of_order orders i o one.stands in
-    let now : reply_of a ≡ (response_to (state_after s calls) call).1 = one.replied ∙ ap (λ (t : Sequential). (response_to t call).1) done.register in
-    let all : replies_of s (map call_of_order (take (i + 1) orders)) ≡ replies_of s calls ++ reply_of a ∷ [] =
+    let calls = map ordered (take i orders) in
+    let call = ordered o in
+    let more = first-more ordered orders i o one.stands in
+    let now : answered a ≡ (response_to (state_after s calls) call).1 = one.replied ∙ ap (λ (t : Sequential). (response_to t call).1) done.register in
+    let all : replies_of s (map ordered (take (i + 1) orders)) ≡ replies_of s calls ++ answered a ∷ [] =
     ap (replies_of s) more ∙ replies-more s calls call ∙ ap (λ (r : Reply). replies_of s calls ++ r ∷ []) (sym now) in
-    let kept : map reply_of next.answers.items ≡ map reply_of after.answers.items ++ reply_of a ∷ [] = ap (map reply_of) one.answers ∙ map-append reply_of after.answers.items (a ∷ []) in
+    let kept : map answered next.answers.items ≡ map answered after.answers.items ++ answered a ∷ [] = ap (map answered) one.answers ∙ map-append answered after.answers.items (a ∷ []) in
     record {
-      answers = kept ∙ ap (λ (rs : List Reply). rs ++ reply_of a ∷ []) done.answers ∙ sym all;
+      answers = kept ∙ ap (λ (rs : List Reply). rs ++ answered a ∷ []) done.answers ∙ sym all;
       register = one.register ∙ ap (λ (t : Sequential). (response_to t call).0) done.register ∙ sym (state-more s calls call) ∙ ap (state_after s) (sym more);
       table = one.table ∙ done.table;
-      cuts = one.cuts ∙ ap (λ (ns : List ℕ). ns ++ cuts_of_reply (reply_of a)) done.cuts ∙ sym (ap cuts_of all ∙ flat_map-append cuts_of_reply (replies_of s calls) (reply_of a ∷ []) ∙ ap (λ (ns : List ℕ). cuts_of (replies_of s calls) ++ ns) (append-nil (cuts_of_reply (reply_of a))));
+      cuts = one.cuts ∙ ap (λ (ns : List ℕ). ns ++ cuts_of_reply (answered a)) done.cuts ∙ sym (ap cuts_of all ∙ flat_map-append cuts_of_reply (replies_of s calls) (answered a ∷ []) ∙ ap (λ (ns : List ℕ). cuts_of (replies_of s calls) ++ ns) (append-nil (cuts_of_reply (answered a))));
     }
 
 kept-by : (s : Sequential) (command : Command) (v : Result ⊤ Refusal) → (submit_response s command v).0.ledger.opening ≡ s.ledger.opening
@@ -72,8 +72,8 @@ kept-by s command (Ok u) = refl
 kept-by s command (Err e) = refl
 
 kept-one : (s : Sequential) (call : Call) → (response_to s call).0.ledger.opening ≡ s.ledger.opening
-kept-one s (submit command) = kept-by s command (verdict_of s.ledger command)
-kept-one s publish = refl
+kept-one s (ordered (order.Submit command)) = kept-by s command (verdict_of s.ledger command)
+kept-one s (ordered order.Publish) = refl
 kept-one s read = refl
 
 -- no call changes the opening

@@ -1,6 +1,7 @@
 -- Which faults may end a run of the threads, and after which lines; and what the definitions exclude.
 use Rattle.std.proofs.Common.{◌≡◌, ◌++◌, ℕ, true, false, List, [], ◌∷◌, replicate, Option, Some, Ok, Err, refl, sym, ap, arith, ⊎_elim}
-use Rattle.council_core.specs.Sequential.{Sequential, accepted, refused, published}
+use Rattle.council_core.specs.Sequential.{Sequential}
+use Rattle.council_core.proofs.WorkedCases.{accepted, published, refused}
 use Rattle.council_core.specs.declared.refusals.Refusal.TheVariants as why
 use Rattle.majority_rule.specs.declared.majorities.Majority.TheVariants.{Half}
 use Rattle.board_audits.specs.declared.audits.AuditFault.TheVariants as found
@@ -58,10 +59,10 @@ no_lines_before : EndsAfter (Err (fault_at why.BadRecord 2)) (work_lines one_rea
 no_lines_before h = has_lines h.0
 
 -- readings that differ do not pass as legal, nor legal ones as a mismatch
-differing_not_passed : (old new : Option (List ℕ)) → Plays old new (Ok tt) (audited_run false) → ⊥
+differing_not_passed : (old new : Option (List ℕ)) → Plays {A = Unit {0}} old new (Ok tt) (audited_run false) → ⊥
 differing_not_passed old new h = cc h.0
 
-legal_not_refused : (old new : Option (List ℕ)) → Plays old new (Err (stop.Input (fault_at why.Mismatch 0))) (audited_run true) → ⊥
+legal_not_refused : (old new : Option (List ℕ)) → Plays {A = Unit {0}} old new (Err (stop.Input (fault_at why.Mismatch 0))) (audited_run true) → ⊥
 legal_not_refused old new h = cc h.0
 
 -- the audit of a legal journal finds no fault of members, journal or cuts

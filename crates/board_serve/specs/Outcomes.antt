@@ -1,15 +1,14 @@
 -- The results of the work of all threads.
 use Rattle.std.specs.Prelude.{◌≡◌, ℕ, List, [], ◌∷◌, length, map, All}
 use Rattle.council_core.specs.Rolls.{IsLegal}
-use Rattle.council_core.specs.Sequential.{AreLegalRecords, Call, Reply, replies_of, state_after}
+use Rattle.council_core.specs.Sequential.{AreLegalRecords, Call, Reply, answered, ordered, replies_of, state_after}
 use Rattle.majority_rule.specs.declared.majorities.Majority.{Majority}
 use Rattle.board_audits.specs.declared.audits.AuditFault.{AuditFault}
 use Rattle.board_audits.specs.declared.audits.AuditFault.TheVariants as found
 use Rattle.board_share.specs.Readers.{IsLegalSheet}
-use Rattle.board_text.specs.Replies.{reply_of}
-use Rattle.board_text.specs.declared.replies.Answer.{Answer}
+use Rattle.council_core.specs.declared.calls.Answer.{Answer}
 use Rattle.board_serve.specs.Plans.{Planned}
-use Rattle.board_serve.specs.Work.{IsRising, call_of_order, cuts_of, omegas}
+use Rattle.board_serve.specs.Work.{IsRising, cuts_of, omegas}
 use Rattle.board_serve.specs.declared.serving.Served.{Served}
 use Rattle.board_serve.specs.declared.threads.AllWork.{AllWork}
 
@@ -23,7 +22,7 @@ winning_of s = map (λ v. v.items) s.winning.items
 
 -- the results of the threads, combined; the journal is the writer's
 pub record IsBrought (done : AllWork) (answers : List Answer) (s : Served) : Type 0 where
-  pub answered : answers ≡ done.writer.answers.items
+  pub replies : answers ≡ done.writer.answers.items
   pub journal : s.journal.items ≡ done.writer.writer.ledger.journal
   pub legal : IsLegal done.writer.writer.ledger.opening s.journal.items
   pub cuts : s.cuts.items ≡ done.writer.cuts.items
@@ -32,7 +31,7 @@ pub record IsBrought (done : AllWork) (answers : List Answer) (s : Served) : Typ
 
 -- the sequential register's calls for the writer's records
 abbrev pub calls_of : Planned → List Call
-calls_of p = map call_of_order p.shares.orders
+calls_of p = map ordered p.shares.orders
 
 -- the sequential register's replies to the writer's records
 abbrev pub reported_by : Planned → List Reply
@@ -71,5 +70,5 @@ CanBeFound found.OutOfMemory = Unit {0}
 
 -- the answers are the sequential register's replies, and IsServed holds
 pub record IsOutcome (p : Planned) (answers : List Answer) (s : Served) : Type 0 where
-  pub answered : map reply_of answers ≡ reported_by p
+  pub replies : map answered answers ≡ reported_by p
   pub served : IsServed p s

@@ -4,7 +4,7 @@ use Rattle.std.specs.Prelude.{None, Result, Ok, Err, length, map}
 use Rattle.std.specs.Io.KnownBytes.{Appends}
 use Rattle.council_core.specs.Sequential.{Reply}
 use Rattle.council_core.specs.declared.refusals.Refusal.TheVariants as why
-use Rattle.board_text.specs.Lines.{Line, audit_line, reader_line, reply_line}
+use Rattle.board_text.specs.Lines.{LineBytes, audit_line, reader_line, reply_line}
 use Rattle.board_text.specs.Output.{AppendsFront, IsBroken, fault_of}
 use Rattle.board_text.specs.Text.{Run, fault_at, output, printed_run, stopped_run, text_of}
 use Rattle.board_text.specs.declared.faults.Fault.{Fault}
@@ -15,16 +15,16 @@ use Rattle.board_serve.specs.Plans.{Planned}
 use Rattle.board_serve.specs.declared.serving.Served.{Served}
 
 -- the lines with the number of readings, from this reader number on
-abbrev pub count_lines : ℕ → List ℕ → List Line
+abbrev pub count_lines : ℕ → List ℕ → List LineBytes
 count_lines reader [] = []
 count_lines reader (count ∷ counts) = reader_line reader count ∷ count_lines (reader + 1) counts
 
 -- the lines of the writer's replies, then the number of readings of each reader
-abbrev pub lines_of_work : List Reply → List ℕ → List Line
+abbrev pub lines_of_work : List Reply → List ℕ → List LineBytes
 lines_of_work replies counts = map reply_line replies ++ count_lines 1 counts
 
 -- the lines written before the result of the audit
-abbrev pub work_lines : Planned → List Line
+abbrev pub work_lines : Planned → List LineBytes
 work_lines p = lines_of_work (reported_by p) (map length p.shares.asked)
 
 -- the result of the audit: its line, or a fault
@@ -43,7 +43,7 @@ Differs p = (s : Served) × IsServed p s × (ServedLegalRecords p s → ⊥)
 -- the lines of a run, and its fault, if any: the input's faults, out of memory, a failed read and a
 -- closed gate come after no line, and a mismatch of readings that differ comes after the lines of
 -- the work
-abbrev pub EndsAfter : Result Planned Fault → List Line → Option Fault → Type 0
+abbrev pub EndsAfter : Result Planned Fault → List LineBytes → Option Fault → Type 0
 EndsAfter (Err g) front None = ⊥
 EndsAfter (Err g) front (Some f) = (front ≡ []) × ((f ≡ g) ⊎ IsBroken f)
 EndsAfter (Ok p) front None = front ≡ work_lines p ++ audit_line ∷ []
@@ -51,7 +51,7 @@ EndsAfter (Ok p) front (Some f) =
     ((front ≡ []) × (IsBroken f ⊎ (f ≡ fault_at why.GateClosed 0)))
     ⊎ ((front ≡ work_lines p) × (f ≡ fault_at why.Mismatch 0) × Differs p)
 
--- a run that can come of a plan, or of the fault of the input
+-- a run that a plan, or the fault of the input, allows
 abbrev pub IsServeRun : Result Planned Fault → Run → Type 0
 IsServeRun spec run = EndsAfter spec run.lines run.end
 

@@ -4,8 +4,7 @@ use Rattle.std.specs.Prelude.{vec_len, Result, Ok, Err}
 use Rattle.std.specs.List.{flat_map}
 use Rattle.std.specs.Vec.{vec_capacity}
 use Rattle.council_core.specs.Coalitions.{omega_of}
-use Rattle.council_core.specs.Sequential.{Call, Sequential, Reply, accepted, refused, published, publish, reading}
-use Rattle.council_core.specs.Sequential.{replies_of, state_after, submit}
+use Rattle.council_core.specs.Sequential.{Sequential, Reply, answered, ordered, reading, replies_of, state_after}
 use Rattle.council_core.specs.Sheets.{front_of, open_chairs}
 use Rattle.council_core.specs.declared.refusals.Refusal.TheVariants as why
 use Rattle.majority_rule.specs.Winning.{rule_of}
@@ -17,12 +16,11 @@ use Rattle.board_share.specs.Analysts.{AnalystSeen}
 use Rattle.board_share.specs.Histories.{Adds, is_readers}
 use Rattle.board_share.specs.Readers.{IsLegalSheet, number_of}
 use Rattle.board_share.specs.Writers.{Publisher}
-use Rattle.board_text.specs.Replies.{reply_of}
 use Rattle.board_text.specs.Text.{fault_at}
 use Rattle.board_text.specs.declared.stops.Stop.{Stop}
 use Rattle.board_text.specs.declared.stops.Stop.TheVariants as stop
-use Rattle.board_serve.specs.declared.plan.Order.{Order}
-use Rattle.board_serve.specs.declared.plan.Order.TheVariants as order
+use Rattle.council_core.specs.declared.calls.Order.{Order}
+use Rattle.council_core.specs.declared.calls.Answer.TheVariants as answer
 use Rattle.board_serve.specs.declared.reader_work.ReaderWork.{ReaderWork}
 use Rattle.board_serve.specs.declared.threads.AllWork.{AllWork}
 use Rattle.board_serve.specs.declared.writer_work.WriterWork.{WriterWork}
@@ -31,16 +29,11 @@ use Rattle.board_serve.specs.declared.writer_work.WriterWork.{WriterWork}
 abbrev pub register_of : Publisher → Sequential
 register_of p = record { ledger = p.ledger; published = length p.published }
 
--- the sequential register's call for an order
-abbrev pub call_of_order : Order → Call
-call_of_order (order.Submit c) = submit c
-call_of_order order.Publish = publish
-
 -- the number that a reply returns, if it is the reply to a publication
 abbrev pub cuts_of_reply : Reply → List ℕ
-cuts_of_reply (accepted n) = []
-cuts_of_reply (refused e) = []
-cuts_of_reply (published n) = n ∷ []
+cuts_of_reply (answered (answer.Accepted n)) = []
+cuts_of_reply (answered (answer.Refused why)) = []
+cuts_of_reply (answered (answer.Published n)) = n ∷ []
 cuts_of_reply (reading words) = []
 
 -- the numbers that publications returned, in order
@@ -67,9 +60,9 @@ pub record CanWrite (work : WriterWork) : Type 0 where
 -- register and published commands are those after them, the cuts are the numbers that its
 -- publications returned, and its table is the same
 pub record IsWritten (before : Publisher) (orders : List Order) (done : WriterWork) : Type 0 where
-  pub answers : map reply_of done.answers.items ≡ replies_of (register_of before) (map call_of_order orders)
-  pub register : register_of done.writer ≡ state_after (register_of before) (map call_of_order orders)
-  pub cuts : done.cuts.items ≡ cuts_of (replies_of (register_of before) (map call_of_order orders))
+  pub answers : map answered done.answers.items ≡ replies_of (register_of before) (map ordered orders)
+  pub register : register_of done.writer ≡ state_after (register_of before) (map ordered orders)
+  pub cuts : done.cuts.items ≡ cuts_of (replies_of (register_of before) (map ordered orders))
   pub table : done.writer.table ≡ before.table
 
 -- the orders were carried out, or the writer was stopped by a closed gate or lack of memory

@@ -1,33 +1,32 @@
 //! Serves an input with one writer thread and two reader threads.
-ghost use Rattle.std.specs.Prelude.{◌≡◌, ◌≢◌, ◌≤◌, ◌+◌, ◌∷◌, [], Ok, true, false, map};
+ghost use Rattle.std.specs.Prelude.{◌≡◌, ◌≢◌, ◌≤◌, ◌<◌, ◌^◌, ◌+◌, ◌∷◌, [], Ok, true, false, map};
 ghost use Rattle.std.specs.Prelude.{IfOk, IfErr, IsErrOf, IsOkUnless, OnOk};
 ghost use Rattle.recording_io.specs.Tapes.{OfInput};
 ghost use Rattle.council_core.specs.Ledgers.{start_verdict};
 ghost use Rattle.council_core.specs.Rolls.{IsLegal};
-ghost use Rattle.council_core.specs.Sequential.{AreCuts, AreLegalRecords};
+ghost use Rattle.council_core.specs.Sequential.{AreCuts, AreLegalRecords, answered};
 ghost use Rattle.council_core.specs.declared.refusals.Refusal.TheVariants as why;
 ghost use Rattle.board_text.specs.Inputs.{RetriesAtMost, RunRetriesAtMost, WastesAtMost};
 ghost use Rattle.board_text.specs.Lines.{reply_line};
 ghost use Rattle.board_text.specs.Output.{IsBadLimit, Plays};
-ghost use Rattle.board_text.specs.Replies.{reply_of};
 ghost use Rattle.board_text.specs.Sinks.{GoesOn};
 ghost use Rattle.board_text.specs.Text.{fault_at, in_range, printed_run, with_lines};
 ghost use Rattle.board_text.specs.declared.stops.Stop.TheVariants as stop;
 ghost use Rattle.board_audits.specs.declared.audits.AuditFault.TheVariants.{OutOfMemory as LacksMemory};
 ghost use Rattle.board_serve.specs.Outcomes.{CanBeFound, IsOutcome, IsServed, ServedLegalRecords, sheets_of};
-ghost use Rattle.board_serve.specs.Plans.{IsSound, plan_of, plan_shown, two_readers};
+ghost use Rattle.board_serve.specs.Plans.{plan_of, record_count, two_readers};
 ghost use Rattle.board_serve.specs.Serving.{IsReportStop, Serves, ServesTo, audited_run, count_lines, lines_of_work};
 ghost use Rattle.board_serve.specs.Work.{IsHeldUp};
 
 use crate::gates::Gate;
-use crate::plan::{Plan, SERVED_READERS, read_plan};
+use crate::plan::{Plan, SERVED_READERS};
 use crate::threads::{put_together, run_all, seat_all};
 use board_share::{AuditFault, audit, audit_law};
 use board_text::{
-    Answer, Fault, INTERRUPTIONS, Output, READS, RunStart, Stop, end_run, line_of_answer,
-    line_of_audit, line_of_count,
+    Fault, INTERRUPTIONS, Limits, Output, READS, RunStart, Stop, end_run, interpret,
+    line_of_answer, line_of_audit, line_of_count,
 };
-use council_core::{Command, MAX_COMMANDS, MemberCode, Refusal, Sheet, Votes};
+use council_core::{Answer, Command, MAX_COMMANDS, MemberCode, Refusal, Sheet, Votes};
 use recording_io::RecordingReader;
 use std::alloc::Global;
 use std::io::{Read, Write};
@@ -95,13 +94,13 @@ fn perform<G: Gate, R: Threads + Wait + Sync>(
     gate: &G,
     plan: Plan,
 ) -> Result<(Vec<Answer>, Served, bool), Stop>
-    requires sound { IsSound plan }
-    ensures done { IfOk result (λ r. IsOutcome (plan_shown plan) r.0.items r.1) }
-    ensures records { IfOk result (λ r. r.2 ≡ true → ServedLegalRecords (plan_shown plan) r.1) }
-    ensures differs { IfOk result (λ r. r.2 ≡ false → ServedLegalRecords (plan_shown plan) r.1 → ⊥) }
+    requires bound { record_count plan.shares < 2 ^ 32 }
+    ensures done { IfOk result (λ r. IsOutcome plan r.0.items r.1) }
+    ensures records { IfOk result (λ r. r.2 ≡ true → ServedLegalRecords plan r.1) }
+    ensures differs { IfOk result (λ r. r.2 ≡ false → ServedLegalRecords plan r.1 → ⊥) }
     ensures causes { IfErr result IsHeldUp }
 {
-    let Plan { begun, records } = plan;
+    let (begun, records) = plan.into_parts();
     let RunStart {
         register,
         members,
@@ -117,7 +116,7 @@ fn perform<G: Gate, R: Threads + Wait + Sync>(
 // Writes the lines of these answers.
 fn write_answers<W: Write>(out: &mut Output<'_, W>, answers: &[Answer]) -> Result<(), Stop>
     ensures wrote { Plays out.old.held out.new.held result
-        (printed_run (map (λ a. reply_line (reply_of a)) answers.now)) }
+        (printed_run (map (λ a. reply_line (answered a)) answers.now)) }
     ensures continues { GoesOn out.old out.new }
     ensures only { IsOkUnless result stop.WriteFault }
 {
@@ -146,7 +145,7 @@ fn report<W: Write>(
     legal: bool,
 ) -> Result<(), Stop>
     ensures wrote { Plays out.old.held out.new.held result
-        (with_lines (lines_of_work (map reply_of answers.now) (counts.0 ∷ counts.1 ∷ [])) (audited_run legal)) }
+        (with_lines (lines_of_work (map answered answers.now) (counts.0 ∷ counts.1 ∷ [])) (audited_run legal)) }
     ensures causes { IfErr result IsReportStop }
     ensures continues { GoesOn out.old out.new }
 {
@@ -166,11 +165,11 @@ fn serve_plan<G: Gate, T: Threads + Wait + Sync, W: Write>(
     plan: Plan,
     out: &mut Output<'_, W>,
 ) -> Result<Served, Stop>
-    requires sound { IsSound plan }
-    ensures wrote { ServesTo out.old.held out.new.held result (Ok (plan_shown plan)) }
+    requires bound { record_count plan.shares < 2 ^ 32 }
+    ensures wrote { ServesTo out.old.held out.new.held result (Ok plan) }
     ensures continues { GoesOn out.old out.new }
 {
-    let counts = plan.records.counts();
+    let counts = plan.counts();
     let (answers, served, legal) = perform(rt, alloc, gate, plan)?;
     report(out, answers.as_slice(), counts, legal)?;
     Ok(served)
@@ -194,7 +193,11 @@ fn serve_to<G: Gate, T: Threads + Wait + Sync, R: Read + Drop, W: Write>(
     ensures retried { RetriesAtMost INTERRUPTIONS input.old input.new result }
     ensures continues { GoesOn out.old out.new }
 {
-    let plan = read_plan(alloc, input, journal_limit)?;
+    let limits = Limits {
+        readers: SERVED_READERS as u8,
+        journal: journal_limit,
+    };
+    let plan = interpret::<Plan, R, W>(alloc, input, out, limits)?;
     serve_plan(rt, alloc, gate, plan, out)
 }
 

@@ -7,13 +7,13 @@ ghost use Rattle.board_serve.specs.Plans.{record_count, shares_of};
 ghost use Rattle.board_serve.specs.Work.{AreDone, AreReady, CanAsk, CanWrite, HasAsked, HasWritten, IsClosed, IsHeldUp};
 
 use crate::gates::Gate;
-use crate::plan::{Order, Records, SERVED_READERS};
+use crate::plan::{Records, SERVED_READERS};
 use crate::reader_work::ReaderWork;
 use crate::serving::Served;
 use crate::writer_work::WriterWork;
 use board_share::{Reader, start};
-use board_text::{Answer, Stop};
-use council_core::Register;
+use board_text::Stop;
+use council_core::{Answer, Order, Register};
 use majority_rule::Majority;
 use std::alloc::{AllocError, Global};
 use std::snapshot::Snapshot;

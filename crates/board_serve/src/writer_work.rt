@@ -1,17 +1,14 @@
 //! The work of the writer's thread.
 ghost use Rattle.std.specs.Prelude.{◌≡◌, ◌≤◌, ◌<◌, ◌+◌, ◌^◌, ◌++◌, vec_len, IfOk, IfErr, OnOk, IsOkUnless};
 ghost use Rattle.std.specs.Vec.{vec_capacity};
-ghost use Rattle.council_core.specs.Sequential.{response_to, submit};
-ghost use Rattle.board_text.specs.Replies.{reply_of};
+ghost use Rattle.council_core.specs.Sequential.{answered, ordered, response_to, submit};
 ghost use Rattle.board_text.specs.declared.stops.Stop.TheVariants as stop;
-ghost use Rattle.board_serve.specs.Work.{CanWrite, HasWritten, IsHeldUp, IsWritten, call_of_order, cuts_of_reply};
-ghost use Rattle.board_serve.specs.Work.{register_of};
+ghost use Rattle.board_serve.specs.Work.{CanWrite, HasWritten, IsHeldUp, IsWritten, cuts_of_reply, register_of};
 
 use crate::gates::{Gate, Place, pass};
-use crate::plan::Order;
 use board_share::Writer;
-use board_text::{Answer, Stop};
-use council_core::{Command, Refusal};
+use board_text::Stop;
+use council_core::{Answer, Command, Order, Refusal};
 use std::alloc::{AllocError, Global};
 use std::sync::Wait;
 
@@ -26,7 +23,7 @@ pub(crate) struct WriterWork {
 
 // Submits a command to the writer.
 fn submit(writer: &mut Writer, command: Command) -> Result<Answer, Stop>
-    ensures replied { IfOk result (λ a. reply_of a ≡ (response_to (register_of writer.old) (submit command)).1) }
+    ensures replied { IfOk result (λ a. answered a ≡ (response_to (register_of writer.old) (submit command)).1) }
     ensures after { OnOk result (register_of writer.new ≡ (response_to (register_of writer.old) (submit command)).0) }
     ensures table { writer.new.table ≡ writer.old.table }
     ensures memory { IsOkUnless result stop.OutOfMemory }
@@ -48,9 +45,8 @@ fn obey<G: Gate, R: Wait>(
     publications: &mut u32,
 ) -> Result<Answer, Stop>
     requires bound { publications.old + 1 < 2 ^ 32 }
-    ensures replied { IfOk result (λ a. reply_of a ≡ (response_to (register_of writer.old) (call_of_order order)).1) }
-    ensures after { OnOk result
-        (register_of writer.new ≡ (response_to (register_of writer.old) (call_of_order order)).0) }
+    ensures replied { IfOk result (λ a. answered a ≡ (response_to (register_of writer.old) (ordered order)).1) }
+    ensures after { OnOk result (register_of writer.new ≡ (response_to (register_of writer.old) (ordered order)).0) }
     ensures table { writer.new.table ≡ writer.old.table }
     ensures causes { IfErr result IsHeldUp }
     ensures counted { publications.new ≤ publications.old + 1 }
@@ -70,7 +66,7 @@ fn obey<G: Gate, R: Wait>(
 // Stores the number that this answer returns, if it is the answer to a publication.
 fn keep_cut(cuts: &mut Vec<u32>, answer: Answer)
     requires room { vec_len cuts.old < vec_capacity cuts.old }
-    ensures kept { cuts.new.items ≡ cuts.old.items ++ cuts_of_reply (reply_of answer) }
+    ensures kept { cuts.new.items ≡ cuts.old.items ++ cuts_of_reply (answered answer) }
     ensures count { vec_len cuts.new ≤ vec_len cuts.old + 1 }
     ensures room { vec_capacity cuts.new ≡ vec_capacity cuts.old }
 {

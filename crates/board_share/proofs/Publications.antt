@@ -15,14 +15,14 @@ use Rattle.two_copy_steps.specs.declared.views.WriterView.{WriterView}
 use Rattle.two_copy_steps.specs.declared.views.Writing.{Writing}
 use Rattle.two_copy_steps.specs.declared.views.Phase.{Phase}
 use Rattle.two_copy_steps.specs.declared.views.Phase.TheVariants.{Idle, Seeing, Filling, Swapping}
-use Rattle.two_copy_steps.specs.Actions.{Action, all_true, first_false, writer_action, writing_with_quiescent}
+use Rattle.two_copy_steps.specs.Actions.{Action, all_true, first_false, writer_action, writing_with_quiescent, filling_phase, seeing_phase}
 use Rattle.two_copy_steps.specs.Publications.{StaySeen}
-use Rattle.two_copy_steps.specs.Transitions.{is_idle}
+use Rattle.two_copy_steps.specs.Transitions.{is_idle, phase_note}
 use Rattle.two_copy_steps.specs.declared.table.TheConstants.{COPY_WORDS}
 use Rattle.board_share.specs.declared.views.View.{View}
 use Rattle.board_share.specs.Histories.{Adds, KnowsAfter, is_writers}
-use Rattle.board_share.specs.Steps.{begin_events, step_note, with_writer, writer_begun_with}
-use Rattle.board_share.specs.Writers.{IsWriter, MayBegin, MayPublish, MayWrite, Publishing, SeatStepped, WriterTook, due_at, filling_phase, held_by, next_action, published_view, publishing_view, seeing_phase, unseen_count, writer_or}
+use Rattle.board_share.specs.Steps.{begin_events, with_writer, writer_begun_with}
+use Rattle.board_share.specs.Writers.{IsWriter, MayBegin, MayPublish, MayWrite, Publishing, SeatStepped, WriterTook, due_at, held_by, next_action, published_view, publishing_view, unseen_count, writer_or}
 use Rattle.board_share.proofs.Prefixes.{adds_none, adds_then}
 
 -- the quiescent readers, one by one
@@ -48,13 +48,6 @@ one_set_out [] r l h = absurd (omega arith)
 one_set_out (b ∷ bs) zero l h = refl
 one_set_out (true ∷ bs) (suc r) l h = one_set_out bs r (omega arith) h
 one_set_out (false ∷ bs) (suc r) l h = absurd cc
-
-pub stays_set : (bs : List Bool) (r : ℕ) → StaySeen bs (set bs r true)
-stays_set [] r q e = e
-stays_set (b ∷ bs) zero zero e = refl
-stays_set (b ∷ bs) zero (suc q) e = e
-stays_set (b ∷ bs) (suc r) zero e = e
-stays_set (b ∷ bs) (suc r) (suc q) e = stays_set bs r q e
 
 pub all_there : (bs : List Bool) (q : ℕ) → all_true bs ≡ true → q < length bs → slice_get bs q ≡ Some true
 all_there [] q e h = absurd (omega arith)
@@ -197,7 +190,7 @@ module _ (l : Ledger) (start me : Me Unit View) (steps : ℕ) (out : List Bool) 
   -- once it is taken
   module _ (seat seat' : TableId) (me' : Me Unit View) (found : ℕ)
       (step : SeatStepped list found seat seat' me me') where
-    pub took : WriterTook l start me' (steps + 1) (action.after found) (step_note view.state phase found)
+    pub took : WriterTook l start me' (steps + 1) (action.after found) (phase_note view.state phase found)
     took =
         let v = held_by me.0 in
         let begin : List Event = begin_events (Some l.journal) (held_by start.0) in
@@ -215,7 +208,7 @@ module _ (l : Ledger) (start me : Me Unit View) (steps : ℕ) (out : List Bool) 
           adds = subst (λ (e : List Event). Adds is_writers e start.0.history me'.0.history) events
               (adds_then is_writers start.0.history me.0.history me'.0.history _ _ p.adds step.acted.adds);
           knows = subst (KnowsAfter me'.0.history) (ap (λ (m : Me Unit View). held_by m.0) is) step.acted.knows;
-          reported = step.acted.reported ∙ ap (λ (x : WriterView). Some (step_note x.state x.state.phase found)) begun;
+          reported = step.acted.reported ∙ ap (λ (x : WriterView). Some (phase_note x.state x.state.phase found)) begun;
         }
 
 -- a pin was loaded: it was 0, or 1

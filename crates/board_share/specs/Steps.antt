@@ -1,21 +1,15 @@
 -- The effect of a step on the seat that takes it.
-use Rattle.std.specs.Prelude.{◌≡◌, ℕ, suc, ◌==◌, List, [], ◌∷◌, ◌++◌, length, slice_get}
-use Rattle.std.specs.Prelude.{if◌then◌else◌, Option, Some, None}
+use Rattle.std.specs.Prelude.{◌≡◌, ℕ, suc, List, [], ◌∷◌, ◌++◌, slice_get, Option, Some, None}
 use Rattle.atomic_table.specs.Table.{Me}
 use Rattle.council_core.specs.declared.commands.Command.{Command}
 use Rattle.council_core.specs.Rolls.{Opening, sheet}
 use Rattle.two_copy_steps.specs.declared.events.Event.{Event}
 use Rattle.two_copy_steps.specs.declared.events.Event.TheVariants.{Publish, Writer, Reader}
-use Rattle.two_copy_steps.specs.declared.events.Note.{Note}
-use Rattle.two_copy_steps.specs.declared.events.Note.TheVariants.{Moved, Published, Busy, Skipped}
 use Rattle.two_copy_steps.specs.declared.views.ReaderView.{ReaderView}
-use Rattle.two_copy_steps.specs.declared.views.Writing.{Writing}
-use Rattle.two_copy_steps.specs.declared.views.Phase.{Phase}
-use Rattle.two_copy_steps.specs.declared.views.Phase.TheVariants.{Idle, Seeing, Filling, Swapping}
 use Rattle.two_copy_steps.specs.declared.views.WriterView.{WriterView}
-use Rattle.two_copy_steps.specs.Actions.{first_false, reader_action, writer_action, writing_of_staged}
+use Rattle.two_copy_steps.specs.Actions.{reader_action, writer_action, writing_of_staged}
 use Rattle.two_copy_steps.specs.States.{IsKnown}
-use Rattle.two_copy_steps.specs.Transitions.{stage_note}
+use Rattle.two_copy_steps.specs.Transitions.{stage_note, phase_note}
 use Rattle.board_share.specs.declared.views.View.{View}
 use Rattle.board_share.specs.declared.views.History.{History}
 use Rattle.board_share.specs.Histories.{Adds, KnowsAfter, handed_over, is_readers, is_writers, known_after, last_reported}
@@ -53,13 +47,6 @@ abbrev pub begin_events : Option (List Command) → WriterView → List Event
 begin_events None v = []
 begin_events (Some list) v = handed_over v.state.staged list ++ Publish ∷ []
 
--- the output of a step of the writer that found this number
-abbrev pub step_note : Writing → Phase → ℕ → Note
-step_note w Idle found = Skipped
-step_note w Seeing found = if found == 0 then Moved else Busy (suc (first_false w.seen_out))
-step_note w (Filling k) found = Moved
-step_note w Swapping found = Published (length w.staged)
-
 -- a step of the writer was added, after the start of a publication if there was one, with its
 -- output and with the writer's view after it
 pub record WriterActed (list : Option (List Command)) (found : ℕ) (before after : History) (v w : WriterView)
@@ -67,7 +54,7 @@ pub record WriterActed (list : Option (List Command)) (found : ℕ) (before afte
   pub adds : Adds is_writers (begin_events list v ++ Writer ∷ []) before after
   pub knows : KnowsAfter after w
   pub reported : last_reported after
-      ≡ Some (step_note (writer_begun_with list v).state (writer_begun_with list v).state.phase found)
+      ≡ Some (phase_note (writer_begun_with list v).state (writer_begun_with list v).state.phase found)
 
 -- the writer took its step, and began to publish these commands before it, if any
 abbrev pub write_then : Option (List Command) → Me Unit View → ℕ → Me Unit View → Type 0

@@ -1,6 +1,6 @@
 -- The state of the writer in contracts, and how its seat holds it.
 use Rattle.std.specs.Prelude.{◌≡◌, ℕ, zero, suc, ◌+◌, ◌-◌, ◌<◌, ◌≤◌, Bool, false, List, [], ◌∷◌, ◌++◌}
-use Rattle.std.specs.Prelude.{◌==◌, if◌then◌else◌, length, replicate, nat_lt, Option, Some, None, not}
+use Rattle.std.specs.Prelude.{if◌then◌else◌, length, replicate, nat_lt, Option, Some, None, not}
 use Rattle.std.specs.List.{filter}
 use Rattle.atomic_table.specs.Table.{Me}
 use Rattle.atomic_table.specs.Seated.{TableId}
@@ -13,9 +13,9 @@ use Rattle.two_copy_steps.specs.declared.events.Note.{Note}
 use Rattle.two_copy_steps.specs.declared.events.Note.TheVariants.{Busy, Published}
 use Rattle.two_copy_steps.specs.declared.views.WriterView.{WriterView}
 use Rattle.two_copy_steps.specs.declared.views.Phase.{Phase}
-use Rattle.two_copy_steps.specs.declared.views.Phase.TheVariants.{Idle, Seeing, Filling, Swapping}
-use Rattle.two_copy_steps.specs.Actions.{Action, all_true, first_false, other_side, pin, writer_action}
-use Rattle.two_copy_steps.specs.Lawful.{IsPublishable}
+use Rattle.two_copy_steps.specs.declared.views.Phase.TheVariants.{Idle}
+use Rattle.two_copy_steps.specs.Actions.{Action, all_true, first_false, other_side, pin, writer_action, filling_phase}
+use Rattle.two_copy_steps.specs.Lawful.{IsPublishable, IsPrefix}
 use Rattle.two_copy_steps.specs.Publications.{StaySeen}
 use Rattle.two_copy_steps.specs.Transitions.{is_idle}
 use Rattle.two_copy_steps.specs.declared.table.TheConstants.{COPY_WORDS, READERS}
@@ -42,17 +42,13 @@ pub record MayPublish (h : History) (opening : Opening) (v : WriterView) (list :
   pub idle : v.state.phase ≡ Idle
   pub publishable : IsPublishable opening list
   pub within : length list ≤ h.begun.register.limit
-  pub extends : (rest : List Command) × (v.state.staged ++ rest ≡ list)
+  pub extends : IsPrefix v.state.staged list
   pub more : length v.state.published < length list
 
 -- a publication of these commands, if any, may begin
 abbrev pub MayBegin : History → Opening → WriterView → Option (List Command) → Type 0
 MayBegin h opening v None = Unit {0}
 MayBegin h opening v (Some list) = MayPublish h opening v list
-
--- the first list is a prefix of the second
-abbrev pub IsPrefix : List Command → List Command → Type 0
-IsPrefix list longer = (rest : List Command) × (list ++ rest ≡ longer)
 
 -- the writer's seat of a table while no publication is in progress; its side and its quiescent
 -- readers are stored alongside it
@@ -116,13 +112,6 @@ due_at me journal = if is_idle (held_by me.0).state.phase then Some journal else
 abbrev pub publishing_view : WriterView → List Command → List Bool → Phase → WriterView
 publishing_view v journal out phase =
     record v { state = record v.state { staged = journal; seen_out = out; phase = phase } }
-
--- the phase once these readers are quiescent, and the phase when word k is the next to be stored
-abbrev pub seeing_phase : List Bool → Phase
-seeing_phase out = if all_true out then Filling 0 else Seeing
-
-abbrev pub filling_phase : ℕ → Phase
-filling_phase k = if k == COPY_WORDS then Swapping else Filling k
 
 -- `steps` steps of a publication of the register's commands were taken since the seat `start`: these
 -- readers are quiescent, and the writer's next step is at this phase

@@ -17,7 +17,7 @@ use std::marker::Model;
 
 /// A reader with an evaluator: it reads sheets and returns their indices. In contracts, it is
 /// always at rest.
-#[derive(Drop)]
+#[derive(Debug, Drop)]
 pub struct Analyst {
     reader: Reader,
     evaluator: Evaluator,

@@ -8,7 +8,7 @@ ghost use Rattle.board_share.specs.Steps.{IsStepOn};
 ghost use Rattle.board_share.specs.Readers.{IsReader, Stepped, HasRead, reader_at};
 
 use crate::readers::Reading;
-use crate::rule::{Board, Reads};
+use crate::rule::{Board, ReaderRule};
 use crate::views::View;
 use atomic_table::Seat;
 use council_core::Sheet;
@@ -40,10 +40,10 @@ fn touch(board: &Board, seat: &mut Seat<(), View>, r: u8, stage: &ReaderStage) -
     ensures table { seat.new.table_id ≡ seat.old.table_id }
     ensures step { IsStepOn seat.old.me result seat.new.me }
 {
-    match stage.access(r as usize) {
-        Access::Load(place) => board.shared.load::<Reads>(seat, place),
+    match stage.access(r) {
+        Access::Load(place) => board.shared.load::<ReaderRule>(seat, place),
         Access::Store(place, word) => {
-            board.shared.store::<Reads>(seat, place, word);
+            board.shared.store::<ReaderRule>(seat, place, word);
             word
         }
     }
@@ -76,7 +76,7 @@ fn arrive(board: &Board, seat: &mut Seat<(), View>, r: u8)
     ensures { Stepped board.now.shared.table_id (reader_at board.now.shared.table_id seat.old.me.0 r AtRest)
         seat.new.table_id seat.new.me Arrived }
 {
-    board.shared.store::<Reads>(seat, pin(r as usize), 1);
+    board.shared.store::<ReaderRule>(seat, pin(r), 1);
 }
 
 // The second step: loads the side that is published.
@@ -86,7 +86,7 @@ fn load_side(board: &Board, seat: &mut Seat<(), View>, r: u8) -> u64
     ensures { Stepped board.now.shared.table_id (reader_at board.now.shared.table_id seat.old.me.0 r Arrived)
         seat.new.table_id seat.new.me (Stage.Reading result []) }
 {
-    board.shared.load::<Reads>(seat, SIDE)
+    board.shared.load::<ReaderRule>(seat, SIDE)
 }
 
 // One of the next 34 steps: loads word k of the copy that side names.
@@ -105,7 +105,7 @@ fn load_word(
         (reader_at board.now.shared.table_id seat.old.me.0 r (Stage.Reading side (take k words.old)))
         seat.new.table_id seat.new.me (stage_with_words side (take (k + 1) words.new)) }
 {
-    words[k] = board.shared.load::<Reads>(seat, place(side, k));
+    words[k] = board.shared.load::<ReaderRule>(seat, place(side, k));
 }
 
 // The last step: its pin becomes 0.
@@ -116,5 +116,5 @@ fn leave(board: &Board, seat: &mut Seat<(), View>, r: u8, side: u64, words: &[u6
         (reader_at board.now.shared.table_id seat.old.me.0 r (Leaving side words.now))
         seat.new.table_id seat.new.me AtRest }
 {
-    board.shared.store::<Reads>(seat, pin(r as usize), 0);
+    board.shared.store::<ReaderRule>(seat, pin(r), 0);
 }

@@ -14,12 +14,14 @@ use crate::rule::Board;
 use crate::views::View;
 use atomic_table::Seat;
 use council_core::Sheet;
+use std::fmt;
+use std::fmt::{Debug, Formatter};
 use std::marker::Model;
 use std::sync::Arc;
 use two_copy_steps::{READERS, ReaderStage};
 
 /// The result of one reading.
-#[derive(Clone, Copy)]
+#[derive(Clone, Copy, Debug)]
 pub struct Reading {
     /// The sheet of the register, as it was published.
     pub sheet: Sheet,
@@ -46,6 +48,12 @@ impl Model for Reader {
 
     ghost invariant = { λ r. IsReader (arc_value r.board).shared.table_id r.seat.table_id r.seat.me
         (reader_at (arc_value r.board).shared.table_id r.seat.me.0 r.index r.stage) };
+}
+
+impl Debug for Reader {
+    fn fmt<W: fmt::Write>(&self, f: &mut Formatter<W>) -> fmt::Result {
+        f.debug_struct("Reader").finish_non_exhaustive()
+    }
 }
 
 impl Reader {

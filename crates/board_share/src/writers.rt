@@ -10,9 +10,10 @@ ghost use Rattle.council_core.specs.Verdicts.{Follows};
 ghost use Rattle.council_core.specs.declared.refusals.Refusal.TheVariants.{OutOfMemory};
 ghost use Rattle.two_copy_steps.specs.declared.events.Note.TheVariants.{Busy as BusyAt, Published};
 ghost use Rattle.two_copy_steps.specs.Actions.{all_true, first_false};
+ghost use Rattle.two_copy_steps.specs.Lawful.{IsPrefix};
 ghost use Rattle.two_copy_steps.specs.Publications.{StaySeen, seen_out_at};
 ghost use Rattle.board_share.specs.Histories.{last_reported};
-ghost use Rattle.board_share.specs.Writers.{IsPrefix, IsWriter, TookTries, TookTry, cuts_after, has_pending, look_count};
+ghost use Rattle.board_share.specs.Writers.{IsWriter, TookTries, TookTry, cuts_after, has_pending, look_count};
 ghost use Rattle.board_share.specs.Writers.{publication_steps, publisher_at, seen_out_after};
 
 use crate::rule::Board;
@@ -20,9 +21,10 @@ use crate::views::View;
 use crate::writer_steps::publish_all;
 use atomic_table::Seat;
 use council_core::{Command, Refusal, Register};
+use std::fmt::{Debug, Formatter};
 use std::marker::Model;
 use std::sync::{Arc, Wait};
-use std::thread;
+use std::{fmt, thread};
 use thiserror::Error;
 use two_copy_steps::{Flags, READERS};
 
@@ -57,6 +59,12 @@ impl Model for Writer {
 
     ghost invariant = { λ w. IsWriter (arc_value w.board).shared.table_id w.seat.table_id w.seat.me w.register w.side
         w.seen_out × (w.published ≡ length (held_by w.seat.me.0).state.published) };
+}
+
+impl Debug for Writer {
+    fn fmt<W: fmt::Write>(&self, f: &mut Formatter<W>) -> fmt::Result {
+        f.debug_struct("Writer").finish_non_exhaustive()
+    }
 }
 
 impl Writer {

@@ -7,4 +7,6 @@ pub mod PlayFacts
 pub mod InputFacts
 pub mod BeginningFacts
 pub mod ReadingFacts
+pub mod RecordFacts
+pub mod InterpretFacts
 pub mod WorkedCases

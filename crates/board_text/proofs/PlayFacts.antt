@@ -1,13 +1,12 @@
 -- Runs in parts: lines that were written, and then a run from there.
-use Rattle.std.proofs.Common.{Some, ◌≡◌, ◌+◌, ◌⊎◌, inl, inr, ℕ, suc, ◌<◌, length, map, take, drop, get_or, List, [], ◌∷◌, ◌++◌, Option, Result, Ok, Err, refl, sym, ap, ◌∙◌, subst, append_assoc}
+use Rattle.std.proofs.Common.{◌≡◌, ◌+◌, ◌⊎◌, inl, inr, ℕ, suc, ◌<◌, length, map, take, drop, get_or, List, [], ◌∷◌, ◌++◌, Option, Result, Ok, Err, refl, sym, ap, ◌∙◌, subst, append_assoc}
 use Rattle.std.proofs.lemmas.List.{append-nil, map-append}
 use Rattle.std.proofs.lemmas.Grind.{flat_map-append}
 use Rattle.std.proofs.KnownBytes.{Appends-trans, Appends-nil}
 use Rattle.std.specs.Io.KnownBytes.{Appends}
-use Rattle.board_text.specs.Lines.{Line}
+use Rattle.board_text.specs.Lines.{LineBytes}
 use Rattle.board_text.specs.Text.{Run, with_lines, line_text, printed_run, text_of}
 use Rattle.board_text.specs.Output.{AppendsFront, IsFrontOf, Plays, StopsIn, Writes}
-use Rattle.board_text.specs.declared.faults.Fault.{Fault}
 use Rattle.board_text.specs.declared.stops.Stop.{Stop}
 use Rattle.board_text.specs.declared.stops.Stop.TheVariants as stop
 use Rattle.board_text.proofs.IndexFacts.{StandsAt, first-more, found-at, split-at}
@@ -42,21 +41,18 @@ stops-after a b c done stop.WriteFault run p q =
 stops-after a b c done (stop.Input f) run p q = (q.0, lines-then a b c done run.lines p q.1)
 
 -- lines written, and then a run played
-pub plays-after : (a b c : Option (List ℕ)) (done : List (List ℕ)) (r : Result (Unit {0}) Stop) (run : Run) → Appends a b (text_of done) → Plays b c r run → Plays a c r (with_lines done run)
+pub plays-after : {A : Type 0} (a b c : Option (List ℕ)) (done : List (List ℕ)) (r : Result A Stop) (run : Run) → Appends a b (text_of done) → Plays b c r run → Plays a c r (with_lines done run)
 plays-after a b c done (Ok u) run p q = (q.0, lines-then a b c done run.lines p q.1)
 plays-after a b c done (Err e) run p q = stops-after a b c done e run p q
 
-stops-more : (a b : Option (List ℕ)) (e : Stop) (ls : List (List ℕ)) (run : Run) → StopsIn a b e (printed_run ls) → StopsIn a b e (with_lines ls run)
-stops-more a b stop.OutOfMemory ls run p = (p.0, front-before p.0 ls run.lines p.1, p.2)
-stops-more a b stop.ReadFault ls run p = (p.0, front-before p.0 ls run.lines p.1, p.2)
-stops-more a b stop.WriteFault ls run p =
+-- what stops the first lines of a run stops the run
+pub plays-more : (a b : Option (List ℕ)) (e : Stop) (ls : List (List ℕ)) (run : Run) → StopsIn a b e (printed_run ls) → StopsIn a b e (with_lines ls run)
+plays-more a b stop.OutOfMemory ls run p = (p.0, front-before p.0 ls run.lines p.1, p.2)
+plays-more a b stop.ReadFault ls run p = (p.0, front-before p.0 ls run.lines p.1, p.2)
+plays-more a b stop.WriteFault ls run p =
     let P : List ℕ → Type 0 = λ t. IsFrontOf p.0 t in
     (p.0, subst P (sym (text-after ls run.lines)) (front-before p.0 (text_of ls) (text_of run.lines) p.1), p.2)
-stops-more a b (stop.Input f) ls run p = cc p.0
-
--- what stops the first lines of a run stops the run
-pub plays-more : (a b : Option (List ℕ)) (e : Stop) (ls : List (List ℕ)) (run : Run) → Plays a b (Err e) (printed_run ls) → Plays a b (Err e) (with_lines ls run)
-plays-more a b e ls run p = stops-more a b e ls run p
+plays-more a b (stop.Input f) ls run p = cc p.0
 
 written-line : (a b : Option (List ℕ)) (e : Stop) (l : List ℕ) → e ≡ stop.WriteFault → AppendsFront a b (line_text l) → StopsIn a b e (printed_run (l ∷ []))
 written-line a b stop.WriteFault l e p =
@@ -76,15 +72,15 @@ pub plays-spelled : (a b : Option (List ℕ)) (r : Result (Unit {0}) Stop) (l m 
 plays-spelled a b r l m e p = rw (← e) (plays-line a b r l p)
 
 -- an error that is passed on is the error that stopped the run
-pub plays-passed : (a b : Option (List ℕ)) (e d : Stop) (run : Run) → d ≡ e → Plays a b (Err e) run → Plays a b (Err d) run
-plays-passed a b e d run same p = let P : Stop → Type 0 = λ s. Plays a b (Err s) run in subst P (sym same) p
+pub plays-passed : (a b : Option (List ℕ)) (e d : Stop) (run : Run) → d ≡ e → StopsIn a b e run → StopsIn a b d run
+plays-passed a b e d run same p = let P : Stop → Type 0 = λ s. StopsIn a b s run in subst P (sym same) p
 
 after-after : (ls ms : List (List ℕ)) (r : Run) → with_lines ls (with_lines ms r) ≡ with_lines (ls ++ ms) r
 after-after ls ms r = ap (λ (l : List (List ℕ)). let run : Run = record { lines = l; end = r.end } in run) (sym (append_assoc ls ms r.lines))
 
 -- the first lines of a run were written, and this run is left of it
 pub record PlayedTo (a b : Option (List ℕ)) (whole left : Run) : Type 0 where
-  pub lines : List Line
+  pub lines : List LineBytes
   pub written : Appends a b (text_of lines)
   pub goes_on : whole ≡ with_lines lines left
 
@@ -104,25 +100,25 @@ played-on a b c whole left more so_far next = record {
 }
 
 -- a run goes on after lines that were written
-pub plays-whole : (a b c : Option (List ℕ)) (r : Result (Unit {0}) Stop) (whole left : Run) → PlayedTo a b whole left → Plays b c r left → Plays a c r whole
+pub plays-whole : {A : Type 0} (a b c : Option (List ℕ)) (r : Result A Stop) (whole left : Run) → PlayedTo a b whole left → Plays b c r left → Plays a c r whole
 plays-whole a b c r whole left so_far q = rw so_far.goes_on (plays-after a b c so_far.lines r left so_far.written q)
 
-pub plays-nothing : (a : Option (List ℕ)) (u : Unit {0}) → Plays a a (Ok u) (printed_run [])
+pub plays-nothing : {A : Type 0} (a : Option (List ℕ)) (u : A) → Plays a a (Ok u) (printed_run [])
 plays-nothing a u = (refl, Appends-nil a)
 
 -- the item at an index of a list, and its line
-pub record RowAt {X : Type 0} (f : X → Line) (xs : List X) (i : ℕ) : Type 0 where
+pub record RowAt {X : Type 0} (f : X → LineBytes) (xs : List X) (i : ℕ) : Type 0 where
   pub thing : X
-  pub line : Line
+  pub line : LineBytes
   pub stands : StandsAt xs i thing
   pub spelled : line ≡ f thing
 
 -- the row of what a list has at an index
-abbrev pub row-found : {X : Type 0} (f : X → Line) (xs : List X) (i : ℕ) (d : X) (l : Line) → i < length xs → l ≡ f (get_or xs i d) → RowAt f xs i
+abbrev pub row-found : {X : Type 0} (f : X → LineBytes) (xs : List X) (i : ℕ) (d : X) (l : LineBytes) → i < length xs → l ≡ f (get_or xs i d) → RowAt f xs i
 row-found f xs i d l within spelled = record { thing = get_or xs i d; line = l; stands = found-at xs i d within; spelled = spelled }
 
 -- lines of a list's first things, and one more
-pub rows-more : {X : Type 0} (f : X → Line) (a b c : Option (List ℕ)) (xs : List X) (i : ℕ) (row : RowAt f xs i)
+pub rows-more : {X : Type 0} (f : X → LineBytes) (a b c : Option (List ℕ)) (xs : List X) (i : ℕ) (row : RowAt f xs i)
     → Appends a b (text_of (map f (take i xs))) → Appends b c (line_text row.line) → Appends a c (text_of (map f (take (i + 1) xs)))
 rows-more f a b c xs i row p q =
     let x = row.thing in
@@ -130,31 +126,31 @@ rows-more f a b c xs i row p q =
     appends-same a c _ _ (sym (ap text_of (first-more f xs i x row.stands))) (lines-then a b c (map f (take i xs)) (f x ∷ []) p one)
 
 -- lines of a list's first things, of which the next stopped the run
-pub rows-stop : {X : Type 0} (f : X → Line) (a b c : Option (List ℕ)) (e : Stop) (xs : List X) (i : ℕ) (row : RowAt f xs i)
-    → Appends a b (text_of (map f (take i xs))) → Writes b c (Err e) (line_text row.line) → Plays a c (Err e) (printed_run (map f xs))
+pub rows-stop : {X : Type 0} (f : X → LineBytes) (a b c : Option (List ℕ)) (e : Stop) (xs : List X) (i : ℕ) (row : RowAt f xs i)
+    → Appends a b (text_of (map f (take i xs))) → Writes b c (Err e) (line_text row.line) → StopsIn a c e (printed_run (map f xs))
 rows-stop f a b c e xs i row p q =
     let x = row.thing in
     let rest = map f (drop (suc i) xs) in
     let split : map f xs ≡ map f (take i xs) ++ (f x ∷ rest) = ap (map f) (split-at xs i x row.stands) ∙ map-append f (take i xs) (x ∷ drop (suc i) xs) in
     let so_far : PlayedTo a b (printed_run (map f xs)) (printed_run (f x ∷ rest)) = record { lines = map f (take i xs); written = p; goes_on = ap printed_run split } in
-    plays-whole a b c (Err e) _ _ so_far (plays-more b c e (f x ∷ []) (printed_run rest) (plays-spelled b c (Err e) row.line (f x) row.spelled q))
+    plays-whole {A = Unit {0}} a b c (Err e) _ _ so_far (plays-more b c e (f x ∷ []) (printed_run rest) (plays-spelled b c (Err e) row.line (f x) row.spelled q))
 
 -- a line with others after it, as they are written and as they are spelled
-pub record FirstLine (spelled : Line) (behind : List Line) : Type 0 where
-  pub line : Line
-  pub others : List Line
+pub record FirstLine (spelled : LineBytes) (behind : List LineBytes) : Type 0 where
+  pub line : LineBytes
+  pub others : List LineBytes
   pub line_is : line ≡ spelled
   pub others_are : others ≡ behind
 
 -- lines of which the first stopped the run
-pub first-stops : (a b : Option (List ℕ)) (e : Stop) (l m : Line) (rest : List Line) → l ≡ m → Writes a b (Err e) (line_text l) → Plays a b (Err e) (printed_run (m ∷ rest))
+pub first-stops : (a b : Option (List ℕ)) (e : Stop) (l m : LineBytes) (rest : List LineBytes) → l ≡ m → Writes a b (Err e) (line_text l) → StopsIn a b e (printed_run (m ∷ rest))
 first-stops a b e l m rest spelled p = plays-more a b e (m ∷ []) (printed_run rest) (plays-spelled a b (Err e) l m spelled p)
 
 -- lines of which the first was written
-pub first-then : (a b c : Option (List ℕ)) (r : Result (Unit {0}) Stop) (m : Line) (rest : List Line) (first : FirstLine m rest)
+pub first-then : (a b c : Option (List ℕ)) (r : Result (Unit {0}) Stop) (m : LineBytes) (rest : List LineBytes) (first : FirstLine m rest)
     → Appends a b (line_text first.line) → Plays b c r (printed_run first.others) → Plays a c r (printed_run (m ∷ rest))
 first-then a b c r m rest first p q =
-    let P : List Line → Type 0 = λ ls. Plays b c r (printed_run ls) in
+    let P : List LineBytes → Type 0 = λ ls. Plays b c r (printed_run ls) in
     plays-after a b c (m ∷ []) r (printed_run rest) (appends-same a b _ _ (ap line_text first.line_is ∙ sym (append-nil (line_text m))) p) (subst P first.others_are q)
 
 broken-here : (a : Option (List ℕ)) (e : Stop) (run : Run) → (e ≡ stop.OutOfMemory) ⊎ (e ≡ stop.ReadFault) → StopsIn a a e run
@@ -162,14 +158,14 @@ broken-here a e run (inl memory) = rw memory ([], front-none run.lines, Appends-
 broken-here a e run (inr failed) = rw failed ([], front-none run.lines, Appends-nil a)
 
 -- lines written, and then out of memory or a failed read
-pub plays-broken : (a b : Option (List ℕ)) (e : Stop) (whole left : Run) → (e ≡ stop.OutOfMemory) ⊎ (e ≡ stop.ReadFault) → PlayedTo a b whole left → Plays a b (Err e) whole
-plays-broken a b e whole left causes so_far = plays-whole a b b (Err e) whole left so_far (broken-here b e left causes)
+pub plays-broken : (a b : Option (List ℕ)) (e : Stop) (whole left : Run) → (e ≡ stop.OutOfMemory) ⊎ (e ≡ stop.ReadFault) → PlayedTo a b whole left → StopsIn a b e whole
+plays-broken a b e whole left causes so_far = plays-whole {A = Unit {0}} a b b (Err e) whole left so_far (broken-here b e left causes)
 
-pub line-then : (a b c : Option (List ℕ)) (ls : List Line) (l : Line) → Appends a b (text_of ls) → Appends b c (line_text l) → Appends a c (text_of (ls ++ l ∷ []))
+pub line-then : (a b c : Option (List ℕ)) (ls : List LineBytes) (l : LineBytes) → Appends a b (text_of ls) → Appends b c (line_text l) → Appends a c (text_of (ls ++ l ∷ []))
 line-then a b c ls l p q = lines-then a b c ls (l ∷ []) p (appends-same b c _ _ (sym (append-nil (line_text l))) q)
 
 -- lines, and a prefix of one more
-pub front-then : (a b c : Option (List ℕ)) (ls : List Line) (l : Line) → Appends a b (text_of ls) → AppendsFront b c (line_text l) → AppendsFront a c (text_of (ls ++ l ∷ []))
+pub front-then : (a b c : Option (List ℕ)) (ls : List LineBytes) (l : LineBytes) → Appends a b (text_of ls) → AppendsFront b c (line_text l) → AppendsFront a c (text_of (ls ++ l ∷ []))
 front-then a b c ls l p q =
     let P : List ℕ → Type 0 = λ t. IsFrontOf (text_of ls ++ q.0) t in
     let whole : text_of (ls ++ l ∷ []) ≡ text_of ls ++ line_text l = text-after ls (l ∷ []) ∙ ap (λ t. text_of ls ++ t) (append-nil (line_text l)) in

@@ -1,5 +1,5 @@
 -- How often a run asks for a read, by how its input was read.
-use Rattle.std.proofs.Common.{◌≡◌, ◌≤◌, ◌+◌, inl, inr, ℕ, List, Option, Result, Ok, Err, arith}
+use Rattle.std.proofs.Common.{◌≡◌, ◌+◌, inl, inr, ℕ, List, Option, Result, Ok, Err, arith}
 use Rattle.recording_io.specs.Tapes.{Giving}
 use Rattle.council_core.specs.declared.refusals.Refusal.TheVariants as why
 use Rattle.board_text.specs.Inputs.{InterruptedAtMost, NoReadInVain, RetriesAtMost, RunRetriesAtMost, WastesAtMost}

@@ -15,18 +15,17 @@ use Rattle.council_core.specs.declared.limits.TheConstants.{CHAIRS}
 use Rattle.board_text.specs.declared.input.TheConstants.{INTERRUPTIONS, READS}
 use Rattle.board_text.specs.declared.schedules.TheConstants.{MAX_STEPS}
 use Rattle.board_text.specs.declared.stops.Stop.TheVariants as stop
-use Rattle.board_text.specs.Requests.{member_of, request_of}
+use Rattle.board_text.specs.Requests.{member_of, request_of, submission}
 use Rattle.board_text.specs.Lines.{accepted_line, refused_line, published_line, chair_line}
 use Rattle.board_text.specs.Sinks.{AsksAtMost, GoesOn, HasFailed, NoWriteInVain, Sink}
-use Rattle.board_text.specs.declared.requests.Request.TheVariants as ask
 
 pub member : member_of (codes "BBB" ∷ codes "49" ∷ []) ≡ Some (66 ∷ 66 ∷ 66 ∷ [], 49)
 member = refl
 
-pub opens : request_of (codes "open" ∷ codes "2" ∷ []) ≡ Some (ask.Submit (Open 2))
+pub opens : request_of (codes "open" ∷ codes "2" ∷ []) ≡ Some (submission (Open 2))
 opens = refl
 
-pub moves : request_of (codes "move" ∷ codes "AAA" ∷ codes "1" ∷ []) ≡ Some (ask.Submit (Move (65 ∷ 65 ∷ 65 ∷ []) (Some 1)))
+pub moves : request_of (codes "move" ∷ codes "AAA" ∷ codes "1" ∷ []) ≡ Some (submission (Move (65 ∷ 65 ∷ 65 ∷ []) (Some 1)))
 moves = refl
 
 pub no_request : request_of (codes "open" ∷ codes "33" ∷ []) ≡ None
@@ -225,13 +224,13 @@ start_writes_nothing : (lim : Limits) (members : Opening) → Starts lim members
 start_writes_nothing lim members h = h
 
 -- a run that stops is not played to its end, nor does another fault stop it
-stopped_run_played : Plays (Some []) (Some []) (Ok tt) (stopped_run (fault_at BadRecord 5)) → ⊥
+stopped_run_played : Plays {A = Unit {0}} (Some []) (Some []) (Ok tt) (stopped_run (fault_at BadRecord 5)) → ⊥
 stopped_run_played h = let e = h.0 in cc e
 
-stopped_by_another : Plays (Some []) (Some []) (Err (stop.Input (fault_at BadRecord 6))) (stopped_run (fault_at BadRecord 5)) → ⊥
+stopped_by_another : Plays {A = Unit {0}} (Some []) (Some []) (Err (stop.Input (fault_at BadRecord 6))) (stopped_run (fault_at BadRecord 5)) → ⊥
 stopped_by_another h = let e : fault_at BadRecord 5 ≡ fault_at BadRecord 6 = let d = h.0 in cc d in absurd (omega (arith, place e))
 
-line_left_out : Plays (Some []) (Some []) (Ok tt) (printed_run (codes "began" ∷ [])) → ⊥
+line_left_out : Plays {A = Unit {0}} (Some []) (Some []) (Ok tt) (printed_run (codes "began" ∷ [])) → ⊥
 line_left_out h = let e = h.1 in cc e
 
 -- the limits of chairs, reads, retries and steps by number, so that a changed constant is rejected

@@ -6,7 +6,7 @@ pub mod Lines
 pub mod Text
 pub mod Schedules
 pub mod Script
-pub mod Replies
 pub mod Sinks
 pub mod Output
 pub mod Inputs
+pub mod Scripts

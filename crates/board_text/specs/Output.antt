@@ -1,15 +1,17 @@
 -- The text that a run has written, by its result.
-use Rattle.std.specs.Prelude.{◌≡◌, ◌≤◌, ℕ, length, take, ◌⊎◌, List, ◌++◌, Option}
+use Rattle.std.specs.Prelude.{◌≡◌, ◌≤◌, ℕ, length, take, ◌⊎◌, List, [], ◌++◌, Option}
 use Rattle.std.specs.Prelude.{Some, None, Result, Ok, Err}
 use Rattle.std.specs.Io.KnownBytes.{Appends}
 use Rattle.council_core.specs.Ledgers.{Ledger, start_verdict}
 use Rattle.council_core.specs.Rolls.{Opening}
+use Rattle.council_core.specs.declared.limits.TheConstants.{MAX_COMMANDS}
 use Rattle.council_core.specs.declared.refusals.Refusal.{Refusal}
 use Rattle.council_core.specs.declared.refusals.Refusal.TheVariants as why
 use Rattle.board_text.specs.declared.bounds.Limits.{Limits}
-use Rattle.board_text.specs.Lines.{Line, fault_line}
+use Rattle.board_text.specs.Lines.{LineBytes, fault_line}
 use Rattle.board_text.specs.Requests.{Row}
 use Rattle.board_text.specs.Text.{Opened, Run, fault_at, line_text, ledger_at_start, text_of}
+use Rattle.board_text.specs.declared.beginning.RunStart.{RunStart}
 use Rattle.board_text.specs.declared.opening.OpeningRead.{OpeningRead}
 use Rattle.board_text.specs.declared.faults.Fault.{Fault}
 use Rattle.board_text.specs.declared.stops.Stop.{Stop}
@@ -35,8 +37,8 @@ WritesSome old new (Ok n) text = (n ≤ length text) × Appends old new (take n 
 WritesSome old new (Err e) text = (e ≡ stop.WriteFault) × AppendsFront old new text
 
 -- a prefix of these lines was appended
-abbrev pub AppendsLines : Option (List ℕ) → Option (List ℕ) → List Line → Type 0
-AppendsLines old new lines = (front : List Line) × IsFrontOf front lines × Appends old new (text_of front)
+abbrev pub AppendsLines : Option (List ℕ) → Option (List ℕ) → List LineBytes → Type 0
+AppendsLines old new lines = (front : List LineBytes) × IsFrontOf front lines × Appends old new (text_of front)
 
 -- the text that was appended before the line of the fault
 abbrev pub StopsIn : Option (List ℕ) → Option (List ℕ) → Stop → Run → Type 0
@@ -45,7 +47,7 @@ StopsIn old new stop.ReadFault run = AppendsLines old new run.lines
 StopsIn old new stop.WriteFault run = AppendsFront old new (text_of run.lines)
 StopsIn old new (stop.Input f) run = (run.end ≡ Some f) × Appends old new (text_of run.lines)
 
-abbrev pub Plays : Option (List ℕ) → Option (List ℕ) → Result (Unit {0}) Stop → Run → Type 0
+abbrev pub Plays : {A : Type 0} → Option (List ℕ) → Option (List ℕ) → Result A Stop → Run → Type 0
 Plays old new (Ok _) run = (run.end ≡ None) × Appends old new (text_of run.lines)
 Plays old new (Err e) run = StopsIn old new e run
 
@@ -71,6 +73,13 @@ Starts lim members (Err stop.ReadFault) = ⊥
 Starts lim members (Err stop.WriteFault) = ⊥
 Starts lim members (Err (stop.Input f)) = (e : Refusal) × (start_verdict members lim.journal ≡ Err e)
     × (f ≡ fault_at e 0)
+
+-- a register with an empty journal and these members, with which one with the largest journal limit
+-- can start, too
+pub record StartsRun (begun : RunStart) : Type 0 where
+  pub starts : start_verdict begun.members.items MAX_COMMANDS ≡ Ok tt
+  pub members : begun.register.opening ≡ begun.members.items
+  pub none : begun.register.journal ≡ []
 
 -- the stop of a refusal that ends a run: out of memory, or a fault of the input at 0
 abbrev pub stop_of : Refusal → Stop

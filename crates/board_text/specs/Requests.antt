@@ -2,7 +2,8 @@
 use Rattle.std.specs.Prelude.{ℕ, List, [], ◌∷◌, Bool, false, ◌&&◌, Option, Some, None, if◌then◌else◌}
 use Rattle.std.specs.Prelude.{option_map, codes}
 use Rattle.std.specs.Str.{bytes_eq}
-use Rattle.council_core.specs.Sequential.{Call, submit, publish, read}
+use Rattle.council_core.specs.Sequential.{Call, ordered, read}
+use Rattle.council_core.specs.declared.calls.Order.TheVariants as order
 use Rattle.council_core.specs.declared.commands.Command.{Command}
 use Rattle.council_core.specs.declared.commands.Command.TheVariants.{Open, Close, Move, SetVotes, Suspend, Restore}
 use Rattle.council_core.specs.declared.commands.Command.TheVariants.{Admit, Withdraw}
@@ -71,13 +72,16 @@ abbrev pub first_some : {A : Type 0} → Option A → Option A → Option A
 first_some None other = other
 first_some (Some a) other = Some a
 
+-- the request to submit a command
+abbrev pub submission : Command → Request
+submission command = ask.Order (order.Submit command)
+
 -- the request of a record in the script of `replay`, if it is well formed
 abbrev pub request_of : Row → Option Request
-request_of row = if is_publish row then Some ask.Publish
-    else first_some (reading_of row) (option_map ask.Submit (command_of row))
+request_of row = if is_publish row then Some (ask.Order order.Publish)
+    else first_some (reading_of row) (option_map submission (command_of row))
 
 -- the sequential register's call for a request
 abbrev pub call_of : Request → Call
-call_of (ask.Submit c) = submit c
-call_of ask.Publish = publish
+call_of (ask.Order o) = ordered o
 call_of (ask.Read r m) = read

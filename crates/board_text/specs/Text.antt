@@ -12,7 +12,7 @@ use Rattle.council_core.specs.declared.refusals.Refusal.{Refusal}
 use Rattle.council_core.specs.declared.refusals.Refusal.TheVariants.{BadHeader, BadLimit, BadReader, BadRecord}
 use Rattle.council_core.specs.declared.refusals.Refusal.TheVariants.{NoScript, TooLong, TooManyMembers}
 use Rattle.two_copy_steps.specs.declared.table.TheConstants.{READERS}
-use Rattle.board_text.specs.Lines.{Line, fault_line}
+use Rattle.board_text.specs.Lines.{LineBytes, fault_line}
 use Rattle.board_text.specs.Requests.{Row, is_header, is_mark, member_of, request_of}
 use Rattle.board_text.specs.declared.bounds.Limits.{Limits}
 use Rattle.board_text.specs.declared.faults.Fault.{Fault}
@@ -20,9 +20,13 @@ use Rattle.board_text.specs.declared.requests.Request.{Request}
 use Rattle.board_text.specs.declared.requests.Request.TheVariants as ask
 use Rattle.board_text.specs.declared.input.TheConstants.{INPUT_LIMIT}
 
+-- the limits of a run: readers, and commands in the journal
+abbrev pub run_limits : ℕ → ℕ → Limits
+run_limits readers journal = record { readers = readers; journal = journal }
+
 -- the lines of a run, each without its line end, and the fault that ended it, if any
 pub record Run : Type 0 where
-  pub lines : List Line
+  pub lines : List LineBytes
   pub end : Option Fault
 
 -- the fault of a refusal at a record number, or at 0
@@ -32,18 +36,18 @@ fault_at why number = record { code = code_of why; place = number }
 abbrev pub stopped_run : Fault → Run
 stopped_run f = record { lines = []; end = Some f }
 
-abbrev pub printed_run : List Line → Run
+abbrev pub printed_run : List LineBytes → Run
 printed_run ls = record { lines = ls; end = None }
 
 -- a run with these lines before its own
-abbrev pub with_lines : List Line → Run → Run
+abbrev pub with_lines : List LineBytes → Run → Run
 with_lines ls r = record { lines = ls ++ r.lines; end = r.end }
 
 -- a line with its line end
-abbrev pub line_text : Line → List ℕ
+abbrev pub line_text : LineBytes → List ℕ
 line_text l = l ++ 10 ∷ []
 
-abbrev pub text_of : List Line → List ℕ
+abbrev pub text_of : List LineBytes → List ℕ
 text_of ls = flat_map line_text ls
 
 -- whether the reader number is in range
@@ -53,8 +57,7 @@ is_reader lim number = nat_le 1 number && nat_le number lim.readers
 -- whether the reader number of a request is in range
 abbrev pub is_served : Limits → Request → Bool
 is_served lim (ask.Read reader m) = is_reader lim reader
-is_served lim (ask.Submit c) = true
-is_served lim ask.Publish = true
+is_served lim (ask.Order o) = true
 
 -- what a record asks for: refused if the record isn't well formed, or if its reader number is out of range
 abbrev pub valid_or_refused : {A : Type 0} → (A → Bool) → Option A → Result A Refusal
@@ -123,7 +126,7 @@ begun_of lim bytes =
 abbrev pub unpublished_register : Ledger → Sequential
 unpublished_register ledger = record { ledger = ledger; published = 0 }
 
-abbrev pub end_lines : Option Fault → List Line
+abbrev pub end_lines : Option Fault → List LineBytes
 end_lines None = []
 end_lines (Some f) = fault_line f ∷ []
 

@@ -5,7 +5,7 @@ ghost use Rattle.recording_io.specs.Tapes.{OfInput};
 ghost use Rattle.council_core.specs.declared.refusals.Refusal.TheVariants as why;
 ghost use Rattle.council_core.specs.Ledgers.{start_verdict};
 ghost use Rattle.board_text.specs.Inputs.{NoReadInVain, RetriesAtMost};
-ghost use Rattle.board_text.specs.Output.{Fails, Starts};
+ghost use Rattle.board_text.specs.Output.{Fails, Starts, StartsRun};
 ghost use Rattle.board_text.specs.Text.{begun_of, run_begun_with, fault_at, in_range, opened_of};
 
 use crate::bounds::Limits;
@@ -21,7 +21,7 @@ use std::alloc::Global;
 use std::io::Read;
 
 /// The start of a script: a register with the members of the input's opening.
-#[derive(Drop)]
+#[derive(Debug, Drop)]
 pub struct RunStart {
     /// The register, with an empty journal.
     pub register: Register,
@@ -103,9 +103,7 @@ pub fn begin(
     ensures fault { IfErr result (λ e. Fails e (run_begun_with limits (opened_of script.old))) }
 
     // The register is at its start, and the remaining records can be numbered.
-    ensures members { IfOk result (λ b. b.register.opening ≡ b.members.items) }
-    ensures starts { IfOk result (λ b. start_verdict b.members.items MAX_COMMANDS ≡ Ok tt) }
-    ensures none { IfOk result (λ b. b.register.journal ≡ []) }
+    ensures starts { IfOk result StartsRun }
     ensures numbers { IfOk result (λ b. b.place + length script.new < 2 ^ 32) }
 {
     if !script.next(row)? {

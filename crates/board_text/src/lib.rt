@@ -8,13 +8,13 @@ mod endings;
 mod faults;
 mod fields;
 mod input;
+mod interpreters;
 mod line;
 mod lines;
 mod majorities;
 mod numbers;
 mod opening;
 mod output;
-mod replies;
 mod requests;
 mod schedules;
 mod script;
@@ -25,13 +25,13 @@ pub use bounds::Limits;
 pub use endings::end_run;
 pub use faults::Fault;
 pub use input::{INPUT_LIMIT, INTERRUPTIONS, READS};
+pub use interpreters::{Interpreter, interpret};
 pub use line::{LINE, Line};
 pub use lines::{
     line_of_answer, line_of_audit, line_of_chair, line_of_count, line_of_fault, line_of_note,
     line_of_reading,
 };
 pub use output::{Output, say};
-pub use replies::Answer;
 pub use requests::{Request, request_in};
 pub use schedules::{Act, MAX_STEPS, act_in};
 pub use script::Script;

@@ -17,7 +17,7 @@ const NUMBER: usize = 21;
 const FRACTION: usize = 2 * NUMBER;
 
 /// A line of at most `LINE` bytes. In contracts, it is the list of its bytes.
-#[derive(Drop)]
+#[derive(Debug, Drop)]
 pub struct Line {
     text: ArrayString<LINE>,
 }

@@ -1,6 +1,6 @@
 //! Formats the lines of the output.
 ghost use Rattle.std.specs.Prelude.{◌≡◌, ◌≤◌, ◌+◌, ◌∷◌, [], length, IfSome, IfNone};
-ghost use Rattle.board_text.specs.Replies.{reply_of};
+ghost use Rattle.council_core.specs.Sequential.{answered};
 ghost use Rattle.board_text.specs.Lines.{accepted_line, busy_line, chair_line, fault_line, published_line};
 ghost use Rattle.board_text.specs.Lines.{reading_line, refused_line, reply_line, note_lines, sheet_line};
 ghost use Rattle.board_text.specs.Lines.{audit_line, reader_line};
@@ -8,8 +8,7 @@ ghost use Rattle.board_text.specs.Lines.{audit_line, reader_line};
 use crate::faults::Fault;
 use crate::line::{LINE, Line};
 use crate::majorities::word_of_majority;
-use crate::replies::Answer;
-use council_core::{Refusal, Sheet};
+use council_core::{Answer, Refusal, Sheet};
 use power_index::{ChairPower, Indices};
 use two_copy_steps::Note;
 
@@ -46,7 +45,7 @@ fn published_line(front: u32) -> Line
 
 /// The line of an answer to a command or to a publication, without its line end.
 pub fn line_of_answer(answer: Answer) -> Line
-    ensures text { result ≡ reply_line (reply_of answer) }
+    ensures text { result ≡ reply_line (answered answer) }
     ensures fits { length result + 1 ≤ LINE }
 {
     match answer {

@@ -14,7 +14,7 @@ use std::marker::Model;
 
 /// A writer that retries interrupted writes. At most `INTERRUPTIONS` interrupted writes are retried
 /// in one `Output`.
-#[derive(Drop)]
+#[derive(Debug, Drop)]
 pub struct Output<'a, W: Write> {
     out: RecordingWriter<'a, W>,
     interrupted: u32,

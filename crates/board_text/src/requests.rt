@@ -2,7 +2,7 @@
 ghost use Rattle.std.specs.Prelude.{◌≡◌, true, IfOk};
 ghost use Rattle.csv.specs.Records.{fields_of};
 ghost use Rattle.board_text.specs.Requests.{command_of_one, command_of_two, is_header, is_mark, member_of};
-ghost use Rattle.board_text.specs.Requests.{request_of};
+ghost use Rattle.board_text.specs.Requests.{request_of, submission};
 ghost use Rattle.board_text.specs.Numbers.{number_of_digits};
 ghost use Rattle.board_text.specs.declared.requests.Request.TheVariants.{Read};
 ghost use Rattle.board_text.specs.Text.{is_served, request_within};
@@ -14,17 +14,15 @@ use crate::fields::{Fields, fields_in, is_word};
 use crate::majorities::majority_in;
 use crate::numbers::number_of_field;
 use crate::stops::Stop;
-use council_core::{ChairId, Command, MemberCode, Refusal, Votes};
+use council_core::{ChairId, Command, MemberCode, Order, Refusal, Votes};
 use csv::ByteRecord;
 use majority_rule::Majority;
 
 /// A request of one record of the script.
 #[derive(Clone, Copy, Debug)]
 pub enum Request {
-    /// Submit this command to the register.
-    Submit(Command),
-    /// Publish all accepted commands.
-    Publish,
+    /// A call of the writer.
+    Order(Order),
     /// Read the published sheet as the reader of this number, not yet checked against the limits,
     /// at this majority.
     Read(u64, Majority),
@@ -115,18 +113,26 @@ fn reading_in(reader: &[u8], majority: &[u8]) -> Option<Request>
     Some(Request::Read(reader, majority))
 }
 
+// The request to submit a command.
+fn submission(command: Command) -> Request
+    ensures { result ≡ submission command }
+{
+    Request::Order(Order::Submit(command))
+}
+
 // The request of a record, or `None` if the record isn't well formed.
 fn request_of(row: &ByteRecord) -> Option<Request>
     ensures { result ≡ request_of (fields_of row.now) }
 {
     match fields_in(row) {
-        Fields::One(word) if is_word(word, "publish") => Some(Request::Publish),
-        Fields::Two(word, argument) => Some(Request::Submit(command_of_one(word, argument)?)),
+        Fields::One(word) if is_word(word, "publish") => Some(Request::Order(Order::Publish)),
+        Fields::Two(word, argument) => Some(submission(command_of_one(word, argument)?)),
         Fields::Three(word, reader, majority) if is_word(word, "read") => {
             reading_in(reader, majority)
         }
         Fields::Three(word, first, second) => {
-            Some(Request::Submit(command_of_two(word, first, second)?))
+            let command = command_of_two(word, first, second)?;
+            Some(submission(command))
         }
         _ => None,
     }

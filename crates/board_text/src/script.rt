@@ -11,6 +11,8 @@ ghost use Rattle.board_text.specs.Script.{IsMemoryOrRead, records_left};
 use crate::stops::Stop;
 use csv::{ByteRecord, Error, ErrorKind, Reader, ReaderBuilder};
 use std::alloc::Global;
+use std::fmt;
+use std::fmt::{Debug, Formatter};
 use std::marker::Model;
 
 /// A reader of the CSV records of a text. In contracts, it is the list of the records that are
@@ -28,6 +30,12 @@ impl<'a> Model for Script<'a> {
     ghost invariant = { λ s. has_failed s.reader ≡ false
         → (reader_trim s.reader ≡ trim.None) × (reader_config s.reader ≡ default_config)
         × (is_flexible s.reader ≡ true) × Ready s.reader };
+}
+
+impl Debug for Script<'_> {
+    fn fmt<W: fmt::Write>(&self, f: &mut Formatter<W>) -> fmt::Result {
+        f.debug_struct("Script").finish_non_exhaustive()
+    }
 }
 
 impl<'a> Script<'a> {

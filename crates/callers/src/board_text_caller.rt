@@ -8,8 +8,8 @@ use board_text::{Limits, Request, Script, Stop, request_in};
 use csv::ByteRecord;
 use std::alloc::Global;
 
-/// Returns the request of the first record of `text`, or `None` if there is no record. A record that is not well formed,
-/// or whose reader number is out of range, is an error.
+/// Returns the request of the first record of `text`, or `None` if there is no record. A record that is not well
+/// formed, or whose reader number is out of range, is an error.
 pub fn first_request(alloc: Global, text: &[u8], limits: Limits) -> Result<Option<Request>, Stop>
     ensures request { IfOk result (λ request. request
         ≡ option_and_then (λ row. result_ok (request_within limits row))

@@ -14,7 +14,7 @@ use Rattle.council_core.specs.declared.commands.Command.TheVariants.{Open, Close
 use Rattle.council_core.specs.declared.commands.Standing.{Standing}
 use Rattle.council_core.specs.declared.refusals.Refusal.{Refusal}
 use Rattle.council_core.specs.declared.refusals.Refusal.TheVariants.{ChairOpen, ChairNotOpen, ChairHasMembers, UnknownMember, MemberSuspended, AlreadyThere, AlreadySuspended, NotSuspended, TooManyMembers, MemberExists, MemberSeated}
-use Rattle.council_core.specs.Rolls.{Roll, Entry, Opening, IsLegal, next_roll, cast, can_receive, chair_numbers, chair_word, roll_with_closed, fold_from, has_members, is_open, max_members, move_member, opening_roll, roll_after, same_chair, same_code, sheet, standing_among, step, total, update, weight, with_member, roll_without_member, sheet_words, admit_member, roll_with_member, new_entry}
+use Rattle.council_core.specs.Rolls.{Roll, RollEntry, Opening, IsLegal, next_roll, cast, can_receive, chair_numbers, chair_word, roll_with_closed, fold_from, has_members, is_open, max_members, move_member, opening_roll, roll_after, same_chair, same_code, sheet, standing_among, step, total, update, weight, with_member, roll_without_member, sheet_words, admit_member, roll_with_member, new_entry}
 use Rattle.council_core.specs.Sheets.{IsSheet, cast_of, front_of, weight_in}
 use Rattle.council_core.specs.Laws.{IsOpening, SetsInRange}
 use Rattle.council_core.specs.Ledgers.{Ledger, roll_of, sheet_of}
@@ -71,7 +71,7 @@ module _ (roll : Roll) (small : IsSmall roll) where
   updated_small : (code : List ℕ) (s : Standing) → s.votes ≤ 2 ^ 40 → GivesSmall (update roll code s)
   updated_small code s h = record { bound = rw length-with_standing small.bound; small = all_with_standing code s (λ t. t.votes ≤ 2 ^ 40) roll.members small.small h }
 
-  found_small : (code : List ℕ) (es : List Entry) → AllByRecursion (λ m. m.1.votes ≤ 2 ^ 40) es → (s : Standing) → standing_among code es ≡ Some s → s.votes ≤ 2 ^ 40
+  found_small : (code : List ℕ) (es : List RollEntry) → AllByRecursion (λ m. m.1.votes ≤ 2 ^ 40) es → (s : Standing) → standing_among code es ≡ Some s → s.votes ≤ 2 ^ 40
   found_small code [] h s found = cc
   found_small code (e ∷ es) h s found =
       elim (same_code code e.0) as (λ b. cond b (Some e.1) (standing_among code es) ≡ Some s → s.votes ≤ 2 ^ 40) [
@@ -100,7 +100,7 @@ module _ (roll : Roll) (small : IsSmall roll) where
   entered_small code n h room =
       record {
         bound = rw length-append (omega (arith, room));
-        small = All-append (λ (m : Entry). m.1.votes ≤ 2 ^ 40) roll.members (new_entry (code, n) ∷ []) small.small (All-from_recursion (λ (m : Entry). m.1.votes ≤ 2 ^ 40) (new_entry (code, n) ∷ []) (h, tt));
+        small = All-append (λ (m : RollEntry). m.1.votes ≤ 2 ^ 40) roll.members (new_entry (code, n) ∷ []) small.small (All-from_recursion (λ (m : RollEntry). m.1.votes ≤ 2 ^ 40) (new_entry (code, n) ∷ []) (h, tt));
       }
 
   admitted_small : (code : List ℕ) (n : ℕ) → n ≤ 2 ^ 40 → GivesSmall (admit_member roll code n)
@@ -149,8 +149,8 @@ sheet_kept l kept k =
     let m = k.mirrors in
     small_sheet (roll_of l) (length l.journal)
     record {
-      bound = subst (λ (es : List Entry). length es ≤ 256) m.same_members m.bound;
-      small = subst (λ (es : List Entry). All (λ e. e.1.votes ≤ 2 ^ 40) es) m.same_members m.small;
+      bound = subst (λ (es : List RollEntry). length es ≤ 256) m.same_members m.bound;
+      small = subst (λ (es : List RollEntry). All (λ e. e.1.votes ≤ 2 ^ 40) es) m.same_members m.small;
     }
     (omega (arith, k.within, k.small_limit))
 

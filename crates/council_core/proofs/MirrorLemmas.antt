@@ -9,7 +9,7 @@ use Rattle.std.proofs.lemmas.List.Sums.{sum_by-append, sum_by-cons}
 use Rattle.council_core.specs.declared.commands.Standing.{Standing}
 use Rattle.council_core.specs.declared.registers.Register.TheInside.{Inside}
 use Rattle.council_core.specs.declared.totals.ChairTotals.{ChairTotals}
-use Rattle.council_core.specs.Rolls.{Roll, Entry, same_chair, standing_among, with_standing, members_without, new_entry, new_standing, roll_with_member, roll_without_member, max_members, sits_in, effective_votes, votes_in, weight, is_open, chair_word, can_receive, has_members, step, opening_roll}
+use Rattle.council_core.specs.Rolls.{Roll, RollEntry, same_chair, standing_among, with_standing, members_without, new_entry, new_standing, roll_with_member, roll_without_member, max_members, sits_in, effective_votes, votes_in, weight, is_open, chair_word, can_receive, has_members, step, opening_roll}
 use Rattle.std.specs.Result.{result_unwrap_or}
 use Rattle.council_core.specs.declared.commands.Command.{Command}
 use Rattle.council_core.specs.Ledgers.{Ledger, roll_of, ledger_with}
@@ -20,7 +20,7 @@ use Rattle.council_core.proofs.RollLemmas.{fold_from-push, all_accepted-push, su
 -- what a register stores in addition to its journal: its members, and the running numbers of the
 -- chairs
 pub record Kept : Type 0 where
-  pub entries : List Entry
+  pub entries : List RollEntry
   pub totals : ChairTotals
 
 -- what the fields of a register keep
@@ -70,14 +70,14 @@ no_one true h = absurd (omega (arith, h))
 no_one false h = refl
 
 -- a chair with no members has no weight
-pub empty_weight : (c : ℕ) (es : List Entry) → members_in_chair es c ≡ 0 → sum_by (λ m. votes_in c m.1) es ≡ 0
+pub empty_weight : (c : ℕ) (es : List RollEntry) → members_in_chair es c ≡ 0 → sum_by (λ m. votes_in c m.1) es ≡ 0
 empty_weight c [] h = refl
 empty_weight c (e ∷ es) h =
-    let split = sum_by-cons (λ (m : Entry). sits_as c m.1) e es in
+    let split = sum_by-cons (λ (m : RollEntry). sits_as c m.1) e es in
     let rest : members_in_chair es c ≡ 0 = omega (arith, split) in
     let here : sits_as c e.1 ≡ 0 = omega (arith, split) in
     let none : votes_in c e.1 ≡ 0 = ap (λ b. cond b (effective_votes e.1) 0) (no_one (sits_in c e.1) here) in
-    omega (arith, none, empty_weight c es rest, sum_by-cons (λ (m : Entry). votes_in c m.1) e es)
+    omega (arith, none, empty_weight c es rest, sum_by-cons (λ (m : RollEntry). votes_in c m.1) e es)
 
 same_number : (d : ℕ) → (d == d) ≡ true
 same_number d = grind (arith, nat_tests)
@@ -118,16 +118,16 @@ not_zero : (n : ℕ) → 0 < n → (n == 0) ≡ false
 not_zero n h = grind (arith, nat_tests, h)
 
 -- a chair has members where the number of them isn't 0
-pub has_members_is : (c : ℕ) (es : List Entry) → list_any (λ m. sits_in c m.1) es ≡ not (members_in_chair es c == 0)
+pub has_members_is : (c : ℕ) (es : List RollEntry) → list_any (λ m. sits_in c m.1) es ≡ not (members_in_chair es c == 0)
 has_members_is c [] = refl
 has_members_is c (e ∷ es) =
-    let split = sum_by-cons (λ (m : Entry). sits_as c m.1) e es in
+    let split = sum_by-cons (λ (m : RollEntry). sits_as c m.1) e es in
     elim (sits_in c e.1) as (λ b. members_in_chair (e ∷ es) c ≡ cond b 1 0 + members_in_chair es c → (b || list_any (λ m. sits_in c m.1) es) ≡ not (members_in_chair (e ∷ es) c == 0)) [
       | true ↦ λ q. ap not (sym (not_zero _ (omega (arith, q))))
       | false ↦ λ q. has_members_is c es ∙ ap (λ n. not (n == 0)) (sym (omega (arith, q)))
     ] split
 
-pub no_members : (c : ℕ) (es : List Entry) → list_any (λ m. sits_in c m.1) es ≡ false → members_in_chair es c ≡ 0
+pub no_members : (c : ℕ) (es : List RollEntry) → list_any (λ m. sits_in c m.1) es ≡ false → members_in_chair es c ≡ 0
 no_members c es h =
     elim (members_in_chair es c == 0) as (λ b. (members_in_chair es c == 0) ≡ b → not b ≡ false → members_in_chair es c ≡ 0) [ true ↦ λ e q. eqb-true _ _ e | false ↦ λ e q. absurd (true≢false q) ] refl (sym (has_members_is c es) ∙ h)
 
@@ -227,10 +227,10 @@ pub Mirrors-admit : (roll : Roll) (kept : Kept) → IsMirror roll kept → (code
     → IsMirror (roll_with_member roll code votes) (record { entries = kept.entries ++ new_entry (code, votes) ∷ []; totals = after })
 Mirrors-admit roll kept m code votes room after gain =
     let more : (f : Standing → ℕ) → sum_by (λ e. f e.1) (roll.members ++ new_entry (code, votes) ∷ []) ≡ sum_by (λ e. f e.1) roll.members + (0 + f (new_standing votes))
-    = λ f. sum_by-append (λ (e : Entry). f e.1) roll.members (new_entry (code, votes) ∷ []) in
-    let bound : length kept.entries < max_members = subst (λ (l : List Entry). length l < max_members) (sym m.same_members) room in
+    = λ f. sum_by-append (λ (e : RollEntry). f e.1) roll.members (new_entry (code, votes) ∷ []) in
+    let bound : length kept.entries < max_members = subst (λ (l : List RollEntry). length l < max_members) (sym m.same_members) room in
     record {
-      same_members = ap (λ (l : List Entry). l ++ new_entry (code, votes) ∷ []) m.same_members;
+      same_members = ap (λ (l : List RollEntry). l ++ new_entry (code, votes) ∷ []) m.same_members;
       each_word = λ k h.
           changed_word (is_open roll (k + 1)) (weight roll (k + 1)) (weight (roll_with_member roll code votes) (k + 1)) 0 0 (slice_index kept.totals.words k) (slice_index after.words k)
           (record {
@@ -244,7 +244,7 @@ Mirrors-admit roll kept m code votes room after gain =
       same_total = omega (arith, more effective_votes, gain.total, m.same_total);
       closed_empty = λ c shut. omega (arith, more (sits_as c), m.closed_empty c shut);
       bound = rw length-append (omega (arith, bound));
-      small = All-append (λ (e : Entry). e.1.votes ≤ 2 ^ 40) kept.entries (new_entry (code, votes) ∷ []) m.small (All-from_recursion (λ (e : Entry). e.1.votes ≤ 2 ^ 40) (new_entry (code, votes) ∷ []) (gain.high, tt));
+      small = All-append (λ (e : RollEntry). e.1.votes ≤ 2 ^ 40) kept.entries (new_entry (code, votes) ∷ []) m.small (All-from_recursion (λ (e : RollEntry). e.1.votes ≤ 2 ^ 40) (new_entry (code, votes) ∷ []) (gain.high, tt));
     }
 
 -- a member that sits in no chair leaves

@@ -1,5 +1,5 @@
 -- The open chairs among words: their numbers, their weights, and what one more word adds.
-use Rattle.std.proofs.Common.{◌≡◌, ℕ, ◌+◌, ◌-◌, ◌<◌, ◌≤◌, Bool, true, false, cond, List, [], ◌∷◌, ◌++◌, map, length, take, get_or, arith, refl, sym, ap, ◌∙◌, eqb, inl, inr, subst, ◌≢◌, Option, None, Some}
+use Rattle.std.proofs.Common.{◌≡◌, ℕ, ◌+◌, ◌-◌, ◌<◌, ◌≤◌, Bool, true, false, cond, not, List, [], ◌∷◌, ◌++◌, map, length, take, get_or, arith, refl, sym, ap, ◌∙◌, eqb, inl, inr, subst, ◌≢◌, Option, None, Some}
 use Rattle.std.specs.List.{sum_by, All, IsDistinct}
 use Rattle.std.proofs.lemmas.Bool.{eq-eqb, ne_eqb, cases_eq, cases_lt}
 use Rattle.std.proofs.lemmas.List.{append-nil, take_all, take_more, get_or_past, length-append, length-take, append_assoc}
@@ -125,13 +125,28 @@ none_past words i past =
     ∙ sym (append-nil (open_from 1 (take i words)))
     ∙ sym (ap (λ l. open_from 1 (take i words) ++ l) (chair_of-shut (i + 1) (get_or words i 0) (get_or_past words i 0 past)))
 
--- one more chair, by the weight that its sheet gives for it
-pub listed_more : (words : List ℕ) (i : ℕ) (weight : Option ℕ) → weight ≡ weight_word words (i + 1) → open_from 1 (take (i + 1) words) ≡ open_from 1 (take i words) ++ listed (i + 1) weight
-listed_more words i weight same =
+-- one more word
+word_more : (words : List ℕ) (i : ℕ) → open_from 1 (take (i + 1) words) ≡ open_from 1 (take i words) ++ chair_of (i + 1) (get_or words i 0)
+word_more words i =
     let number : 1 + i ≡ i + 1 = omega arith in
-    let more : open_from 1 (take (i + 1) words) ≡ open_from 1 (take i words) ++ chair_of (i + 1) (get_or words i 0) =
     elim (cases_lt i (length words)) as (λ _. open_from 1 (take (i + 1) words) ≡ open_from 1 (take i words) ++ chair_of (i + 1) (get_or words i 0)) [
       | inl within ↦ open_from-more 1 words i within ∙ ap (λ n. open_from 1 (take i words) ++ chair_of n (get_or words i 0)) number
       | inr past ↦ none_past words i past
-    ] in
-    more ∙ sym (ap (λ l. open_from 1 (take i words) ++ l) (ap (listed (i + 1)) same ∙ listed_word words i))
+    ]
+
+length_of : (b : Bool) (chair : Chair) → length (cond b [] (chair ∷ [])) ≡ cond (not b) 1 0
+length_of true chair = refl
+length_of false chair = refl
+
+-- the count of the open chairs, with one more word
+pub length_more : (words : List ℕ) (i : ℕ) → length (open_from 1 (take (i + 1) words)) ≡ length (open_from 1 (take i words)) + cond (not (eqb (get_or words i 0) 0)) 1 0
+length_more words i =
+    let word : ℕ = get_or words i 0 in
+    ap length (word_more words i)
+    ∙ length-append (open_from 1 (take i words)) (chair_of (i + 1) word)
+    ∙ ap (λ n. length (open_from 1 (take i words)) + n) (length_of (eqb word 0) (i + 1, word - 1))
+
+-- one more chair, by the weight that its sheet gives for it
+pub listed_more : (words : List ℕ) (i : ℕ) (weight : Option ℕ) → weight ≡ weight_word words (i + 1) → open_from 1 (take (i + 1) words) ≡ open_from 1 (take i words) ++ listed (i + 1) weight
+listed_more words i weight same =
+    word_more words i ∙ sym (ap (λ l. open_from 1 (take i words) ++ l) (ap (listed (i + 1)) same ∙ listed_word words i))

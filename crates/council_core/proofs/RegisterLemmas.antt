@@ -12,7 +12,7 @@ use Rattle.council_core.specs.declared.commands.Command.{Command}
 use Rattle.council_core.specs.declared.commands.Standing.{Standing}
 use Rattle.council_core.specs.declared.refusals.Refusal.{Refusal}
 use Rattle.council_core.specs.declared.refusals.Refusal.TheVariants.{JournalFull}
-use Rattle.council_core.specs.Rolls.{Roll, Entry, same_code, standing_among, place_among, with_standing, members_without, new_entry, new_standing, sits_in, effective_votes, votes_in, weight, total, is_open, roll_with_open, roll_with_closed, has_members, roll_with_member, roll_without_member, step}
+use Rattle.council_core.specs.Rolls.{Roll, RollEntry, same_code, standing_among, place_among, with_standing, members_without, new_entry, new_standing, sits_in, effective_votes, votes_in, weight, total, is_open, roll_with_open, roll_with_closed, has_members, roll_with_member, roll_without_member, step}
 use Rattle.council_core.specs.Ledgers.{Ledger, roll_of, room_of}
 use Rattle.council_core.specs.Laws.{SetsInRange}
 use Rattle.council_core.specs.Registers.{IsPlanned, OpensChair, IsClosing, IsChange, IsEntry, IsLeaving, members_in_chair, sits_as}
@@ -32,7 +32,7 @@ room_is l h within =
 pub counted_small : (s : Standing) → s.votes ≤ 2 ^ 40 → effective_votes s ≤ 2 ^ 40
 counted_small s h = elim s.suspended as (λ b. cond b 0 s.votes ≤ 2 ^ 40) [ true ↦ omega arith | false ↦ h ]
 
-all_counted : (es : List Entry) → AllByRecursion (λ m. m.1.votes ≤ 2 ^ 40) es → AllByRecursion (λ m. effective_votes m.1 ≤ 2 ^ 40) es
+all_counted : (es : List RollEntry) → AllByRecursion (λ m. m.1.votes ≤ 2 ^ 40) es → AllByRecursion (λ m. effective_votes m.1 ≤ 2 ^ 40) es
 all_counted [] h = tt
 all_counted (e ∷ es) h = (counted_small e.1 h.0, all_counted es h.1)
 
@@ -42,34 +42,34 @@ votes_in-le c s = elim (sits_in c s) as (λ b. cond b (effective_votes s) 0 ≤ 
 sits_as-le : (c : ℕ) (s : Standing) → sits_as c s ≤ 1
 sits_as-le c s = elim (sits_in c s) as (λ b. cond b 1 0 ≤ 1) [ true ↦ omega arith | false ↦ omega arith ]
 
-all_sits : (c : ℕ) (es : List Entry) → AllByRecursion (λ m. sits_as c m.1 ≤ 1) es
+all_sits : (c : ℕ) (es : List RollEntry) → AllByRecursion (λ m. sits_as c m.1 ≤ 1) es
 all_sits c [] = tt
 all_sits c (e ∷ es) = (sits_as-le c e.1, all_sits c es)
 
 -- all votes together
 pub total_within : (roll : Roll) → length roll.members ≤ 256 → All (λ m. m.1.votes ≤ 2 ^ 40) roll.members → total roll ≤ 2 ^ 48
 total_within roll bound small =
-    let most = sum_by-le (λ (m : Entry). effective_votes m.1) (2 ^ 40) roll.members (All-from_recursion _ _ (all_counted roll.members (recursion_from_All _ _ small))) in
+    let most = sum_by-le (λ (m : RollEntry). effective_votes m.1) (2 ^ 40) roll.members (All-from_recursion _ _ (all_counted roll.members (recursion_from_All _ _ small))) in
     omega (arith, most, bound)
 
 -- a chair weighs no more than all members
 pub weight_within : (roll : Roll) (c : ℕ) → weight roll c ≤ total roll
-weight_within roll c = sum_by-le-sum_by (λ (m : Entry). votes_in c m.1) (λ (m : Entry). effective_votes m.1) roll.members (λ e. votes_in-le c e.1)
+weight_within roll c = sum_by-le-sum_by (λ (m : RollEntry). votes_in c m.1) (λ (m : RollEntry). effective_votes m.1) roll.members (λ e. votes_in-le c e.1)
 
 module _ (roll : Roll) (kept : Kept) (m : IsMirror roll kept) where
   pub total_small : total roll ≤ 2 ^ 48
   total_small =
       total_within roll
-      (subst (λ (l : List Entry). length l ≤ 256) m.same_members m.bound)
-      (subst (λ (l : List Entry). All (λ m. m.1.votes ≤ 2 ^ 40) l) m.same_members m.small)
+      (subst (λ (l : List RollEntry). length l ≤ 256) m.same_members m.bound)
+      (subst (λ (l : List RollEntry). All (λ m. m.1.votes ≤ 2 ^ 40) l) m.same_members m.small)
 
   pub weight_small : (c : ℕ) → weight roll c ≤ total roll
   weight_small c = weight_within roll c
 
   pub seated_small : (c : ℕ) → members_in_chair roll.members c ≤ 256
   seated_small c =
-      let most = sum_by-le (λ (m : Entry). sits_as c m.1) 1 roll.members (All-from_recursion _ _ (all_sits c roll.members)) in
-      let bound : length roll.members ≤ 256 = subst (λ (l : List Entry). length l ≤ 256) m.same_members m.bound in
+      let most = sum_by-le (λ (m : RollEntry). sits_as c m.1) 1 roll.members (All-from_recursion _ _ (all_sits c roll.members)) in
+      let bound : length roll.members ≤ 256 = subst (λ (l : List RollEntry). length l ≤ 256) m.same_members m.bound in
       omega (arith, most, bound)
 
   pub word_small : (k : ℕ) → k < 32 → slice_index kept.totals.words k ≤ 2 ^ 48 + 1
@@ -149,7 +149,7 @@ module _ (l : Ledger) (command : Command) (a : Accepts l command) where
   pub IsKept-change : (place : ℕ) (old new : Standing) → (code : List ℕ) × (place_among code (roll_of l).members ≡ Some place) × IsChange (roll_of l) command code old new
       → (now : Kept) → Exchange a.kept.totals now.totals old new → now.entries ≡ set_value_at a.kept.entries place new → IsAfter now
   IsKept-change place old new planned now x put =
-      let es : List Entry = a.kept.entries in
+      let es : List RollEntry = a.kept.entries in
       let code = planned.0 in
       let change = planned.2 in
       let there : standing_among code es ≡ Some old = ap (standing_among code) a.beside.mirrors.same_members ∙ change.known in
@@ -159,24 +159,24 @@ module _ (l : Ledger) (command : Command) (a : Accepts l command) where
       let roll : Roll = roll_of l in
       let next : Roll = record roll { members = with_standing code new roll.members } in
       let m = Mirrors-update roll a.kept a.beside.mirrors code old new change.known change.seat now.totals x in
-      written next change.effect now (subst (λ (e : List Entry). IsMirror next (record { entries = e; totals = now.totals })) (sym same) m)
+      written next change.effect now (subst (λ (e : List RollEntry). IsMirror next (record { entries = e; totals = now.totals })) (sym same) m)
 
   -- a member is entered
   pub IsKept-admit : (code : List ℕ) (votes : ℕ) → IsEntry (roll_of l) command code votes
       → (now : Kept) → Gain a.kept.totals now.totals (new_standing votes) → now.entries ≡ a.kept.entries ++ new_entry (code, votes) ∷ [] → IsAfter now
   IsKept-admit code votes entry now gain put =
       let m = Mirrors-admit (roll_of l) a.kept a.beside.mirrors code votes entry.room now.totals gain in
-      written (roll_with_member (roll_of l) code votes) entry.effect now (subst (λ (e : List Entry). IsMirror (roll_with_member (roll_of l) code votes) (record { entries = e; totals = now.totals })) (sym put) m)
+      written (roll_with_member (roll_of l) code votes) entry.effect now (subst (λ (e : List RollEntry). IsMirror (roll_with_member (roll_of l) code votes) (record { entries = e; totals = now.totals })) (sym put) m)
 
   -- a member leaves
   pub IsKept-withdraw : (place : ℕ) (old : Standing) → (code : List ℕ) × (place_among code (roll_of l).members ≡ Some place) × IsLeaving (roll_of l) command code old
       → (now : Kept) → Loss a.kept.totals now.totals old → now.entries ≡ remove a.kept.entries place → IsAfter now
   IsKept-withdraw place old planned now loss put =
-      let es : List Entry = a.kept.entries in
+      let es : List RollEntry = a.kept.entries in
       let code = planned.0 in
       let leaving = planned.2 in
       let at : place_among code es ≡ Some place = ap (place_among code) a.beside.mirrors.same_members ∙ planned.1 in
       let first = (Found-position (same_code code) es place at).first in
       let same : now.entries ≡ members_without code es = put ∙ sym (remove_entry-first (same_code code) es place first) ∙ sym (without-removed code es) in
       let m = Mirrors-withdraw (roll_of l) a.kept a.beside.mirrors code old leaving.known leaving.unseated now.totals loss in
-      written (roll_without_member (roll_of l) code) leaving.effect now (subst (λ (e : List Entry). IsMirror (roll_without_member (roll_of l) code) (record { entries = e; totals = now.totals })) (sym same) m)
+      written (roll_without_member (roll_of l) code) leaving.effect now (subst (λ (e : List RollEntry). IsMirror (roll_without_member (roll_of l) code) (record { entries = e; totals = now.totals })) (sym same) m)

@@ -7,7 +7,7 @@ use Rattle.std.proofs.lemmas.List.Elements.{All-from_recursion, recursion_from_A
 use Rattle.std.proofs.lemmas.List.Sums.{sum_by-cons}
 use Rattle.council_core.specs.declared.commands.Command.{Command}
 use Rattle.council_core.specs.declared.commands.Standing.{Standing}
-use Rattle.council_core.specs.Rolls.{Roll, Entry, same_code, standing_among, with_standing, members_without, step, next_roll, fold_from, all_accepted}
+use Rattle.council_core.specs.Rolls.{Roll, RollEntry, same_code, standing_among, with_standing, members_without, step, next_roll, fold_from, all_accepted}
 
 -- one more command, at the end
 pub fold_from-push : (r : Roll) (xs : List Command) (c : Command) → fold_from r (xs ++ c ∷ []) ≡ next_roll (fold_from r xs) c
@@ -22,21 +22,21 @@ all_accepted-push r (x ∷ xs) c =
 
 module _ (code : List ℕ) (new : Standing) where
   -- a member that is there keeps its place
-  pub insert-with_standing : (es : List Entry) (old : Standing) → standing_among code es ≡ Some old → insert_entry same_code es code new ≡ with_standing code new es
+  pub insert-with_standing : (es : List RollEntry) (old : Standing) → standing_among code es ≡ Some old → insert_entry same_code es code new ≡ with_standing code new es
   insert-with_standing [] old h = cc
   insert-with_standing (e ∷ es) old h =
       elim (same_code code e.0) as (λ b. cond b (Some e.1) (standing_among code es) ≡ Some old
       → cond b ((e.0, new) ∷ es) (e ∷ insert_entry same_code es code new) ≡ cond b ((e.0, new) ∷ es) (e ∷ with_standing code new es))
-      [ true ↦ λ q. refl | false ↦ λ q. ap (λ (l : List Entry). e ∷ l) (insert-with_standing es old q) ] h
+      [ true ↦ λ q. refl | false ↦ λ q. ap (λ (l : List RollEntry). e ∷ l) (insert-with_standing es old q) ] h
 
-  pub length-with_standing : (es : List Entry) → length (with_standing code new es) ≡ length es
+  pub length-with_standing : (es : List RollEntry) → length (with_standing code new es) ≡ length es
   length-with_standing [] = refl
   length-with_standing (e ∷ es) =
       elim (same_code code e.0) as (λ b. length (cond b ((e.0, new) ∷ es) (e ∷ with_standing code new es)) ≡ length (e ∷ es))
       [ true ↦ refl | false ↦ ap suc (length-with_standing es) ]
 
   -- a sum over the members gives up what the old standing gave, and gains what the new one gives
-  pub sum_with_standing : (f : Standing → ℕ) (es : List Entry) (old : Standing) → standing_among code es ≡ Some old
+  pub sum_with_standing : (f : Standing → ℕ) (es : List RollEntry) (old : Standing) → standing_among code es ≡ Some old
       → sum_by (λ m. f m.1) (with_standing code new es) + f old ≡ sum_by (λ m. f m.1) es + f new
   sum_with_standing f [] old h = cc
   sum_with_standing f (e ∷ es) old h =
@@ -44,27 +44,27 @@ module _ (code : List ℕ) (new : Standing) where
       → sum_by (λ m. f m.1) (cond b ((e.0, new) ∷ es) (e ∷ with_standing code new es)) + f old ≡ sum_by (λ m. f m.1) (e ∷ es) + f new) [
         | true ↦ λ q.
             let k : f e.1 ≡ f old = cc in
-            omega (arith, k, sum_by-cons (λ (m : Entry). f m.1) (e.0, new) es, sum_by-cons (λ (m : Entry). f m.1) e es)
+            omega (arith, k, sum_by-cons (λ (m : RollEntry). f m.1) (e.0, new) es, sum_by-cons (λ (m : RollEntry). f m.1) e es)
         | false ↦ λ q.
-            omega (arith, sum_with_standing f es old q, sum_by-cons (λ (m : Entry). f m.1) e (with_standing code new es), sum_by-cons (λ (m : Entry). f m.1) e es)
+            omega (arith, sum_with_standing f es old q, sum_by-cons (λ (m : RollEntry). f m.1) e (with_standing code new es), sum_by-cons (λ (m : RollEntry). f m.1) e es)
       ] h
 
 module _ (code : List ℕ) where
   -- a member leaves
-  pub without-removed : (es : List Entry) → members_without code es ≡ remove_entry (same_code code) es
+  pub without-removed : (es : List RollEntry) → members_without code es ≡ remove_entry (same_code code) es
   without-removed [] = refl
   without-removed (e ∷ es) =
       elim (same_code code e.0) as (λ b. cond b es (e ∷ members_without code es) ≡ cond b es (e ∷ remove_entry (same_code code) es))
-      [ true ↦ refl | false ↦ ap (λ (l : List Entry). e ∷ l) (without-removed es) ]
+      [ true ↦ refl | false ↦ ap (λ (l : List RollEntry). e ∷ l) (without-removed es) ]
 
-  pub length-without : (es : List Entry) → length (members_without code es) ≤ length es
+  pub length-without : (es : List RollEntry) → length (members_without code es) ≤ length es
   length-without [] = omega arith
   length-without (e ∷ es) =
       elim (same_code code e.0) as (λ b. length (cond b es (e ∷ members_without code es)) ≤ length (e ∷ es))
       [ true ↦ omega arith | false ↦ omega (arith, length-without es) ]
 
   -- a sum over the members gives up what its standing gave
-  pub sum_without : (f : Standing → ℕ) (es : List Entry) (old : Standing) → standing_among code es ≡ Some old
+  pub sum_without : (f : Standing → ℕ) (es : List RollEntry) (old : Standing) → standing_among code es ≡ Some old
       → sum_by (λ m. f m.1) (members_without code es) + f old ≡ sum_by (λ m. f m.1) es
   sum_without f [] old h = cc
   sum_without f (e ∷ es) old h =
@@ -72,35 +72,35 @@ module _ (code : List ℕ) where
       → sum_by (λ m. f m.1) (cond b es (e ∷ members_without code es)) + f old ≡ sum_by (λ m. f m.1) (e ∷ es)) [
         | true ↦ λ q.
             let k : f e.1 ≡ f old = cc in
-            omega (arith, k, sum_by-cons (λ (m : Entry). f m.1) e es)
+            omega (arith, k, sum_by-cons (λ (m : RollEntry). f m.1) e es)
         | false ↦ λ q.
-            omega (arith, sum_without f es old q, sum_by-cons (λ (m : Entry). f m.1) e (members_without code es), sum_by-cons (λ (m : Entry). f m.1) e es)
+            omega (arith, sum_without f es old q, sum_by-cons (λ (m : RollEntry). f m.1) e (members_without code es), sum_by-cons (λ (m : RollEntry). f m.1) e es)
       ] h
 
 -- a member's part of a sum is within it
-pub part_of_sum : (code : List ℕ) (f : Standing → ℕ) (es : List Entry) (s : Standing) → standing_among code es ≡ Some s → f s ≤ sum_by (λ m. f m.1) es
+pub part_of_sum : (code : List ℕ) (f : Standing → ℕ) (es : List RollEntry) (s : Standing) → standing_among code es ≡ Some s → f s ≤ sum_by (λ m. f m.1) es
 part_of_sum code f [] s h = cc
 part_of_sum code f (e ∷ es) s h =
     elim (same_code code e.0) as (λ b. cond b (Some e.1) (standing_among code es) ≡ Some s → f s ≤ sum_by (λ m. f m.1) (e ∷ es)) [
-      | true ↦ λ q. let k : f e.1 ≡ f s = cc in omega (arith, k, sum_by-cons (λ (m : Entry). f m.1) e es)
-      | false ↦ λ q. omega (arith, part_of_sum code f es s q, sum_by-cons (λ (m : Entry). f m.1) e es)
+      | true ↦ λ q. let k : f e.1 ≡ f s = cc in omega (arith, k, sum_by-cons (λ (m : RollEntry). f m.1) e es)
+      | false ↦ λ q. omega (arith, part_of_sum code f es s q, sum_by-cons (λ (m : RollEntry). f m.1) e es)
     ] h
 
 -- each member keeps a test that its new standing passes
-pub all_with_standing : (code : List ℕ) (new : Standing) (P : Standing → Type 0) (es : List Entry) → All (λ m. P m.1) es → P new → All (λ m. P m.1) (with_standing code new es)
+pub all_with_standing : (code : List ℕ) (new : Standing) (P : Standing → Type 0) (es : List RollEntry) → All (λ m. P m.1) es → P new → All (λ m. P m.1) (with_standing code new es)
 all_with_standing code new P es h p = All-from_recursion _ _ (by es (recursion_from_All _ _ h))
   where
-    by : (es : List Entry) → AllByRecursion (λ m. P m.1) es → AllByRecursion (λ m. P m.1) (with_standing code new es)
+    by : (es : List RollEntry) → AllByRecursion (λ m. P m.1) es → AllByRecursion (λ m. P m.1) (with_standing code new es)
     by [] h = tt
     by (e ∷ es) h =
         elim (same_code code e.0) as (λ b. AllByRecursion (λ m. P m.1) (cond b ((e.0, new) ∷ es) (e ∷ with_standing code new es)))
         [ true ↦ (p, h.1) | false ↦ (h.0, by es h.1) ]
 
 -- and those that stay keep it
-pub all_without : (code : List ℕ) (P : Standing → Type 0) (es : List Entry) → All (λ m. P m.1) es → All (λ m. P m.1) (members_without code es)
+pub all_without : (code : List ℕ) (P : Standing → Type 0) (es : List RollEntry) → All (λ m. P m.1) es → All (λ m. P m.1) (members_without code es)
 all_without code P es h = All-from_recursion _ _ (by es (recursion_from_All _ _ h))
   where
-    by : (es : List Entry) → AllByRecursion (λ m. P m.1) es → AllByRecursion (λ m. P m.1) (members_without code es)
+    by : (es : List RollEntry) → AllByRecursion (λ m. P m.1) es → AllByRecursion (λ m. P m.1) (members_without code es)
     by [] h = tt
     by (e ∷ es) h =
         elim (same_code code e.0) as (λ b. AllByRecursion (λ m. P m.1) (cond b es (e ∷ members_without code es)))

@@ -6,7 +6,7 @@ use Rattle.std.proofs.lemmas.List.{get_or_append_left}
 use Rattle.std.proofs.lemmas.List.FromFn.{get_or-map-range_with_len}
 use Rattle.std.proofs.lemmas.Bool.Decides.{nat_tests}
 use Rattle.std.proofs.lemmas.List.Sums.{sum_by-cons}
-use Rattle.council_core.specs.Rolls.{Roll, Entry, same_chair, effective_votes, votes_in, weight, total, is_open, chair_word, chair_numbers, sheet_words}
+use Rattle.council_core.specs.Rolls.{Roll, RollEntry, same_chair, effective_votes, votes_in, weight, total, is_open, chair_word, chair_numbers, sheet_words}
 use Rattle.council_core.specs.Sheets.{weight_in}
 
 different : (d a : ℕ) → d < a → (d == a) ≡ false
@@ -51,12 +51,12 @@ same_sums f g [] h = refl
 same_sums f g (c ∷ ns) h = omega (arith, h c, same_sums f g ns h, sum_by-cons f c ns, sum_by-cons g c ns)
 
 -- all chairs together weigh no more than all members
-weights_within : (es : List Entry) (a n : ℕ) → sum_by (λ c. sum_by (λ m. votes_in c m.1) es) (range_with_len a n) ≤ sum_by (λ m. effective_votes m.1) es
+weights_within : (es : List RollEntry) (a n : ℕ) → sum_by (λ c. sum_by (λ m. votes_in c m.1) es) (range_with_len a n) ≤ sum_by (λ m. effective_votes m.1) es
 weights_within [] a n = omega (arith, no_sum a n)
 weights_within (e ∷ es) a n =
     let ns = range_with_len a n in
-    let split = same_sums (λ c. sum_by (λ m. votes_in c m.1) (e ∷ es)) (λ c. votes_in c e.1 + sum_by (λ m. votes_in c m.1) es) ns (λ c. sum_by-cons (λ (m : Entry). votes_in c m.1) e es) in
-    omega (arith, split, sum_of_sums (λ c. votes_in c e.1) (λ c. sum_by (λ m. votes_in c m.1) es) ns, seat_sum (effective_votes e.1) e.1.chair a n, weights_within es a n, sum_by-cons (λ (m : Entry). effective_votes m.1) e es)
+    let split = same_sums (λ c. sum_by (λ m. votes_in c m.1) (e ∷ es)) (λ c. votes_in c e.1 + sum_by (λ m. votes_in c m.1) es) ns (λ c. sum_by-cons (λ (m : RollEntry). votes_in c m.1) e es) in
+    omega (arith, split, sum_of_sums (λ c. votes_in c e.1) (λ c. sum_by (λ m. votes_in c m.1) es) ns, seat_sum (effective_votes e.1) e.1.chair a n, weights_within es a n, sum_by-cons (λ (m : RollEntry). effective_votes m.1) e es)
 
 word_weight : (roll : Roll) (c : ℕ) → chair_word roll c - 1 ≤ weight roll c
 word_weight roll c = elim (is_open roll c) as (λ b. cond b (weight roll c + 1) 0 - 1 ≤ weight roll c) [ true ↦ omega arith | false ↦ omega arith ]

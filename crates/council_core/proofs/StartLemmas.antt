@@ -6,7 +6,7 @@ use Rattle.std.proofs.lemmas.Bool.Decides.{nat_tests}
 use Rattle.std.proofs.lemmas.List.{length-map}
 use Rattle.std.proofs.lemmas.List.Elements.{All-from_recursion, recursion_from_All}
 use Rattle.std.proofs.lemmas.List.Sums.{sum_by-cons}
-use Rattle.council_core.specs.Rolls.{Entry, Opening, new_entry, same_code, standing_among, effective_votes}
+use Rattle.council_core.specs.Rolls.{RollEntry, Opening, new_entry, same_code, standing_among, effective_votes}
 use Rattle.council_core.specs.Ledgers.{has_duplicate, start_verdict}
 use Rattle.council_core.specs.declared.refusals.Refusal.{Refusal}
 use Rattle.council_core.specs.declared.refusals.Refusal.TheVariants.{BadLimit, DuplicateMember, TooManyMembers}
@@ -51,13 +51,13 @@ fresh members i m none within at =
 
 start_seated : (opening : Opening) (c : ℕ) → members_in_chair (map new_entry opening) c ≡ 0
 start_seated [] c = refl
-start_seated (m ∷ ms) c = omega (arith, start_seated ms c, sum_by-cons (λ (e : Entry). sits_as c e.1) (new_entry m) (map new_entry ms))
+start_seated (m ∷ ms) c = omega (arith, start_seated ms c, sum_by-cons (λ (e : RollEntry). sits_as c e.1) (new_entry m) (map new_entry ms))
 
-start_total : (opening : Opening) → sum_by (λ (e : Entry). effective_votes e.1) (map new_entry opening) ≡ sum_by (λ (m : List ℕ × ℕ). m.1) opening
+start_total : (opening : Opening) → sum_by (λ (e : RollEntry). effective_votes e.1) (map new_entry opening) ≡ sum_by (λ (m : List ℕ × ℕ). m.1) opening
 start_total [] = refl
-start_total (m ∷ ms) = omega (arith, start_total ms, sum_by-cons (λ (e : Entry). effective_votes e.1) (new_entry m) (map new_entry ms), sum_by-cons (λ (m : List ℕ × ℕ). m.1) m ms)
+start_total (m ∷ ms) = omega (arith, start_total ms, sum_by-cons (λ (e : RollEntry). effective_votes e.1) (new_entry m) (map new_entry ms), sum_by-cons (λ (m : List ℕ × ℕ). m.1) m ms)
 
-pub start_small : (opening : Opening) → AllByRecursion (λ m. m.1 ≤ 2 ^ 40) opening → AllByRecursion (λ (e : Entry). e.1.votes ≤ 2 ^ 40) (map new_entry opening)
+pub start_small : (opening : Opening) → AllByRecursion (λ m. m.1 ≤ 2 ^ 40) opening → AllByRecursion (λ (e : RollEntry). e.1.votes ≤ 2 ^ 40) (map new_entry opening)
 start_small [] h = tt
 start_small (m ∷ ms) h = (h.0, start_small ms h.1)
 
@@ -87,8 +87,8 @@ IsKept-start opening limit kept start =
         each_count = λ k h. start.counts k ∙ sym (start_seated opening (k + 1));
         same_total = start.total ∙ sym (start_total opening);
         closed_empty = λ c h. start_seated opening c;
-        bound = subst (λ (l : List Entry). length l ≤ 256) (sym start.made) (rw length-map start.bound);
-        small = subst (λ (l : List Entry). All (λ m. m.1.votes ≤ 2 ^ 40) l) (sym start.made) (All-from_recursion _ _ (start_small opening (recursion_from_All _ _ start.votes)));
+        bound = subst (λ (l : List RollEntry). length l ≤ 256) (sym start.made) (rw length-map start.bound);
+        small = subst (λ (l : List RollEntry). All (λ m. m.1.votes ≤ 2 ^ 40) l) (sym start.made) (All-from_recursion _ _ (start_small opening (recursion_from_All _ _ start.votes)));
       };
     }
 

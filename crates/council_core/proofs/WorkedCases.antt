@@ -6,11 +6,23 @@ use Rattle.council_core.specs.Ledgers.{start_verdict}
 use Rattle.council_core.specs.Rolls.{Roll, Opening, new_entry, admit_member, sheet, cast, roll_after}
 use Rattle.council_core.specs.Coalitions.{eta_of, omega_of, threshold_rule}
 use Rattle.council_core.specs.Sheets.{Chair}
-use Rattle.council_core.specs.Sequential.{Sequential, submit, publish, read, accepted, refused, published, reading, replies_of}
+use Rattle.council_core.specs.Sequential.{Sequential, Reply, answered, submit, publish, read, reading, replies_of}
+use Rattle.council_core.specs.declared.calls.Answer.TheVariants as answer
+use Rattle.council_core.specs.declared.refusals.Refusal.{Refusal}
 use Rattle.council_core.specs.declared.limits.TheConstants.{MAX_COMMANDS, MAX_MEMBERS, MAX_TOTAL, MAX_VOTES}
 use Rattle.council_core.specs.declared.refusals.Refusal.TheVariants.{ChairOpen, JournalFull, MemberSuspended, ChairHasMembers, ChairNotOpen, UnknownMember, TooManyMembers, MemberExists, MemberSeated, BadLimit, DuplicateMember, NoEntry, TooManyChairs}
 use Rattle.council_core.specs.declared.commands.Command.{Command}
 use Rattle.council_core.specs.declared.commands.Command.TheVariants.{Open, Close, Move, SetVotes, Suspend, Restore, Admit, Withdraw}
+
+-- replies of the sequential register
+abbrev pub accepted : ℕ → Reply
+accepted count = answered (answer.Accepted count)
+
+abbrev pub refused : Refusal → Reply
+refused why = answered (answer.Refused why)
+
+abbrev pub published : ℕ → Reply
+published front = answered (answer.Published front)
 
 abbrev pub AAA : List ℕ
 AAA = 65 ∷ 65 ∷ 65 ∷ []

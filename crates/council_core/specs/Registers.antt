@@ -1,7 +1,7 @@
 -- The data that a register stores in addition to its journal, and their agreement with the roll.
 use Rattle.std.specs.Prelude.{◌≡◌, ℕ, ◌+◌, ◌≤◌, ◌<◌, true, false, if◌then◌else◌}
 use Rattle.std.specs.Prelude.{List, length, sum_by, All, slice_index, None, Some, Ok}
-use Rattle.council_core.specs.Rolls.{Roll, Entry, chair_word, sits_in, total, is_open, can_receive, standing_among}
+use Rattle.council_core.specs.Rolls.{Roll, RollEntry, chair_word, sits_in, total, is_open, can_receive, standing_among}
 use Rattle.council_core.specs.Rolls.{place_among, has_members, roll_with_open, roll_with_closed, roll_with_member, roll_without_member, max_members, step}
 use Rattle.council_core.specs.Rolls.{update, all_accepted, opening_roll}
 use Rattle.council_core.specs.declared.limits.TheConstants.{CHAIRS, MAX_COMMANDS, MAX_VOTES}
@@ -18,12 +18,12 @@ abbrev pub sits_as : ℕ → Standing → ℕ
 sits_as c s = if sits_in c s then 1 else 0
 
 -- the number of members that sit in a chair, suspended or not
-abbrev pub members_in_chair : List Entry → ℕ → ℕ
+abbrev pub members_in_chair : List RollEntry → ℕ → ℕ
 members_in_chair members c = sum_by (λ m. sits_as c m.1) members
 
 -- the stored members are those of the roll, and so are each chair's word and number of members, and
 -- the total
-pub record Mirrors (roll : Roll) (entries : List Entry) (words counts : List ℕ) (sum : ℕ) : Type 0 where
+pub record Mirrors (roll : Roll) (entries : List RollEntry) (words counts : List ℕ) (sum : ℕ) : Type 0 where
   pub same_members : entries ≡ roll.members
   pub each_word : (k : ℕ) → k < CHAIRS → slice_index words k ≡ chair_word roll (k + 1)
   pub each_count : (k : ℕ) → k < CHAIRS → slice_index counts k ≡ members_in_chair roll.members (k + 1)
@@ -35,7 +35,7 @@ pub record Mirrors (roll : Roll) (entries : List Entry) (words counts : List ℕ
 -- the invariant of every register: members with which a register can start, commands that set votes
 -- in range, a legal journal within its limit, and stored data that agree with the roll after this
 -- journal
-pub record IsKept (ledger : Ledger) (entries : List Entry) (words counts : List ℕ) (sum : ℕ) : Type 0 where
+pub record IsKept (ledger : Ledger) (entries : List RollEntry) (words counts : List ℕ) (sum : ℕ) : Type 0 where
   pub begun : laws.IsOpening ledger.opening
   pub votes : All SetsInRange ledger.journal
   pub legal : all_accepted (opening_roll ledger.opening) ledger.journal ≡ true

@@ -19,8 +19,8 @@ use Rattle.council_core.specs.declared.commands.Command.TheVariants.{Admit, With
 use Rattle.council_core.specs.declared.commands.Standing.{Standing}
 
 -- a member's entry: its code, and its votes, chair and suspension
-abbrev pub Entry : Type 0
-Entry = List ℕ × Standing
+abbrev pub RollEntry : Type 0
+RollEntry = List ℕ × Standing
 
 -- whether two codes are the same, letter by letter
 abbrev pub same_code : List ℕ → List ℕ → Bool
@@ -33,7 +33,7 @@ same_chair (Some c) None = false
 same_chair (Some c) (Some d) = c == d
 
 pub record Roll : Type 0 where
-  pub members : List Entry
+  pub members : List RollEntry
   pub open_chairs : List ℕ
 
 -- the opening: the members with which a register begins, and their votes
@@ -44,7 +44,7 @@ Opening = List (List ℕ × ℕ)
 abbrev pub new_standing : ℕ → Standing
 new_standing votes = record { votes = votes; chair = None; suspended = false }
 
-abbrev pub new_entry : List ℕ × ℕ → Entry
+abbrev pub new_entry : List ℕ × ℕ → RollEntry
 new_entry m = (m.0, new_standing m.1)
 
 abbrev pub opening_roll : Opening → Roll
@@ -61,21 +61,21 @@ abbrev pub has_members : Roll → ℕ → Bool
 has_members r c = list_any (λ m. sits_in c m.1) r.members
 
 -- the standing of the member with this code, or None
-abbrev pub standing_among : List ℕ → List Entry → Option Standing
+abbrev pub standing_among : List ℕ → List RollEntry → Option Standing
 standing_among code ms = lookup (same_code code) ms
 
 -- the members with a new standing for the one with this code
-abbrev pub with_standing : List ℕ → Standing → List Entry → List Entry
+abbrev pub with_standing : List ℕ → Standing → List RollEntry → List RollEntry
 with_standing code s [] = []
 with_standing code s (m ∷ ms) = if same_code code m.0 then (m.0, s) ∷ ms else m ∷ with_standing code s ms
 
 -- the members without the one with this code; those after it move up
-abbrev pub members_without : List ℕ → List Entry → List Entry
+abbrev pub members_without : List ℕ → List RollEntry → List RollEntry
 members_without code [] = []
 members_without code (m ∷ ms) = if same_code code m.0 then ms else m ∷ members_without code ms
 
 -- the index of the member with this code, or None
-abbrev pub place_among : List ℕ → List Entry → Option ℕ
+abbrev pub place_among : List ℕ → List RollEntry → Option ℕ
 place_among code ms = position (same_code code) (keys_of ms)
 
 abbrev pub update : Roll → List ℕ → Standing → Result Roll Refusal

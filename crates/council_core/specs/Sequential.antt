@@ -6,21 +6,30 @@ use Rattle.council_core.specs.Rolls.{Opening, IsLegal, sheet}
 use Rattle.council_core.specs.Sheets.{front_of}
 use Rattle.council_core.specs.Ledgers.{Ledger, verdict_of, ledger_with}
 use Rattle.council_core.specs.declared.refusals.Refusal.{Refusal}
+use Rattle.council_core.specs.declared.calls.Order.{Order}
+use Rattle.council_core.specs.declared.calls.Order.TheVariants as order
+use Rattle.council_core.specs.declared.calls.Answer.{Answer}
+use Rattle.council_core.specs.declared.calls.Answer.TheVariants as answer
 use Rattle.council_core.specs.declared.commands.Command.{Command}
 
 pub record Sequential : Type 0 where
   pub ledger : Ledger
   pub published : ℕ
 
+-- a call of the register's writer, or of a reader
 pub data Call : Type 0 where
-  submit : Command → Call
-  publish : Call
+  ordered : Order → Call
   read : Call
 
+abbrev pub submit : Command → Call
+submit command = ordered (order.Submit command)
+
+abbrev pub publish : Call
+publish = ordered order.Publish
+
+-- the answer to an order, or the sheet that a reader read
 pub data Reply : Type 0 where
-  accepted : ℕ → Reply
-  refused : Refusal → Reply
-  published : ℕ → Reply
+  answered : Answer → Reply
   reading : List ℕ → Reply
 
 -- the published sheet
@@ -30,14 +39,14 @@ published_sheet s = sheet s.ledger.opening (take s.published s.ledger.journal)
 -- the state and the reply after a submitted command; a refused command changes nothing
 abbrev pub submit_response : Sequential → Command → Result ⊤ Refusal → Sequential × Reply
 submit_response s command (Ok u) =
-    (record s { ledger = ledger_with s.ledger command }, accepted (length s.ledger.journal + 1))
-submit_response s command (Err e) = (s, refused e)
+    (record s { ledger = ledger_with s.ledger command }, answered (answer.Accepted (length s.ledger.journal + 1)))
+submit_response s command (Err why) = (s, answered (answer.Refused why))
 
 -- the next state and the reply
 abbrev pub response_to : Sequential → Call → Sequential × Reply
-response_to s (submit command) =
-    submit_response s command (verdict_of s.ledger command)
-response_to s publish = (record s { published = length s.ledger.journal }, published (length s.ledger.journal))
+response_to s (ordered (order.Submit command)) = submit_response s command (verdict_of s.ledger command)
+response_to s (ordered order.Publish) =
+    (record s { published = length s.ledger.journal }, answered (answer.Published (length s.ledger.journal)))
 response_to s read = (s, reading (published_sheet s))
 
 -- the replies to a list of calls

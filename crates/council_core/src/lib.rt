@@ -2,6 +2,7 @@
 //! the fold of its journal.
 #![tactic(auto)]
 
+mod calls;
 mod changes;
 mod commands;
 mod laws;
@@ -13,6 +14,7 @@ mod stores;
 mod totals;
 mod values;
 
+pub use calls::{Answer, Order};
 pub use commands::{Command, MemberRow, Standing};
 pub use laws::{cast_law, coalitions_law, opening_law, prefix_law, sheet_law};
 pub use limits::{

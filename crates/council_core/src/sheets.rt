@@ -94,7 +94,7 @@ impl Sheet {
         ensures same { result ≡ length (open_chairs self.now) }
         ensures high { result ≤ CHAIRS }
     {
-        self.open_chairs().len() as u8
+        open_count(&self.words)
     }
 
     /// The open chairs in ascending order of their numbers, each with its weight in votes.
@@ -135,6 +135,19 @@ impl Sheet {
     {
         cast_in(&self.words)
     }
+}
+
+// The number of open chairs among these words.
+#[tactic(auto, using(std::proofs::lemmas::Grind::common_steps, crate::proofs::OpenChairs::length_more))]
+fn open_count(words: &[u64; SHEET_WORDS]) -> u8
+    ensures same { result ≡ length (open_chairs words.now) }
+    ensures high { result ≤ CHAIRS }
+{
+    let mut chairs = 0;
+    for i in 0..CHAIRS {
+        chairs += u8::from(words[i] != 0);
+    }
+    chairs
 }
 
 // The sum of the weights in these words.

@@ -17,15 +17,15 @@ length_first count sums masks in_sums in_masks =
     let long : length (take count sums) ≡ count = length-take-le count sums in_sums in
     length_from (take count sums) (take count masks) (long ∙ sym (length-take-le count masks in_masks)) ∙ long
 
-pub entry_from : (sums masks : List ℕ) (place d e : ℕ) → place < length sums → place < length masks → get_or (entries_from sums masks) place zero_entry ≡ both (get_or sums place d) (get_or masks place e)
-entry_from sums masks place d e in_sums in_masks = get_or-zip2 both sums masks place d e zero_entry in_sums in_masks
+pub entry_from : (sums masks : List ℕ) (index d e : ℕ) → index < length sums → index < length masks → get_or (entries_from sums masks) index zero_entry ≡ both (get_or sums index d) (get_or masks index e)
+entry_from sums masks index d e in_sums in_masks = get_or-zip2 both sums masks index d e zero_entry in_sums in_masks
 
-pub set_both : (sums masks : List ℕ) (place sum mask : ℕ) → entries_from (set sums place sum) (set masks place mask) ≡ set (entries_from sums masks) place (both sum mask)
-set_both [] masks place sum mask = refl
+pub set_both : (sums masks : List ℕ) (index sum mask : ℕ) → entries_from (set sums index sum) (set masks index mask) ≡ set (entries_from sums masks) index (both sum mask)
+set_both [] masks index sum mask = refl
 set_both (s ∷ sums) [] zero sum mask = refl
-set_both (s ∷ sums) [] (suc place) sum mask = refl
+set_both (s ∷ sums) [] (suc index) sum mask = refl
 set_both (s ∷ sums) (m ∷ masks) zero sum mask = refl
-set_both (s ∷ sums) (m ∷ masks) (suc place) sum mask = ap (λ es. both s m ∷ es) (set_both sums masks place sum mask)
+set_both (s ∷ sums) (m ∷ masks) (suc index) sum mask = ap (λ es. both s m ∷ es) (set_both sums masks index sum mask)
 
 pub append_from : (low_sums high_sums low_masks high_masks : List ℕ) → length low_sums ≡ length low_masks
     → entries_from (low_sums ++ high_sums) (low_masks ++ high_masks) ≡ entries_from low_sums low_masks ++ entries_from high_sums high_masks

@@ -1,9 +1,9 @@
 -- What one more chair does to the entries of a half, and how many and how large they are.
-use Rattle.std.proofs.Common.{◌≡◌, ℕ, ◌+◌, ◌-◌, ◌*◌, ◌^◌, ◌%◌, ◌<◌, ◌≤◌, List, [], ◌∷◌, ◌++◌, length, map, take, drop, get_or, arith, refl, ap, ◌∙◌, eqb, true, zero, suc}
+use Rattle.std.proofs.Common.{◌≡◌, ℕ, ◌+◌, ◌-◌, ◌*◌, ◌^◌, ◌%◌, ◌<◌, ◌≤◌, List, [], ◌∷◌, ◌++◌, length, map, take, drop, get_or, arith, refl, sym, ap, ◌∙◌, eqb, true, zero, suc}
 use Rattle.std.specs.List.{All, sum_by, IsDistinct, list_any}
 use Rattle.std.specs.List.Sorted.{IsPermutation, IsNonDecreasingBy}
 use Rattle.std.specs.Prelude.{bit_or}
-use Rattle.std.proofs.lemmas.List.{length-append, length-map, map-append, drop_more, drop-map, length-drop}
+use Rattle.std.proofs.lemmas.List.{take_all, length-append, length-map, map-append, drop_more, drop-map, length-drop}
 use Rattle.std.proofs.lemmas.List.Elements.{All-append, All-map, All-weaker, All-cons, All-nil, All-contains}
 use Rattle.std.proofs.lemmas.Map.Views.{Contains-from_any}
 use Rattle.std.proofs.lemmas.Bool.{eqb-true}
@@ -17,7 +17,8 @@ use Rattle.half_sums.specs.declared.entry.Entry.{Entry}
 use Rattle.council_core.specs.Sheets.{weight_of}
 use Rattle.council_core.specs.Coalitions.{subsets}
 use Rattle.half_sums.specs.Masks.{mask_of}
-use Rattle.half_sums.specs.Entries.{entry_with, entry_of, entries_of, AreSubsets, IsHalf}
+use Rattle.half_sums.specs.Entries.{entry_with, entry_of, entries_of, entries_from, first_entries, AreSubsets, IsHalf}
+use Rattle.half_sums.proofs.Columns.{length_first}
 use Rattle.half_sums.specs.declared.groups.TheConstants.{SLOTS}
 use Rattle.half_sums.specs.declared.lists.TheConstants.{ROOM}
 
@@ -78,12 +79,25 @@ chairs_within_slots chairs small apart =
     let below : All (λ x. x < SLOTS) slots = All-map (λ x. x < SLOTS) (λ (c : ℕ × ℕ). c.0) chairs small in
     omega (arith, length-map chairs (λ (c : ℕ × ℕ). c.0), length-le_from_distinct_below slots SLOTS apart (λ q found. slot_found slots SLOTS q below found))
 
--- the room and the sums of the next chair, at place `at - 1`
-pub room_left : (chairs : List (ℕ × ℕ)) (at : ℕ) (es : List Entry) → AreSubsets (drop at chairs) es → length chairs ≤ SLOTS → 0 < at → at ≤ length chairs → 2 * length es ≤ ROOM
-room_left chairs at es are fits some within =
-    let few_left : length (drop at chairs) ≤ 15 = omega (arith, length-drop at chairs) in
-    let bound : 2 ^ length (drop at chairs) ≤ 2 ^ 15 = pow-le-pow_right (omega arith) few_left in
-    omega (arith, length_of_half (drop at chairs) es are, bound)
+-- the sets of up to sixteen chairs fit into the room of a half
+pub room_of : (chairs : List (ℕ × ℕ)) → length chairs ≤ SLOTS → 2 ^ length chairs ≤ ROOM
+room_of chairs fits = pow-le-pow_right (omega arith) fits
+
+-- the room and the sums of the next chair, at index `at - 1`
+pub room_left : (chairs : List (ℕ × ℕ)) (at : ℕ) (es : List Entry) → AreSubsets (drop at chairs) es → 0 < at → at ≤ length chairs → 2 * length es ≤ 2 ^ length chairs
+room_left chairs at es are some within =
+    let left : ℕ = length (drop at chairs) in
+    let more : suc left ≤ length chairs = omega (arith, length-drop at chairs) in
+    let bound : 2 ^ suc left ≤ 2 ^ length chairs = pow-le-pow_right (omega arith) more in
+    omega (arith, length_of_half (drop at chairs) es are, pow-suc 2 left, bound)
+
+-- a list of all sets takes the whole of slices that are as long as that
+pub all_sets : (chairs : List (ℕ × ℕ)) (count : ℕ) (sums masks : List ℕ) → AreSubsets chairs (first_entries count sums masks) → count ≤ 2 ^ length chairs
+    → length sums ≡ 2 ^ length chairs → length masks ≡ 2 ^ length chairs → first_entries count sums masks ≡ entries_from sums masks
+all_sets chairs count sums masks are bound in_sums in_masks =
+    let all : count ≡ 2 ^ length chairs = sym (length_first count sums masks (omega (arith, in_sums)) (omega (arith, in_masks))) ∙ length_of_half chairs _ are in
+    ap (λ s. entries_from s (take count masks)) (take_all count sums (omega (arith, all, in_sums)))
+    ∙ ap (entries_from sums) (take_all count masks (omega (arith, all, in_masks)))
 
 pub drop_back : (chairs : List (ℕ × ℕ)) (at : ℕ) → 0 < at → at ≤ length chairs → drop (at - 1) chairs ≡ get_or chairs (at - 1) (0, 0) ∷ drop at chairs
 drop_back chairs at some within =

@@ -2,8 +2,7 @@
 ghost use Rattle.std.specs.Prelude.{◌≡◌, ℕ, ◌+◌, ◌-◌, ◌<◌, ◌≤◌, List, length, set};
 ghost use Rattle.std.specs.Prelude.{slice_index_or};
 ghost use Rattle.half_sums.specs.declared.entry.Entry.{Entry};
-ghost use Rattle.half_sums.specs.declared.lists.TheConstants.{ROOM};
-ghost use Rattle.half_sums.specs.Entries.{entries_from, zero_entry};
+ghost use Rattle.half_sums.specs.Entries.{entries_from, zero_entry, IsHalf};
 ghost use Rattle.half_sums.specs.Merges.{complement_of};
 
 use crate::Entry;
@@ -13,8 +12,9 @@ use std::marker::Model;
 /// chairs.
 pub const ROOM: usize = 65_536;
 
-/// A read-only list of sets over two borrowed slices, one of sums and one of masks. A set takes ten
-/// bytes in this form and sixteen as an `Entry`.
+/// The read-only list of a half, over two borrowed slices, one of sums and one of masks: at most
+/// `ROOM` sets, ascending by sum, no sum above 2^48. A set takes ten bytes in this form and sixteen
+/// as an `Entry`.
 #[derive(Debug, Drop)]
 pub struct SumList<'a> {
     sums: &'a [u64],
@@ -26,14 +26,15 @@ impl<'a> Model for SumList<'a> {
 
     ghost view = { λ l. entries_from l.sums.now l.masks.now };
 
-    ghost invariant = { λ l. (length l.sums.now ≡ length l.masks.now) × (length l.sums.now ≤ ROOM) };
+    ghost invariant = { λ l. (length l.sums.now ≡ length l.masks.now)
+        × IsHalf (entries_from l.sums.now l.masks.now) };
 }
 
 impl<'a> SumList<'a> {
     /// The list whose set at each index has the sum and the mask at that index of the slices.
     pub fn over(sums: &'a [u64], masks: &'a [u16]) -> SumList<'a>
         requires same { length sums.now ≡ length masks.now }
-        requires bound { length sums.now ≤ ROOM }
+        requires half { IsHalf (entries_from sums.now masks.now) }
         ensures entries { result ≡ entries_from sums.now masks.now }
     {
         SumList { sums, masks }
@@ -44,6 +45,7 @@ impl<'a> SumList<'a> {
     #[inline(always)]
     pub fn copy(&self) -> SumList<'a>
         ensures same { result ≡ self.now }
+        ensures half { IsHalf result }
     {
         SumList {
             sums: self.sums,
@@ -54,34 +56,36 @@ impl<'a> SumList<'a> {
     /// The number of sets, from 0 to `ROOM`.
     pub fn len(&self) -> usize
         ensures count { result ≡ length self.now }
+        ensures half { IsHalf self.now }
     {
         self.sums.len()
     }
 
-    /// The set at index `place`.
-    pub fn at(&self, place: usize) -> Entry
-        requires within { place < length self.now }
-        ensures same { result ≡ slice_index_or self.now place zero_entry }
+    /// The set at this index.
+    pub fn at(&self, index: usize) -> Entry
+        requires within { index < length self.now }
+        ensures same { result ≡ slice_index_or self.now index zero_entry }
+        ensures half { IsHalf self.now }
     {
         let (sums, masks) = (self.sums, self.masks);
         Entry {
-            sum: sums[place],
-            mask: masks[place],
+            sum: sums[index],
+            mask: masks[index],
         }
     }
 }
 
-// Writes a set at index `place` of a list.
+// Writes a set at this index of a list.
 #[inline(always)]
-pub(crate) fn put(sums: &mut [u64], masks: &mut [u16], place: usize, entry: Entry)
-    requires sums { place < length sums.old }
-    requires masks { place < length masks.old }
-    ensures written { entries_from sums.new masks.new ≡ set (entries_from sums.old masks.old) place entry }
+pub(crate) fn put(sums: &mut [u64], masks: &mut [u16], index: usize, entry: Entry)
+    requires sums { index < length sums.old }
+    requires masks { index < length masks.old }
+    ensures written { entries_from sums.new masks.new ≡ set (entries_from sums.old masks.old) index entry }
     ensures sums_room { length sums.new ≡ length sums.old }
     ensures masks_room { length masks.new ≡ length masks.old }
 {
-    sums[place] = entry.sum;
-    masks[place] = entry.mask;
+    sums[index] = entry.sum;
+    masks[index] = entry.mask;
 }
 
 // The complement of a set among all chairs.
@@ -105,8 +109,8 @@ pub(crate) fn complement_sums(all: u64, sums: &[u64], complements: &mut [u64])
         → slice_index_or complements.new j 0 ≡ all - slice_index_or sums.now i 0 }
     ensures room { length complements.new ≡ length complements.old }
 {
-    for place in 0..sums.len() {
-        complements[sums.len() - 1 - place] = all - sums[place];
+    for index in 0..sums.len() {
+        complements[sums.len() - 1 - index] = all - sums[index];
     }
 }
 
@@ -119,7 +123,7 @@ pub(crate) fn complement_masks(all: u16, masks: &[u16], complements: &mut [u16])
         → slice_index_or complements.new j 0 ≡ all - slice_index_or masks.now i 0 }
     ensures room { length complements.new ≡ length complements.old }
 {
-    for place in 0..masks.len() {
-        complements[masks.len() - 1 - place] = all - masks[place];
+    for index in 0..masks.len() {
+        complements[masks.len() - 1 - index] = all - masks[index];
     }
 }

@@ -1,5 +1,5 @@
 -- The chairs of the two halves have the weights of the open chairs of the sheet, in their order, so
--- the same sets of them win, and the counts at a seat are those of the chair at that seat.
+-- the same sets of them win, and the counts at a place are those of the chair at that place.
 use Rattle.std.proofs.Common.{◌≡◌, ℕ, ◌+◌, ◌-◌, ◌<◌, Bool, true, false, cond, List, [], ◌∷◌, ◌++◌, map, length, take, drop, get_or, arith, refl, sym, ap, ◌∙◌, eqb, leb, inl, inr, ◌≢◌, zero, suc}
 use Rattle.std.specs.Prelude.{◌&&◌, not}
 use Rattle.std.specs.List.{sum_by, list_any, IsDistinct}
@@ -19,7 +19,7 @@ use Rattle.swing_walk.proofs.BoardSets as sets
 use Rattle.half_sums.proofs.SetSums.{sum_by-map, sum_agree, over, or_left, or_right}
 use Rattle.half_sums.proofs.MaskLemmas.{first_apart}
 use Rattle.swing_walk.proofs.PairLaws.{over-map, pair_law, shifted}
-use Rattle.power_index.specs.Halves.{weights, chairs_from_slot, left_count, left_weights, right_weights, seat, open_chair_place, AreHalves}
+use Rattle.power_index.specs.Halves.{weights, chairs_from_slot, left_count, left_weights, right_weights, place_in_counts, open_chair_place, AreHalves}
 use Rattle.power_index.specs.Counts.{etas, EvaluationLaw}
 use Rattle.power_index.proofs.HalfLemmas.{slotted_slots, slotted_distinct, slotted_weights, slotted_length, slotted_at, left_few, right_few}
 use Rattle.power_index.proofs.RowLemmas.{etas_at}
@@ -156,15 +156,15 @@ board_distinct : (words : List ℕ) → IsDistinct eqb (map (λ c. c.0) (board w
 board_distinct words =
     sets.board_distinct (left_of words) (right_of words) (left_half words).slots (left_half words).distinct (right_half words).distinct
 
--- the number of the open chair with `i` open chairs before it is its seat
-seated : (words : List ℕ) (i : ℕ) → i < length (open_chairs words) → (get_or (board words) i none).0 ≡ seat (left_count (length (open_chairs words))) i
-seated words i inside =
+-- the number of the open chair with `i` open chairs before it is its place
+placed : (words : List ℕ) (i : ℕ) → i < length (open_chairs words) → (get_or (board words) i none).0 ≡ place_in_counts (left_count (length (open_chairs words))) i
+placed words i inside =
     let n : ℕ = length (open_chairs words) in
     let h : ℕ = left_count n in
     let all : length (weights words) ≡ n = length-map (open_chairs words) weight in
     let lefts : length (left_of words) ≡ h = slotted_length 0 (left_weights words) ∙ omega (arith, length-take h (weights words), all) in
     let rights : length (right_weights words) ≡ n - h = omega (arith, length-drop h (weights words), all) in
-    elim (cases_lt i h) as (λ _. (get_or (board words) i none).0 ≡ seat h i) [
+    elim (cases_lt i h) as (λ _. (get_or (board words) i none).0 ≡ place_in_counts h i) [
       | inl below ↦
           ap (λ c. c.0) (get_or_append_left (left_of words) (map shifted (right_of words)) none i (omega (arith, lefts)) ∙ slotted_at 0 (left_weights words) i none (omega (arith, lefts, slotted_length 0 (left_weights words))))
           ∙ (let number : 0 + i ≡ i = omega arith in number)
@@ -182,13 +182,13 @@ seated words i inside =
 abbrev Meet : ℕ → ℕ → List ℕ → List Entry → List Entry → Type 0
 Meet quota least_size words from to = laws.CountsMeet quota least_size (left_of words) (right_of words) from to
 
--- the swings that the counts give at a seat are those of its chair
+-- the swings that the counts give at a place are those of its chair
 swings_at : (quota least_size : ℕ) (words : List ℕ) (from to : List Entry) (i : ℕ) → i < length (open_chairs words) → Meet quota least_size words from to →
     swings_of (large_pairs quota least_size from to) (large_with quota least_size (open_chair_place words i) from to) ≡ get_or (etas (threshold_rule quota least_size) (open_chairs words)) i 0
 swings_at quota least_size words from to i inside law =
     let on_board : i < length (board words) = omega (arith, inside, board_length words) in
     let chair : Chair = get_or (board words) i none in
-    ap (λ n. swings_of (large_pairs quota least_size from to) (large_with quota least_size n from to)) (sym (seated words i inside))
+    ap (λ n. swings_of (large_pairs quota least_size from to) (large_with quota least_size n from to)) (sym (placed words i inside))
     ∙ law.swings (take i (board words)) (drop (suc i) (board words)) chair (split_at (board words) i none on_board)
     ∙ eta_weights quota least_size (board words) i (board_distinct words) on_board
     ∙ ap (eta_by quota least_size i) (board_weights words)

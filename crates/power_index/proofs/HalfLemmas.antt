@@ -1,7 +1,9 @@
 -- The chairs of a half, weight by weight, and what a rebuild asks of them.
-use Rattle.std.proofs.Common.{◌≡◌, ℕ, ◌+◌, ◌-◌, ◌^◌, ◌<◌, ◌≤◌, List, [], ◌∷◌, ◌++◌, map, length, take, get_or, arith, refl, sym, ap, ◌∙◌, eqb, subst, replicate, zero, suc, inl, inr, ◌≢◌}
+use Rattle.std.proofs.Common.{◌≡◌, ℕ, ◌+◌, ◌-◌, ◌*◌, ◌%◌, ◌^◌, ◌<◌, ◌≤◌, List, [], ◌∷◌, ◌++◌, map, length, take, get_or, arith, refl, sym, ap, ◌∙◌, eqb, subst, replicate, zero, suc, inl, inr, ◌≢◌}
 use Rattle.std.specs.List.{sum_by, All, IsDistinct}
-use Rattle.std.proofs.lemmas.List.{get_or-replicate, take_more, length-take, length-map, length-drop, get_or_append_left}
+use Rattle.std.proofs.Math.Nat.{pow-le-pow_right}
+use Rattle.std.proofs.lemmas.Nat.{one_shl}
+use Rattle.std.proofs.lemmas.List.{get_or-replicate, take_more, length-take, length-take-le, length-map, length-drop, get_or_append_left}
 use Rattle.std.proofs.Math.Seq.{get_or-append_seam}
 use Rattle.std.proofs.lemmas.Bool.{cases_eq}
 use Rattle.std.proofs.lemmas.List.Elements.{All-weaker}
@@ -12,6 +14,7 @@ use Rattle.council_core.proofs.OpenChairs.{open_from-cons, chair_of-open, chair_
 use Rattle.power_index.proofs.Bounds.{few_chairs}
 use Rattle.power_index.specs.Halves.{weights, chairs_from_slot, left_count, left_weights, right_weights}
 use Rattle.half_sums.specs.declared.groups.TheConstants.{SLOTS}
+use Rattle.half_sums.specs.declared.lists.TheConstants.{ROOM}
 use Rattle.council_core.specs.declared.limits.TheConstants.{CHAIRS, SHEET_WORDS}
 
 -- chairs at slots are the open chairs of words of one more
@@ -41,6 +44,13 @@ slotted_weights c (w ∷ ws) = ap (λ l. w ∷ l) (slotted_weights (c + 1) ws)
 pub slotted_length : (c : ℕ) (ws : List ℕ) → length (chairs_from_slot c ws) ≡ length ws
 slotted_length c [] = refl
 slotted_length c (w ∷ ws) = ap suc (slotted_length (c + 1) ws)
+
+-- the sets of chairs at slots from 0 on take the first part of a half's room
+pub sets_fit : (ws room : List ℕ) → length ws ≤ SLOTS → length room ≡ ROOM → length (take (1 * 2 ^ length ws % 2 ^ 64) room) ≡ 2 ^ length (chairs_from_slot 0 ws)
+sets_fit ws room few all =
+    let count : 1 * 2 ^ length ws % 2 ^ 64 ≡ 2 ^ length ws = one_shl (length ws) 64 (omega (arith, few)) in
+    let fits : 2 ^ length ws ≤ 2 ^ SLOTS = pow-le-pow_right (omega arith) few in
+    rw (count, slotted_length 0 ws) (length-take-le (2 ^ length ws) room (omega (arith, fits, all)))
 
 pub slotted_sum : (c : ℕ) (ws : List ℕ) → weight_of (chairs_from_slot c ws) ≡ sum_by (λ n. n) ws
 slotted_sum c ws = sym (sum_by-map (λ n. n) (λ (ch : Chair). ch.1) (chairs_from_slot c ws)) ∙ ap (sum_by (λ n. n)) (slotted_weights c ws)

@@ -1,4 +1,4 @@
--- The swings of the open chairs as a list, and where each chair's seat lies.
+-- The swings of the open chairs as a list, and where each chair's place lies.
 use Rattle.std.proofs.Common.{◌≡◌, ℕ, ◌^◌, ◌<◌, ◌≤◌, inl, inr, List, [], ◌∷◌, length, get_or, arith}
 use Rattle.std.specs.List.{sum_by, All}
 use Rattle.std.proofs.lemmas.Bool.{cases_lt, lt-ltb, le-ltb}
@@ -31,9 +31,9 @@ small_among wins board (c ∷ chairs) bound =
 pub etas_small : (wins : Rule) (board : List Chair) → length board ≤ CHAIRS → All (λ n. n ≤ 2 ^ CHAIRS) (etas wins board)
 etas_small wins board bound = All-map (λ n. n ≤ 2 ^ CHAIRS) (λ (c : Chair). eta_of wins c board) board (small_among wins board board bound)
 
--- a seat is one of the 32
-pub seat_below : (words : List ℕ) (i : ℕ) → i < length (open_chairs words) → open_chair_place words i < CHAIRS
-seat_below words i inside =
+-- a place is one of the 32
+pub place_below : (words : List ℕ) (i : ℕ) → i < length (open_chairs words) → open_chair_place words i < CHAIRS
+place_below words i inside =
     let n : ℕ = length (open_chairs words) in
     let bound : n ≤ CHAIRS = few_chairs words in
     elim (cases_lt i (left_count n)) as (λ _. open_chair_place words i < CHAIRS) [

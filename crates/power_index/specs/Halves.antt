@@ -35,12 +35,12 @@ pub record AreHalves (words : List ℕ) (left right : List Entry) : Type 0 where
 
 -- the place in the counts of an open chair with `before` open chairs before it, if `on_left` chairs
 -- are on the left: its slot on the left, or 16 plus its slot on the right
-abbrev pub seat : ℕ → ℕ → ℕ
-seat on_left before = if nat_lt before on_left then before else SLOTS + (before - on_left)
+abbrev pub place_in_counts : ℕ → ℕ → ℕ
+place_in_counts on_left before = if nat_lt before on_left then before else SLOTS + (before - on_left)
 
 -- the place in the counts of the open chair of a sheet with `before` open chairs before it
 abbrev pub open_chair_place : List ℕ → ℕ → ℕ
-open_chair_place words before = seat (left_count (length (open_chairs words))) before
+open_chair_place words before = place_in_counts (left_count (length (open_chairs words))) before
 
 -- the words of the sixteen chairs from index `from` on
 abbrev pub half_words : ℕ → List ℕ → List ℕ

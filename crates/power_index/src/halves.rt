@@ -3,7 +3,7 @@
 ghost use Rattle.std.specs.Prelude.{◌≡◌, ◌+◌, ◌<◌, ◌≤◌, ◌^◌, ℕ, not, length, sum_by, slice_index};
 ghost use Rattle.council_core.specs.Sheets.{open_chairs};
 ghost use Rattle.half_sums.specs.Entries.{AreSubsets};
-ghost use Rattle.power_index.specs.Halves.{weights, chairs_from_slot, left_count, seat, same_half, one_if};
+ghost use Rattle.power_index.specs.Halves.{weights, chairs_from_slot, left_count, place_in_counts, same_half, one_if};
 
 use arrayvec::ArrayVec;
 use council_core::{CHAIRS, SHEET_WORDS, Sheet};
@@ -44,7 +44,7 @@ pub(crate) fn chairs_of(weights: &[u64]) -> ArrayVec<(u8, u64), SLOTS>
 
 // 1 if the words of the sixteen chairs from index `from` on differ, otherwise 0.
 pub(crate) fn differ(old: &[u64; SHEET_WORDS], new: &[u64; SHEET_WORDS], from: usize) -> u8
-    requires place { from ≤ SLOTS }
+    requires from { from ≤ SLOTS }
     ensures bound { result ≤ 1 }
     ensures changed { result ≡ one_if (not (same_half from old.now new.now)) }
 {
@@ -68,26 +68,26 @@ pub(crate) fn refresh(half: &mut OrderedSums, old: &[u64], new: &[u64])
     half.rebuild(chairs_of(new).as_slice());
 }
 
-// The items of `seated` at the seats of the open chairs, in the order of the chairs.
-pub(crate) fn in_order(chairs: u8, seated: &[u64; CHAIRS]) -> ArrayVec<u64, CHAIRS>
+// The items of `by_place` at the places of the open chairs, in the order of the chairs.
+pub(crate) fn in_order(chairs: u8, by_place: &[u64; CHAIRS]) -> ArrayVec<u64, CHAIRS>
     requires bound { chairs ≤ CHAIRS }
     ensures count { length result.items ≡ chairs }
     ensures each { (i : ℕ) → i < chairs
-        → slice_index result.items i ≡ slice_index seated.now (seat (left_count chairs) i) }
+        → slice_index result.items i ≡ slice_index by_place.now (place_in_counts (left_count chairs) i) }
 {
     let half = on_left(usize::from(chairs));
     let mut ordered = ArrayVec::new();
     for i in 0..usize::from(chairs) {
-        ordered.push(seated[seat_at(half, i)]);
+        ordered.push(by_place[place_in_counts(half, i)]);
     }
     ordered
 }
 
-// The seat of the open chair with `before` open chairs before it.
-fn seat_at(half: usize, before: usize) -> usize
+// The place in the counts of the open chair with `before` open chairs before it.
+fn place_in_counts(half: usize, before: usize) -> usize
     requires half { half ≤ SLOTS }
     requires before { before < half + SLOTS }
-    ensures seat { result ≡ seat half before }
+    ensures place { result ≡ place_in_counts half before }
     ensures within { result < CHAIRS }
 {
     if before < half {

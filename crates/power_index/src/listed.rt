@@ -1,6 +1,5 @@
 //! The indices of a sheet, from the lists of its two halves.
 ghost use Rattle.std.specs.Prelude.{◌≡◌, ℕ, ◌≤◌, ◌↔◌, IsTrue};
-ghost use Rattle.half_sums.specs.Entries.{IsHalf};
 ghost use Rattle.majority_rule.specs.Winning.{wins};
 ghost use Rattle.power_index.specs.Halves.{AreHalves};
 ghost use Rattle.power_index.specs.Tallies.{IsSwingTally};
@@ -22,8 +21,6 @@ pub(crate) fn indices_from(
     majority: Majority,
 ) -> Indices
     requires halves { AreHalves sheet.now left.now right.now }
-    requires left { IsHalf left.now }
-    requires right { IsHalf right.now }
     ensures exact { AreIndices majority sheet.now result }
     ensures same { result ≡ indices_of majority sheet.now }
 {
@@ -61,17 +58,15 @@ fn tally(
     least_size: u8,
 ) -> SwingTally
     requires halves { AreHalves sheet.now left.now right.now }
-    requires left { IsHalf left.now }
-    requires right { IsHalf right.now }
     requires quota { (w k : ℕ) → ((quota ≤ w) × (least_size ≤ k)) ↔ IsTrue (wins majority sheet.now w k) }
     ensures counts { IsSwingTally sheet.now result }
     ensures majority { result.majority ≡ majority }
 {
     let counts = count_lists(left, right, quota, least_size);
-    let seated = swings(&counts);
+    let by_place = swings(&counts);
     SwingTally {
         majority,
         winning: counts.winning,
-        swings: in_order(sheet.chairs(), &seated),
+        swings: in_order(sheet.chairs(), &by_place),
     }
 }

@@ -6,9 +6,10 @@ ghost use Rattle.std.specs.Io.KnownBytes.{ReadConsumes};
 ghost use Rattle.recording_io.specs.Tapes.{Gives};
 
 use crate::tape::Tape;
-use std::io;
+use std::fmt::{Debug, Formatter};
 use std::io::{ErrorKind, Read};
 use std::marker::Model;
+use std::{fmt, io};
 
 /// A reader that owns another reader and records the bytes that its reads returned.
 ///
@@ -35,6 +36,12 @@ impl<R: Read + Drop> Model for RecordingReader<R> {
       vain = g.tape.vain;
       interruptions = g.interruptions.asks;
     } };
+}
+
+impl<R: Read + Drop> Debug for RecordingReader<R> {
+    fn fmt<W: fmt::Write>(&self, f: &mut Formatter<W>) -> fmt::Result {
+        f.debug_struct("RecordingReader").finish_non_exhaustive()
+    }
 }
 
 impl<R: Read + Drop> RecordingReader<R> {

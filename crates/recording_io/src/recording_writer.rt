@@ -6,9 +6,10 @@ ghost use Rattle.std.specs.Io.KnownBytes.{Keeps, WriteAppends};
 ghost use Rattle.recording_io.specs.Tapes.{Takes};
 
 use crate::tape::Tape;
-use std::io;
+use std::fmt::{Debug, Formatter};
 use std::io::{ErrorKind, Write};
 use std::marker::Model;
+use std::{fmt, io};
 
 /// A writer that borrows another writer and records the bytes that its writes accepted.
 ///
@@ -36,6 +37,12 @@ impl<'a, W: Write> Model for RecordingWriter<'a, W> {
       vain = t.tape.vain;
       interruptions = t.interruptions.asks;
     } };
+}
+
+impl<W: Write> Debug for RecordingWriter<'_, W> {
+    fn fmt<F: fmt::Write>(&self, f: &mut Formatter<F>) -> fmt::Result {
+        f.debug_struct("RecordingWriter").finish_non_exhaustive()
+    }
 }
 
 impl<'a, W: Write> RecordingWriter<'a, W> {

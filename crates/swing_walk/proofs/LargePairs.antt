@@ -24,7 +24,7 @@ partners-any : (least mask : ℕ) (entries : List Entry) → least ≡ 0 → par
 partners-any least mask entries none =
     count_agree (λ e. nat_le least (count_ones mask + size_of e)) (λ e. true) entries (λ k d h. le-leb least _ (omega (arith, none))) ∙ count_all entries
 
--- by the places of a chain, once the set is passed
+-- by the position of a chain, once the set is passed
 pub any_partners : (least high low : ℕ) (falls : Bool) (up rest : ℕ) (rising falling : List Entry) → least ≡ 0 →
     cond falls (length rising - (up + cond falls 0 1)) (length falling - (rest - cond falls 1 0)) ≡ cond falls (partners_of least high (drop up rising)) (partners_of least low (drop rest falling))
 any_partners least high low true up rest rising falling none = omega (arith, partners-any least high (drop up rising) none, length-drop up rising)

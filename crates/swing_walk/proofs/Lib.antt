@@ -8,3 +8,4 @@ pub mod Meeting
 pub mod SizeLemmas
 pub mod LargePairs
 pub mod WorkedCases
+pub mod Routes

@@ -14,7 +14,7 @@ use Rattle.half_sums.specs.Merges.{entry_at}
 use Rattle.swing_walk.specs.Pairs.{pairs_where, is_enough, has_slot}
 use Rattle.swing_walk.specs.Sizes.{partners_of}
 use Rattle.swing_walk.specs.Walks.{IsBetween, IsPassed, HasCredited}
-use Rattle.swing_walk.specs.Tallies.{slot_amount, tally_total, IsEven, CreditsEach}
+use Rattle.swing_walk.specs.Tallies.{slot_amount, tally_total, CreditsEach}
 use Rattle.swing_walk.specs.Sides.{side}
 use Rattle.swing_walk.specs.declared.tally.MaskTally.{MaskTally}
 use Rattle.swing_walk.proofs.Counting.{Splits, pairs_more}
@@ -157,10 +157,8 @@ pub record Pass (quota least up rest p q : ℕ) (rising falling : List Entry) (l
   pub next : IsPassed falls quota low high up rest rising falling
   pub credited : HasCredited quota least up rest rising falling old
   pub partners : amount ≡ cond falls (partners_of least high.mask (drop up rising)) (partners_of least low.mask (drop rest falling))
-  pub rising_even : IsEven (side 0 new)
   pub rising_total : tally_total (side 0 new) ≡ tally_total (side 0 old) + cond falls 0 amount
   pub rising_marked : (slot : ℕ) → slot_amount slot (side 0 new) ≡ slot_amount slot (side 0 old) + bit_at (cond falls high.mask low.mask) slot * cond falls 0 amount
-  pub falling_even : IsEven (side 1 new)
   pub falling_total : tally_total (side 1 new) ≡ tally_total (side 1 old) + cond falls amount 0
   pub falling_marked : (slot : ℕ) → slot_amount slot (side 1 new) ≡ slot_amount slot (side 1 old) + bit_at (cond falls high.mask low.mask) slot * cond falls amount 0
   pub next_up : p ≡ up + cond falls 0 1
@@ -223,10 +221,8 @@ pass quota least up rest p q rising falling low high amount old new true s =
     record {
       between = rw (same_up, same_rest) step.between;
       credited = rw (same_up, same_rest) (record {
-        rising_even = s.rising_even;
         rising_total = omega (arith, s.rising_total, s.credited.rising_total);
         rising_marked = λ slot. omega (arith, s.rising_marked slot, s.credited.rising_marked slot, zero_times (bit_at high.mask slot));
-        falling_even = s.falling_even;
         falling_total = omega (arith, s.falling_total, s.credited.falling_total, step.total, partners);
         falling_marked = λ slot. omega (arith, s.falling_marked slot, s.credited.falling_marked slot, step.marks slot, ap (λ (e : Entry). bit_at e.mask slot * amount) high_is, ap (λ n. bit_at f.mask slot * n) partners);
       });
@@ -241,10 +237,8 @@ pass quota least up rest p q rising falling low high amount old new false s =
     record {
       between = rw (same_up, same_rest) step.between;
       credited = rw (same_up, same_rest) (record {
-        rising_even = s.rising_even;
         rising_total = omega (arith, s.rising_total, s.credited.rising_total, step.total, partners);
         rising_marked = λ slot. omega (arith, s.rising_marked slot, s.credited.rising_marked slot, step.marks slot, ap (λ (e : Entry). bit_at e.mask slot * amount) low_is, ap (λ n. bit_at r.mask slot * n) partners);
-        falling_even = s.falling_even;
         falling_total = omega (arith, s.falling_total, s.credited.falling_total);
         falling_marked = λ slot. omega (arith, s.falling_marked slot, s.credited.falling_marked slot, zero_times (bit_at low.mask slot));
       });
@@ -260,8 +254,6 @@ pub lefts_credited : (quota least up rest back_up back_rest : ℕ) (left right :
 lefts_credited quota least up rest back_up back_rest left right front back w =
     let same : up ≡ back_rest = (meet quota up rest back_up back_rest left right w.ends).0 in
     record {
-      one_even = w.front_credits.rising_even;
-      two_even = w.back_credits.falling_even;
       totals = omega (arith, w.front_credits.rising_total, w.back_credits.falling_total, both_parts (is_enough quota least) left right up back_rest same);
       marks = λ slot. omega (arith, w.front_credits.rising_marked slot, w.back_credits.falling_marked slot, both_parts (λ a b. is_enough quota least a b && has_slot slot a) left right up back_rest same);
     }
@@ -270,8 +262,6 @@ pub rights_credited : (quota least up rest back_up back_rest : ℕ) (left right 
 rights_credited quota least up rest back_up back_rest left right front back w =
     let same : back_up ≡ rest = (meet quota up rest back_up back_rest left right w.ends).1 in
     record {
-      one_even = w.back_credits.rising_even;
-      two_even = w.front_credits.falling_even;
       totals = omega (arith, w.back_credits.rising_total, w.front_credits.falling_total, both_parts (is_enough quota least) right left back_up rest same);
       marks = λ slot. omega (arith, w.back_credits.rising_marked slot, w.front_credits.falling_marked slot, both_parts (λ a b. is_enough quota least a b && has_slot slot a) right left back_up rest same);
     }

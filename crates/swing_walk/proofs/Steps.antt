@@ -37,7 +37,7 @@ pairs_agree p q xs ys same = sum_agree _ _ xs (λ a. count_agree (p a) (q a) ys 
 pub turned : (quota : ℕ) (a b : Entry) → reaches quota b a ≡ reaches quota a b
 turned quota a b = let swap : b.sum + a.sum ≡ a.sum + b.sum = omega arith in ap (λ n. nat_le quota n) swap
 
--- what the entries of a list from a place on can come to
+-- what the entries of a list from an index on can come to
 pub back_room : (test : Entry → Entry → Bool) (left right : List Entry) (at : ℕ) → length left ≤ ROOM → length right ≤ ROOM → pairs_where test (drop at right) left ≤ 2 ^ 32
 back_room test left right at few_left few_right =
     let whole : pairs_where test (take (length right) right) left ≡ pairs_where test right left = ap (λ xs. pairs_where test xs left) (take_all (length right) right (omega arith)) in

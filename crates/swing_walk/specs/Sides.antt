@@ -1,11 +1,11 @@
 -- The data of the two sides of a walk, the left one first.
-use Rattle.std.specs.Prelude.{ℕ, List, [], slice_index_or}
+use Rattle.std.specs.Prelude.{ℕ, List, [], slice_index_or, refl}
 use Rattle.swing_walk.specs.declared.tally.MaskTally.{MaskTally}
 use Rattle.swing_walk.specs.declared.sizes.SizeTally.{SizeTally}
 
 -- the default tally, for an index at which there is none
 abbrev pub no_tally : MaskTally
-no_tally = record { low = []; high = [] }
+no_tally = record { low = []; high = []; even = refl }
 
 abbrev pub no_sizes : SizeTally
 no_sizes = record { at_least = [] }

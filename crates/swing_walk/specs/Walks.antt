@@ -5,12 +5,29 @@ use Rattle.half_sums.specs.declared.entry.Entry.{Entry}
 use Rattle.half_sums.specs.Entries.{zero_entry}
 use Rattle.half_sums.specs.Merges.{entry_at}
 use Rattle.swing_walk.specs.Pairs.{pairs_where, is_enough, has_slot}
-use Rattle.swing_walk.specs.Tallies.{slot_amount, tally_total, IsEven}
+use Rattle.swing_walk.specs.Tallies.{slot_amount, tally_total}
 use Rattle.swing_walk.specs.Sides.{side}
-use Rattle.swing_walk.specs.declared.places.Threshold.{Threshold}
-use Rattle.swing_walk.specs.declared.places.Places.{Places}
-use Rattle.swing_walk.specs.declared.places.Next.{Next}
+use Rattle.swing_walk.specs.declared.positions.Route.{Route}
+use Rattle.swing_walk.specs.declared.positions.Position.{Position}
+use Rattle.swing_walk.specs.declared.positions.Next.{Next}
 use Rattle.swing_walk.specs.declared.tally.MaskTally.{MaskTally}
+use Rattle.swing_walk.specs.declared.walking.ChainPositions.{ChainPositions}
+
+-- whether a pair of a route has enough votes and enough chairs
+abbrev pub enough : Route → Entry → Entry → Bool
+enough route = is_enough route.quota route.least_size
+
+-- the route with its lists exchanged, which the chain from the other end walks
+abbrev pub turned_route : Route → Route
+turned_route route =
+    record {
+      rising = route.falling;
+      falling = route.rising;
+      quota = route.quota;
+      least_size = route.least_size;
+      rising_half = route.falling_half;
+      falling_half = route.rising_half;
+    }
 
 -- no pair of the first `i` left entries and the first `j` right ones reaches the quota
 abbrev pub NoneReach : ℕ → ℕ → ℕ → List Entry → List Entry → Type 0
@@ -40,34 +57,45 @@ IsPassed true quota low high up rest rising falling = (0 < rest) × (high ≡ en
 IsPassed false quota low high up rest rising falling = (up < length rising) × (low ≡ entry_at rising up)
     × (0 < rest → low.sum + (entry_at falling (rest - 1)).sum < quota)
 
-abbrev pub IsNext : ℕ → Next → Places → List Entry → List Entry → Type 0
-IsNext quota next places rising falling =
-    IsPassed next.falls quota next.low next.high places.up places.rest rising falling
+abbrev pub IsNext : Next → Route → Position → Type 0
+IsNext next route position =
+    IsPassed next.falls route.quota next.low next.high position.up position.rest route.rising route.falling
 
 -- the first tally has, at each passed rising entry, the number of falling entries that are enough
 -- with it, and the second tally has, at each passed falling entry, the number of such rising
 -- entries
 pub record HasCredited (quota least up rest : ℕ) (rising falling : List Entry) (tallies : List MaskTally) : Type 0 where
-  pub rising_even : IsEven (side 0 tallies)
   pub rising_total : tally_total (side 0 tallies) ≡ pairs_where (is_enough quota least) (take up rising) falling
   pub rising_marked : (slot : ℕ) → slot_amount slot (side 0 tallies)
       ≡ pairs_where (λ a b. is_enough quota least a b && has_slot slot a) (take up rising) falling
-  pub falling_even : IsEven (side 1 tallies)
   pub falling_total : tally_total (side 1 tallies) ≡ pairs_where (is_enough quota least) (drop rest falling) rising
   pub falling_marked : (slot : ℕ) → slot_amount slot (side 1 tallies)
       ≡ pairs_where (λ a b. is_enough quota least a b && has_slot slot a) (drop rest falling) rising
 
--- a chain at these places: it has credited and counted the entries that it passed
-pub record StandsAt (counts : ℕ → ℕ → ℕ → List Entry → List Entry → Type 0) (asked : Threshold) (places : Places)
-    (rising falling : List Entry) (tallies : List MaskTally) : Type 0 where
-  pub between : IsBetween asked.quota places.up places.rest rising falling
-  pub credited : HasCredited asked.quota asked.least_size places.up places.rest rising falling tallies
-  pub counted : counts asked.least_size places.up places.rest rising falling
+-- what a counter of partners has counted, at a least size, once the first `up` rising entries and
+-- the falling entries from `rest` on are passed
+abbrev pub PartnerCounts : Type 1
+PartnerCounts = ℕ → ℕ → ℕ → List Entry → List Entry → Type 0
 
--- the places at which no entry is passed
-abbrev pub at_start : List Entry → Places
-at_start falling = record { up = 0; rest = length falling }
+-- a chain at this position of its route: it has credited and counted the entries that it passed
+pub record StandsAt (counts : PartnerCounts) (route : Route) (position : Position) (tallies : List MaskTally)
+    : Type 0 where
+  pub between : IsBetween route.quota position.up position.rest route.rising route.falling
+  pub credited : HasCredited route.quota route.least_size position.up position.rest route.rising route.falling tallies
+  pub counted : counts route.least_size position.up position.rest route.rising route.falling
 
--- `passed` entries are passed at these places
-abbrev pub HasPassed : ℕ → Places → List Entry → Type 0
-HasPassed passed places falling = places.up + length falling ≡ passed + places.rest
+-- the position at which no entry is passed
+abbrev pub at_start : Route → Position
+at_start route = record { up = 0; rest = length route.falling }
+
+-- `passed` entries are passed at this position
+abbrev pub HasPassed : ℕ → Position → List Entry → Type 0
+HasPassed passed position falling = position.up + length falling ≡ passed + position.rest
+
+-- two chains from both ends, after the same number of steps
+pub record StandApart (front_counts back_counts : PartnerCounts) (route : Route) (ends : ChainPositions)
+    (front back : List MaskTally) : Type 0 where
+  pub front_passed : HasPassed ends.walked ends.front route.falling
+  pub back_passed : HasPassed ends.walked ends.back route.rising
+  pub front_stands : StandsAt front_counts route ends.front front
+  pub back_stands : StandsAt back_counts (turned_route route) ends.back back

@@ -5,7 +5,7 @@
 mod laws;
 mod pairs;
 mod partners;
-mod places;
+mod positions;
 mod sides;
 mod sizes;
 mod tally;

@@ -1,11 +1,10 @@
 //! The counts of the winning pairs of two lists, and the swings that follow from them.
 ghost use Rattle.std.specs.Prelude.{◌≡◌, ℕ, ◌+◌, ◌*◌, ◌^◌, ◌<◌, ◌≤◌, slice_index};
-ghost use Rattle.half_sums.specs.Entries.{IsHalf};
-ghost use Rattle.swing_walk.specs.Pairs.{is_enough, large_pairs, large_with, swings_of};
-ghost use Rattle.swing_walk.specs.Tallies.{tally_total, IsEven, CreditsLefts, CreditsRights};
+ghost use Rattle.swing_walk.specs.Pairs.{large_pairs, large_with, swings_of};
+ghost use Rattle.swing_walk.specs.Tallies.{slot_amount, tally_total};
 
 use crate::partners::{BySize, OfAnySize};
-use crate::places::Threshold;
+use crate::positions::Route;
 use crate::tally::MaskTally;
 use crate::walking::walk;
 use council_core::CHAIRS;
@@ -17,8 +16,8 @@ use half_sums::{HalfSums, SLOTS, SumList};
 pub struct Counts {
     /// Omega: the number of pairs with enough weight and enough chairs together (Coleman 1971).
     pub winning: u64,
-    /// At each index, the number of these pairs that have its chair. Indices 0 to 15 are the slots
-    /// of the left half, and indices 16 to 31 those of the right half plus 16.
+    /// At each place, the number of these pairs that have its chair. Places 0 to 15 are the slots of
+    /// the left half, and places 16 to 31 those of the right half plus 16.
     pub with_chair: [u64; CHAIRS],
 }
 
@@ -43,74 +42,45 @@ pub fn count(left: &HalfSums, right: &HalfSums, quota: u64, least_size: u8) -> C
     count_lists(&left.ascending(), &right.ascending(), quota, least_size)
 }
 
-/// Like `count`, for two borrowed lists. Each must meet the invariant of a half's list: at most
-/// 65,536 sets, ascending by sum, with no sum above 2^48.
+/// Like `count`, for two borrowed lists.
 pub fn count_lists(left: &SumList, right: &SumList, quota: u64, least_size: u8) -> Counts
-    requires left { IsHalf left.now }
-    requires right { IsHalf right.now }
     ensures winning { result.winning ≡ large_pairs quota least_size left.now right.now }
     ensures with_chair { (place : ℕ) → place < CHAIRS
         → slice_index result.with_chair place ≡ large_with quota least_size place left.now right.now }
 {
-    let (mut lefts, mut rights) = (MaskTally::new(), MaskTally::new());
-    let winning = credit_pairs(left, right, quota, least_size, &mut lefts, &mut rights);
-    Counts {
-        winning,
-        with_chair: both(&lefts.by_slot(), &rights.by_slot()),
-    }
-}
-
-// Adds the pairs that reach the quota and the least size to the tallies, and returns their number.
-fn credit_pairs(
-    left: &SumList,
-    right: &SumList,
-    quota: u64,
-    least_size: u8,
-    lefts: &mut MaskTally,
-    rights: &mut MaskTally,
-) -> u64
-    requires left { IsHalf left.now }
-    requires right { IsHalf right.now }
-
-    // The tallies before the call.
-    requires left_even { IsEven lefts.old }
-    requires left_room { tally_total lefts.old ≤ 2 ^ 62 }
-    requires right_even { IsEven rights.old }
-    requires right_room { tally_total rights.old ≤ 2 ^ 62 }
-
-    // The counts.
-    ensures winning { result ≡ large_pairs quota least_size left.now right.now }
-    ensures lefts { CreditsLefts (is_enough quota least_size) left.now right.now lefts.old lefts.new }
-    ensures rights { CreditsRights (is_enough quota least_size) left.now right.now rights.old rights.new }
-{
-    let asked = Threshold { quota, least_size };
+    let route = Route {
+        rising: left.copy(),
+        falling: right.copy(),
+        quota,
+        least_size,
+    };
     if least_size == 0 {
-        return walk(
-            left,
-            right,
-            asked,
-            OfAnySize {},
-            OfAnySize {},
-            lefts,
-            rights,
-        );
+        return walk(&route, OfAnySize {}, OfAnySize {});
     }
-    let (front, back) = (BySize::start(left), BySize::start(right));
-    walk(left, right, asked, front, back, lefts, rights)
+    let (front, back) = (BySize::start(&route.rising), BySize::start(&route.falling));
+    walk(&route, front, back)
 }
 
-// The left totals, followed by the right ones.
-fn both(left: &[u64; SLOTS], right: &[u64; SLOTS]) -> [u64; CHAIRS]
-    ensures left { (slot : ℕ) → slot < SLOTS → slice_index result slot ≡ slice_index left.now slot }
-    ensures right { (slot : ℕ) → slot < SLOTS → slice_index result (SLOTS + slot) ≡ slice_index right.now slot }
+// The counts of a walk, from the amounts of its left and of its right sets.
+pub(crate) fn counts_of(lefts: &MaskTally, rights: &MaskTally) -> Counts
+    requires left_room { tally_total lefts.now < 2 ^ 63 }
+    requires right_room { tally_total rights.now < 2 ^ 63 }
+    ensures winning { result.winning ≡ tally_total lefts.now }
+    ensures left { (slot : ℕ) → slot < SLOTS
+        → slice_index result.with_chair slot ≡ slot_amount slot lefts.now }
+    ensures right { (slot : ℕ) → slot < SLOTS
+        → slice_index result.with_chair (SLOTS + slot) ≡ slot_amount slot rights.now }
 {
-    let mut all = [0; CHAIRS];
-    all[..SLOTS].copy_from_slice(left);
-    all[SLOTS..].copy_from_slice(right);
-    all
+    let mut with_chair = [0; CHAIRS];
+    with_chair[..SLOTS].copy_from_slice(&lefts.by_slot());
+    with_chair[SLOTS..].copy_from_slice(&rights.by_slot());
+    Counts {
+        winning: lefts.total(),
+        with_chair,
+    }
 }
 
-/// The number of swings of the chair at each index, 0 if no winning pair has it (Banzhaf 1965;
+/// The number of swings of the chair at each place, 0 if no winning pair has it (Banzhaf 1965;
 /// Felsenthal and Machover 1998). The counts of the two halves of a board meet the requirements,
 /// and the results are then the swings by the definition.
 pub fn swings(counts: &Counts) -> [u64; CHAIRS]

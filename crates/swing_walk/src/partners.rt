@@ -7,11 +7,10 @@
 //! passed sets.
 ghost use Rattle.std.specs.Prelude.{◌≡◌, ℕ, ◌+◌, ◌-◌, ◌<◌, ◌≤◌, List, length, drop, cond};
 ghost use Rattle.half_sums.specs.declared.entry.Entry.{Entry};
-ghost use Rattle.half_sums.specs.Entries.{IsHalf};
 ghost use Rattle.swing_walk.specs.Sizes.{partners_of, CountsBySize};
 ghost use Rattle.swing_walk.specs.Walks.{IsNext};
 
-use crate::places::{Next, Places, Threshold};
+use crate::positions::{Next, Position, Route};
 use crate::sides::{FALLING, RISING, count_on};
 use crate::sizes::{SizeTally, lacking};
 use half_sums::{ROOM, STARTS, SumList, either, starts_of};
@@ -23,30 +22,21 @@ pub(crate) trait Partners: Copy {
     ghost counts: { Self → ℕ → ℕ → ℕ → List Entry → List Entry → Type 0 };
 
     // Passes the next set, and returns the number of its partners.
-    fn pass(
-        &mut self,
-        asked: Threshold,
-        places: Places,
-        next: Next,
-        rising: &SumList,
-        falling: &SumList,
-    ) -> u64
-        requires rising { IsHalf rising.now }
-        requires falling { IsHalf falling.now }
-
+    fn pass(&mut self, route: &Route, position: Position, next: Next) -> u64
         // The position of the chain.
-        requires up { places.up ≤ length rising.now }
-        requires rest { places.rest ≤ length falling.now }
-        requires bound { places.up + length falling.now < places.rest + ROOM }
-        requires next { IsNext asked.quota next places rising.now falling.now }
-        requires counted { counts self.old asked.least_size places.up places.rest rising.now falling.now }
+        requires up { position.up ≤ length route.now.rising }
+        requires rest { position.rest ≤ length route.now.falling }
+        requires bound { position.up + length route.now.falling < position.rest + ROOM }
+        requires next { IsNext next route.now position }
+        requires counted { counts self.old route.now.least_size position.up position.rest route.now.rising
+            route.now.falling }
 
         // The next position.
         ensures partners { result
-            ≡ cond next.falls (partners_of asked.least_size next.high.mask (drop places.up rising.now))
-            (partners_of asked.least_size next.low.mask (drop places.rest falling.now)) }
-        ensures counted { counts self.new asked.least_size (places.up + cond next.falls 0 1)
-            (places.rest - cond next.falls 1 0) rising.now falling.now };
+            ≡ cond next.falls (partners_of route.now.least_size next.high.mask (drop position.up route.now.rising))
+            (partners_of route.now.least_size next.low.mask (drop position.rest route.now.falling)) }
+        ensures counted { counts self.new route.now.least_size (position.up + cond next.falls 0 1)
+            (position.rest - cond next.falls 1 0) route.now.rising route.now.falling };
 }
 
 // A counter for walks without a least size.
@@ -57,17 +47,8 @@ impl Partners for OfAnySize {
     ghost counts = { λ _ least _ _ _ _. least ≡ 0 };
 
     #[inline(always)]
-    fn pass(
-        &mut self,
-        _asked: Threshold,
-        places: Places,
-        next: Next,
-        rising: &SumList,
-        falling: &SumList,
-    ) -> u64 {
-        places
-            .after(next.falls)
-            .partners(next.falls, rising, falling) as u64
+    fn pass(&mut self, route: &Route, position: Position, next: Next) -> u64 {
+        position.after(next.falls).partners(next.falls, route) as u64
     }
 }
 
@@ -83,7 +64,6 @@ pub(crate) struct BySize {
 impl BySize {
     // The counter of a chain that has passed no set.
     pub(crate) fn start(rising: &SumList) -> BySize
-        requires half { IsHalf rising.now }
         ensures counted { (falling : List Entry) → CountsBySize result 0 (length falling) rising.now falling }
     {
         BySize {
@@ -97,17 +77,10 @@ impl Partners for BySize {
     ghost counts = { λ s _. CountsBySize s };
 
     #[inline(always)]
-    fn pass(
-        &mut self,
-        asked: Threshold,
-        _places: Places,
-        next: Next,
-        rising: &SumList,
-        _falling: &SumList,
-    ) -> u64 {
+    fn pass(&mut self, route: &Route, _position: Position, next: Next) -> u64 {
         let mask = next.mask();
-        let lane = lacking(asked.least_size, mask);
-        let left = rising.len()
+        let lane = lacking(route.least_size, mask);
+        let left = route.rising.len()
             - self.fewer[lane]
             - usize::from(self.passed[RISING].at_least[lane]);
         let gone = usize::from(self.passed[FALLING].at_least[lane]);

@@ -1,26 +1,32 @@
 //! Amounts per chair, stored by the two bytes of the masks to which they belong.
 ghost use Rattle.std.specs.Prelude.{◌≡◌, ℕ, ◌+◌, ◌-◌, ◌*◌, ◌^◌, ◌<◌, slice_index};
+ghost use Rattle.std.specs.List.{sum_by};
 ghost use Rattle.std.specs.Int.{bit_at};
-ghost use Rattle.swing_walk.specs.Tallies.{slot_amount, tally_total, IsEven, low_weight, high_weight};
+ghost use Rattle.swing_walk.specs.Tables.{weighted_sum, low_weight, high_weight};
 
 use half_sums::SLOTS;
 
 // The number of values of a byte.
 const BYTES: u16 = 256;
 
+// An amount for each value of a byte.
+type ByteTable = [u64; BYTES as usize];
+
 // Amounts by mask: for each value of the masks' low byte, and for each value of their high byte.
 #[derive(Clone, Copy)]
 pub(crate) struct MaskTally {
-    pub(crate) low: [u64; BYTES as usize],
-    pub(crate) high: [u64; BYTES as usize],
+    pub(crate) low: ByteTable,
+    pub(crate) high: ByteTable,
+    ghost even: { sum_by (λ n. n) high ≡ sum_by (λ n. n) low },
 }
 
 impl MaskTally {
+    ghost use Rattle.swing_walk.specs.Tallies.{slot_amount, tally_total};
+
     // The tally without amounts.
     pub(crate) fn new() -> MaskTally
         ensures none { (slot : ℕ) → slot_amount slot result ≡ 0 }
         ensures total { tally_total result ≡ 0 }
-        ensures even { IsEven result }
     {
         MaskTally {
             low: [0; BYTES as usize],
@@ -30,31 +36,24 @@ impl MaskTally {
 
     // Adds an amount that belongs to this mask.
     pub(crate) fn add(&mut self, mask: u16, amount: u64)
-        requires even { IsEven self.old }
         requires room { tally_total self.old + amount < 2 ^ 64 }
         ensures marked { (slot : ℕ)
             → slot_amount slot self.new ≡ slot_amount slot self.old + bit_at mask slot * amount }
         ensures total { tally_total self.new ≡ tally_total self.old + amount }
-        ensures even { IsEven self.new }
     {
         self.low[usize::from(mask % BYTES)] += amount;
         self.high[usize::from(mask / BYTES)] += amount;
     }
 
-    // Adds all amounts of another tally.
+    // Adds the amounts of another tally.
     pub(crate) fn join(&mut self, other: &MaskTally)
-        requires even { IsEven self.old }
-        requires other_even { IsEven other.now }
         requires room { tally_total self.old + tally_total other.now < 2 ^ 64 }
+        ensures total { tally_total self.new ≡ tally_total self.old + tally_total other.now }
         ensures marked { (slot : ℕ)
             → slot_amount slot self.new ≡ slot_amount slot self.old + slot_amount slot other.now }
-        ensures total { tally_total self.new ≡ tally_total self.old + tally_total other.now }
-        ensures even { IsEven self.new }
     {
-        for byte in 0..BYTES as usize {
-            self.low[byte] += other.low[byte];
-            self.high[byte] += other.high[byte];
-        }
+        self.low = both(&self.low, &other.low);
+        self.high = both(&self.high, &other.high);
     }
 
     // The sum of all amounts.
@@ -71,7 +70,6 @@ impl MaskTally {
 
     // For each slot, the sum of the amounts whose masks have it.
     pub(crate) fn by_slot(&self) -> [u64; SLOTS]
-        requires even { IsEven self.now }
         requires room { tally_total self.now < 2 ^ 63 }
         ensures marked { (slot : ℕ) → slot < SLOTS → slice_index result slot ≡ slot_amount slot self.now }
     {
@@ -82,6 +80,20 @@ impl MaskTally {
         }
         totals
     }
+}
+
+// The amounts of both tables.
+fn both(one: &ByteTable, two: &ByteTable) -> ByteTable
+    requires room { sum_by (λ n. n) one.now + sum_by (λ n. n) two.now < 2 ^ 64 }
+    ensures total { sum_by (λ n. n) result ≡ sum_by (λ n. n) one.now + sum_by (λ n. n) two.now }
+    ensures each { (weight : ℕ → ℕ)
+        → weighted_sum weight 0 result ≡ weighted_sum weight 0 one.now + weighted_sum weight 0 two.now }
+{
+    let mut table = *one;
+    for byte in 0..BYTES as usize {
+        table[byte] += two[byte];
+    }
+    table
 }
 
 // Adds the amounts of one value of a byte: `low` at its slots as a low byte, and `high` at its

@@ -7,18 +7,20 @@
 //!
 //! The walk is compiled once for each `Partners`, because testing at each step whether a size is
 //! required takes longer.
-ghost use Rattle.std.specs.Prelude.{◌≡◌, ◌+◌, ◌-◌, ◌^◌, ◌<◌, ◌≤◌, ◌*◌, ◌&&◌, ◌||◌, length, not, nat_le};
-ghost use Rattle.std.specs.Prelude.{slice_index_or};
-ghost use Rattle.half_sums.specs.Entries.{IsHalf, zero_entry};
-ghost use Rattle.swing_walk.specs.Pairs.{is_enough, large_pairs};
-ghost use Rattle.swing_walk.specs.Walks.{IsNext, StandsAt, HasPassed, at_start};
+ghost use Rattle.std.specs.Prelude.{◌≡◌, ℕ, ◌+◌, ◌-◌, ◌^◌, ◌<◌, ◌≤◌, ◌*◌, ◌&&◌, ◌||◌, length, not, nat_le};
+ghost use Rattle.std.specs.Prelude.{slice_index, slice_index_or};
+ghost use Rattle.half_sums.specs.Entries.{zero_entry};
+ghost use Rattle.swing_walk.specs.Pairs.{large_pairs, large_with};
+ghost use Rattle.swing_walk.specs.Walks.{enough, turned_route, IsNext, StandsAt, StandApart, at_start};
 ghost use Rattle.swing_walk.specs.Sides.{side};
-ghost use Rattle.swing_walk.specs.Tallies.{tally_total, IsEven, CreditsEach, CreditsLefts, CreditsRights};
+ghost use Rattle.swing_walk.specs.Tallies.{CreditsEach};
 
+use crate::pairs::{Counts, counts_of};
 use crate::partners::Partners;
-use crate::places::{Next, Places, Threshold};
-use crate::sides::{FALLING, RISING, add_to};
+use crate::positions::{Next, Position, Route};
+use crate::sides::{add_to, join, rising};
 use crate::tally::MaskTally;
+use council_core::CHAIRS;
 use half_sums::{Entry, ROOM, SumList};
 
 // The counts of a chain: the tallies of its rising and its falling list, and the counter of
@@ -31,290 +33,167 @@ struct Chain<P: Partners> {
 
 // The positions of the two chains of a walk, after `walked` steps of each.
 #[derive(Clone, Copy)]
-struct Ends {
+struct ChainPositions {
     walked: usize,
-    front: Places,
-    back: Places,
+    front: Position,
+    back: Position,
 }
 
 // The entry that is read past the end of a list.
 const NO_ENTRY: Entry = Entry { sum: 0, mask: 0 };
 
-// Adds the pairs that reach the quota and the least size to the tallies, and returns their number.
-// `front` and `back` count the partners of the two chains.
-pub(crate) fn walk<P: Partners>(
-    left: &SumList,
-    right: &SumList,
-    asked: Threshold,
-    front: P,
-    back: P,
-    lefts: &mut MaskTally,
-    rights: &mut MaskTally,
-) -> u64
-    requires left { IsHalf left.now }
-    requires right { IsHalf right.now }
-
+// Counts the pairs of a rising and a falling set that reach the quota and the least size. `front`
+// and `back` count the partners of the two chains.
+pub(crate) fn walk<P: Partners>(route: &Route, front: P, back: P) -> Counts
     // No entry is passed.
-    requires front { P.counts front asked.least_size 0 (length right.now) left.now right.now }
-    requires back { P.counts back asked.least_size 0 (length left.now) right.now left.now }
-
-    // The tallies before the call.
-    requires left_even { IsEven lefts.old }
-    requires left_room { tally_total lefts.old ≤ 2 ^ 62 }
-    requires right_even { IsEven rights.old }
-    requires right_room { tally_total rights.old ≤ 2 ^ 62 }
+    requires front { P.counts front route.now.least_size 0 (length route.now.falling) route.now.rising
+        route.now.falling }
+    requires back { P.counts back route.now.least_size 0 (length route.now.rising) route.now.falling
+        route.now.rising }
 
     // The counts.
-    ensures winning { result ≡ large_pairs asked.quota asked.least_size left.now right.now }
-    ensures lefts { CreditsLefts (is_enough asked.quota asked.least_size) left.now right.now lefts.old lefts.new }
-    ensures rights { CreditsRights (is_enough asked.quota asked.least_size) left.now right.now rights.old rights.new }
+    ensures winning { result.winning
+        ≡ large_pairs route.now.quota route.now.least_size route.now.rising route.now.falling }
+    ensures with_chair { (place : ℕ) → place < CHAIRS → slice_index result.with_chair place
+        ≡ large_with route.now.quota route.now.least_size place route.now.rising route.now.falling }
 {
-    let tallies = [MaskTally::new(); 2];
     let mut front = Chain {
-        tallies,
+        tallies: [MaskTally::new(); 2],
         partners: front,
     };
     let mut back = Chain {
-        tallies,
+        tallies: front.tallies,
         partners: back,
     };
-    walk_from_both_ends(left, right, asked, &mut front, &mut back);
-    lefts.join(&front.tallies[RISING]);
-    lefts.join(&back.tallies[FALLING]);
-    rights.join(&back.tallies[RISING]);
-    rights.join(&front.tallies[FALLING]);
-    front.tallies[RISING].total() + back.tallies[FALLING].total()
+    let ends = walk_within(route, &mut front, &mut back);
+    walk_on(ends, route, &mut front, &mut back);
+    join(&mut front.tallies, &back.tallies);
+    join(&mut back.tallies, &front.tallies);
+    counts_of(rising(&front.tallies), rising(&back.tallies))
 }
 
 // Walks up the left list and down the right one, and from the other end up the right list and down
-// the left one, until all entries are passed. The two chains do not depend on one another: each has
-// its own tallies, and neither branches on the sums.
-fn walk_from_both_ends<P: Partners>(
-    left: &SumList,
-    right: &SumList,
-    asked: Threshold,
-    front: &mut Chain<P>,
-    back: &mut Chain<P>,
-)
-    requires left { IsHalf left.now }
-    requires right { IsHalf right.now }
-
-    // No entry is passed.
-    requires front { StandsAt (P.counts front.old.partners) asked (at_start right.now) left.now right.now
-        front.old.tallies }
-    requires back { StandsAt (P.counts back.old.partners) asked (at_start left.now) right.now left.now
-        back.old.tallies }
-
-    // The pairs that both chains together have credited.
-    ensures lefts { CreditsEach (is_enough asked.quota asked.least_size) left.now right.now
-        (side 0 front.new.tallies) (side 1 back.new.tallies) }
-    ensures rights { CreditsEach (is_enough asked.quota asked.least_size) right.now left.now
-        (side 0 back.new.tallies) (side 1 front.new.tallies) }
-{
-    let ends = walk_within(left, right, asked, front, back);
-    walk_on(ends, left, right, asked, front, back);
-}
-
-// Walks as many steps as the shorter list has entries, so neither list ends.
+// the left one, as many steps as the shorter list has entries, so neither list ends. The two chains
+// do not depend on one another: each has its own tallies, and neither branches on the sums. Both
+// routes are copies in the frame of the loop.
 #[inline(never)]
 fn walk_within<P: Partners>(
-    left: &SumList,
-    right: &SumList,
-    asked: Threshold,
+    route: &Route,
     front: &mut Chain<P>,
     back: &mut Chain<P>,
-) -> Ends
-    requires left { IsHalf left.now }
-    requires right { IsHalf right.now }
-
-    // No entry is passed.
-    requires front { StandsAt (P.counts front.old.partners) asked (at_start right.now) left.now right.now
-        front.old.tallies }
-    requires back { StandsAt (P.counts back.old.partners) asked (at_start left.now) right.now left.now
+) -> ChainPositions
+    requires front { StandsAt (P.counts front.old.partners) route.now (at_start route.now) front.old.tallies }
+    requires back { StandsAt (P.counts back.old.partners) (turned_route route.now) (at_start (turned_route route.now))
         back.old.tallies }
-
-    // The positions of the two chains.
-    ensures within { 2 * result.walked ≤ length left.now + length right.now }
-    ensures front_passed { HasPassed result.walked result.front right.now }
-    ensures back_passed { HasPassed result.walked result.back left.now }
-    ensures front { StandsAt (P.counts front.new.partners) asked result.front left.now right.now front.new.tallies }
-    ensures back { StandsAt (P.counts back.new.partners) asked result.back right.now left.now back.new.tallies }
+    ensures within { 2 * result.walked ≤ length route.now.rising + length route.now.falling }
+    ensures apart { StandApart (P.counts front.new.partners) (P.counts back.new.partners) route.now result
+        front.new.tallies back.new.tallies }
 {
-    steps_within(&left.copy(), &right.copy(), asked, front, back)
-}
-
-// The body of `walk_within`, inlined into it so that both lists are in its frame.
-#[inline(always)]
-fn steps_within<P: Partners>(
-    left: &SumList,
-    right: &SumList,
-    asked: Threshold,
-    front: &mut Chain<P>,
-    back: &mut Chain<P>,
-) -> Ends
-    requires left { IsHalf left.now }
-    requires right { IsHalf right.now }
-
-    // No entry is passed.
-    requires front { StandsAt (P.counts front.old.partners) asked (at_start right.now) left.now right.now
-        front.old.tallies }
-    requires back { StandsAt (P.counts back.old.partners) asked (at_start left.now) right.now left.now
-        back.old.tallies }
-
-    // The positions of the two chains.
-    ensures within { 2 * result.walked ≤ length left.now + length right.now }
-    ensures front_passed { HasPassed result.walked result.front right.now }
-    ensures back_passed { HasPassed result.walked result.back left.now }
-    ensures front { StandsAt (P.counts front.new.partners) asked result.front left.now right.now front.new.tallies }
-    ensures back { StandsAt (P.counts back.new.partners) asked result.back right.now left.now back.new.tallies }
-{
-    let steps = left.len().min(right.len());
-    let mut from_front = Places::start(right);
-    let mut from_back = Places::start(left);
+    let (own, other) = (route.copy(), route.turned());
+    let steps = own.rising.len().min(own.falling.len());
+    let mut from_front = Position::start(&own);
+    let mut from_back = Position::start(&other);
     for walked in 0..steps {
-        from_front = pass_within(from_front, left, right, asked, front);
-        from_back = pass_within(from_back, right, left, asked, back);
+        from_front = pass_within(from_front, &own, front);
+        from_back = pass_within(from_back, &other, back);
     }
-    Ends {
+    ChainPositions {
         walked: steps,
         front: from_front,
         back: from_back,
     }
 }
 
-// Walks the remaining steps.
+// Walks the remaining steps, until all entries are passed.
 #[inline(never)]
 fn walk_on<P: Partners>(
-    ends: Ends,
-    left: &SumList,
-    right: &SumList,
-    asked: Threshold,
+    ends: ChainPositions,
+    route: &Route,
     front: &mut Chain<P>,
     back: &mut Chain<P>,
 )
-    requires left { IsHalf left.now }
-    requires right { IsHalf right.now }
-
-    // The positions of the two chains.
-    requires within { 2 * ends.walked ≤ length left.now + length right.now }
-    requires front_passed { HasPassed ends.walked ends.front right.now }
-    requires back_passed { HasPassed ends.walked ends.back left.now }
-    requires front { StandsAt (P.counts front.old.partners) asked ends.front left.now right.now front.old.tallies }
-    requires back { StandsAt (P.counts back.old.partners) asked ends.back right.now left.now back.old.tallies }
+    requires within { 2 * ends.walked ≤ length route.now.rising + length route.now.falling }
+    requires apart { StandApart (P.counts front.old.partners) (P.counts back.old.partners) route.now ends
+        front.old.tallies back.old.tallies }
 
     // The pairs that both chains together have credited.
-    ensures lefts { CreditsEach (is_enough asked.quota asked.least_size) left.now right.now
+    ensures lefts { CreditsEach (enough route.now) route.now.rising route.now.falling
         (side 0 front.new.tallies) (side 1 back.new.tallies) }
-    ensures rights { CreditsEach (is_enough asked.quota asked.least_size) right.now left.now
+    ensures rights { CreditsEach (enough route.now) route.now.falling route.now.rising
         (side 0 back.new.tallies) (side 1 front.new.tallies) }
 {
-    let steps = left.len() + right.len();
+    let other = route.turned();
+    let steps = route.rising.len() + route.falling.len();
     let mut from_front = ends.front;
     let mut from_back = ends.back;
     for walked in ends.walked..steps / 2 {
-        from_front = pass(from_front, left, right, asked, front);
-        from_back = pass(from_back, right, left, asked, back);
+        from_front = pass(from_front, route, front);
+        from_back = pass(from_back, &other, back);
     }
     if steps % 2 == 1 {
-        pass(from_front, left, right, asked, front);
+        pass(from_front, route, front);
     }
 }
 
 // Passes the next entry of two lists of which neither has ended.
 #[inline(always)]
-fn pass_within<P: Partners>(
-    places: Places,
-    rising: &SumList,
-    falling: &SumList,
-    asked: Threshold,
-    chain: &mut Chain<P>,
-) -> Places
-    requires rising { IsHalf rising.now }
-    requires falling { IsHalf falling.now }
-
+fn pass_within<P: Partners>(position: Position, route: &Route, chain: &mut Chain<P>) -> Position
     // The position of the chain.
-    requires some_rising { places.up < length rising.now }
-    requires some_falling { 0 < places.rest }
-    requires bound { places.up + length falling.now < places.rest + ROOM }
-    requires stands { StandsAt (P.counts chain.old.partners) asked places rising.now falling.now chain.old.tallies }
+    requires some_rising { position.up < length route.now.rising }
+    requires some_falling { 0 < position.rest }
+    requires bound { position.up + length route.now.falling < position.rest + ROOM }
+    requires stands { StandsAt (P.counts chain.old.partners) route.now position chain.old.tallies }
 
     // The next position.
-    ensures next { result.up + places.rest ≡ places.up + result.rest + 1 }
-    ensures stands { StandsAt (P.counts chain.new.partners) asked result rising.now falling.now chain.new.tallies }
+    ensures next { result.up + position.rest ≡ position.up + result.rest + 1 }
+    ensures stands { StandsAt (P.counts chain.new.partners) route.now result chain.new.tallies }
 {
-    let low = rising.at(places.up);
-    let high = falling.at(places.rest - 1);
-    let falls = asked.quota <= low.sum + high.sum;
-    pass_next(
-        Next { low, high, falls },
-        places,
-        rising,
-        falling,
-        asked,
-        chain,
-    )
+    let low = route.rising.at(position.up);
+    let high = route.falling.at(position.rest - 1);
+    let falls = route.quota <= low.sum + high.sum;
+    pass_next(Next { low, high, falls }, position, route, chain)
 }
 
 // Passes the next entry of two lists of which at most one has ended.
 #[inline(always)]
-fn pass<P: Partners>(
-    places: Places,
-    rising: &SumList,
-    falling: &SumList,
-    asked: Threshold,
-    chain: &mut Chain<P>,
-) -> Places
-    requires rising { IsHalf rising.now }
-    requires falling { IsHalf falling.now }
-
+fn pass<P: Partners>(position: Position, route: &Route, chain: &mut Chain<P>) -> Position
     // The position of the chain.
-    requires some { places.up < length rising.now + places.rest }
-    requires bound { places.up + length falling.now < places.rest + ROOM }
-    requires stands { StandsAt (P.counts chain.old.partners) asked places rising.now falling.now chain.old.tallies }
+    requires some { position.up < length route.now.rising + position.rest }
+    requires bound { position.up + length route.now.falling < position.rest + ROOM }
+    requires stands { StandsAt (P.counts chain.old.partners) route.now position chain.old.tallies }
 
     // The next position.
-    ensures next { result.up + places.rest ≡ places.up + result.rest + 1 }
-    ensures stands { StandsAt (P.counts chain.new.partners) asked result rising.now falling.now chain.new.tallies }
+    ensures next { result.up + position.rest ≡ position.up + result.rest + 1 }
+    ensures stands { StandsAt (P.counts chain.new.partners) route.now result chain.new.tallies }
 {
-    let low = next_up(rising, places.up);
-    let high = next_down(falling, places.rest);
-    let some_rising = places.up < rising.len();
-    let falls = falls_next(&low, &high, some_rising, places.rest > 0, asked.quota);
-    pass_next(
-        Next { low, high, falls },
-        places,
-        rising,
-        falling,
-        asked,
-        chain,
-    )
+    let low = next_up(&route.rising, position.up);
+    let high = next_down(&route.falling, position.rest);
+    let some_rising = position.up < route.rising.len();
+    let falls = falls_next(&low, &high, some_rising, position.rest > 0, route.quota);
+    pass_next(Next { low, high, falls }, position, route, chain)
 }
 
 // Passes the next entry.
 #[inline(always)]
 fn pass_next<P: Partners>(
     next: Next,
-    places: Places,
-    rising: &SumList,
-    falling: &SumList,
-    asked: Threshold,
+    position: Position,
+    route: &Route,
     chain: &mut Chain<P>,
-) -> Places
-    requires rising { IsHalf rising.now }
-    requires falling { IsHalf falling.now }
-    requires next { IsNext asked.quota next places rising.now falling.now }
+) -> Position
+    requires next { IsNext next route.now position }
 
     // The position of the chain.
-    requires bound { places.up + length falling.now < places.rest + ROOM }
-    requires stands { StandsAt (P.counts chain.old.partners) asked places rising.now falling.now chain.old.tallies }
+    requires bound { position.up + length route.now.falling < position.rest + ROOM }
+    requires stands { StandsAt (P.counts chain.old.partners) route.now position chain.old.tallies }
 
     // The next position.
-    ensures next { result.up + places.rest ≡ places.up + result.rest + 1 }
-    ensures stands { StandsAt (P.counts chain.new.partners) asked result rising.now falling.now chain.new.tallies }
+    ensures next { result.up + position.rest ≡ position.up + result.rest + 1 }
+    ensures stands { StandsAt (P.counts chain.new.partners) route.now result chain.new.tallies }
 {
-    let partners = chain.partners.pass(asked, places, next, rising, falling);
+    let partners = chain.partners.pass(route, position, next);
     add_to(&mut chain.tallies, next.falls, next.mask(), partners);
-    places.after(next.falls)
+    position.after(next.falls)
 }
 
 // Whether the falling entry comes before the rising one: it exists and reaches the quota with the
@@ -328,7 +207,6 @@ fn falls_next(low: &Entry, high: &Entry, some_rising: bool, some_falling: bool, 
 
 // The next entry in ascending order after `passed` entries, or `NO_ENTRY` if all are passed.
 fn next_up(entries: &SumList, passed: usize) -> Entry
-    requires half { IsHalf entries.now }
     ensures entry { passed < length entries.now → result ≡ slice_index_or entries.now passed zero_entry }
     ensures small { result.sum ≤ 2 ^ 48 }
 {
@@ -342,7 +220,6 @@ fn next_up(entries: &SumList, passed: usize) -> Entry
 // The greatest of the first `rest` entries, which is the next in descending order, or `NO_ENTRY` if
 // none is left.
 fn next_down(entries: &SumList, rest: usize) -> Entry
-    requires half { IsHalf entries.now }
     requires within { rest ≤ length entries.now }
     ensures entry { 0 < rest → result ≡ slice_index_or entries.now (rest - 1) zero_entry }
     ensures small { result.sum ≤ 2 ^ 48 }

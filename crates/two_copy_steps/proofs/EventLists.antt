@@ -1,16 +1,18 @@
 -- Over every list of events.
 use Rattle.std.proofs.Common.{◌≡◌, ℕ, suc, get_or, ◌+◌, ◌<◌, ◌≤◌, List, [], ◌∷◌, ◌++◌, length, take, refl, sym, ap, ◌∙◌, subst, arith, length-append}
-use Rattle.std.proofs.lemmas.List.Elements.{Contains-push, Contains-get_or}
-use Rattle.std.proofs.Math.Seq.{take-length, take-suc}
-use Rattle.std.specs.Prelude.{Contains}
+use Rattle.std.proofs.Math.Seq.{take-suc}
 use Rattle.council_core.specs.declared.commands.Command.{Command}
-use Rattle.council_core.specs.Ledgers.{Ledger, IsLedger}
+use Rattle.council_core.specs.Ledgers.{Ledger}
+use Rattle.council_core.specs.Sequential.{AreLegalRecords}
 use Rattle.two_copy_steps.specs.declared.events.Event.{Event}
 use Rattle.two_copy_steps.specs.declared.events.Note.{Note}
 use Rattle.two_copy_steps.specs.Transitions.{MachineState, transition, machine_at_start, state_after_events, notes}
-use Rattle.two_copy_steps.specs.Auxiliary.{Auxiliary, auxiliary_start, auxiliary_step, auxiliary_steps, IsLawful, HasLegalRecords, NoneUnder}
+use Rattle.two_copy_steps.specs.Auxiliary.{Auxiliary, auxiliary_start, auxiliary_step, auxiliary_steps, state_of, IsApart, IsLawful}
+use Rattle.two_copy_steps.specs.Laws.{RecordsLaw}
+use Rattle.two_copy_steps.specs.Runs.{machine_after, auxiliary_after}
 use Rattle.two_copy_steps.specs.Effects.{SequentialRun, sequential_start, sequential_step, AllAnswer}
-use Rattle.two_copy_steps.proofs.TransitionSteps.{transition_keeps, records_are, none_under}
+use Rattle.two_copy_steps.proofs.TransitionSteps.{transition_keeps, records_viewed, stages_viewed}
+use Rattle.two_copy_steps.proofs.StateFacts.{all_records, published_legal, stores_apart}
 use Rattle.two_copy_steps.proofs.Replies.{Agrees, event_agrees}
 use Rattle.two_copy_steps.proofs.Journals.{IsAccepted, IsWithin, journal_accepted, journal_within}
 use Rattle.two_copy_steps.proofs.Starts.{start_lawful, start_agrees}
@@ -58,20 +60,6 @@ pub notes_append : (events more : List Event) (m : MachineState) → notes m (ev
 notes_append [] more m = refl
 notes_append (event ∷ events) more m = ap (λ (l : List Note). (transition m event).1 ∷ l) (notes_append events more (transition m event).0)
 
--- the records are legal, where the journal has at most a million commands
-pub legal_records : (m : MachineState) (aux : Auxiliary) → IsLawful IsAccepted m aux → length m.ledger.journal ≤ 1000000 → HasLegalRecords m aux
-legal_records m aux l bound =
-    let w = m.writer in
-    let o = l.state.writer in
-    let begins = ap (length {A = Command}) o.begins.1 in
-    let extends = ap (length {A = Command}) l.extends.1 in
-    let last : Contains aux.cuts (length w.published) = subst (λ (cuts : List ℕ). Contains cuts (length w.published)) (sym o.last_cut.1) (Contains-push o.last_cut.0 (length w.published)) in
-    record {
-      legal = (subst (IsAccepted m.ledger.opening) (take-length w.published) (o.cuts (length w.published) last).1, omega (arith, length-append w.published o.begins.0, length-append w.staged l.extends.0));
-      in_order = (o.ascending, λ k d h. (o.cuts _ (Contains-get_or aux.cuts k d h)).0);
-      readings = records_are IsAccepted m aux l;
-    }
-
 module _ (ledger : Ledger) (readers : ℕ) (accepted : IsAccepted ledger.opening ledger.journal) where
   -- from the start
   pub start_together : Together (sequential_start ledger) (machine_at_start ledger readers) (auxiliary_start ledger readers)
@@ -83,21 +71,24 @@ module _ (ledger : Ledger) (readers : ℕ) (accepted : IsAccepted ledger.opening
   pub run_answers : (events : List Event) → AllAnswer (sequential_start ledger) (machine_at_start ledger readers) events
   run_answers events = all_answer events (sequential_start ledger) (machine_at_start ledger readers) (auxiliary_start ledger readers) start_together
 
-  pub run_apart : (events : List Event) → NoneUnder (state_after_events (machine_at_start ledger readers) events)
-  run_apart events = none_under IsAccepted (state_after_events (machine_at_start ledger readers) events) (auxiliary_steps (machine_at_start ledger readers) (auxiliary_start ledger readers) events) (run_lawful events)
-
-  pub run_records : (events : List Event) → length (state_after_events (machine_at_start ledger readers) events).ledger.journal ≤ 1000000
-      → HasLegalRecords (state_after_events (machine_at_start ledger readers) events) (auxiliary_steps (machine_at_start ledger readers) (auxiliary_start ledger readers) events)
-  run_records events bound = legal_records (state_after_events (machine_at_start ledger readers) events) (auxiliary_steps (machine_at_start ledger readers) (auxiliary_start ledger readers) events) (run_lawful events) bound
+  pub run_apart : (events : List Event) → let m = machine_after ledger readers events in IsApart m.writer m.readers
+  run_apart events =
+      let m = machine_after ledger readers events in
+      let aux = auxiliary_after ledger readers events in
+      subst (IsApart m.writer) (stages_viewed m.readers aux.records) (stores_apart m.ledger.opening (IsAccepted m.ledger.opening) (state_of m aux) (run_lawful events).state)
 
 -- of a register's ledger the journal stays short enough
-pub ledger_records : (ledger : Ledger) (readers : ℕ) → IsLedger ledger → (events : List Event)
-    → HasLegalRecords (state_after_events (machine_at_start ledger readers) events) (auxiliary_steps (machine_at_start ledger readers) (auxiliary_start ledger readers) events)
+pub ledger_records : RecordsLaw
 ledger_records ledger readers k events =
-    let w = always_within events (machine_at_start ledger readers) (k.within, k.small) in
-    let short = w.0 in
-    let small = w.1 in
-    run_records ledger readers k.legal.0 events (omega arith)
+    let m = machine_after ledger readers events in
+    let aux = auxiliary_after ledger readers events in
+    let l = run_lawful ledger readers k.legal.0 events in
+    let within = always_within events (machine_at_start ledger readers) (k.within, k.small) in
+    let begins = l.state.writer.begins in
+    let short : length m.writer.published ≤ 1000000 =
+    omega (arith, within.0, within.1, ap (length {A = Command}) begins.1, ap (length {A = Command}) l.extends.1, length-append m.writer.published begins.0, length-append m.writer.staged l.extends.0) in
+    subst (AreLegalRecords m.ledger.opening m.writer.published aux.cuts) (records_viewed m.readers aux.records l.each_record)
+    (all_records m.ledger.opening (IsAccepted m.ledger.opening) (state_of m aux) l.state (published_legal m.ledger.opening (IsAccepted m.ledger.opening) (state_of m aux) l.state, short))
 
 one_more : (events : List Event) (k : ℕ) (event : Event) → k < length events → event ≡ get_or events k event → take (k + 1) events ≡ take k events ++ event ∷ []
 one_more events k event h at =

@@ -1,5 +1,5 @@
 -- A reader at rest reads nothing older than what is published by then.
-use Rattle.std.proofs.Common.{◌≡◌, ◌≢◌, ⊎_elim, ℕ, zero, suc, eqb, ◌≤◌, Bool, true, false, cond, List, [], ◌∷◌, ◌++◌, length, get_or, take, set, Option, None, Some, slice_get, refl, sym, ap, ◌∙◌, subst, arith, length-append, length-take, le_trans, le_refl, eq-eqb, ne_eqb}
+use Rattle.std.proofs.Common.{◌≡◌, ◌≢◌, ⊎_elim, ℕ, zero, suc, eqb, ◌≤◌, Bool, true, false, cond, List, [], ◌∷◌, ◌++◌, length, get_or, take, Option, None, Some, slice_get, refl, sym, ap, ◌∙◌, subst, arith, length-append, length-take, le_trans, le_refl, eq-eqb, ne_eqb}
 use Rattle.std.proofs.lemmas.Option.{same_Some}
 use Rattle.council_core.specs.declared.commands.Command.{Command}
 use Rattle.council_core.specs.Rolls.{sheet}
@@ -10,23 +10,19 @@ use Rattle.council_core.specs.Sequential as sequential
 use Rattle.two_copy_steps.specs.declared.events.Event.{Event}
 use Rattle.two_copy_steps.specs.declared.events.Event.TheVariants.{Submit, Publish, Writer, Reader}
 use Rattle.two_copy_steps.specs.declared.events.Note.TheVariants.{Read, Skipped}
-use Rattle.two_copy_steps.specs.declared.views.Writing.{Writing}
 use Rattle.two_copy_steps.specs.declared.views.Stage.{Stage}
 use Rattle.two_copy_steps.specs.declared.views.Stage.TheVariants.{AtRest, Arrived, Reading, Leaving}
 use Rattle.two_copy_steps.specs.declared.views.Phase.{Phase}
 use Rattle.two_copy_steps.specs.declared.views.Phase.TheVariants.{Idle, Seeing, Filling, Swapping}
 use Rattle.two_copy_steps.specs.declared.table.TheConstants.{COPY_WORDS}
-use Rattle.two_copy_steps.specs.Actions.{stage_action, phase_action, writing_with_quiescent, first_false}
+use Rattle.two_copy_steps.specs.Actions.{stage_action, phase_action, first_false}
 use Rattle.two_copy_steps.specs.Transitions.{MachineState, transition, machine_and_note, published_by, is_pending, is_idle, reader_transition, machine_at_start, state_after_events}
 use Rattle.two_copy_steps.specs.Auxiliary.{Auxiliary, auxiliary_start, auxiliary_step, auxiliary_steps, IsLawful}
 use Rattle.two_copy_steps.specs.Effects.{SequentialRun, sequential_start, replied_at, replied_to, sequential_step}
 use Rattle.two_copy_steps.proofs.Lists.{at_set}
 use Rattle.two_copy_steps.proofs.Journals.{IsAccepted}
 use Rattle.two_copy_steps.proofs.EventLists.{Together, together_on, together_after, start_together, after_append}
-
-looked_published : (w : Writing) (r : ℕ) (b : Bool) → (cond b (writing_with_quiescent w (set w.seen_out r true)) (record w { phase = Idle })).published ≡ w.published
-looked_published w r true = refl
-looked_published w r false = refl
+use Rattle.two_copy_steps.proofs.TransitionSteps.{looked_taken}
 
 -- what is published never gets shorter
 published_grows : (m : MachineState) (aux : Auxiliary) → IsLawful IsAccepted m aux → (event : Event) → length m.writer.published ≤ length (transition m event).0.writer.published
@@ -43,7 +39,7 @@ published_grows m aux l Writer = by_phase m.writer.phase
     by_phase Idle = omega arith
     by_phase Seeing =
         let r : ℕ = first_false m.writer.seen_out in
-        let same = ap (length {A = Command}) (looked_published m.writer r (eqb (get_or m.words (phase_action (sheet m.ledger.opening) m.writer Seeing).word 0) 0)) in
+        let same = ap (length {A = Command}) (looked_taken m.writer r (eqb (get_or m.words (phase_action (sheet m.ledger.opening) m.writer Seeing).word 0) 0)).0 in
         omega arith
     by_phase (Filling k) = omega arith
     by_phase Swapping = let b = l.state.writer.begins in let longer = ap (length {A = Command}) b.1 in omega (arith, length-append m.writer.published b.0)

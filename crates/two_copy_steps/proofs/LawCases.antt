@@ -2,6 +2,7 @@
 -- that the definitions exclude.
 use Rattle.std.proofs.Common.{◌≡◌, ◌≤◌, ℕ, ◌++◌, replicate, true, false, List, [], ◌∷◌, slice_get, ⊎_elim, Some, Ok, refl, sym, arith, true≢false, suc, take}
 use Rattle.council_core.specs.Ledgers.{IsLedger, verdict_of}
+use Rattle.council_core.specs.Sequential.{AreLegalRecords}
 use Rattle.council_core.specs.Sheets.{front_of}
 use Rattle.council_core.specs.declared.commands.Command.TheVariants.{Open, Close, SetVotes}
 use Rattle.council_core.specs.declared.refusals.Refusal.TheVariants.{BadLimit, OutOfMemory}
@@ -11,7 +12,7 @@ use Rattle.two_copy_steps.specs.declared.views.Stage.TheVariants.{AtRest, Arrive
 use Rattle.two_copy_steps.specs.declared.views.Phase.TheVariants.{Filling}
 use Rattle.two_copy_steps.specs.Lawful.{IsPublishable}
 use Rattle.two_copy_steps.specs.Laws.{AtOnceLaw, BusyLaw, StepCountLaw, FreshLaw, GrowthLaw, NeverOlderLaw, RangeLaw, RecordsLaw, RepliesLaw, StayLaw, UnderLaw}
-use Rattle.two_copy_steps.specs.Auxiliary.{Auxiliary, HasLegalRecords, IsLawful, NoneUnder}
+use Rattle.two_copy_steps.specs.Auxiliary.{Auxiliary, IsApart, IsLawful}
 use Rattle.two_copy_steps.specs.Actions.{reader_action, stage_action}
 use Rattle.two_copy_steps.specs.Records.{FrontsNeverFall}
 use Rattle.two_copy_steps.specs.Stages.{steps_taken}
@@ -73,10 +74,10 @@ three_votes_stay_in_range : RangeLaw → IsPublishable one_member.opening (SetVo
 three_votes_stay_in_range law = (law (machine_at_start one_member 1) ledger votes_in_range (Submit (SetVotes code 3)) hands_three_votes).1
 
 -- over the events in which a reader holds up a publication
-records_while_held_up : RecordsLaw → HasLegalRecords (machine_after one_member 1 blocking) (auxiliary_after one_member 1 blocking)
+records_while_held_up : RecordsLaw → let m = machine_after one_member 1 blocking in let a = auxiliary_after one_member 1 blocking in AreLegalRecords m.ledger.opening m.writer.published a.cuts a.records
 records_while_held_up law = law one_member 1 ledger blocking
 
-apart_while_held_up : UnderLaw → NoneUnder (machine_after one_member 1 blocking)
+apart_while_held_up : UnderLaw → let m = machine_after one_member 1 blocking in IsApart m.writer m.readers
 apart_while_held_up law = law one_member 1 ledger blocking
 
 replies_while_held_up : RepliesLaw → ReportsReplies one_member 1 blocking

@@ -1,5 +1,5 @@
 -- The reader that blocks a publication, and the readers that stay quiescent.
-use Rattle.std.proofs.Common.{◌≡◌, ◌≢◌, ℕ, zero, suc, eqb, ◌<◌, Bool, true, false, cond, List, [], ◌∷◌, get_or, set, Option, None, Some, slice_get, Result, Ok, Err, refl, sym, ap, ◌∙◌, subst, arith, eq-eqb}
+use Rattle.std.proofs.Common.{◌≡◌, ◌≢◌, ℕ, zero, suc, eqb, ◌<◌, Bool, true, false, cond, List, [], ◌∷◌, get_or, set, Option, None, Some, slice_get, Result, Ok, Err, refl, sym, ap, ◌∙◌, subst, arith, eq-eqb, true≢false}
 use Rattle.std.specs.Prelude.{⊤}
 use Rattle.std.proofs.lemmas.Option.{none-some, same_Some}
 use mathlib.Core.Logic.{dite}
@@ -47,9 +47,6 @@ blocking (Published front) = None
 blocking (Read number words) = None
 blocking Skipped = None
 
-false_not_true : false ≡ true → ⊥
-false_not_true h = cc
-
 -- a pin that isn't 0 is 1
 pinned_one : (stage : Stage) (found : ℕ) → found ≡ pin_of stage → found ≢ 0 → found ≡ 1
 pinned_one AtRest found e ne = absurd (ne e)
@@ -83,12 +80,12 @@ module _ (m : MachineState) (aux : Auxiliary) (l : IsLawful IsPublishable m aux)
         first_false w.seen_out,
         sym (same_Some (suc (first_false w.seen_out)) number e),
         first_is_least w.seen_out some,
-        pin_is_one is (λ z. false_not_true (sym at ∙ eq-eqb (get_or m.words (pin (first_false w.seen_out)) 0) 0 z)),
+        pin_is_one is (λ z. true≢false (sym (eq-eqb (get_or m.words (pin (first_false w.seen_out)) 0) 0 z) ∙ at)),
         refl,
       )
 
-  by_phase : (number : ℕ) (phase : Phase) → w.phase ≡ phase → blocking (phase_note m phase) ≡ Some number
-      → InTheWay number ((phase_action (sheet m.ledger.opening) w phase).after (get_or m.words (phase_action (sheet m.ledger.opening) w phase).word 0))
+  by_phase : (number : ℕ) (phase : Phase) → w.phase ≡ phase → let found : ℕ = get_or m.words (phase_action (sheet m.ledger.opening) w phase).word 0 in
+      blocking (phase_note w phase found) ≡ Some number → InTheWay number ((phase_action (sheet m.ledger.opening) w phase).after found)
   by_phase number Idle is e = absurd (none-some number e)
   by_phase number Seeing is e = looked number (eqb (get_or m.words (pin (first_false w.seen_out)) 0) 0) is refl e
   by_phase number (Filling k) is e = absurd (none-some number e)
@@ -122,13 +119,13 @@ module _ (m : MachineState) (aux : Auxiliary) (l : IsLawful IsPublishable m aux)
   busy_is (Reader (suc r)) number e = absurd (not_reader number r (slice_get m.readers r) (ap blocking e))
 
 -- quiescent readers stay quiescent
-set_stays : (out : List Bool) (r q : ℕ) → slice_get out q ≡ Some true → slice_get (set out r true) q ≡ Some true
+pub set_stays : (out : List Bool) (r : ℕ) → StaySeen out (set out r true)
 set_stays out r q e =
     dite (ℕ_discrete q r) (λ (s : q ≡ r). ap (slice_get (set out r true)) s ∙ set_here out r true (inside out r true (ap (slice_get out) (sym s) ∙ e))) (λ ne. set_else out r q true ne ∙ e)
 
 module _ (m : MachineState) where
   looked_stays : (b : Bool) → StaySeen m.writer.seen_out (cond b (writing_with_quiescent m.writer (set m.writer.seen_out (first_false m.writer.seen_out) true)) (record m.writer { phase = Idle })).seen_out
-  looked_stays true = λ q e. set_stays m.writer.seen_out (first_false m.writer.seen_out) q e
+  looked_stays true = set_stays m.writer.seen_out (first_false m.writer.seen_out)
   looked_stays false = λ q e. e
 
   phase_stays : (phase : Phase) → stores_side Writer phase ≡ false
@@ -173,8 +170,8 @@ module _ (m : MachineState) where
   begun_phase : all_true m.writer.seen_out ≡ true → (idle pending : Bool) → is_beginning (cond idle (published_by m pending) (m, Skipped)).1 ≡ true
       → (cond idle (published_by m pending) (m, Skipped)).0.writer.phase ≡ Filling 0
   begun_phase all true true e = ap (λ (b : Bool). cond b (Filling 0) Seeing) all
-  begun_phase all true false e = absurd (false_not_true e)
-  begun_phase all false pending e = absurd (false_not_true e)
+  begun_phase all true false e = absurd (true≢false (sym e))
+  begun_phase all false pending e = absurd (true≢false (sym e))
 
   pub at_once_is : all_true m.writer.seen_out ≡ true → (transition m Publish).1 ≡ Began → (transition m Publish).0.writer.phase ≡ Filling 0
   at_once_is all e = begun_phase all (is_idle m.writer.phase) (is_pending m) (ap is_beginning e)

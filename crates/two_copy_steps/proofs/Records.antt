@@ -1,11 +1,11 @@
 -- Legal records and cuts, with one more at the end.
-use Rattle.std.proofs.Common.{◌≡◌, ℕ, suc, ◌-◌, ◌≤◌, List, [], ◌∷◌, ◌++◌, length, take, get_or, Some, slice_get, Contains, refl, sym, ap, ◌∙◌, arith, length-take}
+use Rattle.std.proofs.Common.{◌≡◌, ℕ, ◌-◌, ◌≤◌, List, [], ◌∷◌, ◌++◌, length, take, get_or, Contains, refl, sym, ap, ◌∙◌, arith, length-take}
 use Rattle.std.proofs.lemmas.List.Elements.{Contains-get_or}
 use Rattle.std.proofs.lemmas.List.Sorted.{IsNonDecreasingBy-push}
 use Rattle.std.specs.List.Sorted.{IsNonDecreasing}
 use Rattle.council_core.specs.declared.commands.Command.{Command}
 use Rattle.council_core.specs.Rolls.{Opening, sheet}
-use Rattle.council_core.specs.Sequential.{IsCutSheet, IsRecordFrom, AreRecords}
+use Rattle.council_core.specs.Sequential.{IsCutSheet, IsRecordFrom}
 use Rattle.council_core.specs.Sheets.{front_of}
 use Rattle.two_copy_steps.specs.declared.table.TheConstants.{COPY_WORDS}
 use Rattle.two_copy_steps.specs.Lawful.{last_front}
@@ -53,13 +53,6 @@ module _ (opening : Opening) where
       let top = tops cut.0 cut.1 in
       let front : front_of x ≡ cut.0 = ap front_of cut.2 ∙ front_of_cut opening commands cut.0 top in
       record-below commands cuts (front_of x) xs high tops is (omega arith) legal.2
-
-  -- all records are legal where each is
-  pub records_from_each : (commands : List Command) (cuts : List ℕ) (records : List (List (List ℕ)))
-      → ((r : ℕ) (readings : List (List ℕ)) → slice_get records r ≡ Some readings → IsRecordFrom opening commands cuts 0 readings)
-      → AreRecords opening commands cuts records
-  records_from_each commands cuts [] each = tt
-  records_from_each commands cuts (x ∷ xs) each = (each 0 x refl, records_from_each commands cuts xs (λ r readings e. each (suc r) readings e))
 
 -- cuts with one more, not below any
 pub ascends-push : (cuts : List ℕ) (cut : ℕ) → IsNonDecreasing cuts → ((c : ℕ) → Contains cuts c → c ≤ cut) → IsNonDecreasing (cuts ++ cut ∷ [])

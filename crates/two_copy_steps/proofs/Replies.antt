@@ -1,5 +1,5 @@
 -- Each output that answers a call is the sequential register's reply.
-use Rattle.std.proofs.Common.{◌≡◌, ◌≢◌, ℕ, zero, suc, eqb, ◌+◌, ◌<◌, ◌≤◌, Bool, true, false, cond, List, [], ◌∷◌, ◌++◌, length, get_or, take, set, Option, None, Some, slice_get, Result, Ok, Err, refl, sym, ap, ◌∙◌, subst, ⊎_elim, arith, length-append, append_assoc, get_or-set_other, eq-eqb, ne_eqb, ltb-false}
+use Rattle.std.proofs.Common.{◌≡◌, ◌≢◌, ℕ, zero, suc, eqb, ◌+◌, ◌<◌, ◌≤◌, Bool, true, false, cond, List, [], ◌∷◌, ◌++◌, length, get_or, take, set, Option, None, Some, slice_get, Result, Ok, Err, refl, sym, ap, ◌∙◌, subst, ⊎_elim, arith, length-append, append_assoc, get_or-set_other, eq-eqb, ne_eqb, ltb-false, true≢false}
 use Rattle.std.specs.Prelude.{⊤}
 use Rattle.std.proofs.lemmas.List.{ext_get_or, set-get_or}
 use Rattle.std.proofs.Math.Seq.{take-append_seam}
@@ -9,7 +9,8 @@ use Rattle.council_core.specs.declared.commands.Command.{Command}
 use Rattle.council_core.specs.declared.refusals.Refusal.{Refusal}
 use Rattle.council_core.specs.Rolls.{Opening, sheet}
 use Rattle.council_core.specs.Ledgers.{verdict_of}
-use Rattle.council_core.specs.Sequential.{Sequential, Call, submit, publish, Reply, accepted, refused, published, reading, response_to, replies_of, state_after}
+use Rattle.council_core.specs.declared.calls.Answer.TheVariants as answer
+use Rattle.council_core.specs.Sequential.{Sequential, Call, submit, publish, Reply, answered, reading, response_to, replies_of, state_after}
 use Rattle.council_core.specs.Sequential as sequential
 use Rattle.two_copy_steps.specs.declared.events.Event.{Event}
 use Rattle.two_copy_steps.specs.declared.events.Event.TheVariants.{Submit, Publish, Writer, Reader}
@@ -30,7 +31,7 @@ use Rattle.two_copy_steps.proofs.Lists.{at_set}
 use Rattle.two_copy_steps.proofs.Records.{sheet_long}
 use Rattle.two_copy_steps.proofs.ReaderSteps.{Alike, same, pin_set, place_low, read_more}
 use Rattle.two_copy_steps.proofs.WriterSteps.{place_above, place_apart, all_at}
-use Rattle.two_copy_steps.proofs.TransitionSteps.{view_at, viewed_at}
+use Rattle.two_copy_steps.proofs.TransitionSteps.{view_at, viewed_at, looked_taken}
 
 -- the sequential register that goes with a machine
 abbrev pub sequential_of : MachineState → Sequential
@@ -171,18 +172,11 @@ module _ (Legal : Opening → List Command → Type 0) where
       let ok = l.state.each_reader r (view_at stage (record_at aux.records r)) (viewed_at m.readers aux.records r stage at) in
       held_on m aux vs u (replied (suc r)) (record_at aux.records r) r stage ok.stands (all r stage at)
 
-  abbrev wrote : MachineState → Phase → MachineState
-  wrote m phase =
+  abbrev WriteGoes : MachineState → Bool → (ℕ → Option Reply) → Phase → Type 0
+  WriteGoes m b replied phase =
       let d = phase_action (sheet m.ledger.opening) m.writer phase in
       let found = get_or m.words d.word 0 in
-      record m { words = set m.words d.word (d.becomes found); writer = d.after found }
-
-  abbrev WriteGoes : MachineState → Bool → (ℕ → Option Reply) → Phase → Type 0
-  WriteGoes m b replied phase = Goes m b (phase_effect phase) (phase_note m phase) (wrote m phase) replied replied × SwapsOnce b Writer phase
-
-  looked_published : (w : Writing) (r : ℕ) (b : Bool) → (cond b (writing_with_quiescent w (set w.seen_out r true)) (record w { phase = Idle })).published ≡ w.published
-  looked_published w r true = refl
-  looked_published w r false = refl
+      Goes m b (phase_effect phase) (phase_note m.writer phase found) (record m { words = set m.words d.word (d.becomes found); writer = d.after found }) replied replied × SwapsOnce b Writer phase
 
   -- where a pin is found at 0 the publication goes on, else it is given up
   looked_begun : (w : Writing) (number : ℕ) (b z : Bool) → b ≡ true
@@ -193,9 +187,6 @@ module _ (Legal : Opening → List Command → Type 0) where
   looked_reports : (replied : ℕ → Option Reply) (number : ℕ) (z : Bool) → OutputIsReply [] replied (cond z Moved (Busy number))
   looked_reports replied number true = tt
   looked_reports replied number false = refl
-
-  true_not_false : true ≡ false → ⊥
-  true_not_false e = cc
 
   write_goes : (m : MachineState) (aux : Auxiliary) → IsLawful Legal m aux → (b : Bool) (replied : ℕ → Option Reply) → Agrees (sequential_run m replied b) m
       → (phase : Phase) → m.writer.phase ≡ phase → WriteGoes m b replied phase
@@ -216,7 +207,7 @@ module _ (Legal : Opening → List Command → Type 0) where
       let k : ℕ = get_or m.words (pin r) 0 in (
         (
           record {
-            register = ap (λ (z : List Command). let s : Sequential = record { ledger = m.ledger; published = length z } in s) (sym (looked_published w r (eqb k 0)));
+            register = ap (λ (z : List Command). let s : Sequential = record { ledger = m.ledger; published = length z } in s) (sym (looked_taken w r (eqb k 0)).0);
             held = subst (λ (vs : List ℕ). AllHeld vs replied m.readers) (sym (set-get_or m.words (pin r) 0)) a.held;
             begun = looked_begun w r b (eqb k 0) (a.begun (ap is_idle is));
           },
@@ -254,9 +245,9 @@ module _ (Legal : Opening → List Command → Type 0) where
             held = all_held_on m aux l (set m.words 0 (other_side w.side))
                 (λ r s readings holds i lt. get_or-set_other m.words 0 (place s i) (other_side w.side) 0 (λ z. let g = place_above s i in omega arith))
                 replied a.held;
-            begun = λ e. absurd (true_not_false e);
+            begun = λ e. absurd (true≢false e);
           },
-          ap (λ (z : ℕ). published z ∷ []) long,
+          ap (λ (z : ℕ). answered (answer.Published z) ∷ []) long,
         ),
         a.begun (ap is_idle is),
       )
@@ -282,9 +273,9 @@ module _ (Legal : Opening → List Command → Type 0) where
         record {
           register = ap (λ (z : ℕ). let s : Sequential = record { ledger = m.ledger; published = z } in s) long;
           held = a.held;
-          begun = λ e. absurd (true_not_false (sym is ∙ e));
+          begun = λ e. absurd (true≢false (sym is ∙ e));
         },
-        ap (λ (z : ℕ). published z ∷ []) long,
+        ap (λ (z : ℕ). answered (answer.Published z) ∷ []) long,
       )
 
   abbrev SubmitGoes : MachineState → Bool → (ℕ → Option Reply) → Command → Bool → Type 0

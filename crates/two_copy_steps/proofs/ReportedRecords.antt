@@ -15,6 +15,7 @@ use Rattle.two_copy_steps.specs.declared.events.Event.{Event}
 use Rattle.two_copy_steps.specs.declared.events.Event.TheVariants.{Submit, Publish, Writer, Reader}
 use Rattle.two_copy_steps.specs.declared.events.Note.{Note}
 use Rattle.two_copy_steps.specs.declared.events.Note.TheVariants.{Moved, Busy, Read, Skipped}
+use Rattle.two_copy_steps.specs.declared.views.Writing.{Writing}
 use Rattle.two_copy_steps.specs.declared.views.Stage.{Stage}
 use Rattle.two_copy_steps.specs.declared.views.Stage.TheVariants.{AtRest, Arrived, Reading, Leaving}
 use Rattle.two_copy_steps.specs.declared.views.Phase.{Phase}
@@ -23,7 +24,7 @@ use Rattle.two_copy_steps.specs.declared.table.TheConstants.{COPY_WORDS}
 use Rattle.two_copy_steps.specs.Actions.{readings_after, readings_with, stage_action}
 use Rattle.two_copy_steps.specs.Stages.{about_to_leave}
 use Rattle.two_copy_steps.specs.Transitions.{MachineState, transition, machine_and_note, published_by, is_pending, is_idle, phase_note, reader_transition, stage_note, machine_at_start, state_after_events, notes}
-use Rattle.two_copy_steps.specs.Auxiliary.{Auxiliary, auxiliary_start, auxiliary_step, auxiliary_steps, auxiliary_reader_step, record_at, HasLegalRecords}
+use Rattle.two_copy_steps.specs.Auxiliary.{Auxiliary, auxiliary_start, auxiliary_step, auxiliary_steps, auxiliary_reader_step, record_at}
 use Rattle.two_copy_steps.specs.Records.{reported_of, sheets_reported, RecordsAreReported, FrontsNeverFall}
 use Rattle.two_copy_steps.proofs.Lists.{at_set, inside, there}
 
@@ -79,15 +80,15 @@ after_publish : (m : MachineState) (aux : Auxiliary) (reported : ℕ → List (L
 after_publish m aux reported h true = silent m aux reported h
 after_publish m aux reported h false = silent m aux reported h
 
-quiet_look : (m : MachineState) (number k : ℕ) (b : Bool) → reported_of number (cond b Moved (Busy k)) ≡ []
-quiet_look m number k true = refl
-quiet_look m number k false = refl
+quiet_look : (number k : ℕ) (b : Bool) → reported_of number (cond b Moved (Busy k)) ≡ []
+quiet_look number k true = refl
+quiet_look number k false = refl
 
-quiet_writer : (m : MachineState) (number : ℕ) (phase : Phase) → reported_of number (phase_note m phase) ≡ []
-quiet_writer m number Idle = refl
-quiet_writer m number Seeing = quiet_look m number _ _
-quiet_writer m number (Filling k) = refl
-quiet_writer m number Swapping = refl
+quiet_writer : (w : Writing) (number found : ℕ) (phase : Phase) → reported_of number (phase_note w phase found) ≡ []
+quiet_writer w number found Idle = refl
+quiet_writer w number found Seeing = quiet_look number _ _
+quiet_writer w number found (Filling k) = refl
+quiet_writer w number found Swapping = refl
 
 after_read : (m : MachineState) (aux : Auxiliary) (reported : ℕ → List (List ℕ)) → Reports m aux reported → length aux.records ≡ length m.readers → (r : ℕ) (o : Option Stage) → slice_get m.readers r ≡ o
     → let t = reader_transition m r o in After t.0 (auxiliary_reader_step m aux r o) reported t.1
@@ -115,7 +116,7 @@ after_event m aux reported h long (Submit command) =
 after_event m aux reported h long Publish =
     elim (is_idle m.writer.phase) as (λ b. let t = cond b (published_by m (is_pending m)) (m, Skipped) in After t.0 aux reported t.1) [ true ↦ after_publish m aux reported h (is_pending m) | false ↦ silent m aux reported h ]
 after_event m aux reported h long Writer = λ r stage at.
-    silent m aux reported h r stage at ∙ ap (λ (l : List (List ℕ)). (reported r ++ l) ++ about_to_leave stage) (sym (quiet_writer m (suc r) m.writer.phase))
+    silent m aux reported h r stage at ∙ ap (λ (l : List (List ℕ)). (reported r ++ l) ++ about_to_leave stage) (sym (quiet_writer m.writer (suc r) _ m.writer.phase))
 after_event m aux reported h long (Reader zero) = silent m aux reported h
 after_event m aux reported h long (Reader (suc r)) = after_read m aux reported h long r (slice_get m.readers r) refl
 
@@ -181,7 +182,7 @@ absent_after m number h Publish =
       | true ↦ elim (is_pending m) as (λ c. let t = published_by m c in IsAbsent t.0 number × (reported_of number t.1 ≡ [])) [ true ↦ (h, refl) | false ↦ (h, refl) ]
       | false ↦ (h, refl)
     ]
-absent_after m number h Writer = (h, quiet_writer m number m.writer.phase)
+absent_after m number h Writer = (h, quiet_writer m.writer number _ m.writer.phase)
 absent_after m number h (Reader zero) = (h, refl)
 absent_after m number h (Reader (suc r)) = by_stage (slice_get m.readers r) refl
   where
@@ -276,6 +277,6 @@ module _ (ledger : Ledger) (readers : ℕ) (events : List Event) where
   never_older_of legal r None at =
       subst (IsNonDecreasingBy front_of) (sym (absent_all events (machine_at_start ledger readers) (suc r) (λ q e. ap (slice_get (machine_at_start ledger readers).readers) (let same : q ≡ r = omega arith in same) ∙ at))) nothing_falls
 
-  pub run_never_older : HasLegalRecords (state_after_events (machine_at_start ledger readers) events) (auxiliary_steps (machine_at_start ledger readers) (auxiliary_start ledger readers) events) → FrontsNeverFall (notes (machine_at_start ledger readers) events)
+  pub run_never_older : AreRecords m.ledger.opening m.writer.published aux.cuts aux.records → FrontsNeverFall (notes (machine_at_start ledger readers) events)
   run_never_older legal zero = subst (IsNonDecreasingBy front_of) (sym (absent_all events (machine_at_start ledger readers) zero (λ r e. absurd (omega arith)))) nothing_falls
-  run_never_older legal (suc r) = never_older_of legal.readings r (slice_get (machine_at_start ledger readers).readers r) refl
+  run_never_older legal (suc r) = never_older_of legal r (slice_get (machine_at_start ledger readers).readers r) refl

@@ -1,8 +1,10 @@
 -- Consequences of the invariant, for every state.
-use Rattle.std.proofs.Common.{◌≡◌, ℕ, zero, suc, List, [], ◌∷◌, length, map, Some, slice_get, Contains, refl, sym, ◌∙◌, subst, arith}
+use Rattle.std.proofs.Common.{◌≡◌, ℕ, zero, suc, List, [], ◌∷◌, length, map, Option, None, Some, slice_get, Contains, refl, sym, ap, ◌∙◌, subst, arith}
+use Rattle.std.specs.Option.{option_map}
 use Rattle.std.proofs.lemmas.List.Elements.{Contains-get_or, Contains-push}
-use Rattle.std.proofs.lemmas.Option.{none-some, same_Some}
+use Rattle.std.proofs.lemmas.Option.{none-some, same_Some, slice_get-map}
 use Rattle.std.proofs.Math.Seq.{take-length}
+use Rattle.council_core.specs.declared.commands.Command.{Command}
 use Rattle.council_core.specs.Rolls.{Opening, IsLegal}
 use Rattle.council_core.specs.Sequential.{IsRecordFrom, AreRecords, AreLegalRecords}
 use Rattle.council_core.specs.Sheets.{IsSheet}
@@ -12,25 +14,32 @@ use Rattle.two_copy_steps.specs.declared.views.Stage.TheVariants.{AtRest, Arrive
 use Rattle.two_copy_steps.specs.declared.views.Phase.{Phase}
 use Rattle.two_copy_steps.specs.declared.views.Phase.TheVariants.{Idle, Seeing, Filling, Swapping}
 use Rattle.two_copy_steps.specs.Actions.{other_side}
-use Rattle.two_copy_steps.specs.Lawful.{State, IsPublishable, HoldsCopy, Stands}
-use Rattle.two_copy_steps.specs.Auxiliary.{side_held, side_filled}
+use Rattle.two_copy_steps.specs.Lawful.{State, Lawful, IsPublishable, HoldsCopy, Stands}
+use Rattle.two_copy_steps.specs.Auxiliary.{IsApart, side_held, side_filled}
+use Rattle.two_copy_steps.specs.Laws.{StateRecordsLaw, StateUnderLaw}
 use Rattle.two_copy_steps.specs.Stages.{IsReadable}
-use Rattle.two_copy_steps.specs.States.{LawfulFor, readings_of, EndsWith, IsKnown, HasRecords, IsApart}
+use Rattle.two_copy_steps.specs.States.{EndsWith, IsKnown}
 use Rattle.two_copy_steps.proofs.ReaderSteps.{reader, leaving_reads}
 use Rattle.two_copy_steps.proofs.WriterSteps.{no_reader_there}
 
-module _ (opening : Opening) (s : State) (l : LawfulFor opening s) where
-  legal : IsLegal opening s.writer.state.published
-  legal =
+-- the view of a reader of this stage
+viewer : (stage : Stage) (o : Option ReaderView) → option_map (λ (v : ReaderView). v.stage) o ≡ Some stage → (v : ReaderView) × (o ≡ Some v) × (v.stage ≡ stage)
+viewer stage None e = absurd (none-some stage e)
+viewer stage (Some v) e = (v, refl, same_Some v.stage stage e)
+
+module _ (opening : Opening) (Legal : List Command → Type 0) (s : State) (l : Lawful opening Legal s) where
+  -- the published list meets the requirement
+  pub published_legal : Legal s.writer.state.published
+  published_legal =
       let w = s.writer.state in
       let o = l.writer in
       let last : Contains s.writer.cuts (length w.published) = subst (λ (cuts : List ℕ). Contains cuts (length w.published)) (sym o.last_cut.1) (Contains-push o.last_cut.0 (length w.published)) in
-      (subst (IsPublishable opening) (take-length w.published) (o.cuts (length w.published) last).1).0
+      subst Legal (take-length w.published) (o.cuts (length w.published) last).1
 
   -- the list published, its cuts and some records
-  with_records : (records : List (List (List ℕ))) → AreRecords opening s.writer.state.published s.writer.cuts records
+  pub with_records : IsLegal opening s.writer.state.published → (records : List (List (List ℕ))) → AreRecords opening s.writer.state.published s.writer.cuts records
       → AreLegalRecords opening s.writer.state.published s.writer.cuts records
-  with_records records each =
+  with_records legal records each =
       let o = l.writer in
       record {
         legal = legal;
@@ -39,20 +48,20 @@ module _ (opening : Opening) (s : State) (l : LawfulFor opening s) where
       }
 
   from_each : (vs : List ReaderView) → ((r : ℕ) (v : ReaderView) → slice_get vs r ≡ Some v → IsRecordFrom opening s.writer.state.published s.writer.cuts 0 v.readings)
-      → AreRecords opening s.writer.state.published s.writer.cuts (map readings_of vs)
+      → AreRecords opening s.writer.state.published s.writer.cuts (map (λ (v : ReaderView). v.readings) vs)
   from_each [] each = tt
   from_each (v ∷ vs) each = (each 0 v refl, from_each vs (λ r u e. each (suc r) u e))
 
   -- the records are legal
-  pub state_records : HasRecords opening s
-  state_records = with_records (map readings_of s.readers) (from_each s.readers (λ r v e. (l.each_reader r v e).record_legal))
+  pub all_records : IsLegal opening s.writer.state.published → AreLegalRecords opening s.writer.state.published s.writer.cuts (map (λ (v : ReaderView). v.readings) s.readers)
+  all_records legal = with_records legal _ (from_each s.readers (λ r v e. (l.each_reader r v e).record_legal))
 
-  holds_held : (r side : ℕ) (readings : List (List ℕ)) (stage : Stage) → Stands opening (IsPublishable opening) s.words s.writer readings r stage → side_held stage ≡ Some side
-      → HoldsCopy opening (IsPublishable opening) s.words s.writer readings r side
+  holds_held : (r side : ℕ) (readings : List (List ℕ)) (stage : Stage) → Stands opening Legal s.words s.writer readings r stage → side_held stage ≡ Some side
+      → HoldsCopy opening Legal s.words s.writer readings r side
   holds_held r side readings AtRest h e = absurd (none-some side e)
   holds_held r side readings Arrived h e = absurd (none-some side e)
-  holds_held r side readings (Reading t words) h e = subst (HoldsCopy opening (IsPublishable opening) s.words s.writer readings r) (same_Some t side e) h.0
-  holds_held r side readings (Leaving t words) h e = subst (HoldsCopy opening (IsPublishable opening) s.words s.writer readings r) (same_Some t side e) h.0
+  holds_held r side readings (Reading t words) h e = subst (HoldsCopy opening Legal s.words s.writer readings r) (same_Some t side e) h.0
+  holds_held r side readings (Leaving t words) h e = subst (HoldsCopy opening Legal s.words s.writer readings r) (same_Some t side e) h.0
 
   not_other : (side : ℕ) → side ≡ other_side side → ⊥
   not_other zero e = omega arith
@@ -63,13 +72,22 @@ module _ (opening : Opening) (s : State) (l : LawfulFor opening s) where
   apart_at Seeing is side r v e at held = none-some side e
   apart_at Swapping is side r v e at held = none-some side e
   apart_at (Filling k) is side r v e at held =
-      let same = no_reader_there opening (IsPublishable opening) s k l is r side v.readings (holds_held r side v.readings v.stage (l.each_reader r v at).stands held) in
+      let same = no_reader_there opening Legal s k l is r side v.readings (holds_held r side v.readings v.stage (l.each_reader r v at).stands held) in
       not_other s.writer.state.side (sym same ∙ sym (same_Some (other_side s.writer.state.side) side e))
 
   -- no word is stored under a reader
-  pub state_apart : IsApart s
-  state_apart side r v e at held = apart_at s.writer.state.phase refl side r v e at held
+  pub stores_apart : IsApart s.writer.state (map (λ (v : ReaderView). v.stage) s.readers)
+  stores_apart side r stage e at held =
+      let v = viewer stage (slice_get s.readers r) (sym (slice_get-map (λ (v : ReaderView). v.stage) s.readers r) ∙ at) in
+      apart_at s.writer.state.phase refl side r v.0 e v.1 (ap side_held v.2 ∙ held)
 
+pub state_records : StateRecordsLaw
+state_records opening s l = all_records opening (IsPublishable opening) s l (published_legal opening (IsPublishable opening) s l).0
+
+pub state_apart : StateUnderLaw
+state_apart opening s l = stores_apart opening (IsPublishable opening) s l
+
+module _ (opening : Opening) (s : State) (l : Lawful opening (IsPublishable opening) s) where
   readable : (r : ℕ) (stage : Stage) (readings : List (List ℕ)) → slice_get s.readers r ≡ Some (reader stage readings) → Stands opening (IsPublishable opening) s.words s.writer readings r stage → IsReadable stage
   readable r AtRest readings at h = tt
   readable r Arrived readings at h = tt
@@ -90,7 +108,7 @@ module _ (opening : Opening) (s : State) (l : LawfulFor opening s) where
       record {
         list = s.writer.state.published;
         cuts = s.writer.cuts;
-        records = with_records (v.readings ∷ []) (ok.record_legal, tt);
+        records = with_records opening (IsPublishable opening) s l (published_legal opening (IsPublishable opening) s l).0 (v.readings ∷ []) (ok.record_legal, tt);
         readable = readable r v.stage v.readings at ok.stands;
         ends = ends r v.stage v.readings ok.stands;
       }

@@ -1,7 +1,7 @@
 -- What the machine keeps, step by step.
-use Rattle.std.proofs.Common.{◌≡◌, ◌≢◌, ◌⊎◌, ⊎_elim, ℕ, zero, suc, eqb, ◌+◌, ◌-◌, ◌<◌, ◌≤◌, Bool, true, false, cond, List, [], ◌∷◌, ◌++◌, length, get_or, take, set, replicate, Option, Some, slice_get, Result, Ok, Err, IfOk, OnErr, refl, sym, ap, ◌∙◌, subst, arith, length-set, length-append, eq-eqb, ne_eqb, length-take}
+use Rattle.std.proofs.Common.{◌≡◌, ◌≢◌, ◌⊎◌, ⊎_elim, ℕ, zero, suc, eqb, ◌+◌, ◌-◌, ◌<◌, ◌≤◌, Bool, true, false, cond, List, [], ◌∷◌, ◌++◌, length, get_or, take, set, replicate, Option, Some, slice_get, Result, Ok, Err, IfOk, OnErr, refl, sym, ap, ◌∙◌, subst, arith, length-append, eq-eqb, ne_eqb, length-take}
 use Rattle.std.specs.Prelude.{⊤, nat_lt}
-use Rattle.std.proofs.lemmas.List.{set-get_or, take-append-le, length-replicate}
+use Rattle.std.proofs.lemmas.List.{set-get_or, take-append-le}
 use Rattle.std.proofs.lemmas.Bool.{lt-ltb}
 use Rattle.std.proofs.lemmas.Option.{slice_get-get_or, slice_get_past}
 use Rattle.std.proofs.Math.Seq.{take-length}
@@ -19,7 +19,7 @@ use Rattle.two_copy_steps.specs.declared.views.Stage.{Stage}
 use Rattle.two_copy_steps.specs.declared.views.Stage.TheVariants.{AtRest, Arrived, Reading, Leaving}
 use Rattle.two_copy_steps.specs.declared.views.Phase.{Phase}
 use Rattle.two_copy_steps.specs.declared.views.Phase.TheVariants.{Idle, Seeing, Filling, Swapping}
-use Rattle.two_copy_steps.specs.declared.table.TheConstants.{COPY_WORDS, READERS}
+use Rattle.two_copy_steps.specs.declared.table.TheConstants.{COPY_WORDS}
 use Rattle.two_copy_steps.specs.Actions.{all_true, first_false, place, writing_with_quiescent, stage_action, phase_action, pin}
 use Rattle.two_copy_steps.specs.Lawful.{IsPublishable, Stands, Fills}
 use Rattle.two_copy_steps.specs.Transitions.{MachineState, transition, ledger_and_note, machine_at_start, machine_and_note, published_by, is_pending, is_idle, reader_transition, stage_note}
@@ -89,15 +89,14 @@ module _ (L : Ledger) (W : List ℕ) (s n : ℕ) (t : List ℕ) (ph : Phase) (so
     pub wide_enough : pin (length R) ≤ length W
     wide_enough = let wide = k.lawful.1.state.wide in omega (arith, viewed_length R aux.records)
 
-    pub first_there : ph ≡ Seeing → (first_false so < length so) × (first_false so < READERS) × (pin (first_false so) < length W)
+    pub first_there : ph ≡ Seeing → (first_false so < length so) × (pin (first_false so) < length W)
     first_there e =
         let some : all_true so ≡ false = subst (Fills L.opening (IsPublishable L.opening) W old.writer) e k.lawful.1.state.writer.fills in
         let below = first_inside so some in
         let flags = k.lawful.1.state.writer.flags in
-        let bound = k.bound in
         let wide = wide_enough in
         let long = viewed_length R aux.records in
-        (below, omega arith, omega arith)
+        (below, omega arith)
 
     pub readable : (r : ℕ) (stage : Stage) → slice_get R r ≡ Some stage → IsReadable stage
     readable r stage at =
@@ -134,14 +133,13 @@ module _ (L : Ledger) (W : List ℕ) (s n : ℕ) (t : List ℕ) (ph : Phase) (so
         ap (λ (commands : List Command). let m : MachineState = record old { writer = record { side = s; published = take n L.journal; staged = commands; phase = cond (all_true so) (Filling 0) Seeing; seen_out = so } } in m) (take-length L.journal)
         ∙ (ap (λ (b : Bool). (published_by old b).0) (sym is) ∙ ap (λ (b : Bool). (cond b (published_by old (is_pending old)) (old, Skipped)).0) (sym idle))
 
-    -- the invariant after an event: of the machine then, with the same number of readers, and the
-    -- staged sheet is that of some commands of the journal
+    -- the invariant after an event: of the machine then, and the staged sheet is that of some commands
+    -- of the journal
     record KeptAfter (event : Event) (words : List ℕ) (side published : ℕ) (staged : List ℕ) (phase : Phase) (seen_out : List Bool) (readers : List Stage) : Type 0 where
       pub machine : seen_as L words side published staged phase seen_out readers ≡ (transition old event).0
       pub published_within : published ≤ length L.journal
       pub staged_within : front_of staged ≤ length L.journal
       pub sheet_is : staged ≡ sheet L.opening (take (front_of staged) L.journal)
-      pub as_many : length readers ≡ length R
       pub lawful : IsLawful IsPublishable (transition old event).0 (auxiliary_step old aux event)
 
     stays : (event : Event) (W' : List ℕ) (s' n' : ℕ) (t' : List ℕ) (ph' : Phase) (so' : List Bool) (R' : List Stage) → KeptAfter event W' s' n' t' ph' so' R' → IsMachine L W' s' n' t' ph' so' R'
@@ -150,7 +148,6 @@ module _ (L : Ledger) (W : List ℕ) (s n : ℕ) (t : List ℕ) (ph : Phase) (so
           published_within = h.published_within;
           staged_within = h.staged_within;
           sheet_is = h.sheet_is;
-          bound = subst (λ (x : ℕ). x ≤ READERS) (sym h.as_many) k.bound;
           lawful = (auxiliary_step old aux event, subst (λ (m : MachineState). IsLawful IsPublishable m (auxiliary_step old aux event)) (sym h.machine) h.lawful);
         }
 
@@ -162,18 +159,16 @@ module _ (L : Ledger) (W : List ℕ) (s n : ℕ) (t : List ℕ) (ph : Phase) (so
           published_within = within;
           staged_within = k.staged_within;
           sheet_is = k.sheet_is;
-          as_many = refl;
           lawful = written_keeps IsPublishable old aux k.lawful.1;
         }
 
-    reader_stays : (number : ℕ) (W' : List ℕ) (R' : List Stage) → seen_as L W' s n t ph so R' ≡ (transition old (Reader number)).0 → length R' ≡ length R → IsMachine L W' s n t ph so R'
-    reader_stays number W' R' is long =
+    reader_stays : (number : ℕ) (W' : List ℕ) (R' : List Stage) → seen_as L W' s n t ph so R' ≡ (transition old (Reader number)).0 → IsMachine L W' s n t ph so R'
+    reader_stays number W' R' is =
         stays (Reader number) W' s n t ph so R' record {
           machine = is;
           published_within = k.published_within;
           staged_within = k.staged_within;
           sheet_is = k.sheet_is;
-          as_many = long;
           lawful = step_keeps IsPublishable old aux k.lawful.1 number;
         }
 
@@ -185,7 +180,6 @@ module _ (L : Ledger) (W : List ℕ) (s n : ℕ) (t : List ℕ) (ph : Phase) (so
           published_within = k.published_within;
           staged_within = omega arith;
           sheet_is = e ∙ ap (sheet L.opening) (sym (take-length L.journal) ∙ ap (λ (x : ℕ). take x L.journal) (sym front));
-          as_many = refl;
           lawful = publish_keeps IsPublishable old aux k.lawful.1 legal;
         }
 
@@ -216,7 +210,6 @@ module _ (L : Ledger) (W : List ℕ) (s n : ℕ) (t : List ℕ) (ph : Phase) (so
           published_within = omega arith;
           staged_within = omega arith;
           sheet_is = k.sheet_is ∙ ap (sheet L.opening) (sym (take-append-le (front_of t) L.journal (command ∷ []) k.staged_within));
-          bound = k.bound;
           lawful = (aux, subst (λ (m : MachineState). IsLawful IsPublishable m aux) (sym (submitted_in (ledger_with L command) command refl)) (accepted_keeps IsPublishable old aux k.lawful.1 command idle));
         }
 
@@ -247,8 +240,8 @@ module _ (L : Ledger) (W : List ℕ) (s n : ℕ) (t : List ℕ) (ph : Phase) (so
       phase_is : (phase : Phase) → now.writer.phase ≡ phase → ph ≡ phase
       phase_is phase e = ap (λ (m : MachineState). m.writer.phase) is ∙ e
 
-      pub first_at : now.writer.phase ≡ Seeing → (r : ℕ) → r ≡ first_false so → (r < length so) × (r < READERS) × (pin r < length W)
-      first_at e r first = subst (λ (x : ℕ). (x < length so) × (x < READERS) × (pin x < length W)) (sym first) (first_there (phase_is Seeing e))
+      pub first_at : now.writer.phase ≡ Seeing → (r : ℕ) → r ≡ first_false so → (r < length so) × (pin r < length W)
+      first_at e r first = subst (λ (x : ℕ). (x < length so) × (pin x < length W)) (sym first) (first_there (phase_is Seeing e))
 
       pub gave_up_at : now.writer.phase ≡ Seeing → (r found : ℕ) → r ≡ first_false so → found ≡ get_or W (pin r) 0 → (found ≡ 0 → ⊥) → seen_as L W s n t Idle so R ≡ (transition old Writer).0
       gave_up_at e r found first load ne =
@@ -298,9 +291,6 @@ module _ (L : Ledger) (W : List ℕ) (s n : ℕ) (t : List ℕ) (ph : Phase) (so
         pub seat_within : pin (number - 1) < length W
         seat_within = let wide = wide_enough in let h = number_is in omega arith
 
-        pub seat_few : number - 1 < READERS
-        seat_few = let bound = k.bound in let h = number_is in omega arith
-
         pub seat_readable : IsReadable stage
         seat_readable = readable (number - 1) stage found
 
@@ -310,7 +300,7 @@ module _ (L : Ledger) (W : List ℕ) (s n : ℕ) (t : List ℕ) (ph : Phase) (so
           read_at = reader_reads number (number - 1) stage W' R' number_is found (words, stages)
 
           pub read_machine : IsMachine L W' s n t ph so R'
-          read_machine = reader_stays number W' R' read_at (ap (length {A = Stage}) stages ∙ length-set R (number - 1) _)
+          read_machine = reader_stays number W' R' read_at
 
         pub read_note : (note : Note) → note ≡ stage_note (suc (number - 1)) stage → note ≡ (transition old (Reader number)).1
         read_note note e = e ∙ reader_reports number (number - 1) stage number_is found
@@ -328,7 +318,6 @@ started_in L readers =
 -- the machine at its start: both copies have the register's sheet, all of it is published, and all
 -- readers are quiescent and at rest
 pub record AtStart (ledger : Ledger) (readers : ℕ) (words : List ℕ) (published : ℕ) (staged : List ℕ) (seen_out : List Bool) (stages : List Stage) : Type 0 where
-  pub bound : readers ≤ READERS
   pub legal : IsPublishable ledger.opening ledger.journal
   pub words_are : words ≡ 0 ∷ sheet_of ledger ++ sheet_of ledger ++ replicate readers 0
   pub published_all : published ≡ length ledger.journal
@@ -347,7 +336,6 @@ start_is L readers W n t so R h =
         published_within = omega arith;
         staged_within = omega arith;
         sheet_is = h.staged_all ∙ ap (sheet L.opening) (sym (take-length L.journal) ∙ ap (λ (y : ℕ). take y L.journal) (sym front));
-        bound = subst (λ (y : ℕ). y ≤ READERS) (sym (ap (length {A = Stage}) h.all_rest ∙ length-replicate readers AtRest)) h.bound;
         lawful = (auxiliary_start L readers, subst (λ (m : MachineState). IsLawful IsPublishable m (auxiliary_start L readers)) (sym is) (start_lawful IsPublishable L readers h.legal));
       },
     )

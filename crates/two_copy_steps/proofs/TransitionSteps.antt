@@ -1,29 +1,26 @@
 -- Each event keeps the invariant of the machine, with its cuts and records.
-use Rattle.std.proofs.Common.{◌≡◌, ◌≢◌, ℕ, zero, suc, eqb, ◌<◌, Bool, true, false, cond, List, [], ◌∷◌, ◌++◌, length, get_or, set, Option, None, Some, slice_get, Result, Ok, Err, refl, sym, ap, ◌∙◌, subst, arith, length-set, append_assoc, append-nil}
+use Rattle.std.proofs.Common.{◌≡◌, ℕ, zero, suc, eqb, ◌<◌, Bool, true, false, cond, List, [], ◌∷◌, ◌++◌, map, length, get_or, set, Option, None, Some, slice_get, Result, Ok, Err, refl, sym, ap, ◌∙◌, subst, arith, length-set, append_assoc, append-nil, true≢false}
 use Rattle.std.specs.Prelude.{⊤}
 use Rattle.std.proofs.lemmas.Option.{none-some, same_Some}
 use Rattle.council_core.specs.declared.commands.Command.{Command}
 use Rattle.council_core.specs.declared.refusals.Refusal.{Refusal}
 use Rattle.council_core.specs.Rolls.{Opening, sheet}
 use Rattle.council_core.specs.Ledgers.{verdict_of, ledger_with}
-use Rattle.council_core.specs.Sequential.{IsRecordFrom, AreRecords}
 use Rattle.two_copy_steps.specs.declared.events.Event.{Event}
 use Rattle.two_copy_steps.specs.declared.events.Event.TheVariants.{Submit, Publish, Writer, Reader}
 use Rattle.two_copy_steps.specs.declared.events.Note.TheVariants.{Skipped}
 use Rattle.two_copy_steps.specs.declared.views.ReaderView.{ReaderView}
 use Rattle.two_copy_steps.specs.declared.views.Writing.{Writing}
 use Rattle.two_copy_steps.specs.declared.views.Stage.{Stage}
-use Rattle.two_copy_steps.specs.declared.views.Stage.TheVariants.{AtRest, Arrived, Reading, Leaving}
 use Rattle.two_copy_steps.specs.declared.views.Phase.{Phase}
 use Rattle.two_copy_steps.specs.declared.views.Phase.TheVariants.{Idle, Seeing, Filling, Swapping}
-use Rattle.two_copy_steps.specs.Actions.{readings_after, first_false, other_side, writing_with_quiescent, stage_action, phase_action, writing_action}
-use Rattle.two_copy_steps.specs.Lawful.{State, Lawful, HoldsCopy, Stands}
+use Rattle.two_copy_steps.specs.Actions.{readings_after, first_false, writing_with_quiescent, stage_action, phase_action, writing_action}
+use Rattle.two_copy_steps.specs.Lawful.{State, Lawful}
 use Rattle.two_copy_steps.specs.Transitions.{MachineState, transition, machine_and_note, published_by, is_pending, is_idle, reader_transition}
-use Rattle.two_copy_steps.specs.Auxiliary.{Auxiliary, auxiliary_step, auxiliary_reader_step, record_at, reader_views, state_of, IsLawful, NoneUnder, side_held, side_filled}
+use Rattle.two_copy_steps.specs.Auxiliary.{Auxiliary, auxiliary_step, auxiliary_reader_step, record_at, reader_views, state_of, IsLawful}
 use Rattle.two_copy_steps.proofs.Lists.{inside}
-use Rattle.two_copy_steps.proofs.Records.{records_from_each}
 use Rattle.two_copy_steps.proofs.ReaderSteps.{reader_keeps}
-use Rattle.two_copy_steps.proofs.WriterSteps.{writer_keeps, begin_keeps, no_reader_there}
+use Rattle.two_copy_steps.proofs.WriterSteps.{writer_keeps, begin_keeps}
 
 -- stages with their records
 abbrev pub view_at : Stage → List (List ℕ) → ReaderView
@@ -49,18 +46,20 @@ viewed_set (x ∷ stages) [] r stage readings h = absurd (omega arith)
 viewed_set (x ∷ stages) (y ∷ records) zero stage readings h = refl
 viewed_set (x ∷ stages) (y ∷ records) (suc r) stage readings h = ap (λ l. view_at x y ∷ l) (viewed_set stages records r stage readings (omega arith))
 
--- there is a stage at each index below the number of readers
-stage_there : (stages : List Stage) (r : ℕ) → r < length stages → (stage : Stage) × (slice_get stages r ≡ Some stage)
-stage_there [] r h = absurd (omega arith)
-stage_there (x ∷ stages) zero h = (x, refl)
-stage_there (x ∷ stages) (suc r) h = stage_there stages r (omega arith)
+-- the stages and the records of these views
+pub stages_viewed : (stages : List Stage) (records : List (List (List ℕ))) → map (λ (v : ReaderView). v.stage) (reader_views stages records) ≡ stages
+stages_viewed [] records = refl
+stages_viewed (stage ∷ stages) [] = ap (λ l. stage ∷ l) (stages_viewed stages [])
+stages_viewed (stage ∷ stages) (x ∷ records) = ap (λ l. stage ∷ l) (stages_viewed stages records)
 
-record_there : (records : List (List (List ℕ))) (r : ℕ) (readings : List (List ℕ)) → slice_get records r ≡ Some readings → record_at records r ≡ readings
-record_there [] r readings e = absurd (none-some readings e)
-record_there (x ∷ records) zero readings e = same_Some x readings e
-record_there (x ∷ records) (suc r) readings e = record_there records r readings e
+pub records_viewed : (stages : List Stage) (records : List (List (List ℕ))) → length records ≡ length stages → map (λ (v : ReaderView). v.readings) (reader_views stages records) ≡ records
+records_viewed [] [] e = refl
+records_viewed [] (x ∷ records) e = absurd (omega (arith, e))
+records_viewed (stage ∷ stages) [] e = absurd (omega (arith, e))
+records_viewed (stage ∷ stages) (x ∷ records) e = ap (λ l. x ∷ l) (records_viewed stages records (omega (arith, e)))
 
-looked_taken : (w : Writing) (r : ℕ) (b : Bool) → let y = cond b (writing_with_quiescent w (set w.seen_out r true)) (record w { phase = Idle }) in (y.published ≡ w.published) × (y.staged ≡ w.staged)
+-- a look at a pin keeps the published and the staged list
+pub looked_taken : (w : Writing) (r : ℕ) (b : Bool) → let y = cond b (writing_with_quiescent w (set w.seen_out r true)) (record w { phase = Idle }) in (y.published ≡ w.published) × (y.staged ≡ w.staged)
 looked_taken w r true = (refl, refl)
 looked_taken w r false = (refl, refl)
 
@@ -129,16 +128,13 @@ module _ (Legal : Opening → List Command → Type 0) where
   publish_keeps m aux l legal =
       elim (is_idle m.writer.phase) as (λ b. IsLawful Legal (cond b (published_by m (is_pending m)) (m, Skipped)).0 aux) [ true ↦ published_keeps m aux l legal (is_pending m) | false ↦ l ]
 
-  true_not_false : true ≡ false → ⊥
-  true_not_false e = cc
-
   -- the register accepts a command
   pub accepted_keeps : (m : MachineState) (aux : Auxiliary) → IsLawful Legal m aux → (command : Command) → is_idle m.writer.phase ≡ true → IsLawful Legal (record m { ledger = ledger_with m.ledger command }) aux
   accepted_keeps m aux l command idle =
       record {
         state = l.state;
         extends = (l.extends.0 ++ command ∷ [], sym (append_assoc m.writer.staged l.extends.0 (command ∷ [])) ∙ ap (λ (commands : List Command). commands ++ command ∷ []) l.extends.1);
-        whole = λ busy. absurd (true_not_false (sym idle ∙ busy));
+        whole = λ busy. absurd (true≢false (sym idle ∙ busy));
         each_record = l.each_record;
       }
 
@@ -162,44 +158,3 @@ module _ (Legal : Opening → List Command → Type 0) where
   transition_keeps m aux l legal Publish = publish_keeps m aux l legal
   transition_keeps m aux l legal Writer = written_keeps m aux l
   transition_keeps m aux l legal (Reader number) = step_keeps m aux l number
-
-  -- the records of a machine that meets the invariant are legal
-  pub records_are : (m : MachineState) (aux : Auxiliary) → IsLawful Legal m aux → AreRecords m.ledger.opening m.writer.published aux.cuts aux.records
-  records_are m aux l =
-      records_from_each m.ledger.opening m.writer.published aux.cuts aux.records
-      (λ r readings e.
-      let here : r < length m.readers = subst (λ (n : ℕ). r < n) l.each_record (inside aux.records r readings e) in
-      let there = stage_there m.readers r here in
-      subst (λ (x : List (List ℕ)). IsRecordFrom m.ledger.opening m.writer.published aux.cuts 0 x) (record_there aux.records r readings e)
-      (l.state.each_reader r (view_at there.0 (record_at aux.records r)) (viewed_at m.readers aux.records r there.0 there.1)).record_legal)
-
-  holds_held : (m : MachineState) (aux : Auxiliary) → IsLawful Legal m aux → (side r : ℕ) (stage : Stage) → Stands m.ledger.opening (Legal m.ledger.opening) m.words (state_of m aux).writer (record_at aux.records r) r stage
-      → side_held stage ≡ Some side → HoldsCopy m.ledger.opening (Legal m.ledger.opening) m.words (state_of m aux).writer (record_at aux.records r) r side
-  holds_held m aux l side r AtRest h e = absurd (none-some side e)
-  holds_held m aux l side r Arrived h e = absurd (none-some side e)
-  holds_held m aux l side r (Reading s words) h e = subst (λ (z : ℕ). HoldsCopy m.ledger.opening (Legal m.ledger.opening) m.words (state_of m aux).writer (record_at aux.records r) r z) (same_Some s side e) h.0
-  holds_held m aux l side r (Leaving s words) h e = subst (λ (z : ℕ). HoldsCopy m.ledger.opening (Legal m.ledger.opening) m.words (state_of m aux).writer (record_at aux.records r) r z) (same_Some s side e) h.0
-
-  not_other : (side : ℕ) → side ≢ other_side side
-  not_other zero e = omega arith
-  not_other (suc s) e = omega arith
-
-  -- the reader at r holds the copy that a side names
-  record Holds (m : MachineState) (side r : ℕ) : Type 0 where
-    pub stage : Stage
-    pub at : slice_get m.readers r ≡ Some stage
-    pub held : side_held stage ≡ Some side
-
-  none_there : (m : MachineState) (aux : Auxiliary) → IsLawful Legal m aux → (phase : Phase) → m.writer.phase ≡ phase → (side r : ℕ) → side_filled m.writer.side phase ≡ Some side → Holds m side r → ⊥
-  none_there m aux l Idle is side r e h = none-some side e
-  none_there m aux l Seeing is side r e h = none-some side e
-  none_there m aux l Swapping is side r e h = none-some side e
-  none_there m aux l (Filling k) is side r e h =
-      let ok = l.state.each_reader r (view_at h.stage (record_at aux.records r)) (viewed_at m.readers aux.records r h.stage h.at) in
-      let b = holds_held m aux l side r h.stage ok.stands h.held in
-      let same : side ≡ m.writer.side = no_reader_there m.ledger.opening (Legal m.ledger.opening) (state_of m aux) k l.state is r side (record_at aux.records r) b in
-      not_other m.writer.side (sym same ∙ sym (same_Some (other_side m.writer.side) side e))
-
-  -- no word is stored under a reader
-  pub none_under : (m : MachineState) (aux : Auxiliary) → IsLawful Legal m aux → NoneUnder m
-  none_under m aux l side r stage e at held = none_there m aux l m.writer.phase refl side r e record { stage = stage; at = at; held = held }

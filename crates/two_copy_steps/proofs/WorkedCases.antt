@@ -12,12 +12,12 @@ use Rattle.two_copy_steps.specs.declared.views.Phase.TheVariants.{Idle, Seeing, 
 use Rattle.council_core.specs.Sequential.{submit, publish, read}
 use Rattle.council_core.specs.declared.refusals.Refusal.TheVariants.{ChairOpen}
 use Rattle.two_copy_steps.specs.Effects.{SequentialRun, begun_after, effects, replied_at, sequential_start}
+use Rattle.two_copy_steps.specs.Laws.{SubmitsInRange, HasVotesInRange, StateRecordsLaw}
+use Rattle.two_copy_steps.specs.Auxiliary.{IsApart, side_filled, side_held}
 use Rattle.two_copy_steps.specs.Lawful.{State}
-use Rattle.two_copy_steps.specs.Laws.{SubmitsInRange, HasVotesInRange}
-use Rattle.two_copy_steps.specs.Auxiliary.{NoneUnder, side_filled, side_held}
 use Rattle.two_copy_steps.specs.Publications.{stores_side}
 use Rattle.two_copy_steps.specs.Stages.{reading_steps, steps_taken}
-use Rattle.two_copy_steps.specs.States.{HasRecords}
+use Rattle.two_copy_steps.specs.States.{LawfulFor}
 use Rattle.two_copy_steps.specs.Transitions.{MachineState, machine_at_start, notes}
 
 abbrev pub one_member : Ledger
@@ -81,10 +81,10 @@ forgotten t = refl
 abbrev pub filling_under : Stage → MachineState
 filling_under stage = record (machine_at_start one_member 1) { writer = record (machine_at_start one_member 1).writer { phase = Filling 0 }; readers = stage ∷ [] }
 
-under_reading : NoneUnder (filling_under (Reading 1 [])) → ⊥
+under_reading : let m = filling_under (Reading 1 []) in IsApart m.writer m.readers → ⊥
 under_reading h = h 1 0 (Reading 1 []) refl refl refl
 
-under_leaving : NoneUnder (filling_under (Leaving 1 [])) → ⊥
+under_leaving : let m = filling_under (Leaving 1 []) in IsApart m.writer m.readers → ⊥
 under_leaving h = h 1 0 (Leaving 1 []) refl refl refl
 
 -- a copy is filled from its first word to its last, and at no other time
@@ -115,7 +115,7 @@ stores_a_word = (refl, refl, refl)
 reader_stores_none : stores_side (Reader 1) Idle ≡ false
 reader_stores_none = refl
 
--- a reader that brought back words of no cut has no legal record
+-- no lawful state has a reader that brought back words of no cut
 abbrev with_reading : List ℕ → State
 with_reading words = record {
   words = [];
@@ -123,8 +123,8 @@ with_reading words = record {
   readers = record { stage = AtRest; readings = words ∷ [] } ∷ [];
 }
 
-no_cut : HasRecords one_member.opening (with_reading []) → ⊥
-no_cut h = absurd_words h.readings.0.0.2
+no_cut : StateRecordsLaw → LawfulFor one_member.opening (with_reading []) → ⊥
+no_cut law lawful = absurd_words (law one_member.opening (with_reading []) lawful).readings.0.0.2
   where
     absurd_words : {x : ℕ} {xs : List ℕ} → [] ≡ x ∷ xs → ⊥
     absurd_words e = cc

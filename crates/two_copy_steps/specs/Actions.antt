@@ -88,16 +88,23 @@ reader_action r v =
       after = λ found. record { stage = d.after found; readings = readings_after v.stage (d.after found) v.readings };
     }
 
--- the writer's state once these readers are quiescent; after the last one, filling begins
+-- the phase once these readers are quiescent, and the phase when word k is the next to be stored
+abbrev pub seeing_phase : List Bool → Phase
+seeing_phase out = if all_true out then Filling 0 else Seeing
+
+abbrev pub filling_phase : ℕ → Phase
+filling_phase k = if k == COPY_WORDS then Swapping else Filling k
+
+-- the writer's state once these readers are quiescent
 abbrev pub writing_with_quiescent : Writing → List Bool → Writing
-writing_with_quiescent w out = record w { phase = if all_true out then Filling 0 else Seeing; seen_out = out }
+writing_with_quiescent w out = record w { phase = seeing_phase out; seen_out = out }
 
 -- the writer's state when a publication of these commands begins
 abbrev pub writing_of_staged : List Command → Writing → Writing
 writing_of_staged commands w = writing_with_quiescent (record w { staged = commands }) w.seen_out
 
 abbrev pub filled_writing : Writing → ℕ → Writing
-filled_writing w k = record w { phase = if k + 1 == COPY_WORDS then Swapping else Filling (k + 1) }
+filled_writing w k = record w { phase = filling_phase (k + 1) }
 
 -- the writer's state after side is stored: the staged commands are published, and no reader is
 -- quiescent

@@ -1,6 +1,6 @@
 -- Auxiliary variables of the machine: the cuts of the writer and the records of the readers. The
 -- machine does not store them, and no step reads them.
-use Rattle.std.specs.Prelude.{◌≡◌, ℕ, zero, suc, false, List, [], ◌∷◌, ◌++◌, length, replicate}
+use Rattle.std.specs.Prelude.{◌≡◌, ℕ, zero, suc, false, List, [], ◌∷◌, length, replicate}
 use Rattle.std.specs.Prelude.{slice_index, slice_index_or, slice_get, slice_set, Option, None, Some}
 use Rattle.council_core.specs.declared.commands.Command.{Command}
 use Rattle.council_core.specs.Rolls.{Opening}
@@ -8,13 +8,13 @@ use Rattle.council_core.specs.Ledgers.{Ledger}
 use Rattle.two_copy_steps.specs.declared.events.Event.{Event}
 use Rattle.two_copy_steps.specs.declared.events.Event.TheVariants.{Submit, Publish, Writer, Reader}
 use Rattle.two_copy_steps.specs.declared.views.ReaderView.{ReaderView}
+use Rattle.two_copy_steps.specs.declared.views.Writing.{Writing}
 use Rattle.two_copy_steps.specs.declared.views.Stage.{Stage}
 use Rattle.two_copy_steps.specs.declared.views.Phase.{Phase}
 use Rattle.two_copy_steps.specs.declared.views.Phase.TheVariants.{Filling}
 use Rattle.two_copy_steps.specs.declared.views.Stage.TheVariants.{AtRest, Arrived, Reading, Leaving}
 use Rattle.two_copy_steps.specs.Actions.{readings_after, cuts_past, stage_action, other_side}
-use Rattle.two_copy_steps.specs.Lawful.{State, Lawful}
-use Rattle.council_core.specs.Sequential.{AreLegalRecords}
+use Rattle.two_copy_steps.specs.Lawful.{State, Lawful, IsPrefix}
 use Rattle.two_copy_steps.specs.Transitions.{MachineState, transition, is_idle}
 
 pub record Auxiliary : Type 0 where
@@ -67,14 +67,9 @@ state_of m a = record
 -- list last staged, and equals it while a publication is in progress
 pub record IsLawful (Legal : Opening → List Command → Type 0) (m : MachineState) (a : Auxiliary) : Type 0 where
   pub state : Lawful m.ledger.opening (Legal m.ledger.opening) (state_of m a)
-  pub extends : (rest : List Command) × (m.writer.staged ++ rest ≡ m.ledger.journal)
+  pub extends : IsPrefix m.writer.staged m.ledger.journal
   pub whole : is_idle m.writer.phase ≡ false → m.writer.staged ≡ m.ledger.journal
   pub each_record : length a.records ≡ length m.readers
-
--- the published list is legal, the cuts are in order, and the records hold sheets of cuts whose
--- fronts never fall
-abbrev pub HasLegalRecords : MachineState → Auxiliary → Type 0
-HasLegalRecords m a = AreLegalRecords m.ledger.opening m.writer.published a.cuts a.records
 
 -- the side that a reader has loaded and not yet left, or None
 abbrev pub side_held : Stage → Option ℕ
@@ -89,7 +84,7 @@ side_filled side (Filling k) = Some (other_side side)
 side_filled side phase = None
 
 -- no reader holds the copy into which the writer's next step stores a word
-abbrev pub NoneUnder : MachineState → Type 0
-NoneUnder m =
-    (side r : ℕ) (stage : Stage) → side_filled m.writer.side m.writer.phase ≡ Some side
-    → slice_get m.readers r ≡ Some stage → side_held stage ≡ Some side → ⊥
+abbrev pub IsApart : Writing → List Stage → Type 0
+IsApart w stages =
+    (side r : ℕ) (stage : Stage) → side_filled w.side w.phase ≡ Some side → slice_get stages r ≡ Some stage
+    → side_held stage ≡ Some side → ⊥

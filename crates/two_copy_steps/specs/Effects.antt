@@ -2,9 +2,10 @@
 use Rattle.std.specs.Prelude.{◌≡◌, ℕ, zero, suc, Bool, true, false, List, [], ◌∷◌, ◌++◌, length}
 use Rattle.std.specs.Prelude.{slice_get, if◌then◌else◌, ◌==◌, Option, None, Some}
 use Rattle.council_core.specs.Ledgers.{Ledger}
-use Rattle.council_core.specs.Sequential.{Sequential, Call, submit, publish, Reply, accepted, refused, published}
+use Rattle.council_core.specs.Sequential.{Sequential, Call, submit, publish, Reply, answered}
 use Rattle.council_core.specs.Sequential.{reading, replies_of, state_after}
 use Rattle.council_core.specs.Sequential as sequential
+use Rattle.council_core.specs.declared.calls.Answer.TheVariants as answer
 use Rattle.two_copy_steps.specs.declared.events.Event.{Event}
 use Rattle.two_copy_steps.specs.declared.events.Event.TheVariants.{Submit, Publish, Writer, Reader}
 use Rattle.two_copy_steps.specs.declared.events.Note.{Note}
@@ -107,9 +108,9 @@ sequential_step t m event =
 -- an output that answers a call is the sequential register's reply: to the call that the event
 -- represents, or, for a reading, at that reader's last load of side since it arrived
 abbrev pub OutputIsReply : List Reply → (ℕ → Option Reply) → Note → Type 0
-OutputIsReply replies replied (Accepted count) = replies ≡ accepted count ∷ []
-OutputIsReply replies replied (Refused refusal) = replies ≡ refused refusal ∷ []
-OutputIsReply replies replied (Published front) = replies ≡ published front ∷ []
+OutputIsReply replies replied (Accepted count) = replies ≡ answered (answer.Accepted count) ∷ []
+OutputIsReply replies replied (Refused why) = replies ≡ answered (answer.Refused why) ∷ []
+OutputIsReply replies replied (Published front) = replies ≡ answered (answer.Published front) ∷ []
 OutputIsReply replies replied (Read number words) = replied number ≡ Some (reading words)
 OutputIsReply replies replied Began = replies ≡ []
 OutputIsReply replies replied Moved = Unit {0}

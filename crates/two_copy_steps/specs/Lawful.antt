@@ -69,6 +69,10 @@ abbrev pub IsLoadedFrom : List ℕ → ℕ → List ℕ → Type 0
 IsLoadedFrom words side loaded =
     (i : ℕ) → i < length loaded → slice_index loaded i ≡ slice_index words (place side i)
 
+-- the first list is a prefix of the second
+abbrev pub IsPrefix : List Command → List Command → Type 0
+IsPrefix list longer = (rest : List Command) × (list ++ rest ≡ longer)
+
 -- a legal list whose sheet is in range
 abbrev pub IsPublishable : Opening → List Command → Type 0
 IsPublishable opening commands = IsLegal opening commands × IsSheet (sheet opening commands)
@@ -117,7 +121,7 @@ module _ (opening : Opening) (Legal : List Command → Type 0) where
     pub side_is : slice_index words 0 ≡ v.state.side
     pub flags : length v.state.seen_out ≡ readers
     pub legal : Legal v.state.staged
-    pub begins : (rest : List Command) × (v.state.published ++ rest ≡ v.state.staged)
+    pub begins : IsPrefix v.state.published v.state.staged
     pub shown : ShowsSheet words v.state.side (sheet opening v.state.published)
     pub last_cut : (earlier : List ℕ) × (v.cuts ≡ earlier ++ length v.state.published ∷ [])
     pub cuts : (cut : ℕ) → Contains v.cuts cut

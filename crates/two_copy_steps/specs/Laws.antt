@@ -1,6 +1,6 @@
 -- Laws of the machine, for proofs that build on it.
 use Rattle.std.specs.Prelude.{◌≡◌, ◌≢◌, ℕ, suc, ◌+◌, ◌≤◌, ◌==◌, true, false, List, []}
-use Rattle.std.specs.Prelude.{◌∷◌, ◌++◌, length, slice_get, slice_index, Some, if◌then◌else◌, All}
+use Rattle.std.specs.Prelude.{◌∷◌, ◌++◌, length, map, slice_get, slice_index, Some, if◌then◌else◌, All}
 use Rattle.council_core.specs.declared.commands.Command.{Command}
 use Rattle.council_core.specs.Rolls.{Opening}
 use Rattle.council_core.specs.Laws.{IsOpening, SetsInRange}
@@ -14,18 +14,17 @@ use Rattle.two_copy_steps.specs.declared.views.Stage.TheVariants.{AtRest}
 use Rattle.two_copy_steps.specs.declared.views.Phase.TheVariants.{Filling}
 use Rattle.two_copy_steps.specs.declared.views.ReaderView.{ReaderView}
 use Rattle.two_copy_steps.specs.Lawful.{State, IsPublishable, read_by, written_by, begun_by}
-use Rattle.two_copy_steps.specs.States.{LawfulFor, HasRecords, IsApart, IsKnown}
+use Rattle.two_copy_steps.specs.States.{LawfulFor, IsKnown}
 use Rattle.two_copy_steps.specs.Transitions.{MachineState, transition, machine_at_start, state_after_events, notes}
 use Rattle.two_copy_steps.specs.Auxiliary.{Auxiliary, auxiliary_start, auxiliary_step, record_at, state_of, IsLawful}
-use Rattle.two_copy_steps.specs.Auxiliary.{HasLegalRecords}
-use Rattle.two_copy_steps.specs.Auxiliary.{NoneUnder}
+use Rattle.two_copy_steps.specs.Auxiliary.{IsApart}
 use Rattle.two_copy_steps.specs.Actions.{all_true, pin, stage_action, reader_action}
 use Rattle.two_copy_steps.specs.Stages.{steps_taken, last_load, last_step, sheet_read, IsReadable}
 use Rattle.two_copy_steps.specs.Publications.{IsLeastUnseen, StaySeen, stores_side}
-use Rattle.two_copy_steps.specs.Records.{RecordsAreReported, FrontsNeverFall}
-use Rattle.council_core.specs.Sequential.{replies_of, state_after}
+use Rattle.two_copy_steps.specs.Records.{FrontsNeverFall}
+use Rattle.council_core.specs.Sequential.{AreLegalRecords, replies_of, state_after}
 use Rattle.two_copy_steps.specs.Effects.{SequentialRun, effects, sequential_steps, sequential_replies}
-use Rattle.two_copy_steps.specs.Runs.{machine_after, auxiliary_after, ReportsReplies}
+use Rattle.two_copy_steps.specs.Runs.{machine_after, auxiliary_after, ReportsReplies, KeepsRecordsReported}
 
 -- the start over a legal journal whose sheet is in range meets the invariant
 abbrev pub StartLaw : Type 0
@@ -50,11 +49,13 @@ BeginLaw = (opening : Opening) (s : State) → LawfulFor opening s → (commands
 
 -- in every state that meets the invariant the records are legal
 abbrev pub StateRecordsLaw : Type 0
-StateRecordsLaw = (opening : Opening) (s : State) → LawfulFor opening s → HasRecords opening s
+StateRecordsLaw = (opening : Opening) (s : State) → LawfulFor opening s
+    → AreLegalRecords opening s.writer.state.published s.writer.cuts (map (λ v. v.readings) s.readers)
 
 -- in every such state no reader holds the copy into which the writer's next step stores a word
 abbrev pub StateUnderLaw : Type 0
-StateUnderLaw = (opening : Opening) (s : State) → LawfulFor opening s → IsApart s
+StateUnderLaw = (opening : Opening) (s : State) → LawfulFor opening s
+    → IsApart s.writer.state (map (λ v. v.stage) s.readers)
 
 -- in every such state each reader has a legal record and words of a sheet
 abbrev pub StateKnownLaw : Type 0
@@ -154,13 +155,14 @@ RangeLaw = (m : MachineState) → IsLedger m.ledger → HasVotesInRange m.ledger
 -- over every list of events the records are legal
 abbrev pub RecordsLaw : Type 0
 RecordsLaw = (ledger : Ledger) (readers : ℕ) → IsLedger ledger → (events : List Event)
-    → HasLegalRecords (machine_after ledger readers events) (auxiliary_after ledger readers events)
+    → let m = machine_after ledger readers events in let a = auxiliary_after ledger readers events
+    in AreLegalRecords m.ledger.opening m.writer.published a.cuts a.records
 
 -- over every list of events no reader holds the copy into which the writer's next step stores a
 -- word
 abbrev pub UnderLaw : Type 0
 UnderLaw = (ledger : Ledger) (readers : ℕ) → IsLedger ledger → (events : List Event)
-    → NoneUnder (machine_after ledger readers events)
+    → let m = machine_after ledger readers events in IsApart m.writer m.readers
 
 -- over every list of events every output that answers a call equals the sequential register's reply
 -- at the call's linearization point
@@ -173,8 +175,7 @@ RepliesLaw = (ledger : Ledger) (readers : ℕ) → IsLedger ledger → (events :
 abbrev pub OutputsLaw : Type 0
 OutputsLaw =
     (ledger : Ledger) (readers : ℕ) → (events : List Event)
-    → RecordsAreReported (machine_after ledger readers events) (auxiliary_after ledger readers events)
-    (notes (machine_at_start ledger readers) events)
+    → KeepsRecordsReported ledger readers events (notes (machine_at_start ledger readers) events)
 
 -- over every list of events no output of a reader has an older sheet than one before it
 abbrev pub NeverOlderLaw : Type 0

@@ -36,7 +36,6 @@ pub record IsMachine (ledger : Ledger) (words : List ℕ) (side published : ℕ)
   pub published_within : published ≤ length ledger.journal
   pub staged_within : front_of staged ≤ length ledger.journal
   pub sheet_is : staged ≡ sheet ledger.opening (take (front_of staged) ledger.journal)
-  pub bound : length readers ≤ READERS
   pub lawful : (a : Auxiliary)
       × IsLawful IsPublishable (seen_as ledger words side published staged phase seen_out readers) a
 

@@ -1,13 +1,14 @@
 -- The guarantees for a whole list of events, and the state of a run that could not reach its end.
 use Rattle.std.specs.Prelude.{◌≡◌, ℕ, ◌≤◌, ◌⊎◌, List, length, take, slice_get, Some}
 use Rattle.council_core.specs.Ledgers.{Ledger}
+use Rattle.council_core.specs.Sequential.{AreLegalRecords}
 use Rattle.council_core.specs.declared.refusals.Refusal.{Refusal}
 use Rattle.council_core.specs.declared.refusals.Refusal.TheVariants.{OutOfMemory, BadLimit}
 use Rattle.two_copy_steps.specs.declared.events.Event.{Event}
 use Rattle.two_copy_steps.specs.declared.events.Note.{Note}
 use Rattle.two_copy_steps.specs.Transitions.{MachineState, machine_at_start, state_after_events}
 use Rattle.two_copy_steps.specs.Records.{RecordsAreReported}
-use Rattle.two_copy_steps.specs.Auxiliary.{Auxiliary, auxiliary_start, auxiliary_steps, HasLegalRecords, NoneUnder}
+use Rattle.two_copy_steps.specs.Auxiliary.{Auxiliary, auxiliary_start, auxiliary_steps, IsApart}
 use Rattle.two_copy_steps.specs.Effects.{sequential_start, AllAnswer}
 use Rattle.two_copy_steps.specs.Machines.{IsFew, WantsMemory}
 
@@ -28,12 +29,14 @@ ReportsReplies ledger readers events = AllAnswer (sequential_start ledger) (mach
 -- the records are legal before the first event and after every event
 abbrev pub KeepsRecordsLegal : Ledger → ℕ → List Event → Type 0
 KeepsRecordsLegal ledger readers events =
-    (k : ℕ) → HasLegalRecords (machine_after ledger readers (take k events))
-    (auxiliary_after ledger readers (take k events))
+    (k : ℕ) → let m = machine_after ledger readers (take k events) in
+    let a = auxiliary_after ledger readers (take k events)
+    in AreLegalRecords m.ledger.opening m.writer.published a.cuts a.records
 
 -- before each event, no reader holds the copy into which the writer's next step stores a word
 abbrev pub StoresUnderNobody : Ledger → ℕ → List Event → Type 0
-StoresUnderNobody ledger readers events = (k : ℕ) → NoneUnder (machine_after ledger readers (take k events))
+StoresUnderNobody ledger readers events =
+    (k : ℕ) → let m = machine_after ledger readers (take k events) in IsApart m.writer m.readers
 
 -- each reader's record is the sheets in its outputs, followed by the words that it is about to
 -- leave

@@ -1,5 +1,6 @@
 -- The stage of a reader: its number of steps, its representation, and its next step.
-use Rattle.std.specs.Prelude.{◌≡◌, ℕ, ◌+◌, ◌<◌, List, [], ◌∷◌, length, take, Option, None, Some}
+use Rattle.std.specs.Prelude.{◌≡◌, ℕ, ◌+◌, ◌<◌, List, length, take, Option, None, Some}
+use Rattle.std.specs.Option.{option_to_list}
 use Rattle.council_core.specs.Sheets.{IsSheet}
 use Rattle.two_copy_steps.specs.declared.views.Stage.{Stage}
 use Rattle.two_copy_steps.specs.declared.views.Stage.TheVariants.{AtRest, Arrived, Reading, Leaving}
@@ -46,10 +47,7 @@ sheet_read (Leaving side words) = Some words
 
 -- the words of the reading that a reader is about to leave, or none
 abbrev pub about_to_leave : Stage → List (List ℕ)
-about_to_leave AtRest = []
-about_to_leave Arrived = []
-about_to_leave (Reading side words) = []
-about_to_leave (Leaving side words) = words ∷ []
+about_to_leave stage = option_to_list (sheet_read stage)
 
 -- the stage of a reader by its representation: the side is used once it is loaded, and of the words
 -- only those that are loaded

@@ -1,5 +1,5 @@
 -- Consequences of the invariant, for every state of words and views.
-use Rattle.std.specs.Prelude.{◌≡◌, ℕ, List, [], ◌∷◌, ◌++◌, map, slice_get, Some}
+use Rattle.std.specs.Prelude.{◌≡◌, ℕ, List, [], ◌∷◌, ◌++◌}
 use Rattle.council_core.specs.declared.commands.Command.{Command}
 use Rattle.council_core.specs.Rolls.{Opening}
 use Rattle.council_core.specs.Sequential.{AreLegalRecords}
@@ -7,25 +7,10 @@ use Rattle.two_copy_steps.specs.declared.views.ReaderView.{ReaderView}
 use Rattle.two_copy_steps.specs.declared.views.Stage.{Stage}
 use Rattle.two_copy_steps.specs.declared.views.Stage.TheVariants.{AtRest, Arrived, Reading, Leaving}
 use Rattle.two_copy_steps.specs.Lawful.{State, Lawful, IsPublishable}
-use Rattle.two_copy_steps.specs.Auxiliary.{side_held, side_filled}
 use Rattle.two_copy_steps.specs.Stages.{IsReadable}
 
 abbrev pub LawfulFor : Opening → State → Type 0
 LawfulFor opening s = Lawful opening (IsPublishable opening) s
-
-abbrev pub readings_of : ReaderView → List (List ℕ)
-readings_of v = v.readings
-
--- the published list is legal, the cuts are in order, and the records hold sheets of cuts whose
--- fronts never fall
-abbrev pub HasRecords : Opening → State → Type 0
-HasRecords opening s = AreLegalRecords opening s.writer.state.published s.writer.cuts (map readings_of s.readers)
-
--- no reader holds the copy into which the writer's next step stores a word
-abbrev pub IsApart : State → Type 0
-IsApart s =
-    (side r : ℕ) (v : ReaderView) → side_filled s.writer.state.side s.writer.state.phase ≡ Some side
-    → slice_get s.readers r ≡ Some v → side_held v.stage ≡ Some side → ⊥
 
 -- the last sheet in the record of a reader that has loaded all words has these words
 abbrev pub EndsWith : List (List ℕ) → Stage → Type 0

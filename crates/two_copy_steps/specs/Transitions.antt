@@ -17,7 +17,7 @@ use Rattle.two_copy_steps.specs.declared.views.Stage.{Stage}
 use Rattle.two_copy_steps.specs.declared.views.Stage.TheVariants.{AtRest, Arrived, Reading, Leaving}
 use Rattle.two_copy_steps.specs.declared.views.Phase.{Phase}
 use Rattle.two_copy_steps.specs.declared.views.Phase.TheVariants.{Idle, Seeing, Filling, Swapping}
-use Rattle.two_copy_steps.specs.Actions.{first_false, pin, stage_action, writing_action, writing_of_staged}
+use Rattle.two_copy_steps.specs.Actions.{first_false, stage_action, writing_action, writing_of_staged}
 
 -- the register, the words (word 0 is side, then copy 0, copy 1 and a pin for each reader), the
 -- writer's state, and each reader's stage
@@ -67,20 +67,21 @@ published_by m false = (m, Published (length m.writer.published))
 abbrev pub is_pending : MachineState → Bool
 is_pending m = nat_lt (length m.writer.published) (length m.ledger.journal)
 
--- the output of the writer's step, by its phase
-abbrev pub phase_note : MachineState → Phase → Note
-phase_note m Idle = Skipped
-phase_note m Seeing = let r = first_false m.writer.seen_out
-    in if slice_index m.words (pin r) == 0 then Moved else Busy (suc r)
-phase_note m (Filling k) = Moved
-phase_note m Swapping = Published (length m.writer.staged)
+-- the output of the writer's step, by its phase and the number found in its word
+abbrev pub phase_note : Writing → Phase → ℕ → Note
+phase_note w Idle found = Skipped
+phase_note w Seeing found = if found == 0 then Moved else Busy (suc (first_false w.seen_out))
+phase_note w (Filling k) found = Moved
+phase_note w Swapping found = Published (length w.staged)
 
--- the machine after the writer takes its step
-abbrev pub after_writer_step : MachineState → MachineState
-after_writer_step m =
+-- the transition of the writer
+abbrev pub writer_transition : MachineState → MachineState × Note
+writer_transition m =
     let d = writing_action (sheet m.ledger.opening) m.writer in
-    let found = slice_index m.words d.word in
-    record m { words = slice_set m.words d.word (d.becomes found); writer = d.after found }
+    let found = slice_index m.words d.word in (
+      record m { words = slice_set m.words d.word (d.becomes found); writer = d.after found },
+      phase_note m.writer m.writer.phase found,
+    )
 
 -- the output of the step of the reader with this number, by its stage
 abbrev pub stage_note : ℕ → Stage → Note
@@ -106,7 +107,7 @@ abbrev pub transition : MachineState → Event → MachineState × Note
 transition m (Submit command) =
     if is_idle m.writer.phase then machine_and_note m command (verdict_of m.ledger command) else (m, Skipped)
 transition m Publish = if is_idle m.writer.phase then published_by m (is_pending m) else (m, Skipped)
-transition m Writer = (after_writer_step m, phase_note m m.writer.phase)
+transition m Writer = writer_transition m
 transition m (Reader zero) = (m, Skipped)
 transition m (Reader (suc r)) = reader_transition m r (slice_get m.readers r)
 

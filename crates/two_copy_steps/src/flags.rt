@@ -12,7 +12,7 @@ use std::marker::Model;
 #[derive(Debug, Drop)]
 pub struct Flags {
     flags: [bool; READERS],
-    len: usize,
+    len: u8,
 }
 
 impl Model for Flags {
@@ -29,23 +29,23 @@ impl Flags {
         ensures same { result.now ≡ self.now }
         ensures bound { length result.now ≤ READERS }
     {
-        &self.flags[..self.len]
+        &self.flags[..self.len as usize]
     }
 
     /// The number of readers, at most `READERS`.
-    pub fn len(&self) -> usize
+    pub fn len(&self) -> u8
         ensures number { result ≡ length self.now }
         ensures bound { result ≤ READERS }
     {
-        self.as_slice().len()
+        self.as_slice().len() as u8
     }
 
     /// Whether reader `r`, counted from 0, is quiescent.
-    pub fn get(&self, r: usize) -> bool
+    pub fn get(&self, r: u8) -> bool
         requires within { r < length self.now }
         ensures same { slice_get self.now r ≡ Some result }
     {
-        self.as_slice()[r]
+        self.as_slice()[r as usize]
     }
 
     /// Whether the reader with this number, counted from 1, is quiescent. False if no reader has
@@ -53,7 +53,7 @@ impl Flags {
     pub fn has(&self, number: u8) -> bool
         ensures same { result ≡ seen_out_at self.now number }
     {
-        if number == 0 || self.len < number as usize {
+        if number == 0 || self.len < number {
             return false;
         }
         self.flags[number as usize - 1]
@@ -66,16 +66,17 @@ impl Flags {
     {
         Flags {
             flags: [true; READERS],
-            len: readers as usize,
+            len: readers,
         }
     }
 
     /// The first reader that is not quiescent, counted from 0, or the number of readers if all are.
-    pub fn first_false(&self) -> usize
-        ensures { result ≡ first_false self.now }
+    pub fn first_false(&self) -> u8
+        ensures first { result ≡ first_false self.now }
+        ensures bound { result ≤ READERS }
     {
         for i in 0..self.len {
-            if !self.flags[i] {
+            if !self.flags[i as usize] {
                 return i;
             }
         }
@@ -87,7 +88,7 @@ impl Flags {
         ensures { result ≡ all_true self.now }
     {
         for i in 0..self.len {
-            if !self.flags[i] {
+            if !self.flags[i as usize] {
                 return false;
             }
         }
@@ -95,12 +96,11 @@ impl Flags {
     }
 
     /// Marks reader `r`, counted from 0, as quiescent.
-    pub fn set(&mut self, r: usize)
+    pub fn set(&mut self, r: u8)
         requires within { r < length self.old }
-        requires bound { r < READERS }
         ensures { self.new ≡ slice_set self.old r true }
     {
-        self.flags[r] = true;
+        self.flags[r as usize] = true;
     }
 
     /// Marks all readers as not quiescent.

@@ -200,7 +200,7 @@ impl Machine {
         let r = self.seen_out.first_false();
         if self.table.load(pin(r)) != 0 {
             self.phase = Phase::Idle;
-            return Note::Busy(r as u8 + 1);
+            return Note::Busy(r + 1);
         }
         self.seen_out.set(r);
         self.phase = phase_after(&self.seen_out);
@@ -238,10 +238,10 @@ impl Machine {
         ensures machine { self.new ≡ (transition self.old (Reader number)).0 }
         ensures note { result ≡ (transition self.old (Reader number)).1 }
     {
-        if number == 0 || self.stages.len() < number as usize {
+        if number == 0 || self.stages.len() < number {
             return Note::Skipped;
         }
-        self.stages.advance(&mut self.table, number as usize - 1)
+        self.stages.advance(&mut self.table, number - 1)
     }
 
     // The machine's register.

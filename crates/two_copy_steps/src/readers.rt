@@ -18,7 +18,7 @@ use std::marker::Model;
 #[derive(Debug, Drop)]
 pub(crate) struct ReaderStages {
     stages: [ReaderStage; READERS],
-    len: usize,
+    len: u8,
 }
 
 impl Model for ReaderStages {
@@ -41,21 +41,20 @@ impl ReaderStages {
                     ensures { result ≡ AtRest }
                 { ReaderStage::new() },
             ),
-            len: readers as usize,
+            len: readers,
         }
     }
 
     // The number of readers.
-    pub(crate) fn len(&self) -> usize
+    pub(crate) fn len(&self) -> u8
         ensures { result ≡ length self.now }
     {
         self.len
     }
 
     // Takes one step of the reader at index `r`, and returns its output.
-    pub(crate) fn advance(&mut self, table: &mut Table, r: usize) -> Note
+    pub(crate) fn advance(&mut self, table: &mut Table, r: u8) -> Note
         requires here { r < length self.old }
-        requires bound { r < READERS }
         requires within { pin r < length table.old }
         requires readable { IsReadable (slice_index_or self.old r AtRest) }
         ensures words { let d = stage_action r (slice_index_or self.old r AtRest)
@@ -64,12 +63,12 @@ impl ReaderStages {
             in self.new ≡ slice_set self.old r (d.after (slice_index table.old d.word)) }
         ensures note { result ≡ stage_note (suc r) (slice_index_or self.old r AtRest) }
     {
-        advance(table, r, &mut self.stages[r])
+        advance(table, r, &mut self.stages[r as usize])
     }
 }
 
 // Takes one step of the reader at index `r`, which is at this stage, and returns its output.
-fn advance(table: &mut Table, r: usize, stage: &mut ReaderStage) -> Note
+fn advance(table: &mut Table, r: u8, stage: &mut ReaderStage) -> Note
     requires within { pin r < length table.old }
     requires bound { r < READERS }
     requires readable { IsReadable stage.old }
@@ -80,7 +79,7 @@ fn advance(table: &mut Table, r: usize, stage: &mut ReaderStage) -> Note
 {
     let found = table.touch(stage.access(r));
     match stage.advance(found) {
-        Some(sheet) => Note::Read(r as u8 + 1, sheet),
+        Some(sheet) => Note::Read(r + 1, sheet),
         None => Note::Moved,
     }
 }

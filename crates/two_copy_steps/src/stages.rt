@@ -4,7 +4,7 @@ ghost use Rattle.two_copy_steps.specs.declared.views.Stage.TheVariants.{AtRest};
 ghost use Rattle.two_copy_steps.specs.Actions.{pin, stage_action};
 ghost use Rattle.two_copy_steps.specs.Stages.{IsReadable, IsPcPast, accessed_place, left_by, sheet_read};
 
-use crate::table::{COPY_WORDS, READERS, SIDE, pin, place};
+use crate::table::{COPY_WORDS, SIDE, pin, place};
 use council_core::Sheet;
 use std::marker::Model;
 
@@ -72,8 +72,7 @@ impl ReaderStage {
     }
 
     /// The access of the next step of reader `r`, counted from 0, to its word.
-    pub fn access(&self, r: usize) -> Access
-        requires bound { r < READERS }
+    pub fn access(&self, r: u8) -> Access
         requires readable { IsReadable self.now }
         ensures word { accessed_place result ≡ (stage_action r self.now).word }
         ensures low { accessed_place result ≤ pin r }

@@ -6,7 +6,7 @@
 //!     words 69 on      a pin for each reader: 1 while it is in a reading, else 0
 ghost use Rattle.std.specs.Prelude.{◌≡◌, ℕ, List, ◌<◌, ◌≤◌, ◌++◌, ◌∷◌, length, replicate};
 ghost use Rattle.std.specs.Prelude.{take, slice_index, slice_set};
-ghost use Rattle.two_copy_steps.specs.declared.table.TheConstants.{WORDS};
+ghost use Rattle.two_copy_steps.specs.declared.table.TheConstants.{READERS, WORDS};
 ghost use Rattle.two_copy_steps.specs.Actions.{pin, place};
 ghost use Rattle.two_copy_steps.specs.Stages.{accessed_place, left_by};
 
@@ -78,7 +78,6 @@ impl Table {
     // Carries out a step's access to its word, and returns the number that is then in it.
     pub(crate) fn touch(&mut self, access: Access) -> u64
         requires within { accessed_place access < length self.old }
-        requires low { accessed_place access < WORDS }
         ensures words { self.new
             ≡ slice_set self.old (accessed_place access)
             (left_by access (slice_index self.old (accessed_place access))) }
@@ -96,19 +95,17 @@ impl Table {
     // The word at this index.
     pub(crate) fn load(&self, place: usize) -> u64
         requires within { place < length self.now }
-        requires low { place < WORDS }
         ensures { result ≡ slice_index self.now place }
     {
-        self.all[place]
+        self.as_slice()[place]
     }
 
     // Stores a word at this index.
     pub(crate) fn store(&mut self, place: usize, word: u64)
         requires within { place < length self.old }
-        requires low { place < WORDS }
         ensures { self.new ≡ slice_set self.old place word }
     {
-        self.all[place] = word;
+        self.all[..self.len][place] = word;
     }
 }
 
@@ -121,11 +118,10 @@ pub fn place(side: u64, k: usize) -> usize
     if side == 0 { COPY_0 + k } else { COPY_1 + k }
 }
 
-/// The index of the pin of reader `r`, counted from 0 and below `READERS`.
-pub fn pin(r: usize) -> usize
-    requires bound { r < READERS }
+/// The index of the pin of reader `r`, counted from 0.
+pub fn pin(r: u8) -> usize
     ensures same { result ≡ pin r }
-    ensures low { result < WORDS }
+    ensures low { r < READERS → result < WORDS }
 {
-    PINS + r
+    PINS + r as usize
 }

@@ -1,7 +1,7 @@
 use Rattle.std.proofs.Common.{◌≡◌, ◌-◌, ◌++◌, List, replicate}
 use Rattle.std.specs.Io.KnownBytes.{Appends}
 use Rattle.two_copy_steps.specs.Transitions.{state_after_events}
-use Rattle.board_text.specs.Lines.{Line}
+use Rattle.board_text.specs.Lines.{LineBytes}
 use Rattle.board_text.specs.Sinks.{GoesOn}
 use Rattle.board_text.specs.Text.{text_of}
 use Rattle.board_runs.specs.Traces.{output_lines}
@@ -10,7 +10,7 @@ use Rattle.board_runs.proofs.tracing.take_all.Given as goal
 -- the lines so far, and then those of the events that are left, are the lines of all
 abbrev pub invariant-loop-turn : goal.invariant-loop-turn
 invariant-loop-turn g l = record {
-  so_far : (done : List Line)
+  so_far : (done : List LineBytes)
       × Appends l.fn.out.held l.out.held (text_of done)
       × (output_lines l.fn.machine (replicate l.count l.event) ≡ done ++ output_lines l.machine (replicate (l.count - l._turn) l.event));
   state : state_after_events l.fn.machine (replicate l.count l.event) ≡ state_after_events l.machine (replicate (l.count - l._turn) l.event);

@@ -1,30 +1,36 @@
-use Rattle.board_serve.specs.Plans.{plan_shown}
+use Rattle.board_serve.specs.Plans.{plan_over, shares_of}
 use Rattle.board_serve.proofs.OutcomeFacts.{outcome-of, seated, served-cuts}
 use Rattle.board_serve.proofs.serving.perform.Goals as goal
 
 pub are_legal-requires-clause-legal : goal.are_legal-requires-clause-legal
 are_legal-requires-clause-legal g c =
-    let p = plan_shown c.args.plan in
+    let parts = c.into_parts-begun in
     let work = c.in_ok-work.work in
     let start = c.in_ok-work.ensures in
-    let seats = seated c.args.plan work c.requires.sound.none start.writer start.orders start.readers start.asked in
-    rw (c.as_slice.ensures.value, ← c.requires.sound.members) (outcome-of p work c.in_ok-done.done c.in_ok-answers.answers.items c.in_ok-answers.served seats c.in_ok-done.ensures.done c.in_ok-answers.ensures.brought).served.legal_journal
+    let seats = seated parts.result.0.register parts.result.1 work parts.ensures.starts.none start.writer start.orders start.readers start.asked in
+    rw (c.as_slice.ensures.value, ← parts.ensures.starts.members)
+    (outcome-of (plan_over parts.result.0.register (shares_of parts.result.1)) work c.in_ok-done.done c.in_ok-answers.answers.items c.in_ok-answers.served seats c.in_ok-done.ensures.done c.in_ok-answers.ensures.brought).served.legal_journal
 
 pub are_legal-requires-clause-in_order : goal.are_legal-requires-clause-in_order
 are_legal-requires-clause-in_order g c =
-    let p = plan_shown c.args.plan in
+    let parts = c.into_parts-begun in
+    let p = plan_over parts.result.0.register (shares_of parts.result.1) in
     let work = c.in_ok-work.work in
     let start = c.in_ok-work.ensures in
-    let seats = seated c.args.plan work c.requires.sound.none start.writer start.orders start.readers start.asked in
+    let seats = seated parts.result.0.register parts.result.1 work parts.ensures.starts.none start.writer start.orders start.readers start.asked in
     served-cuts p c.in_ok-answers.served (outcome-of p work c.in_ok-done.done c.in_ok-answers.answers.items c.in_ok-answers.served seats c.in_ok-done.ensures.done c.in_ok-answers.ensures.brought).served
 
 pub returns-clause-done : goal.returns-clause-done
 returns-clause-done g c =
-    let p = plan_shown c.args.plan in
+    let parts = c.into_parts-begun in
     let work = c.in_ok-work.work in
     let start = c.in_ok-work.ensures in
-    let seats = seated c.args.plan work c.requires.sound.none start.writer start.orders start.readers start.asked in
-    outcome-of p work c.in_ok-done.done c.in_ok-answers.answers.items c.in_ok-answers.served seats c.in_ok-done.ensures.done c.in_ok-answers.ensures.brought
+    let seats = seated parts.result.0.register parts.result.1 work parts.ensures.starts.none start.writer start.orders start.readers start.asked in
+    rw parts.ensures.parts
+    (outcome-of (plan_over parts.result.0.register (shares_of parts.result.1)) work c.in_ok-done.done c.in_ok-answers.answers.items c.in_ok-answers.served seats c.in_ok-done.ensures.done c.in_ok-answers.ensures.brought)
+
+pub returns-clause-records : goal.returns-clause-records
+returns-clause-records g c = rw (c.into_parts-begun.ensures.parts, c.into_parts-begun.ensures.starts.members, ← c.as_slice.ensures.value) c.in_ok-legal.ensures.legal
 
 pub returns-clause-differs : goal.returns-clause-differs
-returns-clause-differs g c = rw (c.requires.sound.members, ← c.as_slice.ensures.value) c.in_ok-legal.ensures.broken
+returns-clause-differs g c = rw (c.into_parts-begun.ensures.parts, c.into_parts-begun.ensures.starts.members, ← c.as_slice.ensures.value) c.in_ok-legal.ensures.broken

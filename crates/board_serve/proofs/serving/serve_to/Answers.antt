@@ -1,27 +1,37 @@
-use Rattle.std.proofs.Common.{Result, subst, sym}
+use Rattle.std.proofs.Common.{Result, ap, subst, sym}
 use Rattle.std.proofs.lemmas.Result.{err_from_is_err_and}
+use Rattle.board_text.specs.Scripts.{interpreted_run}
+use Rattle.board_text.specs.Text.{begun_of, text_of}
 use Rattle.board_text.specs.declared.faults.Fault.{Fault}
 use Rattle.board_text.specs.declared.input.TheConstants.{INTERRUPTIONS}
+use Rattle.board_text.proofs.PlayFacts.{appends-same}
 use Rattle.board_text.proofs.ReadingFacts.{retries-on, retries-passed}
-use Rattle.board_serve.specs.Plans.{Planned, plan_of}
+use Rattle.board_text.proofs.RecordFacts.{begun-end}
+use Rattle.board_serve.specs.Plans.{Planned, plan_of, plan_start, plan_step, two_readers}
 use Rattle.board_serve.specs.Serving.{ServesTo}
-use Rattle.board_serve.proofs.ServeFacts.{fails-serve}
+use Rattle.board_serve.proofs.PlanFacts.{plan-lines}
+use Rattle.board_serve.proofs.ServeFacts.{after-nothing, fails-serve}
 use Rattle.board_serve.proofs.serving.serve_to.Goals as goal
 
 pub returns-in_err-plan-clause-wrote : goal.returns-in_err-plan-clause-wrote
 returns-in_err-plan-clause-wrote g c = λ bytes is.
     let p = err_from_is_err_and c.from_residual.result c.from_residual.ensures.1 in
-    rw p.1 (fails-serve c.args.out.now.held c.in_err-plan.field-0.0 p.0 (plan_of c.args.journal_limit bytes) p.2 (c.in_err-plan.ensures.found bytes is))
+    let lim = two_readers c.args.journal_limit in
+    rw p.1 (fails-serve c.args.out.now.held c.interpret.new.out.held c.in_err-plan.field-0.0 p.0 (interpreted_run plan_start plan_step lim bytes) (plan_of c.args.journal_limit bytes) p.2
+    (plan-lines lim (begun_of lim bytes)) (begun-end plan_start plan_step lim (begun_of lim bytes)) (c.in_err-plan.ensures.wrote bytes is))
 
 pub returns-clause-wrote : goal.returns-clause-wrote
 returns-clause-wrote g c = λ bytes is.
-    let P : Result Planned Fault → Type 0 = ServesTo c.args.out.now.held c.serve_plan.new.out.held c.serve_plan.result in
-    subst P (sym (c.in_ok-plan.ensures.found bytes is)) c.serve_plan.ensures.wrote
+    let lim = two_readers c.args.journal_limit in
+    let nothing = appends-same _ _ _ _ (ap text_of (plan-lines lim (begun_of lim bytes))) (c.in_ok-plan.ensures.wrote bytes is).1 in
+    let P : Result Planned Fault → Type 0 = ServesTo c.interpret.new.out.held c.serve_plan.new.out.held c.serve_plan.result in
+    after-nothing c.args.out.now.held c.interpret.new.out.held c.serve_plan.new.out.held c.serve_plan.result (plan_of c.args.journal_limit bytes) nothing
+    (subst P (sym (c.in_ok-plan.ensures.ended bytes is)) c.serve_plan.ensures.wrote)
 
 pub returns-in_err-plan-clause-retried : goal.returns-in_err-plan-clause-retried
 returns-in_err-plan-clause-retried g c =
     let p = err_from_is_err_and c.from_residual.result c.from_residual.ensures.1 in
-    rw p.1 (retries-passed c.args.input.now c.read_plan.new.input INTERRUPTIONS (Unit {0}) (Unit {0}) c.in_err-plan.field-0.0 p.0 p.2 c.in_err-plan.ensures.retried)
+    rw p.1 (retries-passed c.args.input.now c.interpret.new.input INTERRUPTIONS (Unit {0}) (Unit {0}) c.in_err-plan.field-0.0 p.0 p.2 c.in_err-plan.ensures.retried)
 
 pub returns-clause-retried : goal.returns-clause-retried
-returns-clause-retried g c = retries-on c.args.input.now c.read_plan.new.input INTERRUPTIONS c.serve_plan.result c.in_ok-plan.ensures.retried
+returns-clause-retried g c = retries-on c.args.input.now c.interpret.new.input INTERRUPTIONS c.serve_plan.result c.in_ok-plan.ensures.retried

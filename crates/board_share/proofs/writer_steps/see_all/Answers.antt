@@ -3,9 +3,10 @@ use Rattle.std.proofs.lemmas.List.{take_all}
 use Rattle.std.proofs.lemmas.Option.{same_Some}
 use Rattle.two_copy_steps.specs.declared.events.Note.TheVariants.{Busy}
 use Rattle.two_copy_steps.specs.declared.views.Phase.TheVariants.{Idle, Seeing, Filling}
-use Rattle.two_copy_steps.specs.Actions.{all_true, pin}
-use Rattle.board_share.specs.Writers.{Publishing, WriterTook, due_at, held_by, look_count, publishing_view, seeing_phase, unseen_count}
-use Rattle.board_share.proofs.Publications.{first_at, one_more_out, one_set_out, stays_set, all_there, unseen_set, none_unseen, seeing_at, may, becomes, looked_in, looked_out}
+use Rattle.two_copy_steps.specs.Actions.{all_true, pin, seeing_phase}
+use Rattle.board_share.specs.Writers.{Publishing, WriterTook, due_at, held_by, look_count, publishing_view, unseen_count}
+use Rattle.two_copy_steps.proofs.PublicationFacts.{set_stays}
+use Rattle.board_share.proofs.Publications.{first_at, one_more_out, one_set_out, all_there, unseen_set, none_unseen, seeing_at, may, becomes, looked_in, looked_out}
 use Rattle.board_share.proofs.writer_steps.see_all.Goals as goal
 
 pub loop-r-preserved-then-get : goal.loop-r-preserved-then-get
@@ -89,7 +90,7 @@ loop-r-preserved c =
           (ap (λ (r : ℕ). set c.loop-r.seen_out r true) f.0 ∙ out));
       unseen_less = omega arith;
       stays = λ q h. subst (λ (o : List Bool). slice_get o q ≡ Some true) out
-          (stays_set c.loop-r.seen_out c.loop-r.r q (i.stays q h));
+          (set_stays c.loop-r.seen_out c.loop-r.r q (i.stays q h));
       count = ap (length {A = Bool}) c.set.ensures ∙ (length-set c.loop-r.seen_out c.loop-r.r true ∙ count);
       first = subst (λ (k : ℕ). all_true (take k c.set.new.self) ≡ true) (sym (add-one c.loop-r.r))
           (subst (λ (o : List Bool). all_true (take (suc c.loop-r.r) o) ≡ true) out

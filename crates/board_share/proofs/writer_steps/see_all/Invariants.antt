@@ -1,7 +1,7 @@
 use Rattle.std.proofs.Common.{◌≡◌, ◌≤◌, ◌-◌, true, length, take}
-use Rattle.two_copy_steps.specs.Actions.{all_true}
+use Rattle.two_copy_steps.specs.Actions.{all_true, seeing_phase}
 use Rattle.two_copy_steps.specs.Publications.{StaySeen}
-use Rattle.board_share.specs.Writers.{Publishing, due_at, seeing_phase, unseen_count}
+use Rattle.board_share.specs.Writers.{Publishing, due_at, unseen_count}
 use Rattle.board_share.proofs.writer_steps.see_all.Given as goal
 
 abbrev pub ghosts-load_pin : goal.ghosts-load_pin

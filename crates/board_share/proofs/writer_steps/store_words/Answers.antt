@@ -1,6 +1,7 @@
 use Rattle.std.proofs.Common.{◌≡◌, ◌∙◌, ◌+◌, ◌-◌, ℕ, subst, arith}
-use Rattle.board_share.specs.Writers.{Publishing, filling_phase}
+use Rattle.board_share.specs.Writers.{Publishing}
 use Rattle.board_share.proofs.writer_steps.store_words.Goals as goal
+use Rattle.two_copy_steps.specs.Actions.{filling_phase}
 
 pub loop-k-preserved : goal.loop-k-preserved
 loop-k-preserved c =

@@ -1,5 +1,4 @@
-use Rattle.std.proofs.Common.{◌≡◌, ◌≤◌, drop, length}
-use Rattle.half_sums.specs.declared.lists.TheConstants.{ROOM}
+use Rattle.std.proofs.Common.{◌≡◌, ◌≤◌, ◌^◌, drop, length}
 use Rattle.half_sums.specs.Entries.{first_entries, AreSubsets, IsHalf}
 use Rattle.half_sums.specs.Merges.{IsMirror}
 use Rattle.half_sums.proofs.ordered.list_subsets.Given as goal
@@ -9,7 +8,7 @@ invariant-loop-at l = record {
   subsets : AreSubsets (drop l.at l.chairs) (first_entries l.count l.sums l.masks);
   half : IsHalf (first_entries l.count l.sums l.masks);
   mirror : IsMirror (first_entries l.count l.sums l.masks);
-  bound : l.count ≤ ROOM;
-  sums_room : length l.sums ≡ ROOM;
-  masks_room : length l.masks ≡ ROOM;
+  bound : l.count ≤ 2 ^ length l.chairs;
+  sums_room : length l.sums ≡ 2 ^ length l.chairs;
+  masks_room : length l.masks ≡ 2 ^ length l.chairs;
 }

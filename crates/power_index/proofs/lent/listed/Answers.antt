@@ -2,21 +2,31 @@ use Rattle.std.proofs.Common.{◌≡◌, ◌≤◌, sym, subst, List, eqb, map, 
 use Rattle.std.specs.List.{All, IsDistinct}
 use Rattle.council_core.specs.Sheets.{Chair, weight_of}
 use Rattle.power_index.specs.Halves.{chairs_from_slot}
-use Rattle.power_index.proofs.HalfLemmas.{slotted_slots, slotted_distinct, slotted_sum}
+use Rattle.power_index.proofs.HalfLemmas.{slotted_slots, slotted_distinct, slotted_sum, sets_fit}
 use Rattle.half_sums.specs.declared.groups.TheConstants.{SLOTS}
 use Rattle.power_index.proofs.lent.listed.Goals as goal
 
-pub list_subsets-count-requires-clause-slots : goal.list_subsets-count-requires-clause-slots
-list_subsets-count-requires-clause-slots c =
+pub list_subsets-requires-clause-slots : goal.list_subsets-requires-clause-slots
+list_subsets-requires-clause-slots c =
     let same : c.as_slice.result.now ≡ chairs_from_slot 0 c.args.weights.now = cc in
     subst (λ (l : List Chair). All (λ (ch : Chair). ch.0 < SLOTS) l) (sym same) (slotted_slots c.args.weights.now c.requires.bound)
 
-pub list_subsets-count-requires-clause-distinct : goal.list_subsets-count-requires-clause-distinct
-list_subsets-count-requires-clause-distinct c =
+pub list_subsets-requires-clause-distinct : goal.list_subsets-requires-clause-distinct
+list_subsets-requires-clause-distinct c =
     let same : c.as_slice.result.now ≡ chairs_from_slot 0 c.args.weights.now = cc in
     subst (λ (l : List Chair). IsDistinct eqb (map (λ (ch : Chair). ch.0) l)) (sym same) (slotted_distinct 0 c.args.weights.now)
 
-pub list_subsets-count-requires-clause-small : goal.list_subsets-count-requires-clause-small
-list_subsets-count-requires-clause-small c =
+pub list_subsets-requires-clause-small : goal.list_subsets-requires-clause-small
+list_subsets-requires-clause-small c =
     let same : c.as_slice.result.now ≡ chairs_from_slot 0 c.args.weights.now = cc in
     subst (λ (l : List Chair). weight_of l ≤ 2 ^ 48) (sym same) (omega (arith, slotted_sum 0 c.args.weights.now, c.requires.small))
+
+pub list_subsets-requires-clause-sums_room : goal.list_subsets-requires-clause-sums_room
+list_subsets-requires-clause-sums_room c =
+    let same : c.as_slice.result.now ≡ chairs_from_slot 0 c.args.weights.now = cc in
+    rw same (sets_fit c.args.weights.now c.args.sums.now c.requires.bound c.requires.sums_room)
+
+pub list_subsets-requires-clause-masks_room : goal.list_subsets-requires-clause-masks_room
+list_subsets-requires-clause-masks_room c =
+    let same : c.as_slice.result.now ≡ chairs_from_slot 0 c.args.weights.now = cc in
+    rw same (sets_fit c.args.weights.now c.args.masks.now c.requires.bound c.requires.masks_room)

@@ -4,8 +4,8 @@ use Rattle.power_index.proofs.Bounds.{omega_by_majority}
 use Rattle.power_index.proofs.TallyLemmas.{are_counts, swings_in_order}
 use Rattle.power_index.proofs.listed.tally.Goals as goal
 
-pub swings-seated-requires : goal.swings-seated-requires
-swings-seated-requires c =
+pub swings-by_place-requires : goal.swings-by_place-requires
+swings-by_place-requires c =
     let counts : AreCounts c.args.quota c.args.least_size c.args.sheet.now c.count_lists-counts.result.winning (λ place. get_or c.count_lists-counts.result.with_chair place 0) =
     are_counts c.args.quota c.args.least_size c.args.sheet.now _ _ _ _ c.requires.halves c.count_lists-counts.ensures.winning c.count_lists-counts.ensures.with_chair in
     record { bound = counts.bound; within = counts.within; half = counts.half }
@@ -17,5 +17,5 @@ returns-clause-counts c =
     are_counts c.args.quota c.args.least_size held _ _ _ _ c.requires.halves c.count_lists-counts.ensures.winning c.count_lists-counts.ensures.with_chair in
     record {
       omega = counts.omega ∙ omega_by_majority c.args.quota c.args.least_size c.args.majority held c.requires.quota;
-      each = swings_in_order c.args.quota c.args.least_size c.args.majority held _ _ _ _ _ c.chairs.ensures.same c.in_order.ensures.count c.in_order.ensures.each counts c.swings-seated.ensures.each c.requires.quota;
+      each = swings_in_order c.args.quota c.args.least_size c.args.majority held _ _ _ _ _ c.chairs.ensures.same c.in_order.ensures.count c.in_order.ensures.each counts c.swings-by_place.ensures.each c.requires.quota;
     }

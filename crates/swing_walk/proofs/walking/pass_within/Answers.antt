@@ -4,11 +4,11 @@ use Rattle.swing_walk.proofs.walking.pass_within.Goals as goal
 
 pub pass_next-requires-clause-next : goal.pass_next-requires-clause-next
 pass_next-requires-clause-next g c =
-    let falls : Bool = nat_le c.args.asked.quota (c.at-low.result.sum + c.at-high.result.sum) in
-    looked c.args.asked.quota c.args.places.up c.args.places.rest c.args.rising.now c.args.falling.now c.at-low.result c.at-high.result falls (record {
+    let falls : Bool = nat_le c.args.route.now.quota (c.at-low.result.sum + c.at-high.result.sum) in
+    looked c.args.route.now.quota c.args.position.up c.args.position.rest c.args.route.now.rising c.args.route.now.falling c.at-low.result c.at-high.result falls (record {
       within = c.requires.stands.between.up_in;
       some = omega (arith, c.requires.some_rising);
       low_is = λ _. c.at-low.ensures.same;
       high_is = λ _. c.at-high.ensures.same;
-      test = both_last c.args.places.up (length c.args.rising.now) c.args.places.rest falls c.requires.some_rising c.requires.some_falling;
+      test = both_last c.args.position.up (length c.args.route.now.rising) c.args.position.rest falls c.requires.some_rising c.requires.some_falling;
     })

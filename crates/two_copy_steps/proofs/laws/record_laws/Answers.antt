@@ -6,4 +6,4 @@ pub returns-clause-reported : goal.returns-clause-reported
 returns-clause-reported c = λ ledger readers events. run_reported ledger readers events
 
 pub returns-clause-never_older : goal.returns-clause-never_older
-returns-clause-never_older c = λ ledger readers k events. run_never_older ledger readers events (ledger_records ledger readers k events)
+returns-clause-never_older c = λ ledger readers k events. run_never_older ledger readers events (ledger_records ledger readers k events).readings

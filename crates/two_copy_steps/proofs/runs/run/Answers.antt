@@ -36,7 +36,7 @@ returns-in-Ok-take_all-clause-reported c =
 
 pub returns-in-Ok-take_all-clause-never_older : goal.returns-in-Ok-take_all-clause-never_older
 returns-in-Ok-take_all-clause-never_older c =
-    subst FrontsNeverFall (sym (reported_is c)) (run_never_older c.args.register c.args.readers c.args.events.now (ledger_records c.args.register c.args.readers (given c) c.args.events.now))
+    subst FrontsNeverFall (sym (reported_is c)) (run_never_older c.args.register c.args.readers c.args.events.now (ledger_records c.args.register c.args.readers (given c) c.args.events.now).readings)
 
 pub returns-in-Err-take_all-clause-fault : goal.returns-in-Err-take_all-clause-fault
 returns-in-Err-take_all-clause-fault c =

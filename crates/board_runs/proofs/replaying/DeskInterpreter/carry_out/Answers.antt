@@ -2,7 +2,7 @@ use Rattle.std.proofs.lemmas.Result.{err_from_is_err_and}
 use Rattle.csv.specs.Records.{fields_of}
 use Rattle.board_text.specs.Text.{request_within}
 use Rattle.board_runs.specs.Replays.{reply_to}
-use Rattle.board_runs.proofs.RecordFacts.{turn-refused, turn-valid}
+use Rattle.board_text.proofs.RecordFacts.{turn-refused, turn-valid}
 use Rattle.board_runs.proofs.replaying.DeskInterpreter.carry_out.Goals as goal
 
 pub returns-in_err-request-clause-wrote : goal.returns-in_err-request-clause-wrote

@@ -2,7 +2,7 @@ use Rattle.std.proofs.Common.{◌≡◌, ◌<◌, ◌⊎◌, inl, inr, length, �
 use Rattle.two_copy_steps.specs.declared.events.Note.{Note}
 use Rattle.two_copy_steps.specs.declared.events.Event.TheVariants.{Reader}
 use Rattle.two_copy_steps.specs.Transitions.{MachineState, transition}
-use Rattle.two_copy_steps.proofs.Steps.{skipped_at, seat_here, seat_few, seat_within, seat_readable, read_at, read_machine, read_note}
+use Rattle.two_copy_steps.proofs.Steps.{skipped_at, seat_here, seat_within, seat_readable, read_at, read_machine, read_note}
 use Rattle.two_copy_steps.proofs.machine.Machine.read.Goals as goal
 use Rattle.two_copy_steps.proofs.machine.Machine.read.Goals.{then-number-eq0-via-then-number-eq0, then-number-eq0-via-else-number-eq0+then-len-number}
 
@@ -25,7 +25,6 @@ advance-requires c =
     let h = c.if-len-number.false in
     record {
       here = seat_here _ _ _ _ _ _ _ _ c.self.invariant _ c.self.view_is _ c.if-number-eq0.false (omega arith);
-      bound = seat_few _ _ _ _ _ _ _ _ c.self.invariant _ c.self.view_is _ c.if-number-eq0.false (omega arith);
       within = seat_within _ _ _ _ _ _ _ _ c.self.invariant _ c.self.view_is _ c.if-number-eq0.false (omega arith);
       readable = seat_readable _ _ _ _ _ _ _ _ c.self.invariant _ c.self.view_is _ c.if-number-eq0.false (omega arith);
     }

@@ -5,7 +5,6 @@ use Rattle.two_copy_steps.proofs.machine.Machine.start.Goals as goal
 pub invariant_of-result : goal.invariant_of-result
 invariant_of-result c =
     (start_is _ c.args.readers _ _ _ _ _ record {
-      bound = omega arith;
       legal = publishable _ _ c.sheet-sheet.ensures.ledger c.sheet-sheet.ensures.same c.sheet-sheet.ensures.in_range;
       words_are = c.start.ensures.words ∙ ap (λ (x : List ℕ). 0 ∷ x ++ x ++ replicate c.args.readers 0) (c.words.ensures.same ∙ c.sheet-sheet.ensures.same);
       published_all = omega arith;

@@ -1,0 +1,36 @@
+//! The frame of a run.
+ghost use Rattle.std.specs.Prelude.{◌≡◌, ◌≤◌, ◌+◌, false};
+ghost use Rattle.recording_io.specs.Tapes.{OfInput};
+ghost use Rattle.board_text.specs.Inputs.{RunRetriesAtMost, WastesAtMost};
+ghost use Rattle.board_text.specs.Output.{IsBadLimit};
+ghost use Rattle.board_text.specs.Scripts.{interpreted_run};
+ghost use Rattle.board_text.specs.Text.{in_range};
+ghost use Rattle.board_runs.specs.Ended.{Replays};
+
+use board_text::{Fault, INTERRUPTIONS, Interpreter, Limits, Output, READS, end_run, interpret};
+use recording_io::RecordingReader;
+use std::alloc::Global;
+use std::io::{Read, Write};
+
+// Interprets the input and writes all lines to a writer.
+pub(crate) fn run<I: Interpreter, R: Read + Drop, W: Write>(
+    alloc: Global,
+    input: &mut RecordingReader<R>,
+    out: &mut W,
+    limits: Limits,
+) -> Result<(), Fault>
+    ensures wrote { OfInput input.old input.new
+        (λ bytes. Replays (W.contents out.old) (W.contents out.new) result
+        (interpreted_run I.opened I.step limits bytes)) }
+    ensures limits_first { in_range limits ≡ false → IsBadLimit result × (input.new ≡ input.old) }
+    ensures asks { input.new.asks ≤ input.old.asks + READS }
+    ensures vain { WastesAtMost 1 input.old input.new }
+    ensures retried { RunRetriesAtMost INTERRUPTIONS input.old input.new result }
+{
+    let mut output = Output::new(out);
+    let carried = interpret::<I, R, W>(alloc, input, &mut output, limits);
+    let result = end_run(&mut output, carried);
+    let _out = output.finish();
+    result?;
+    Ok(())
+}

@@ -1,0 +1,26 @@
+use Rattle.std.proofs.Common.{◌≡◌, ap, refl, arith}
+use Rattle.csv.specs.Records.{fields_of}
+use Rattle.board_text.specs.Text.{request_within}
+use Rattle.board_text.proofs.PlayFacts.{plays-nothing}
+use Rattle.board_text.proofs.RecordFacts.{turn-refused, turn-valid}
+use Rattle.board_serve.specs.Plans.{Planned, record_count, shares_of, two_readers}
+use Rattle.board_serve.proofs.PlanFacts.{added, size-request}
+use Rattle.board_serve.proofs.plan.PlanInterpreter.carry_out.Goals as goal
+
+pub returns-in-Err-clause-wrote : goal.returns-in-Err-clause-wrote
+returns-in-Err-clause-wrote g c =
+    turn-refused c.args.number (added c.args.self.now) (request_within (two_readers c.args.limits.journal) (fields_of c.args.row.now)) c.args._out.now.held c.in-Err.stop c.in-Err.stop c.in-Err.ensures.same refl
+
+pub returns-clause-wrote : goal.returns-clause-wrote
+returns-clause-wrote g c =
+    rw (turn-valid c.args.number (added c.args.self.now) (request_within (two_readers c.args.limits.journal) (fields_of c.args.row.now)) c.in-Ok.request c.in-Ok.ensures.same) (plays-nothing c.args._out.now.held c.in_ok-add.field-0)
+
+pub returns-clause-state : goal.returns-clause-state
+returns-clause-state g c =
+    rw (turn-valid c.args.number (added c.args.self.now) (request_within (two_readers c.args.limits.journal) (fields_of c.args.row.now)) c.in-Ok.request c.in-Ok.ensures.same, ← c.self.view_is, c.in_ok-add.ensures.added) refl
+
+pub returns-clause-kept : goal.returns-clause-kept
+returns-clause-kept g c =
+    let one = size-request (shares_of c.self.inside.records) c.in-Ok.request in
+    let before : record_count (shares_of c.self.inside.records) ≡ record_count c.args.self.now.shares = ap (λ (p : Planned). record_count p.shares) c.self.view_is in
+    omega (arith, ap record_count c.in_ok-add.ensures.added, one, before, c.requires.kept)

@@ -1,0 +1,150 @@
+//! Interprets an input: the part of a run that all three commands share.
+ghost use Rattle.std.specs.Prelude.{◌≡◌, ◌≤◌, ◌<◌, ◌+◌, ◌^◌, Ok, [], ℕ, true, false, length};
+ghost use Rattle.std.specs.Prelude.{IfOk, IsErrOf, OnOk, IsOkUnless};
+ghost use Rattle.recording_io.specs.Tapes.{OfInput};
+ghost use Rattle.council_core.specs.declared.refusals.Refusal.TheVariants as why;
+ghost use Rattle.csv.specs.Reading.{default_config, records, strip_bom};
+ghost use Rattle.csv.specs.Records.{fields_of};
+ghost use Rattle.council_core.specs.Ledgers.{Ledger};
+ghost use Rattle.board_text.specs.Inputs.{RetriesAtMost, WastesAtMost};
+ghost use Rattle.board_text.specs.Output.{Plays, StartsRun};
+ghost use Rattle.board_text.specs.Sinks.{GoesOn};
+ghost use Rattle.board_text.specs.Requests.{Row};
+ghost use Rattle.board_text.specs.Scripts.{Turn, begun_end, begun_run, end_of_script, interpreted_end, interpreted_run};
+ghost use Rattle.board_text.specs.Scripts.{run_of_script, script_end, script_run, step_run};
+ghost use Rattle.board_text.specs.Text.{run_begun_with, fault_at, in_range, opened_of};
+ghost use Rattle.board_text.specs.declared.bounds.Limits.{Limits};
+ghost use Rattle.board_text.specs.declared.stops.Stop.TheVariants as stop;
+
+use crate::beginning::{RunStart, begin, read_within};
+use crate::bounds::Limits;
+use crate::input::{INPUT_LIMIT, INTERRUPTIONS, READS};
+use crate::output::Output;
+use crate::script::Script;
+use crate::stops::Stop;
+use csv::ByteRecord;
+use recording_io::RecordingReader;
+use std::alloc::Global;
+use std::io::{Read, Write};
+
+/// The state that the records of a script are carried out on.
+pub trait Interpreter: Sized + Drop {
+    // The state opened over a register at its start.
+    ghost opened: { Limits → Ledger → Self };
+
+    // The effect of a record, and the lines that it prints.
+    ghost step: { Limits → Self → Row → Turn Self };
+
+    // What holds of the state before the record with a number.
+    ghost kept: { ℕ → Self → Type 0 };
+
+    /// Opens the state over the start of a script.
+    ///
+    /// # Errors
+    ///
+    /// `Stop::OutOfMemory`.
+    fn open(alloc: Global, begun: RunStart, limits: Limits) -> Result<Self, Stop>
+        requires starts { StartsRun begun }
+        requires in_range { in_range limits ≡ true }
+        ensures opened { IfOk result (λ interpreter. interpreter ≡ opened limits begun.register) }
+        ensures kept { IfOk result (kept begun.place) }
+        ensures memory { IsOkUnless result stop.OutOfMemory };
+
+    /// Carries out the record with this number and writes its lines.
+    ///
+    /// # Errors
+    ///
+    /// What stopped the run; the state is then unspecified.
+    fn carry_out<W: Write>(
+        &mut self,
+        limits: Limits,
+        row: &ByteRecord,
+        number: u32,
+        out: &mut Output<'_, W>,
+    ) -> Result<(), Stop>
+        requires kept { kept number self.old }
+        ensures wrote { Plays out.old.held out.new.held result
+            (step_run number (step limits self.old (fields_of row.now))) }
+        ensures state { OnOk result (IfOk (step limits self.old (fields_of row.now)) (λ p. self.new ≡ p.1)) }
+        ensures kept { OnOk result (kept (number + 1) self.new) }
+        ensures continues { GoesOn out.old out.new };
+}
+
+// Carries out the script's records in order. `first` is the number of the first.
+fn interpret_script<I: Interpreter, W: Write>(
+    script: &mut Script<'_>,
+    row: &mut ByteRecord,
+    limits: Limits,
+    mut interpreter: I,
+    first: u32,
+    out: &mut Output<'_, W>,
+) -> Result<I, Stop>
+    requires numbers { first + length script.old < 2 ^ 32 }
+    requires kept { I.kept first interpreter }
+    ensures wrote { Plays out.old.held out.new.held result (script_run (I.step limits) interpreter first script.old) }
+    ensures ended { IfOk result (λ i. script_end (I.step limits) interpreter first script.old ≡ Ok i) }
+    ensures kept { IfOk result (λ i. (number : ℕ) × (number < 2 ^ 32) × I.kept number i) }
+    ensures continues { GoesOn out.old out.new }
+{
+    let mut number = first;
+    'records: loop {
+        if !script.next(row)? {
+            return Ok(interpreter);
+        }
+        interpreter.carry_out(limits, row, number, out)?;
+        number += 1;
+    }
+}
+
+// Interprets the records of a text.
+fn interpret_text<I: Interpreter, W: Write>(
+    alloc: Global,
+    text: &[u8],
+    limits: Limits,
+    out: &mut Output<'_, W>,
+) -> Result<I, Stop>
+    requires short { length text.now ≤ INPUT_LIMIT }
+    requires in_range { in_range limits ≡ true }
+    ensures wrote { Plays out.old.held out.new.held result
+        (begun_run (run_of_script I.opened I.step limits)
+        (run_begun_with limits (opened_of (records default_config (strip_bom text.now))))) }
+    ensures ended { IfOk result
+        (λ i. begun_end (end_of_script I.opened I.step limits)
+        (run_begun_with limits (opened_of (records default_config (strip_bom text.now)))) ≡ Ok i) }
+    ensures kept { IfOk result (λ i. (number : ℕ) × (number < 2 ^ 32) × I.kept number i) }
+    ensures continues { GoesOn out.old out.new }
+{
+    let mut script = Script::new(alloc, text);
+    let mut row = ByteRecord::new(alloc);
+    let begun = begin(alloc, &mut script, &mut row, limits)?;
+    let first = begun.place;
+    let interpreter = I::open(alloc, begun, limits)?;
+    interpret_script(&mut script, &mut row, limits, interpreter, first, out)
+}
+
+/// Interprets the input, without the line of a fault, and returns the state after it.
+///
+/// # Errors
+///
+/// What stopped the run. The lines written before stay.
+pub fn interpret<I: Interpreter, R: Read + Drop, W: Write>(
+    alloc: Global,
+    input: &mut RecordingReader<R>,
+    out: &mut Output<'_, W>,
+    limits: Limits,
+) -> Result<I, Stop>
+    ensures wrote { OfInput input.old input.new
+        (λ bytes. Plays out.old.held out.new.held result (interpreted_run I.opened I.step limits bytes)) }
+    ensures ended { IfOk result
+        (λ i. OfInput input.old input.new (λ bytes. interpreted_end I.opened I.step limits bytes ≡ Ok i)) }
+    ensures kept { IfOk result (λ i. (number : ℕ) × (number < 2 ^ 32) × I.kept number i) }
+    ensures limits_first { in_range limits ≡ false
+        → IsErrOf result (stop.Input (fault_at why.BadLimit 0)) × (input.new ≡ input.old) }
+    ensures asks { input.new.asks ≤ input.old.asks + READS }
+    ensures vain { WastesAtMost 1 input.old input.new }
+    ensures retried { RetriesAtMost INTERRUPTIONS input.old input.new result }
+    ensures continues { GoesOn out.old out.new }
+{
+    let text = read_within(alloc, input, limits)?;
+    interpret_text::<I, W>(alloc, text.as_slice(), limits, out)
+}

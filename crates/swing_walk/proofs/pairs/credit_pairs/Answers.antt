@@ -1,7 +1,0 @@
-use Rattle.swing_walk.proofs.pairs.credit_pairs.Goals as goal
-
-pub walk-requires-2-clause-front : goal.walk-requires-2-clause-front
-walk-requires-2-clause-front c = c.start-front.ensures.counted c.args.right.now
-
-pub walk-requires-2-clause-back : goal.walk-requires-2-clause-back
-walk-requires-2-clause-back c = c.start-back.ensures.counted c.args.left.now

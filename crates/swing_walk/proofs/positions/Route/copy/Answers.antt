@@ -1,0 +1,5 @@
+use Rattle.swing_walk.proofs.Routes.{same_route}
+use Rattle.swing_walk.proofs.positions.Route.copy.Goals as goal
+
+pub returns : goal.returns
+returns c = record { same = same_route c.args.self.now _ _ _ _ c.copy.ensures.same c.copy-2.ensures.same }
