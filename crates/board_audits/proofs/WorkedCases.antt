@@ -1,5 +1,5 @@
 -- Audits of a register of one member, computed.
-use Rattle.std.proofs.Common.{◌≡◌, ℕ, List, [], ◌∷◌, ◌++◌, replicate, Some, Ok, Err, refl, ⊎_elim}
+use Rattle.std.proofs.Common.{◌≡◌, ◌≤◌, ℕ, suc, List, [], ◌∷◌, ◌++◌, length, replicate, take, Some, Ok, Err, arith, refl, subst, ⊎_elim}
 use Rattle.council_core.specs.Rolls.{Opening, IsLegal}
 use Rattle.council_core.specs.declared.commands.Command.{Command}
 use Rattle.council_core.specs.declared.commands.Command.TheVariants.{Open, Move}
@@ -105,3 +105,24 @@ stray_by_the_law law = (law one_member seated (1 ∷ 3 ∷ []) [] 2 refl).1
 
 pub mismatch_by_the_law : ReadingsFaultLaw → IsFirstMismatch one_member seated (0 ∷ 2 ∷ []) ((one_done ∷ []) ∷ []) 1 1
 mismatch_by_the_law law = (law one_member seated (2 ∷ []) ((one_done ∷ []) ∷ []) 1 1 refl).2
+
+-- of three items, the second is the first that makes the list longer than one
+abbrev IsShort : List ℕ → Type 0
+IsShort items = length items ≤ 1
+
+breach_at_second : IsFirstBreach IsShort (7 ∷ 8 ∷ 9 ∷ []) 2
+breach_at_second = record { before = 1; counted = refl; within = omega arith; holds = omega arith; broken = λ short. omega arith }
+
+breach_not_at_first : IsFirstBreach IsShort (7 ∷ 8 ∷ 9 ∷ []) 1 → ⊥
+breach_not_at_first b =
+    let none : b.before ≡ 0 = omega (arith, b.counted) in
+    subst (λ (n : ℕ). IsShort (take (suc n) (7 ∷ 8 ∷ 9 ∷ [])) → ⊥) none b.broken (omega arith)
+
+breach_not_at_third : IsFirstBreach IsShort (7 ∷ 8 ∷ 9 ∷ []) 3 → ⊥
+breach_not_at_third b =
+    let two : b.before ≡ 2 = omega (arith, b.counted) in
+    let short : 2 ≤ 1 = subst (λ (n : ℕ). IsShort (take n (7 ∷ 8 ∷ 9 ∷ []))) two b.holds in
+    omega arith
+
+breach_within : IsFirstBreach IsShort (7 ∷ []) 2 → ⊥
+breach_within b = omega (arith, b.counted, b.within)

@@ -6,7 +6,8 @@ use Rattle.recording_io.specs.Tapes.{Giving, OfInput}
 use Rattle.council_core.specs.declared.refusals.Refusal.TheVariants as why
 use Rattle.board_text.specs.Lines.{fault_line}
 use Rattle.board_text.specs.Text.{Run, end_lines, fault_at, output, text_of}
-use Rattle.board_text.specs.Output.{AppendsFront, AppendsLines, Ends, EndsRun, EndsStopped, IsBroken, IsFrontOf, Plays, StopsIn, fault_of}
+use Rattle.two_copy_steps.specs.Lawful.{IsPrefix}
+use Rattle.board_text.specs.Output.{AppendsFront, AppendsLines, Ends, EndsRun, EndsStopped, IsBroken, Plays, StopsIn, fault_of}
 use Rattle.board_runs.specs.Ended.{EndsIn, Replays}
 use Rattle.board_text.specs.declared.faults.Fault.{Fault}
 use Rattle.board_text.specs.declared.stops.Stop.{Stop}
@@ -17,7 +18,7 @@ use Rattle.board_text.proofs.PlayFacts.{front-then, line-then}
 -- a run cut by the writer
 cut-run : (a b : Option (List ℕ)) (run : Run) → StopsIn a b stop.WriteFault run → EndsIn a b (fault_at why.WriteFault 0) run
 cut-run a b run p =
-    let P : List ℕ → Type 0 = λ t. IsFrontOf p.0 t in
+    let P : List ℕ → Type 0 = λ t. IsPrefix p.0 t in
     let front = subst P (sym (text-after run.lines (end_lines run.end))) (front-before p.0 (text_of run.lines) (text_of (end_lines run.end)) p.1) in
     inr (inr (refl, (output run, inl refl, (p.0, front, p.2))))
 

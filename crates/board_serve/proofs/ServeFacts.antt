@@ -6,7 +6,8 @@ use Rattle.std.specs.Io.KnownBytes.{Appends}
 use Rattle.council_core.specs.Sequential.{Reply, answered}
 use Rattle.council_core.specs.declared.refusals.Refusal.TheVariants as why
 use Rattle.board_text.specs.Lines.{LineBytes, audit_line, fault_line, reply_line}
-use Rattle.board_text.specs.Output.{AppendsFront, AppendsLines, Ends, EndsRun, EndsStopped, IsBroken, IsFrontOf, Plays, StopsIn, Writes, fault_of}
+use Rattle.two_copy_steps.specs.Lawful.{IsPrefix}
+use Rattle.board_text.specs.Output.{AppendsFront, AppendsLines, Ends, EndsRun, EndsStopped, IsBroken, Plays, StopsIn, Writes, fault_of}
 use Rattle.board_text.specs.Text.{Run, end_lines, fault_at, line_text, output, printed_run, stopped_run, text_of, with_lines}
 use Rattle.board_text.specs.declared.faults.Fault.{Fault}
 use Rattle.council_core.specs.declared.calls.Answer.{Answer}
@@ -120,7 +121,7 @@ is-run p false differs = inr (append-nil (work_lines p), refl, differs refl)
 -- a prefix of the lines is a prefix of the output
 cut-output : (a b : Option (List ℕ)) (run : Run) → AppendsFront a b (text_of run.lines) → AppendsFront a b (output run)
 cut-output a b run t =
-    let P : List ℕ → Type 0 = λ text. IsFrontOf t.0 text in
+    let P : List ℕ → Type 0 = λ text. IsPrefix t.0 text in
     (t.0, subst P (sym (text-after run.lines (end_lines run.end))) (front-before t.0 (text_of run.lines) (text_of (end_lines run.end)) t.1), t.2)
 
 -- the report was written

@@ -1,5 +1,5 @@
 -- The text that a run has written, by its result.
-use Rattle.std.specs.Prelude.{◌≡◌, ◌≤◌, ℕ, length, take, ◌⊎◌, List, [], ◌++◌, Option}
+use Rattle.std.specs.Prelude.{◌≡◌, ◌≤◌, ℕ, length, take, ◌⊎◌, List, [], Option}
 use Rattle.std.specs.Prelude.{Some, None, Result, Ok, Err}
 use Rattle.std.specs.Io.KnownBytes.{Appends}
 use Rattle.council_core.specs.Ledgers.{Ledger, start_verdict}
@@ -7,6 +7,7 @@ use Rattle.council_core.specs.Rolls.{Opening}
 use Rattle.council_core.specs.declared.limits.TheConstants.{MAX_COMMANDS}
 use Rattle.council_core.specs.declared.refusals.Refusal.{Refusal}
 use Rattle.council_core.specs.declared.refusals.Refusal.TheVariants as why
+use Rattle.two_copy_steps.specs.Lawful.{IsPrefix}
 use Rattle.board_text.specs.declared.bounds.Limits.{Limits}
 use Rattle.board_text.specs.Lines.{LineBytes, fault_line}
 use Rattle.board_text.specs.Requests.{Row}
@@ -17,13 +18,9 @@ use Rattle.board_text.specs.declared.faults.Fault.{Fault}
 use Rattle.board_text.specs.declared.stops.Stop.{Stop}
 use Rattle.board_text.specs.declared.stops.Stop.TheVariants as stop
 
--- the first list is a prefix of the second
-abbrev pub IsFrontOf : {A : Type 0} → List A → List A → Type 0
-IsFrontOf {A} front whole = (rest : List A) × (whole ≡ front ++ rest)
-
 -- a prefix of the text was appended
 abbrev pub AppendsFront : Option (List ℕ) → Option (List ℕ) → List ℕ → Type 0
-AppendsFront old new text = (front : List ℕ) × IsFrontOf front text × Appends old new front
+AppendsFront old new text = (front : List ℕ) × IsPrefix front text × Appends old new front
 
 -- `Ok`: the whole text was appended. WriteFault, the only error: a prefix of it was appended
 abbrev pub Writes : Option (List ℕ) → Option (List ℕ) → Result (Unit {0}) Stop → List ℕ → Type 0
@@ -38,7 +35,7 @@ WritesSome old new (Err e) text = (e ≡ stop.WriteFault) × AppendsFront old ne
 
 -- a prefix of these lines was appended
 abbrev pub AppendsLines : Option (List ℕ) → Option (List ℕ) → List LineBytes → Type 0
-AppendsLines old new lines = (front : List LineBytes) × IsFrontOf front lines × Appends old new (text_of front)
+AppendsLines old new lines = (front : List LineBytes) × IsPrefix front lines × Appends old new (text_of front)
 
 -- the text that was appended before the line of the fault
 abbrev pub StopsIn : Option (List ℕ) → Option (List ℕ) → Stop → Run → Type 0

@@ -11,7 +11,7 @@ use std::test::Fail;
 use std::thread;
 use std::thread::{Threads, join};
 
-const LAST: u32 = 2_000;
+const LAST: u32 = 500;
 
 // A limit, so that a failing test ends. A reader takes ten million readings while a busy machine
 // delays the writer for a second.

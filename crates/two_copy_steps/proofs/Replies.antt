@@ -82,8 +82,8 @@ module _ (Legal : Opening → List Command → Type 0) where
       let w = m.writer in
       let b = l.state.writer.begins in
       let e = l.extends in
-      let whole : w.published ++ (b.0 ++ e.0) ≡ m.ledger.journal = sym (append_assoc w.published b.0 e.0) ∙ (ap (λ (c : List Command). c ++ e.0) b.1 ∙ e.1) in
-      ap (take (length w.published)) (sym whole) ∙ take-append_seam w.published (b.0 ++ e.0)
+      let whole : m.ledger.journal ≡ w.published ++ (b.0 ++ e.0) = e.1 ∙ (ap (λ (c : List Command). c ++ e.0) b.1 ∙ append_assoc w.published b.0 e.0) in
+      ap (take (length w.published)) whole ∙ take-append_seam w.published (b.0 ++ e.0)
 
   loaded_held : (words : List ℕ) (given : Option Reply) (s : ℕ) (ws numbers : List ℕ) → given ≡ Some (reading numbers) → length numbers ≡ COPY_WORDS → ShowsSheet words s numbers
       → ((i : ℕ) → i < length ws → get_or ws i 0 ≡ get_or words (place s i) 0) → length ws ≤ COPY_WORDS → Held words given (stage_with_words s ws)

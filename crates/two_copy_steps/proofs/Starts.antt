@@ -76,7 +76,7 @@ module _ (Legal : Opening → List Command → Type 0) (ledger : Ledger) (reader
         side_is = refl;
         flags = length-replicate readers true ∙ (sym (length-replicate readers (view_at AtRest [])) ∙ ap (length {A = ReaderView}) (sym (viewed_start readers)));
         legal = legal;
-        begins = ([], append-nil ledger.journal);
+        begins = ([], sym (append-nil ledger.journal));
         shown = start_first (sheet_of ledger) (replicate readers 0) long;
         last_cut = ([], refl);
         cuts = λ cut h. let is = only_cut (length ledger.journal) cut h in
@@ -105,7 +105,7 @@ module _ (Legal : Opening → List Command → Type 0) (ledger : Ledger) (reader
           writer = start_writer;
           each_reader = start_reader;
         };
-        extends = ([], append-nil ledger.journal);
+        extends = ([], sym (append-nil ledger.journal));
         whole = λ busy. refl;
         each_record = length-replicate readers [] ∙ sym (length-replicate readers AtRest);
       }

@@ -108,7 +108,7 @@ module _ (Legal : Opening → List Command → Type 0) where
       let found : ℕ = get_or m.words (writing_action (sheet opening) w).word 0 in
       record {
         state = writer_keeps opening (Legal opening) (state_of m aux) l.state;
-        extends = (l.extends.0, ap (λ (commands : List Command). commands ++ l.extends.0) (staged_kept opening w w.phase found) ∙ l.extends.1);
+        extends = (l.extends.0, l.extends.1 ∙ ap (λ (commands : List Command). commands ++ l.extends.0) (sym (staged_kept opening w w.phase found)));
         whole = still_whole opening w w.phase found m.ledger.journal refl l.whole;
         each_record = l.each_record;
       }
@@ -118,8 +118,8 @@ module _ (Legal : Opening → List Command → Type 0) where
   published_keeps m aux l legal false = l
   published_keeps m aux l legal true =
       record {
-        state = begin_keeps m.ledger.opening (Legal m.ledger.opening) (state_of m aux) l.state m.ledger.journal l.extends.0 legal l.extends.1;
-        extends = ([], append-nil m.ledger.journal);
+        state = begin_keeps m.ledger.opening (Legal m.ledger.opening) (state_of m aux) l.state m.ledger.journal l.extends.0 legal (sym l.extends.1);
+        extends = ([], sym (append-nil m.ledger.journal));
         whole = λ _. refl;
         each_record = l.each_record;
       }
@@ -133,7 +133,7 @@ module _ (Legal : Opening → List Command → Type 0) where
   accepted_keeps m aux l command idle =
       record {
         state = l.state;
-        extends = (l.extends.0 ++ command ∷ [], sym (append_assoc m.writer.staged l.extends.0 (command ∷ [])) ∙ ap (λ (commands : List Command). commands ++ command ∷ []) l.extends.1);
+        extends = (l.extends.0 ++ command ∷ [], ap (λ (commands : List Command). commands ++ command ∷ []) l.extends.1 ∙ append_assoc m.writer.staged l.extends.0 (command ∷ []));
         whole = λ busy. absurd (true≢false (sym idle ∙ busy));
         each_record = l.each_record;
       }

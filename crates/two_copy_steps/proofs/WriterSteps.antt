@@ -123,7 +123,7 @@ module _ (opening : Opening) (Legal : List Command → Type 0) where
         side_is = o.side_is;
         flags = o.flags;
         legal = legal;
-        begins = (o.begins.0 ++ rest, sym (append_assoc w.published o.begins.0 rest) ∙ (ap (λ (x : List Command). x ++ rest) o.begins.1 ∙ longer));
+        begins = (o.begins.0 ++ rest, sym longer ∙ (ap (λ (x : List Command). x ++ rest) o.begins.1 ∙ append_assoc w.published o.begins.0 rest));
         shown = o.shown;
         last_cut = o.last_cut;
         cuts = o.cuts;
@@ -226,8 +226,8 @@ module _ (opening : Opening) (Legal : List Command → Type 0) where
       })
 
   -- a cut of the published list is one of the longer staged list
-  cut_stays : (w : Writing) (rest : List Command) → w.published ++ rest ≡ w.staged → (f : ℕ) → f ≤ length w.published → take f w.staged ≡ take f w.published
-  cut_stays w rest begins f le = ap (take f) (sym begins) ∙ take-append-le f w.published rest le
+  cut_stays : (w : Writing) (rest : List Command) → w.staged ≡ w.published ++ rest → (f : ℕ) → f ≤ length w.published → take f w.staged ≡ take f w.published
+  cut_stays w rest begins f le = ap (take f) begins ∙ take-append-le f w.published rest le
 
   swaps : (m : State) → Lawful opening Legal m → Stored opening Legal m.words m.writer.state COPY_WORDS
       → Lawful opening Legal (At (set m.words 0 (other_side m.writer.state.side)) (Known (swapped_writing m.writer.state) (m.writer.cuts ++ length m.writer.state.staged ∷ [])) m.readers)
@@ -248,7 +248,7 @@ module _ (opening : Opening) (Legal : List Command → Type 0) where
         side_is = get_or-set_same m.words 0 t 0 (omega arith);
         flags = length-replicate (length w.seen_out) false ∙ o.flags;
         legal = o.legal;
-        begins = ([], append-nil w.staged);
+        begins = ([], sym (append-nil w.staged));
         shown = λ i g. kept t i ∙ h.1 i g;
         last_cut = (cuts, refl);
         cuts = λ f e. ⊎_elim

@@ -70,8 +70,8 @@ IsLoadedFrom words side loaded =
     (i : ℕ) → i < length loaded → slice_index loaded i ≡ slice_index words (place side i)
 
 -- the first list is a prefix of the second
-abbrev pub IsPrefix : List Command → List Command → Type 0
-IsPrefix list longer = (rest : List Command) × (list ++ rest ≡ longer)
+abbrev pub IsPrefix : {A : Type 0} → List A → List A → Type 0
+IsPrefix {A} list longer = (rest : List A) × (longer ≡ list ++ rest)
 
 -- a legal list whose sheet is in range
 abbrev pub IsPublishable : Opening → List Command → Type 0
