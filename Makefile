@@ -137,9 +137,10 @@ $(CRATES:%=$O/deep/%.proved): $O/deep/%.proved: $$(call sources,$$*) $$(call bel
 	$(call rattle,$*,build,/deep)
 	proves -o $O/deep/$*.rlib
 	touch $@
-$(CRATES:%=$O/deep/%.checked): $O/deep/%.checked: $$(call below,$$*,/deep)
+$(CRATES:%=$O/deep/%.checked): $O/deep/%.checked: $$(call sources,$$*) $$(call below,$$*,/deep)
 	@mkdir -p $O/deep && cd crates/$*
-	$(KIT)/bin/rattle check $(call over,$*,/deep) $(if $(filter $*,$(TESTS)),--test) --no-cache --jobs 1 2>&1 | tee $@ | tail -n 1
+	$(KIT)/bin/rattle check $(call over,$*,/deep) $(if $(filter $*,$(TESTS)),--test) --no-cache --jobs $(JOBS) 2>&1 \
+	  | tee $@ | tail -n 1
 $(CRATES:%=deep-%): deep-%: $O/deep/%.checked  # one of them
 deep: $(CRATES:%=$O/deep/%.checked)  ## each crate with everything that it reads, trusting no earlier check: hours
 
