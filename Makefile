@@ -167,7 +167,7 @@ tail -qn 1 $O/said/* | awk -v status=$$status '/^[0-9]+ passed, [0-9]+ failed$$/
   END {print passed + 0 " passed, " (status && !failed ? 1 : failed + 0) " failed"}'
 exit $$status
 endef
-.PHONY: docs lint tools ci edits cases independent memory stress figures targets page-tests release-tests kit-gate
+.PHONY: docs lint tools ci edits cases independent memory register script stress figures targets page-tests release-tests kit-gate
 docs:  ## names, links and made parts of the documents
 	$(call said,docs/check)
 lint:  ## what no clause can say of the sources
@@ -197,6 +197,10 @@ memory: $(patsubst %,$O/%.proved,board memory_tests board_replay)  ## each alloc
 	$(call said,tests/memory/run)
 stress: $O/board_stress.proved  ## rounds of the running board and of serve in real threads, for 30 seconds
 	$(call said,tests/stress/run)
+register: $(STATIC:%=$O/%.proved) board  ## the register's calls from C, against the program and a model
+	$(call said,tests/register/run $O/board)
+script: $(STATIC:%=$O/%.proved) board  ## scripts read as data from C, against the program and the independent reader
+	$(call said,tests/script/run $O/board)
 figures: board  ## the scripts of figures
 	$(call said,figures/check $O/board)
 targets: board module aarch64  ## the library, also for aarch64 and WebAssembly, against the program
@@ -207,7 +211,7 @@ release-tests: release  ## a release, unpacked and run without the toolchain
 	$(call said,tests/release/run)
 
 gate:  ## all that must pass before a change lands
-	+@$(call judged,"docs lint tools" ci "edits cases independent figures memory" stress targets page-tests release-tests)
+	+@$(call judged,"docs lint tools" ci "edits cases independent figures memory register script" stress targets page-tests release-tests)
 clean:  ## removes all results
 	@rm -rf $O {wasm,aarch64,page}/out
 help:  ## this list

@@ -14,16 +14,21 @@ struct answer {
 
 static unsigned char nothing;
 
+/* The largest alignment that malloc gives. A larger one is refused. */
+enum { ALIGNMENT = 16 };
+
 static struct answer answer(void *block) {
     return block ? (struct answer){1, block} : (struct answer){0, &nothing};
 }
 
-/* std asks for alignments of at most 16, which malloc gives. Each block has at least a byte. */
-struct answer rattle_alloc(size bytes, size alignment) { return answer(malloc(bytes ? bytes : 1)); }
+/* Each block has at least a byte. */
+struct answer rattle_alloc(size bytes, size alignment) {
+    return answer(alignment <= ALIGNMENT ? malloc(bytes ? bytes : 1) : 0);
+}
 
-/* Makes a block larger or smaller. Its first `kept` bytes stay as they were. */
+/* Makes a block larger or smaller. Its first `kept` bytes stay as they were. If memory was refused, all do. */
 struct answer rattle_realloc(void *block, size kept, size bytes, size alignment) {
-    return answer(realloc(block, bytes ? bytes : 1));
+    return answer(alignment <= ALIGNMENT ? realloc(block, bytes ? bytes : 1) : 0);
 }
 
 void rattle_dealloc(void *block) { free(block); }

@@ -41,7 +41,7 @@ static uint64_t omegas(const uint64_t *weights) {
         words[at] = weights[at] + 1;
         words[BOARD_CHAIRS] += weights[at];
     }
-    if (board_all_counts(words, BOARD_SHEET_WORDS, &room, &all)) exit(1);
+    if (board_all_counts_of_sheet(words, BOARD_SHEET_WORDS, &room, &all)) exit(1);
     return all.half.omega + all.seventy.omega + all.eighty_five.omega + all.quorum.omega;
 }
 

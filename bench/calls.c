@@ -50,17 +50,17 @@ static uint64_t digest(const struct board_counts *counts) {
 
 static uint64_t by_half(const uint64_t *words) {
     struct board_counts counts;
-    return board_counts(words, BOARD_SHEET_WORDS, BOARD_HALF, &room, &counts) ? 0 : digest(&counts);
+    return board_counts_of_sheet(words, BOARD_SHEET_WORDS, BOARD_HALF, &room, &counts) ? 0 : digest(&counts);
 }
 
 static uint64_t by_quorum(const uint64_t *words) {
     struct board_counts counts;
-    return board_counts(words, BOARD_SHEET_WORDS, BOARD_QUORUM, &room, &counts) ? 0 : digest(&counts);
+    return board_counts_of_sheet(words, BOARD_SHEET_WORDS, BOARD_QUORUM, &room, &counts) ? 0 : digest(&counts);
 }
 
 static uint64_t by_all(const uint64_t *words) {
     struct board_all_counts all;
-    if (board_all_counts(words, BOARD_SHEET_WORDS, &room, &all)) return 0;
+    if (board_all_counts_of_sheet(words, BOARD_SHEET_WORDS, &room, &all)) return 0;
     return digest(&all.half) + digest(&all.seventy) + digest(&all.eighty_five) + digest(&all.quorum);
 }
 

@@ -36,6 +36,8 @@ static const char *const names[] = {
     [31] = "BadCuts",
     [32] = "BadSheet",
     [33] = "TooManyChairs",
+    [34] = "NoRegister",
+    [35] = "BadIndex",
 };
 
 const char *board_version(void) { return BOARD_VERSION; }

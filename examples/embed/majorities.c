@@ -17,7 +17,7 @@ int main(void) {
     const uint64_t words[BOARD_SHEET_WORDS] = {51, 50, 2, [BOARD_CHAIRS] = 100};
     const uint64_t weights[] = {50, 49, 1};
     struct board_all_counts all;
-    if (board_all_counts(words, BOARD_SHEET_WORDS, &room, &all) != BOARD_DONE) return 1;
+    if (board_all_counts_of_sheet(words, BOARD_SHEET_WORDS, &room, &all) != BOARD_DONE) return 1;
     print("half", &all.half);
     print("70", &all.seventy);
     print("85", &all.eighty_five);

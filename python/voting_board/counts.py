@@ -231,13 +231,13 @@ def sheet_of(votes: list[int], total: int) -> array[int]:
 def count_all(sheet: array[int], found: array[int]) -> None:
     """Counts a sheet at all four majorities."""
     place, to = sheet.buffer_info()[0], found.buffer_info()[0]
-    check_done(library.board_all_counts(place, len(sheet), room(), to))
+    check_done(library.board_all_counts_of_sheet(place, len(sheet), room(), to))
 
 
 def count_by(sheet: array[int], number: int, found: array[int], at: int) -> None:
     """Counts a sheet at one majority, into the words from `at` on."""
     place, to = sheet.buffer_info()[0], found.buffer_info()[0] + at * found.itemsize
-    check_done(library.board_counts(place, len(sheet), number, room(), to))
+    check_done(library.board_counts_of_sheet(place, len(sheet), number, room(), to))
 
 
 def check_done(answer: int) -> None:

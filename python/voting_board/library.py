@@ -37,12 +37,12 @@ def opened() -> ctypes.CDLL:
 # A call by `CDLL` releases the lock of the interpreter, so other threads run during it.
 library = opened()
 words, size, number = ctypes.c_void_p, ctypes.c_size_t, ctypes.c_uint32
-library.board_counts.argtypes = [words, size, number, words, words]
-library.board_all_counts.argtypes = [words, size, words, words]
+library.board_counts_of_sheet.argtypes = [words, size, number, words, words]
+library.board_all_counts_of_sheet.argtypes = [words, size, words, words]
 library.board_counts_of_weights.argtypes = [words, size, ctypes.c_uint64, number, words, words]
 library.board_counts_of_members.argtypes = [words, size, number, number, words, words]
 library.board_replay.argtypes = [ctypes.c_char_p, size, number, number, words, size, words, words]
-for name in ("counts", "all_counts", "counts_of_weights", "counts_of_members", "replay"):
+for name in ("counts_of_sheet", "all_counts_of_sheet", "counts_of_weights", "counts_of_members", "replay"):
     getattr(library, f"board_{name}").restype = ctypes.c_uint8
 library.board_version.restype = ctypes.c_char_p
 library.board_refusal_name.argtypes = [number]

@@ -40,6 +40,8 @@ REFUSALS = {
     31: ("BadCuts", "the cuts are not in order, or one is past the journal's end"),
     32: ("BadSheet", "the words are not a sheet's"),
     33: ("TooManyChairs", "more chairs are open than are counted (reserved)"),
+    34: ("NoRegister", "the handle has no register"),
+    35: ("BadIndex", "there is no item at this index"),
 }
 
 OUT_OF_MEMORY = 10

@@ -49,7 +49,7 @@ pub struct Ran {
 }
 
 extern "C" {
-    fn board_all_counts(words: *const u64, len: usize, room: *mut u64, counts: *mut [Found; 4]) -> u8;
+    fn board_all_counts_of_sheet(words: *const u64, len: usize, room: *mut u64, counts: *mut [Found; 4]) -> u8;
     fn board_counts_of_weights(
         weights: *const u64,
         len: usize,
@@ -98,7 +98,7 @@ fn counted<Counted: Default>(call: impl FnOnce(*mut u64, *mut Counted) -> u8) ->
 
 /// The counts by the words of a sheet.
 pub fn all_counts(words: &[u64]) -> Result<[Found; 4], BadBoard> {
-    counted(|room, found| unsafe { board_all_counts(words.as_ptr(), words.len(), room, found) })
+    counted(|room, found| unsafe { board_all_counts_of_sheet(words.as_ptr(), words.len(), room, found) })
 }
 
 /// The counts by weights and a total.

@@ -49,7 +49,7 @@ static int count_board(char *rest) {
         words[len] = weights[len] + 1;
     }
     words[BOARD_CHAIRS] = total;
-    if (board_all_counts(words, BOARD_SHEET_WORDS, &room, &all)) return 1;
+    if (board_all_counts_of_sheet(words, BOARD_SHEET_WORDS, &room, &all)) return 1;
     const struct board_counts *of_all[] = {&all.half, &all.seventy, &all.eighty_five, &all.quorum};
     for (uint32_t majority = 0; majority < 4; majority++) {
         struct board_counts counts;

@@ -1,8 +1,10 @@
-"""The library for C: its calls, its two kinds of library, its version, and the names of its refusals."""
+"""The library for C: its calls, its two kinds of library, how others find them, its version, and the names of its
+refusals."""
 from __future__ import annotations
 
 import re
 import shutil
+from functools import partial
 from pathlib import Path
 
 from answers import answers_in
@@ -38,13 +40,19 @@ def version_of(room: Path) -> str:
 
 
 def check_names(room: Path) -> None:
-    """The version, and the name of each number, are those of VERSION and docs/FORMATS.md, from both libraries."""
+    """The version and the name of each number are those of VERSION and docs/FORMATS.md, from both libraries and, for
+    results, from the header."""
     rows = re.findall(r"^\| (\d+) \| (\w+) \| .* \|$", (room / "docs/FORMATS.md").read_text(), re.MULTILINE)
     wanted = "".join(f"{number} {name}\n" for number, name in rows)
     for library in [["lib/libboard.a"], ["-Llib", "-lboard", f"-Wl,-rpath,{room}/lib"]]:
         ran(["cc", *STRICT, str(SOURCES / "names.c"), *library, "-o", "names"], room)
         got = ran(["./names"], room)
         assert got == f"{version_of(room)}\n{wanted}", f"{library}: {got}"
+    results = (room / "include/board.h").read_text().partition("/* Results")[2].partition("};")[0]
+    declared = {number: name for name, number in re.findall(r"\bBOARD_(\w+) = (\d+)", results) if number != "0"}
+    assert len(declared) > 20, declared
+    named = {number: re.sub(r"\B([A-Z])", r"_\1", name).upper() for number, name in rows}
+    assert declared.items() <= named.items(), f"the header names {declared.items() - named.items()}"
 
 
 def check_shared(room: Path) -> None:
@@ -54,7 +62,7 @@ def check_shared(room: Path) -> None:
     link = room / "lib" / "libboard.so"
     assert link.is_symlink() and str(link.readlink()) == name, "libboard.so is no link to the shared library"
     output = ran(["readelf", "--dynamic", "--wide", f"lib/{name}"], room)
-    assert f"soname: [{name}]" in output, output
+    assert f"soname: [{name}]" in output and "BIND_NOW" in output, output
     assert re.findall(r"Shared library: \[(.*)\]", output) == ["libc.so.6"], output
     symbols = ran(["nm", "--dynamic", f"lib/{name}"], room)
     newest = max(tuple(map(int, it.split("."))) for it in re.findall(r"@GLIBC_([\d.]+)", symbols))
@@ -75,6 +83,47 @@ def check_package_config(room: Path) -> None:
     assert ran(["./three"], elsewhere).startswith("51 votes win, 3 of 8 coalitions\n")
 
 
+def cmake_begins(work: Path, room: Path, version: str, components: str) -> bool:
+    """Whether CMake finds the library, by the address of a release, in this version and with these components."""
+    shutil.rmtree(work, ignore_errors=True)
+    given = {"PREFIX_PATH": room, "EXAMPLE": room / "examples/embed/three_chairs.c", "STRUCTS": SOURCES / "structs.c"}
+    words = [f"-D{name}={value}" for name, value in [*given.items(), ("VERSION", version), ("COMPONENTS", components)]]
+    try:
+        ran(["cmake", "-S", str(SOURCES / "cmake"), "-B", str(work), *words], room)
+    except AssertionError as why:
+        assert "Could not find a configuration file" in str(why) or "no library" in str(why), why
+        return False
+    return True
+
+
+def check_cmake(room: Path, name: str) -> None:
+    """CMake finds the library in any folder, and programs run with it; it finds no other version and no other form."""
+    place, work = room.parent / f"for {name}", room.parent / f"made for {name}"
+    place.symlink_to(room)
+    components = "" if name == "shared" else name
+    minor = version_of(room).rpartition(".")[0]
+    major, _, second = minor.partition(".")
+    for other in (f"{major}.{int(second) + 1}", f"{int(major) + 1}", f"{minor}.999"):
+        assert not cmake_begins(work, place, other, components), f"version {other} is found"
+    assert not cmake_begins(work, place, minor, "other"), "a library of another form is found"
+    assert cmake_begins(work, place, minor, components), f"version {minor} isn't found"
+    ran(["cmake", "--build", str(work)], room)
+    assert ran([f"{work}/three"], room).startswith("51 votes win, 3 of 8 coalitions\n")
+    assert ran([f"{work}/structs"], room) == "3 swings\n"
+    needs_shared = "libboard.so" in ran(["readelf", "--dynamic", f"{work}/three"], room)
+    assert needs_shared == (name == "shared"), "it is linked with the other library"
+
+
+def check_structs(room: Path) -> None:
+    """The structs have the sizes that the header gives as numbers, and in C++ they need no `struct`."""
+    languages = [("cc", ["-std=c11"])] + [("g++", ["-x", "c++", f"-std={it}"]) for it in ("c++11", "c++20")]
+    for compiler, flags in [it for it in languages if shutil.which(it[0])]:
+        warnings = ["-Wall", "-Wextra", "-pedantic", "-Werror", "-Iinclude"]
+        source = [*flags, str(SOURCES / "structs.c"), "-x", "none", "lib/libboard.a"]
+        ran([compiler, *warnings, *source, "-o", "structs"], room)
+        assert ran(["./structs"], room) == "3 swings\n", compiler
+
+
 def check_other_languages(room: Path) -> None:
     """The header compiles as C99, C11, C++11 and C++20."""
     (room / "header.c").write_text('#include "board.h"\nint main(void) { return 0; }\n')
@@ -92,7 +141,7 @@ def check_aarch64(room: Path) -> None:
 
 
 def cases(room: Path) -> list[Case]:
-    found = [
+    found: list[Case] = [
         ("the calls from C", lambda: check_calls(room)),
         ("2,000 boards from C", lambda: check_answers(room, "boards")),
         ("500 scripts from C", lambda: check_answers(room, "scripts")),
@@ -100,9 +149,14 @@ def cases(room: Path) -> list[Case]:
         ("the names of C's refusals, and the version", lambda: check_names(room)),
         ("the shared library", lambda: check_shared(room)),
         ("board.h in C and C++", lambda: check_other_languages(room)),
+        ("the structs in C and C++", lambda: check_structs(room)),
         ("the library for aarch64", lambda: check_aarch64(room)),
     ]
     if shutil.which("pkg-config"):
-        return [*found, ("pkg-config", lambda: check_package_config(room))]
-    print("tests/release: pkg-config isn't here, so its file is left out")
+        found += [("pkg-config", lambda: check_package_config(room))]
+    if shutil.which("cmake"):
+        found += [(f"CMake, {it} library", partial(check_cmake, room, it)) for it in ("shared", "static")]
+    for tool in ["pkg-config", "cmake"]:
+        if not shutil.which(tool):
+            print(f"tests/release: {tool} isn't here, so its files are left out")
     return found

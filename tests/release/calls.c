@@ -1,6 +1,6 @@
-/* The four calls of board.h: against a count over all coalitions of small boards, on input that is refused, over a room
- * with other content, on a thread with 64 KB of stack, and on threads at once. Ends in a line 'N passed, M failed', and
- * in that status. */
+/* The calls of board.h that count boards: against a count over all coalitions of small boards, on input that is
+ * refused, over a room with other content, on a thread with 64 KB of stack, and on threads at once. Ends in a line 'N
+ * passed, M failed', and in that status. */
 #include "board.h"
 #include <pthread.h>
 #include <stdio.h>
@@ -123,12 +123,12 @@ static void count_boards(void) {
         size_t count = members_of(&board, members, &open_chairs);
         words_of(&board, words);
         memset(&room, at, sizeof room);
-        int done = board_all_counts(words, BOARD_SHEET_WORDS, &room, &all) == BOARD_DONE;
+        int done = board_all_counts_of_sheet(words, BOARD_SHEET_WORDS, &room, &all) == BOARD_DONE;
         const struct board_counts *of_all[MAJORITIES] = {&all.half, &all.seventy, &all.eighty_five, &all.quorum};
         for (uint32_t majority = 0; majority < MAJORITIES; majority++) {
-            judge(done && are_counts(&board, majority, of_all[majority]), "board_all_counts");
-            done &= board_counts(words, BOARD_SHEET_WORDS, majority, &room, &counts) == BOARD_DONE;
-            judge(done && are_counts(&board, majority, &counts), "board_counts");
+            judge(done && are_counts(&board, majority, of_all[majority]), "board_all_counts_of_sheet");
+            done &= board_counts_of_sheet(words, BOARD_SHEET_WORDS, majority, &room, &counts) == BOARD_DONE;
+            judge(done && are_counts(&board, majority, &counts), "board_counts_of_sheet");
             done &= board_counts_of_members(members, count, open_chairs, majority, &room, &counts) == BOARD_DONE;
             judge(done && are_counts(&board, majority, &counts), "board_counts_of_members");
             if (!is_first) continue;
@@ -149,7 +149,7 @@ static void refused(uint8_t answer, uint8_t wanted, const char *what) {
 static void refuse(void) {
     const uint64_t most = (uint64_t)1 << 48, half = (uint64_t)1 << 63;
     const uint64_t three[] = {50, 49, 1}, high[] = {UINT64_MAX}, wraps[] = {half, half, 1};
-    const size_t lengths[] = {33, (size_t)1 << 61, (size_t)1 << 63, SIZE_MAX};
+    const size_t lengths[] = {33, (size_t)1 << 61, (size_t)1 << 63, SIZE_MAX}, words_len = BOARD_SHEET_WORDS;
     const uint32_t majorities[] = {4, 255, 256, UINT32_MAX};
     const struct board_member far = {1, 33, 0}, heavy[] = {{most, 1, 0}, {1, 0, 0}}, one = {1, 1, 0};
     uint64_t words[BOARD_SHEET_WORDS] = {0};
@@ -160,22 +160,22 @@ static void refuse(void) {
         size_t len = lengths[at];
         uint32_t majority = majorities[at];
         refused(board_counts_of_weights(NULL, len, 0, 0, &room, counts), BOARD_BAD_SHEET, "too many weights");
-        refused(board_counts(NULL, len, 0, &room, counts), BOARD_BAD_SHEET, "too many words");
-        refused(board_all_counts(NULL, len, &room, &kept), BOARD_BAD_SHEET, "too many words for all majorities");
+        refused(board_counts_of_sheet(NULL, len, 0, &room, counts), BOARD_BAD_SHEET, "too many words");
+        refused(board_all_counts_of_sheet(NULL, len, &room, &kept), BOARD_BAD_SHEET, "too many words for all");
         refused(board_counts_of_weights(three, 3, 100, majority, &room, counts), BOARD_BAD_RECORD, "no majority");
-        refused(board_counts(words, BOARD_SHEET_WORDS, majority, &room, counts), BOARD_BAD_RECORD, "no majority");
+        refused(board_counts_of_sheet(words, words_len, majority, &room, counts), BOARD_BAD_RECORD, "no majority");
         refused(board_counts_of_members(&one, 1, 0, majority, &room, counts), BOARD_BAD_RECORD, "no majority");
     }
     refused(board_counts_of_weights(three, 3, 99, 9, &room, counts), BOARD_BAD_SHEET, "a total below the sum");
     refused(board_counts_of_weights(three, 3, most + 1, 0, &room, counts), BOARD_BAD_SHEET, "a total above 2^48");
     refused(board_counts_of_weights(high, 1, 0, 0, &room, counts), BOARD_BAD_SHEET, "a weight of 2^64 - 1");
     refused(board_counts_of_weights(wraps, 3, 1, 0, &room, counts), BOARD_BAD_SHEET, "a sum above 2^64");
-    refused(board_counts(words, BOARD_SHEET_WORDS - 1, 0, &room, counts), BOARD_BAD_SHEET, "33 words");
-    refused(board_counts(NULL, 0, 0, &room, counts), BOARD_BAD_SHEET, "no words");
+    refused(board_counts_of_sheet(words, words_len - 1, 0, &room, counts), BOARD_BAD_SHEET, "33 words");
+    refused(board_counts_of_sheet(NULL, 0, 0, &room, counts), BOARD_BAD_SHEET, "no words");
     refused(board_counts_of_members(&far, 1, 0, 9, &room, counts), BOARD_BAD_SHEET, "a member in chair 33");
     refused(board_counts_of_members(heavy, 2, 0, 0, &room, counts), BOARD_BAD_SHEET, "a total of members above 2^48");
     words[BOARD_SHEET_WORDS - 1] = 1000001;
-    refused(board_all_counts(words, BOARD_SHEET_WORDS, &room, &kept), BOARD_BAD_SHEET, "a front above a million");
+    refused(board_all_counts_of_sheet(words, words_len, &room, &kept), BOARD_BAD_SHEET, "a front above a million");
 }
 
 static void count_largest(void) {

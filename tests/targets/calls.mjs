@@ -84,7 +84,7 @@ function alone(given) {
     sheet.set(weights.map((weight) => weight + 1n));
     sheet[sheet.length - 2] = total;
     for (const it of numbers) callAlone("board_counts_of_weights", weights, 1, [total, it], 1);
-    callAlone("board_all_counts", sheet, 1, [], MAJORITIES.length);
+    callAlone("board_all_counts_of_sheet", sheet, 1, [], MAJORITIES.length);
     for (const it of numbers) callAlone("board_counts_of_members", members, 3, [mask, it], 1);
   }
 }

@@ -35,11 +35,11 @@ static void count_weights(const uint64_t *weights, size_t len, uint64_t total) {
         memset(&same, UNTOUCHED, sizeof same);
         uint8_t answer = board_counts_of_weights(weights, len, total, majority, &room, &counts);
         write_answer(answer, &counts, sizeof counts);
-        if (board_counts(words, chairs + 2, majority, &room, &same) != answer) exit(1);
+        if (board_counts_of_sheet(words, chairs + 2, majority, &room, &same) != answer) exit(1);
         if (memcmp(&counts, &same, sizeof same) != 0) exit(1);
     }
     memset(&all, UNTOUCHED, sizeof all);
-    uint8_t answer = board_all_counts(words, chairs + 2, &room, &all);
+    uint8_t answer = board_all_counts_of_sheet(words, chairs + 2, &room, &all);
     write_answer(answer, &all, sizeof all);
 }
 

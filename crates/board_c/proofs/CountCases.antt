@@ -8,10 +8,11 @@ use Rattle.council_core.specs.Coalitions.{omega_of}
 use Rattle.council_core.specs.Rolls.{Roll, sheet_words as roll_words}
 use Rattle.council_core.specs.Sheets.{open_chairs}
 use Rattle.council_core.specs.declared.refusals.Refusal.TheVariants.{BadRecord, BadSheet, OutOfMemory, JournalFull}
-use Rattle.board_c.specs.declared.counts.BoardAllCounts.{BoardAllCounts}
-use Rattle.board_c.specs.declared.counts.BoardCounts.{BoardCounts}
+use Rattle.c_values.specs.declared.counts.BoardAllCounts.{BoardAllCounts}
+use Rattle.c_values.specs.declared.counts.BoardCounts.{BoardCounts}
 use Rattle.board_c.specs.declared.members.BoardMember.{BoardMember}
-use Rattle.board_c.specs.Counts.{ShowsCounts, ShowsAllCounts, IsRefusedAs, IsRefusalOfWords, words_of_weights, majority_numbered}
+use Rattle.c_values.specs.Counts.{ShowsCounts, ShowsAllCounts, majority_numbered}
+use Rattle.board_c.specs.Counts.{IsRefusedAs, IsRefusalOfWords, words_of_weights}
 use Rattle.board_c.specs.Laws.{MembersLaw, RollLaw}
 use Rattle.board_c.specs.Members.{AreRefusedAs, IsBoard, member_words}
 use Rattle.board_c.proofs.WorkedCases.{member}

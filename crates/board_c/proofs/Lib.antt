@@ -1,4 +1,3 @@
-mod RowLemmas
 mod MemberSums
 pub mod RollWords
 pub mod WorkedCases

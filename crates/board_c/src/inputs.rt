@@ -1,24 +1,10 @@
-//! The input of a caller: the number of a majority, and the words of a sheet or the weights of a
-//! board.
+//! The input of a caller: the words of a sheet, or the weights of a board.
 ghost use Rattle.std.specs.Prelude.{◌≡◌, ◌↔◌, IfOk, IfErr, IsOk, IsOkUnless};
 ghost use Rattle.council_core.specs.declared.refusals.Refusal.TheVariants.{BadSheet};
-ghost use Rattle.board_c.specs.Counts.{IsSheetInRange, majority_numbered, words_of_weights};
+ghost use Rattle.c_values.specs.Counts.{IsSheetInRange};
+ghost use Rattle.board_c.specs.Counts.{words_of_weights};
 
 use council_core::{CHAIRS, Refusal, SHEET_WORDS, Sheet, TOTAL};
-use majority_rule::Majority;
-
-// The majority with this number, or `None`.
-pub(crate) fn majority_at(number: u32) -> Option<Majority>
-    ensures { result ≡ majority_numbered number }
-{
-    match number {
-        0 => Some(Majority::Half),
-        1 => Some(Majority::Seventy),
-        2 => Some(Majority::EightyFive),
-        3 => Some(Majority::Quorum),
-        _ => None,
-    }
-}
 
 // The sheet with these words, which must be 34.
 pub(crate) fn sheet_of(words: &[u64]) -> Result<Sheet, Refusal>

@@ -8,19 +8,17 @@
 ghost use Rattle.std.specs.Prelude.{◌≡◌, ◌↔◌, ◌⊎◌, None, IfOk, IfErr, IsOk};
 ghost use Rattle.council_core.specs.Refusals.{code_of};
 ghost use Rattle.council_core.specs.declared.refusals.Refusal.TheVariants.{BadRecord};
-ghost use Rattle.board_c.specs.Counts.{IsRefusedAs, IsRefusal, IsRefusalOfWords, IsSheetInRange, ShowsCounts, ShowsAllCounts};
-ghost use Rattle.board_c.specs.Counts.{majority_numbered, words_of_weights};
+ghost use Rattle.c_values.specs.Counts.{ShowsCounts, ShowsAllCounts};
+ghost use Rattle.board_c.specs.Counts.{IsRefusedAs, IsRefusal, IsRefusalOfWords, words_of_weights};
 ghost use Rattle.board_c.specs.Members.{member_words, IsBoard, AreRefusedAs, IsRefusalOfMembers};
 
-mod counts;
 mod inputs;
 mod laws;
 mod members;
 
-use council_core::{Refusal, Sheet};
-use counts::{all_counts_of_sheet, counts_of_sheet};
-pub use counts::{BoardAllCounts, BoardChair, BoardCounts};
-use inputs::{majority_at, sheet_of, words_at};
+use c_values::{BoardAllCounts, BoardCounts, all_counts_of_sheet, counts_by_number};
+use council_core::Refusal;
+use inputs::{sheet_of, words_at};
 pub use laws::members_law;
 pub use members::BoardMember;
 use members::sheet_of_members;
@@ -28,18 +26,6 @@ use power_index::ListRoom;
 
 /// The result of a call that has written the counts.
 pub const DONE: u8 = 0;
-
-// The counts of a sheet by the majority with this number.
-fn counts_by_number(sheet: &Sheet, number: u32, room: &mut ListRoom) -> Result<BoardCounts, Refusal>
-    requires whole { IsSheetInRange sheet.now }
-    ensures counts { IfOk result (λ c. ShowsCounts number sheet.now c) }
-    ensures refused { IfErr result (λ why. (why ≡ BadRecord) × (majority_numbered number ≡ None)) }
-{
-    let Some(majority) = majority_at(number) else {
-        return Err(Refusal::BadRecord);
-    };
-    Ok(counts_of_sheet(sheet, majority, room))
-}
 
 // The counts of a sheet that is given by its words. Words that are not a sheet's are refused first,
 // and then a number of no majority.
@@ -111,7 +97,7 @@ fn answer(found: Result<BoardCounts, Refusal>, counts: &mut BoardCounts) -> u8
 /// - 32, `BadSheet`, if the words are not 34 or not those of a sheet;
 /// - otherwise 17, `BadRecord`, if no majority has this number.
 #[unsafe(no_mangle)]
-pub extern "C" fn board_counts(
+pub extern "C" fn board_counts_of_sheet(
     words: &[u64],
     majority: u32,
     room: &mut ListRoom,
@@ -124,14 +110,14 @@ pub extern "C" fn board_counts(
     answer(counts_of_words(words, majority, room), counts)
 }
 
-/// Like `board_counts`, by each of the four majorities, from lists that are built once.
+/// Like `board_counts_of_sheet`, by each of the four majorities, from lists that are built once.
 ///
 /// # Errors
 ///
 /// Returns 32, `BadSheet`, and leaves `counts` unchanged, if the words are not 34 or not those of a
 /// sheet.
 #[unsafe(no_mangle)]
-pub extern "C" fn board_all_counts(
+pub extern "C" fn board_all_counts_of_sheet(
     words: &[u64],
     room: &mut ListRoom,
     counts: &mut BoardAllCounts,
@@ -148,7 +134,7 @@ pub extern "C" fn board_all_counts(
     DONE
 }
 
-/// Like `board_counts`, for a board without a register: chairs 1, 2 and so on are open, with these
+/// Like `board_counts_of_sheet`, for a board without a register: chairs 1, 2 and so on are open, with these
 /// weights in votes. `total`, also in votes, is at least their sum and at most 2^48.
 ///
 /// # Errors
@@ -179,7 +165,7 @@ pub extern "C" fn board_counts_of_weights(
     answer(counts_of_weights(weights, total, majority, room), counts)
 }
 
-/// Like `board_counts`, for a board that is given by its members, in any order. Chair k is open if
+/// Like `board_counts_of_sheet`, for a board that is given by its members, in any order. Chair k is open if
 /// bit k - 1 of `open_chairs` is set or a member sits in it, suspended or not. Its weight is the
 /// votes of its members that are not suspended. The total is the votes of all members that are not
 /// suspended, in a chair or in none.

@@ -3,7 +3,7 @@ ghost use Rattle.std.specs.Prelude.{◌≡◌, ℕ, ◌≤◌, ◌<◌, IfOk, If
 ghost use Rattle.council_core.specs.declared.refusals.Refusal.TheVariants.{BadSheet};
 ghost use Rattle.council_core.specs.declared.limits.TheConstants.{CHAIRS, MAX_TOTAL};
 ghost use Rattle.council_core.specs.Rolls.{sits_in, effective_votes, votes_in};
-ghost use Rattle.board_c.specs.Counts.{IsSheetInRange};
+ghost use Rattle.c_values.specs.Counts.{IsSheetInRange};
 ghost use Rattle.board_c.specs.Members.{standing_of, is_named, member_word, member_total, member_words, IsBoard};
 
 use crate::inputs::sheet_of;

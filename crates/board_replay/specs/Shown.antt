@@ -39,6 +39,15 @@ pub record Shows (run : Run) (n : ℕ) (shown : List ℕ) (answer place : ℕ) :
   pub number : answer ≡ answered_number (end_in n text end)
   pub at : place ≡ record_of (end_in n text end)
 
+-- n is the length of a text of the run; `answer` and `place` are those of its end
+pub record Measures (run : Run) (n answer place : ℕ) : Type 0 where
+  pub text : List ℕ
+  pub end : Option Fault
+  pub of_the_run : IsTextOf run text end
+  pub bytes : n ≡ length text
+  pub number : answer ≡ answered_number end
+  pub at : place ≡ record_of end
+
 -- no fault ended the run, and all of its text is in the buffer
 abbrev pub IsWhole : Run → List ℕ → Type 0
 IsWhole run shown = (run.end ≡ None) × (shown ≡ output run)

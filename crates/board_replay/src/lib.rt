@@ -1,19 +1,21 @@
-//! A whole replay in one call, as a static library with one export, for programs in C and languages
-//! that can call C.
+//! A whole replay in one call, as a static library for programs in C and languages that can call C.
 //!
-//! The contract ends at the call: nothing checks the program that makes it.
+//! The contracts end at the calls: nothing checks the program that makes them.
 #![tactic(auto)]
 
 ghost use Rattle.std.specs.Prelude.{◌≡◌, ◌≢◌, ◌≤◌, ℕ, List, true, length, take, drop, min};
-ghost use Rattle.board_replay.specs.Shown.{IsLonger, IsWhole, Shows, end_in, answered_number, record_of};
+ghost use Rattle.board_replay.specs.Shown.{IsLonger, IsWhole, Measures, Shows, end_in, answered_number, record_of};
 ghost use Rattle.board_runs.specs.Replays.{run_of};
 ghost use Rattle.board_text.specs.Text.{Run, run_limits};
 ghost use Rattle.council_core.specs.Refusals.{code_of};
 ghost use Rattle.council_core.specs.declared.refusals.Refusal.TheVariants.{ReadFault, WriteFault};
 
+mod lengths;
+
 use board_runs::replay;
 use board_text::{Fault, Limits, line_of_fault};
 use council_core::Refusal;
+use lengths::measure;
 use recording_io::RecordingReader;
 use std::alloc::Global;
 
@@ -46,6 +48,17 @@ impl Shown {
             Some(fault) => fault.place,
             None => 0,
         }
+    }
+
+    // Writes the count and the number of the fault's record, and returns the number to return.
+    fn tell(&self, count: &mut u64, place: &mut u32) -> u8
+        ensures count { count.new ≡ self.now.count }
+        ensures place { place.new ≡ record_of self.now.end }
+        ensures answer { result ≡ answered_number self.now.end }
+    {
+        *count = self.count as u64;
+        *place = self.place();
+        self.answer()
     }
 }
 
@@ -179,7 +192,27 @@ pub extern "C" fn board_replay(
         (run_of (run_limits readers journal) input.now) (length out.old) }
 {
     let shown = replay_into(alloc, input, limits_of(readers, journal), out);
-    *written = shown.count as u64;
-    *place = shown.place();
-    shown.answer()
+    shown.tell(written, place)
+}
+
+/// The room that `board_replay` needs for an input: sets `length` to the number of bytes of the
+/// run's text. The other parameters are those of `board_replay`, and so are the result and `place`,
+/// as with room for the whole text. The call carries the script out, and so takes as long.
+///
+/// # Errors
+///
+/// The number returned is that of a fault of the input, or `OutOfMemory` (10): the text is then a
+/// prefix of the run's lines, perhaps none, and the line of this fault.
+#[unsafe(no_mangle)]
+pub extern "C" fn board_replay_length(
+    alloc: Global,
+    input: &[u8],
+    readers: u32,
+    journal: u32,
+    length: &mut u64,
+    place: &mut u32,
+) -> u8
+    ensures measures { Measures (run_of (run_limits readers journal) input.now) length.new result place.new }
+{
+    measure(alloc, input, limits_of(readers, journal)).tell(length, place)
 }

@@ -3,6 +3,7 @@ pub mod FieldFacts
 pub mod ScriptFacts
 pub mod WriteFacts
 pub mod OpeningFacts
+pub mod MemberFacts
 pub mod PlayFacts
 pub mod InputFacts
 pub mod BeginningFacts

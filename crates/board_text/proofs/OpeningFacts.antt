@@ -1,5 +1,6 @@
 -- The opening, one record at a time.
 use Rattle.std.proofs.Common.{◌≡◌, ◌≢◌, ◌+◌, ℕ, true, false, List, [], ◌∷◌, ◌++◌, length, Some, None, Ok, Err, refl, eq-eqb}
+use Rattle.council_core.specs.declared.limits.TheConstants.{MAX_MEMBERS}
 use Rattle.std.proofs.lemmas.Bool.{ne_eqb}
 use Rattle.council_core.specs.Rolls.{Opening}
 use Rattle.council_core.specs.declared.refusals.Refusal.TheVariants.{BadRecord, NoScript, TooManyMembers}
@@ -16,14 +17,14 @@ module _ (members : Opening) (k : ℕ) (rs : List Row) where
     unfolding opening_of
     opening-mark mark = rw (next, mark) refl
 
-    pub opening-full : is_mark r ≡ false → length members ≡ 256 → opening_of members k rs ≡ Err (fault_at TooManyMembers 0)
+    pub opening-full : is_mark r ≡ false → length members ≡ MAX_MEMBERS → opening_of members k rs ≡ Err (fault_at TooManyMembers 0)
     unfolding opening_of
-    opening-full mark full = rw (next, mark, eq-eqb (length members) 256 full) refl
+    opening-full mark full = rw (next, mark, eq-eqb (length members) MAX_MEMBERS full) refl
 
-    pub opening-bad : is_mark r ≡ false → length members ≢ 256 → member_of r ≡ None → opening_of members k rs ≡ Err (fault_at BadRecord k)
+    pub opening-bad : is_mark r ≡ false → length members ≢ MAX_MEMBERS → member_of r ≡ None → opening_of members k rs ≡ Err (fault_at BadRecord k)
     unfolding opening_of
-    opening-bad mark full bad = rw (next, mark, ne_eqb (length members) 256 full, bad) refl
+    opening-bad mark full bad = rw (next, mark, ne_eqb (length members) MAX_MEMBERS full, bad) refl
 
-    pub opening-member : (m : List ℕ × ℕ) → is_mark r ≡ false → length members ≢ 256 → member_of r ≡ Some m → opening_of members k rs ≡ opening_of (members ++ m ∷ []) (k + 1) ss
+    pub opening-member : (m : List ℕ × ℕ) → is_mark r ≡ false → length members ≢ MAX_MEMBERS → member_of r ≡ Some m → opening_of members k rs ≡ opening_of (members ++ m ∷ []) (k + 1) ss
     unfolding opening_of
-    opening-member m mark full found = rw (next, mark, ne_eqb (length members) 256 full, found) refl
+    opening-member m mark full found = rw (next, mark, ne_eqb (length members) MAX_MEMBERS full, found) refl

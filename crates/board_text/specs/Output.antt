@@ -10,10 +10,8 @@ use Rattle.council_core.specs.declared.refusals.Refusal.TheVariants as why
 use Rattle.two_copy_steps.specs.Lawful.{IsPrefix}
 use Rattle.board_text.specs.declared.bounds.Limits.{Limits}
 use Rattle.board_text.specs.Lines.{LineBytes, fault_line}
-use Rattle.board_text.specs.Requests.{Row}
-use Rattle.board_text.specs.Text.{Opened, Run, fault_at, line_text, ledger_at_start, text_of}
+use Rattle.board_text.specs.Text.{Run, fault_at, line_text, ledger_at_start, text_of}
 use Rattle.board_text.specs.declared.beginning.RunStart.{RunStart}
-use Rattle.board_text.specs.declared.opening.OpeningRead.{OpeningRead}
 use Rattle.board_text.specs.declared.faults.Fault.{Fault}
 use Rattle.board_text.specs.declared.stops.Stop.{Stop}
 use Rattle.board_text.specs.declared.stops.Stop.TheVariants as stop
@@ -56,11 +54,13 @@ Fails stop.ReadFault spec = Unit {0}
 Fails stop.WriteFault spec = ⊥
 Fails (stop.Input f) spec = spec ≡ Err f
 
--- the result of reading the opening: the script's records are left, or the error is allowed by
--- `Fails`
-abbrev pub Opens : Result OpeningRead Stop → List Row → Result Opened Fault → Type 0
-Opens (Ok o) left spec = spec ≡ Ok (o.members.items, o.number, left)
-Opens (Err e) left spec = Fails e spec
+-- what was read of `all`: all of it, or a prefix if memory ran out
+abbrev pub ReadTo : {T A : Type 0} → Result T Stop → List A → List A → Type 0
+ReadTo (Ok _) got all = got ≡ all
+ReadTo (Err (stop.Input f)) got all = got ≡ all
+ReadTo (Err stop.OutOfMemory) got all = IsPrefix got all
+ReadTo (Err stop.ReadFault) got all = IsPrefix got all
+ReadTo (Err stop.WriteFault) got all = IsPrefix got all
 
 -- the result of starting a register over these members: the definition's, or out of memory
 abbrev pub Starts : Limits → Opening → Result Ledger Stop → Type 0

@@ -87,6 +87,20 @@ opening_of members k (r ∷ rs) =
     else if length members == MAX_MEMBERS then Err (fault_at TooManyMembers 0)
     else member_then k (member_of r) (λ m. opening_of (members ++ m ∷ []) (k + 1) rs)
 
+-- the members so far if the record is no member, or else what follows that member
+abbrev pub member_or : Opening → Option (List ℕ × ℕ) → (List ℕ × ℕ → Opening) → Opening
+member_or members None more = members
+member_or members (Some m) more = more m
+
+-- the members up to the mark, the end, the member after the last that fits, or the first record
+-- that is no member, after `members`: those that opening_of reads, also where it then meets a fault
+unfoldable pub members_before : Opening → List Row → Opening
+members_before members [] = members
+members_before members (r ∷ rs) =
+    if is_mark r then members
+    else if length members == MAX_MEMBERS then members
+    else member_or members (member_of r) (λ m. members_before (members ++ m ∷ []) rs)
+
 -- a register with these members and an empty journal
 abbrev pub ledger_at_start : Limits → Opening → Ledger
 ledger_at_start lim members = record { opening = members; journal = []; limit = lim.journal }
@@ -107,6 +121,11 @@ run_begun_with lim (Ok p) = started_with lim (start_verdict p.0 lim.journal) p
 abbrev pub opened_of : List Row → Result Opened Fault
 opened_of [] = Err (fault_at BadHeader 0)
 opened_of (r ∷ rs) = if is_header r then opening_of [] 2 rs else Err (fault_at BadHeader 0)
+
+-- the members of the records of an input, also where they meet a fault
+abbrev pub members_in : List Row → Opening
+members_in [] = []
+members_in (r ∷ rs) = if is_header r then members_before [] rs else []
 
 -- both limits are in range: readers from 1 to READERS, journal from 1 to MAX_COMMANDS
 abbrev pub in_range : Limits → Bool

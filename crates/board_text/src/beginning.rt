@@ -11,7 +11,6 @@ ghost use Rattle.board_text.specs.Text.{begun_of, run_begun_with, fault_at, in_r
 use crate::bounds::Limits;
 use crate::input::{INPUT_LIMIT, INTERRUPTIONS, READS, read_input};
 use crate::opening::read_opening;
-use crate::requests::is_header_row;
 use crate::script::Script;
 use crate::stops::Stop;
 use council_core::{MAX_COMMANDS, MemberCode, Refusal, Register, Votes};
@@ -106,17 +105,12 @@ pub fn begin(
     ensures starts { IfOk result StartsRun }
     ensures numbers { IfOk result (λ b. b.place + length script.new < 2 ^ 32) }
 {
-    if !script.next(row)? {
-        return Err(Stop::of_fault(Refusal::BadHeader, 0));
-    }
-    if !is_header_row(row) {
-        return Err(Stop::of_fault(Refusal::BadHeader, 0));
-    }
-    let opening = read_opening(alloc, script, row)?;
-    let register = start_register(alloc, opening.members.as_slice(), limits)?;
+    let mut members = Vec::new(alloc);
+    let place = read_opening(script, row, &mut members)?;
+    let register = start_register(alloc, members.as_slice(), limits)?;
     Ok(RunStart {
         register,
-        members: opening.members,
-        place: opening.number,
+        members,
+        place,
     })
 }

@@ -16,8 +16,8 @@ pub struct Limits {
 }
 
 impl Limits {
-    // Whether both limits are in range.
-    pub(crate) fn is_in_range(self) -> bool
+    /// Whether both limits are in range.
+    pub fn is_in_range(self) -> bool
         ensures known { result ≡ in_range self }
     {
         let readers = usize::from(self.readers);

@@ -31,6 +31,7 @@ pub use lines::{
     line_of_answer, line_of_audit, line_of_chair, line_of_count, line_of_fault, line_of_note,
     line_of_reading,
 };
+pub use opening::read_opening;
 pub use output::{Output, say};
 pub use requests::{Request, request_in};
 pub use schedules::{Act, MAX_STEPS, act_in};

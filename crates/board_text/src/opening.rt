@@ -1,43 +1,35 @@
 //! Reads the records before the script.
-ghost use Rattle.std.specs.Prelude.{◌≤◌, ◌<◌, ◌+◌, ◌^◌, length, IfOk, []};
-ghost use Rattle.board_text.specs.Output.{Opens};
-ghost use Rattle.board_text.specs.Text.{opening_of};
+ghost use Rattle.std.specs.Prelude.{◌≡◌, ◌≤◌, ◌<◌, ◌+◌, ◌^◌, [], Ok, length, IfOk, IfErr};
+ghost use Rattle.board_text.specs.Output.{Fails, ReadTo};
+ghost use Rattle.board_text.specs.Text.{members_before, members_in, opened_of, opening_of};
 
-use crate::requests::{is_mark_row, member_in};
+use crate::requests::{is_header_row, is_mark_row, member_in};
 use crate::script::Script;
 use crate::stops::Stop;
 use council_core::{MAX_MEMBERS, MemberCode, Refusal, Votes};
 use csv::ByteRecord;
-use std::alloc::Global;
 
-// The members, and the number of the script's first record.
-#[derive(Drop)]
-pub(crate) struct OpeningRead {
-    pub(crate) members: Vec<(MemberCode, Votes)>,
-    pub(crate) number: u32,
-}
-
-// Reads the members' records, starting with the second record, up to the mark and including it.
-pub(crate) fn read_opening(
-    alloc: Global,
+// Reads the members' records, starting with the second record, up to the mark and including it,
+// and returns the number of the next record. What was read before an error stays in `members`.
+fn read_members(
     script: &mut Script<'_>,
     row: &mut ByteRecord,
-) -> Result<OpeningRead, Stop>
-    requires { length script.old < 2 ^ 31 }
-    ensures opens { Opens result script.new (opening_of [] 2 script.old) }
-    ensures numbers { IfOk result (λ o. o.number + length script.new ≤ 2 + length script.old) }
+    members: &mut Vec<(MemberCode, Votes)>,
+) -> Result<u32, Stop>
+    requires none { members.old.items ≡ [] }
+    requires short { length script.old < 2 ^ 31 }
+    ensures opened { IfOk result (λ n. opening_of [] 2 script.old ≡ Ok (members.new.items, n, script.new)) }
+    ensures fault { IfErr result (λ e. Fails e (opening_of [] 2 script.old)) }
+    ensures members { ReadTo result members.new.items (members_before [] script.old) }
+    ensures numbers { IfOk result (λ n. n + length script.new ≤ 2 + length script.old) }
 {
-    let mut members = Vec::new(alloc);
     let mut number: u32 = 2;
     'records: loop {
         if !script.next(row)? {
             return Err(Stop::of_fault(Refusal::NoScript, 0));
         }
         if is_mark_row(row) {
-            return Ok(OpeningRead {
-                members,
-                number: number + 1,
-            });
+            return Ok(number + 1);
         }
         if members.len() == MAX_MEMBERS {
             return Err(Stop::of_fault(Refusal::TooManyMembers, 0));
@@ -48,4 +40,31 @@ pub(crate) fn read_opening(
         members.push(member)?;
         number += 1;
     }
+}
+
+/// Reads the header, and the members' records up to the mark and including it, and returns the number
+/// of the next record. What was read before an error stays in `members`, which was empty.
+///
+/// # Errors
+///
+/// Those of `begin` down to `NoScript`, `Stop::OutOfMemory` and `Stop::ReadFault`.
+pub fn read_opening(
+    script: &mut Script<'_>,
+    row: &mut ByteRecord,
+    members: &mut Vec<(MemberCode, Votes)>,
+) -> Result<u32, Stop>
+    requires none { members.old.items ≡ [] }
+    requires short { length script.old < 2 ^ 31 }
+    ensures opened { IfOk result (λ n. opened_of script.old ≡ Ok (members.new.items, n, script.new)) }
+    ensures fault { IfErr result (λ e. Fails e (opened_of script.old)) }
+    ensures members { ReadTo result members.new.items (members_in script.old) }
+    ensures numbers { IfOk result (λ n. n + length script.new < 2 ^ 32) }
+{
+    if !script.next(row)? {
+        return Err(Stop::of_fault(Refusal::BadHeader, 0));
+    }
+    if !is_header_row(row) {
+        return Err(Stop::of_fault(Refusal::BadHeader, 0));
+    }
+    read_members(script, row, members)
 }

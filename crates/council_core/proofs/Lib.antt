@@ -1,3 +1,4 @@
+mod PublishedLemmas
 pub mod WorkedCases
 pub mod LawCases
 pub mod SheetLemmas

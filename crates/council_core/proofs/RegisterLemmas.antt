@@ -1,8 +1,10 @@
 -- What the calls of a register need of what it keeps, and how they keep it.
-use Rattle.std.proofs.Common.{◌≡◌, ℕ, ◌+◌, ◌^◌, ◌<◌, ◌≤◌, ◌==◌, true, false, cond, List, [], ◌∷◌, ◌++◌, length, Some, Result, Ok, Err, sym, ◌∙◌, ap, subst, refl, arith, All, slice_index, slice_set, if◌then◌else◌}
+use Rattle.std.proofs.Common.{◌≡◌, ℕ, ◌+◌, ◌^◌, ◌<◌, ◌≤◌, ◌==◌, true, false, cond, List, [], ◌∷◌, ◌++◌, length, Some, Result, Ok, Err, sym, ◌∙◌, ap, subst, refl, arith, All, slice_index, slice_set, if◌then◌else◌, is_ok, take, get_or, true≢false}
 use Rattle.std.specs.Prelude.{⊤, remove}
 use Rattle.std.specs.List.{AllByRecursion}
 use borrow.Author.Tests.{eqb-false}
+use Rattle.std.proofs.lemmas.Bool.{ne_eqb}
+use Rattle.std.proofs.lemmas.List.{length-take}
 use Rattle.std.proofs.lemmas.List.Elements.{All-from_recursion, recursion_from_All}
 use Rattle.std.proofs.lemmas.List.Sums.{sum_by-le, sum_by-le-sum_by}
 use Rattle.indexmap.specs.IndexMap.{set_value_at}
@@ -12,11 +14,11 @@ use Rattle.council_core.specs.declared.commands.Command.{Command}
 use Rattle.council_core.specs.declared.commands.Standing.{Standing}
 use Rattle.council_core.specs.declared.refusals.Refusal.{Refusal}
 use Rattle.council_core.specs.declared.refusals.Refusal.TheVariants.{JournalFull}
-use Rattle.council_core.specs.Rolls.{Roll, RollEntry, same_code, standing_among, place_among, with_standing, members_without, new_entry, new_standing, sits_in, effective_votes, votes_in, weight, total, is_open, roll_with_open, roll_with_closed, has_members, roll_with_member, roll_without_member, step}
-use Rattle.council_core.specs.Ledgers.{Ledger, roll_of, room_of}
+use Rattle.council_core.specs.Rolls.{Roll, RollEntry, same_code, standing_among, place_among, with_standing, members_without, new_entry, new_standing, sits_in, effective_votes, votes_in, weight, total, is_open, roll_with_open, roll_with_closed, has_members, roll_with_member, roll_without_member, step, step, all_accepted, opening_roll}
+use Rattle.council_core.specs.Ledgers.{Ledger, roll_of, room_of, verdict, verdict_of, ledger_as_of}
 use Rattle.council_core.specs.Laws.{SetsInRange}
 use Rattle.council_core.specs.Registers.{IsPlanned, OpensChair, IsClosing, IsChange, IsEntry, IsLeaving, members_in_chair, sits_as}
-use Rattle.council_core.proofs.RollLemmas.{insert-with_standing, without-removed, part_of_sum}
+use Rattle.council_core.proofs.RollLemmas.{insert-with_standing, without-removed, part_of_sum, accepted-at}
 use Rattle.council_core.proofs.MirrorLemmas.{Kept, IsMirror, IsBeside, Loss, Gain, Exchange, Mirrors-open, Mirrors-close, Mirrors-update, Mirrors-admit, Mirrors-withdraw, IsKept-appended, seat_is_free}
 
 below : (a b : ℕ) → (a ≡ b → ⊥) → a ≤ b → a < b
@@ -180,3 +182,15 @@ module _ (l : Ledger) (command : Command) (a : Accepts l command) where
       let same : now.entries ≡ members_without code es = put ∙ sym (remove_entry-first (same_code code) es place first) ∙ sym (without-removed code es) in
       let m = Mirrors-withdraw (roll_of l) a.kept a.beside.mirrors code old leaving.known leaving.unseated now.totals loss in
       written (roll_without_member (roll_of l) code) leaving.effect now (subst (λ (e : List RollEntry). IsMirror (roll_without_member (roll_of l) code) (record { entries = e; totals = now.totals })) (sym same) m)
+
+verdict_ok : (stepped : Result Roll Refusal) (room : Result ⊤ Refusal) → is_ok stepped ≡ true → verdict stepped room ≡ room
+verdict_ok (Ok r) room h = refl
+verdict_ok (Err e) room h = absurd (true≢false (sym h))
+
+-- each command of a journal is accepted after those before it
+pub accepted_again : (l : Ledger) (i : ℕ) (c : Command) → all_accepted (opening_roll l.opening) l.journal ≡ true → length l.journal ≤ l.limit
+    → i < length l.journal → c ≡ get_or l.journal i c → verdict_of (ledger_as_of l i) c ≡ Ok tt
+accepted_again l i c legal within at is =
+    let taken : length (take i l.journal) ≡ i = omega (arith, length-take i l.journal) in
+    let room : room_of (ledger_as_of l i) ≡ Ok tt = rw (ne_eqb (length (take i l.journal)) l.limit (λ e. omega (arith, e, taken))) refl in
+    verdict_ok _ _ (accepted-at (opening_roll l.opening) l.journal i c legal at is) ∙ room

@@ -1,5 +1,5 @@
 -- What a step does to the sums over members, and to the fold.
-use Rattle.std.proofs.Common.{◌≡◌, ℕ, suc, ◌+◌, ◌≤◌, true, false, cond, ◌&&◌, List, [], ◌∷◌, ◌++◌, length, sum_by, Some, is_ok, ap, refl, arith, All}
+use Rattle.std.proofs.Common.{◌≡◌, ℕ, zero, suc, ◌+◌, ◌<◌, ◌≤◌, Bool, true, false, true≢false, cond, ◌&&◌, List, [], ◌∷◌, ◌++◌, length, take, get_or, sum_by, Some, is_ok, ap, sym, refl, arith, All}
 use Rattle.indexmap.specs.IndexMap.{insert_entry}
 use Rattle.std.specs.List.{AllByRecursion}
 use Rattle.std.specs.Map.{remove_entry}
@@ -105,3 +105,17 @@ all_without code P es h = All-from_recursion _ _ (by es (recursion_from_All _ _ 
     by (e ∷ es) h =
         elim (same_code code e.0) as (λ b. AllByRecursion (λ m. P m.1) (cond b es (e ∷ members_without code es)))
         [ true ↦ h.1 | false ↦ (h.0, by es h.1) ]
+
+both-left : (a b : Bool) → (a && b) ≡ true → a ≡ true
+both-left true b h = refl
+both-left false b h = absurd (true≢false (sym h))
+
+both-right : (a b : Bool) → (a && b) ≡ true → b ≡ true
+both-right true b h = h
+both-right false b h = absurd (true≢false (sym h))
+
+-- each command of an accepted list is accepted after those before it
+pub accepted-at : (r : Roll) (xs : List Command) (i : ℕ) (c : Command) → all_accepted r xs ≡ true → i < length xs → c ≡ get_or xs i c → is_ok (step (fold_from r (take i xs)) c) ≡ true
+accepted-at r [] i c h within at = absurd (omega arith)
+accepted-at r (x ∷ xs) zero c h within at = rw at (both-left (is_ok (step r x)) _ h)
+accepted-at r (x ∷ xs) (suc i) c h within at = accepted-at (next_roll r x) xs i c (both-right (is_ok (step r x)) _ h) (omega arith) at

@@ -122,6 +122,6 @@ starts_in_order = (refl, refl, refl)
 pub starts_up_to : (start_verdict three_members 1000000 ≡ Ok tt) × (start_verdict three_members 1000001 ≡ Err BadLimit)
 starts_up_to = (refl, refl)
 
--- the refusals by number are 1 to 33, and two of them that no run prints have these numbers
-pub numbered : (map code_of every_refusal ≡ range_with_len 1 33) × (refusal_of 18 ≡ Some NoEntry) × (refusal_of 33 ≡ Some TooManyChairs)
+-- the refusals by number are 1 to 35, and two of them that no run prints have these numbers
+pub numbered : (map code_of every_refusal ≡ range_with_len 1 35) × (refusal_of 18 ≡ Some NoEntry) × (refusal_of 33 ≡ Some TooManyChairs)
 numbered = (refl, refl, refl)

@@ -1,5 +1,5 @@
 -- The abstract state of a register: its opening members, the accepted commands, and their limit.
-use Rattle.std.specs.Prelude.{ℕ, ◌≤◌, ◌==◌, if◌then◌else◌, List, [], ◌∷◌, ◌++◌, length}
+use Rattle.std.specs.Prelude.{ℕ, ◌≤◌, ◌==◌, if◌then◌else◌, List, [], ◌∷◌, ◌++◌, length, take}
 use Rattle.std.specs.Prelude.{Result, Ok, Err, ⊤, Bool, false, ◌||◌, nat_lt}
 use Rattle.std.specs.List.{list_any}
 use Rattle.council_core.specs.declared.limits.TheConstants.{MAX_COMMANDS, MAX_MEMBERS}
@@ -43,6 +43,10 @@ verdict_of l command = verdict (step (roll_of l) command) (room_of l)
 -- the ledger with one more accepted command
 abbrev pub ledger_with : Ledger → Command → Ledger
 ledger_with l command = record l { journal = l.journal ++ command ∷ [] }
+
+-- the ledger after its first `accepted` commands, or as it is if there are no more
+abbrev pub ledger_as_of : Ledger → ℕ → Ledger
+ledger_as_of l accepted = record l { journal = take accepted l.journal }
 
 -- whether two members have the same code
 abbrev pub has_duplicate : Opening → Bool

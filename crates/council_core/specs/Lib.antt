@@ -3,6 +3,7 @@ pub mod Refusals
 pub mod Rolls
 pub mod Ledgers
 pub mod Sequential
+pub mod Published
 pub mod Sheets
 pub mod Coalitions
 pub mod Registers

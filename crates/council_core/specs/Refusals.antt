@@ -9,7 +9,7 @@ use Rattle.council_core.specs.declared.refusals.Refusal.TheVariants.{BadLimit, B
 use Rattle.council_core.specs.declared.refusals.Refusal.TheVariants.{BadRecord, NoEntry, ReadFault, WriteFault}
 use Rattle.council_core.specs.declared.refusals.Refusal.TheVariants.{BadHeader, BadReader, Busy, Mismatch, MemberExists}
 use Rattle.council_core.specs.declared.refusals.Refusal.TheVariants.{MemberSeated, GateClosed, NoScript, TooLong}
-use Rattle.council_core.specs.declared.refusals.Refusal.TheVariants.{BadJournal, BadCuts, BadSheet, TooManyChairs}
+use Rattle.council_core.specs.declared.refusals.Refusal.TheVariants.{BadJournal, BadCuts, BadSheet, TooManyChairs, NoRegister, BadIndex}
 
 -- the number of each refusal
 abbrev pub code_of : Refusal → ℕ
@@ -46,6 +46,8 @@ code_of BadJournal = 30
 code_of BadCuts = 31
 code_of BadSheet = 32
 code_of TooManyChairs = 33
+code_of NoRegister = 34
+code_of BadIndex = 35
 
 -- the name of each refusal, in ASCII
 abbrev pub name_of : Refusal → List ℕ
@@ -82,6 +84,8 @@ name_of BadJournal = codes "BadJournal"
 name_of BadCuts = codes "BadCuts"
 name_of BadSheet = codes "BadSheet"
 name_of TooManyChairs = codes "TooManyChairs"
+name_of NoRegister = codes "NoRegister"
+name_of BadIndex = codes "BadIndex"
 
 -- every refusal once, by number
 abbrev pub every_refusal : List Refusal
@@ -89,7 +93,8 @@ every_refusal = ChairOpen ∷ ChairNotOpen ∷ ChairHasMembers ∷ UnknownMember
     ∷ AlreadySuspended ∷ NotSuspended ∷ JournalFull ∷ OutOfMemory ∷ DuplicateMember ∷ TooManyMembers
     ∷ BadLimit ∷ BadChair ∷ BadMember ∷ VotesTooLarge ∷ BadRecord ∷ NoEntry ∷ ReadFault ∷ WriteFault
     ∷ BadHeader ∷ BadReader ∷ Busy ∷ Mismatch ∷ MemberExists ∷ MemberSeated ∷ GateClosed ∷ NoScript
-    ∷ TooLong ∷ BadJournal ∷ BadCuts ∷ BadSheet ∷ TooManyChairs ∷ []
+    ∷ TooLong ∷ BadJournal ∷ BadCuts ∷ BadSheet ∷ TooManyChairs ∷ NoRegister
+    ∷ BadIndex ∷ []
 
 -- the refusal with this number, or None
 abbrev pub refusal_of : ℕ → Option Refusal

@@ -7,6 +7,7 @@ mod changes;
 mod commands;
 mod laws;
 mod limits;
+mod published;
 mod refusals;
 mod registers;
 mod sheets;
@@ -20,6 +21,7 @@ pub use laws::{cast_law, coalitions_law, opening_law, prefix_law, sheet_law};
 pub use limits::{
     CHAIRS, FRONT, MAX_COMMANDS, MAX_MEMBERS, MAX_TOTAL, MAX_VOTES, SHEET_WORDS, TOTAL,
 };
+pub use published::PublishedRegister;
 pub use refusals::Refusal;
 pub use registers::Register;
 pub use sheets::Sheet;

@@ -78,6 +78,11 @@ pub enum Refusal {
     BadSheet = 32,
     /// More chairs are open than can be counted. No call fails with it.
     TooManyChairs = 33,
+    /// A handle, through which a program in C calls a register, has no register. No run ends with
+    /// it.
+    NoRegister = 34,
+    /// A list of a handle's register has no item at this index. No run ends with it.
+    BadIndex = 35,
 }
 
 // Calls the macro `$make` with all refusals, by number, each with its reason.
@@ -117,6 +122,8 @@ macro_rules! refusals {
             BadCuts: "the cuts are not in order, or one is past the journal's end",
             BadSheet: "the words are not a sheet's",
             TooManyChairs: "more chairs are open than are counted",
+            NoRegister: "the handle has no register",
+            BadIndex: "there is no item at this index",
         }
     };
 }
@@ -148,7 +155,7 @@ macro_rules! reasoned {
 
 impl Refusal {
     /// Every refusal once, by number.
-    pub const ALL: [Refusal; 33] = refusals!(listed);
+    pub const ALL: [Refusal; 35] = refusals!(listed);
 
     /// The refusal with this number, or `None` if no refusal has it.
     pub fn from_code(code: u8) -> Option<Refusal>
@@ -157,7 +164,7 @@ impl Refusal {
         first_of_code(&Self::ALL, code)
     }
 
-    /// The refusal's number, from 1 to 33. Numbers 1 to 9, 12, 25 and 26 refuse a command, and 10 is
+    /// The refusal's number, from 1 to 35. Numbers 1 to 9, 12, 25 and 26 refuse a command, and 10 is
     /// out of memory. The others belong to other calls and to runs.
     pub fn code(&self) -> u8
         ensures number { result ≡ code_of self.now }

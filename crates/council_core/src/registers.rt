@@ -1,6 +1,6 @@
 //! The register and its calls.
 ghost use Rattle.std.specs.Prelude.{◌≡◌, ◌≤◌, ◌<◌, ◌==◌, [], length, slice_get, None, Some, Ok};
-ghost use Rattle.std.specs.Prelude.{slice_index, Err, true, false, IfOk, IfErr, OnErr};
+ghost use Rattle.std.specs.Prelude.{slice_index, Err, true, false, IfOk, IfErr, IsOkUnless, OnErr};
 ghost use Rattle.std.specs.List.{All, list_any};
 ghost use Rattle.std.specs.Option.{option_map};
 ghost use Rattle.council_core.specs.Members.{row_of};
@@ -11,7 +11,7 @@ ghost use Rattle.council_core.specs.Laws.{IsOpening, SetsInRange};
 ghost use Rattle.council_core.specs.Verdicts.{Follows};
 ghost use Rattle.council_core.specs.Registers.{IsPlanned};
 ghost use Rattle.council_core.specs.Ledgers.{Ledger, IsLedger, roll_of, verdict_of, room_of, ledger_with, sheet_of};
-ghost use Rattle.council_core.specs.Ledgers.{has_duplicate, start_verdict};
+ghost use Rattle.council_core.specs.Ledgers.{has_duplicate, ledger_as_of, start_verdict};
 ghost use Rattle.council_core.specs.declared.commands.Command.TheVariants.{Open, Close, Move, SetVotes, Suspend};
 ghost use Rattle.council_core.specs.declared.commands.Command.TheVariants.{Restore, Admit, Withdraw};
 ghost use Rattle.council_core.specs.declared.refusals.Refusal.TheVariants.{OutOfMemory, UnknownMember};
@@ -108,6 +108,22 @@ impl Register {
         if has_duplicate(members) {
             return Err(Refusal::DuplicateMember);
         }
+        Register::at_start(alloc, members, journal_limit)
+    }
+
+    // A register of these members, with no accepted command.
+    fn at_start(
+        alloc: Global,
+        members: &[(MemberCode, Votes)],
+        journal_limit: u32,
+    ) -> Result<Register, Refusal>
+        requires few { length members.now ≤ MAX_MEMBERS }
+        requires apart { has_duplicate members.now ≡ false }
+        requires limit { journal_limit ≤ MAX_COMMANDS }
+        ensures started { IfOk result
+            (λ r. r ≡ record { opening = members.now; journal = []; limit = journal_limit }) }
+        ensures memory { IsOkUnless result OutOfMemory }
+    {
         let opening = copied(alloc, members)?;
         let entered = enter_all(alloc, members)?;
         Ok(Register {
@@ -117,6 +133,30 @@ impl Register {
             journal: Vec::new(alloc),
             limit: journal_limit,
         })
+    }
+
+    /// A copy of the register as it was after its first `accepted` commands; of the register as it
+    /// is if it has accepted no more. The copy has the same journal limit, and the two registers
+    /// share nothing. It takes the time of carrying out these commands again.
+    ///
+    /// # Errors
+    ///
+    /// `Refusal::OutOfMemory` if memory could not be allocated.
+    ///
+    /// ```rust
+    /// let before = register.as_of(alloc, 2)?; // after its second accepted command
+    /// let mut trial = register.as_of(alloc, register.accepted())?;
+    /// ```
+    pub fn as_of(&self, alloc: Global, accepted: u32) -> Result<Register, Refusal>
+        ensures copied { IfOk result (λ r. r ≡ ledger_as_of self.now accepted) }
+        ensures memory { IsOkUnless result OutOfMemory }
+    {
+        let mut copy = Register::at_start(alloc, &self.opening, self.limit)?;
+        let count = self.journal.len().min(accepted as usize);
+        for place in 0..count {
+            copy.apply(self.journal[place])?;
+        }
+        Ok(copy)
     }
 
     /// The number of accepted commands, from 0 to the journal limit.
@@ -139,6 +179,22 @@ impl Register {
         ensures limit { self.now.limit ≤ MAX_COMMANDS }
     {
         self.journal.as_slice()
+    }
+
+    /// The members with which the register started, in their order, with the votes that they had.
+    pub fn opening(&self) -> &[(MemberCode, Votes)]
+        ensures members { result.now ≡ self.now.opening }
+        ensures begun { IsOpening self.now.opening }
+    {
+        self.opening.as_slice()
+    }
+
+    /// The number of members, from 0 to `MAX_MEMBERS`.
+    pub fn members(&self) -> usize
+        ensures number { result ≡ length (roll_of self.now).members }
+        ensures few { result ≤ MAX_MEMBERS }
+    {
+        self.members.len()
     }
 
     /// The member at this index in the order of entry, counted from 0, or `None` if there are fewer

@@ -1,4 +1,4 @@
-use Rattle.board_c.specs.Counts.{ShowsCounts}
+use Rattle.c_values.specs.Counts.{ShowsCounts}
 use Rattle.board_c.specs.Members.{member_words}
 use Rattle.board_c.proofs.MemberSums.{written_shows}
 use Rattle.board_c.proofs.board_counts_of_members.Goals as goal

@@ -1,6 +1,6 @@
 use Rattle.std.proofs.Common.{List, ℕ, subst}
 use Rattle.std.specs.Prelude.{IfOk}
-use Rattle.board_c.specs.Counts.{ShowsCounts}
+use Rattle.c_values.specs.Counts.{ShowsCounts}
 use Rattle.board_c.proofs.counts_of_members.Goals as goal
 
 pub returns-clause-counts : goal.returns-clause-counts

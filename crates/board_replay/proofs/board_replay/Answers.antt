@@ -6,19 +6,19 @@ use Rattle.board_replay.proofs.TextFacts.{shows-done, shows-reads, shows-writes}
 use Rattle.board_replay.proofs.board_replay.Goals as goal
 
 pub returns-clause-done : goal.returns-clause-done
-returns-clause-done c = λ done.
+returns-clause-done c = rw c.tell.ensures.count (λ done.
     let lim = run_limits c.args.readers c.args.journal in
     let shows = rw (c.limits_of.ensures.same c.args.input.now) at c.replay_into-shown.ensures.shows in
-    shows-done (run_of lim c.args.input.now) (run-ends lim c.args.input.now) _ _ _ _ shows (sym c.answer.ensures ∙ done)
+    shows-done (run_of lim c.args.input.now) (run-ends lim c.args.input.now) _ _ _ _ shows (sym c.tell.ensures.answer ∙ done))
 
 pub returns-clause-reads : goal.returns-clause-reads
 returns-clause-reads c = λ read.
     let lim = run_limits c.args.readers c.args.journal in
     let shows = rw (c.limits_of.ensures.same c.args.input.now) at c.replay_into-shown.ensures.shows in
-    shows-reads (run_of lim c.args.input.now) (run-ends lim c.args.input.now) _ _ _ _ shows (sym c.answer.ensures ∙ read)
+    shows-reads (run_of lim c.args.input.now) (run-ends lim c.args.input.now) _ _ _ _ shows (sym c.tell.ensures.answer ∙ read)
 
 pub returns-clause-writes : goal.returns-clause-writes
 returns-clause-writes c = λ write.
     let lim = run_limits c.args.readers c.args.journal in
     let shows = rw (c.limits_of.ensures.same c.args.input.now) at c.replay_into-shown.ensures.shows in
-    shows-writes (run_of lim c.args.input.now) (run-ends lim c.args.input.now) _ _ _ _ shows (sym c.answer.ensures ∙ write)
+    shows-writes (run_of lim c.args.input.now) (run-ends lim c.args.input.now) _ _ _ _ shows (sym c.tell.ensures.answer ∙ write)

@@ -1,6 +1,6 @@
 use Rattle.std.proofs.Common.{sym, subst}
 use Rattle.std.specs.Prelude.{Result, Ok, Err, IsOk, IfErr}
-use Rattle.board_c.specs.Counts.{IsSheetInRange}
+use Rattle.c_values.specs.Counts.{IsSheetInRange}
 use Rattle.board_c.proofs.RollWords.{whole}
 use Rattle.board_c.proofs.members.sheet_of_members.Goals as goal
 

@@ -1,4 +1,0 @@
-use Rattle.board_c.proofs.counts.counts_by.Goals as goal
-
-pub returns : goal.returns
-returns c = record { counts = c.counts_of.ensures c.args.majority c.args.evaluator.now c.evaluate-indices.ensures.exact }

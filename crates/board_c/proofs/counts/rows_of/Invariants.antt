@@ -1,7 +1,0 @@
-use Rattle.std.proofs.Common.{◌≡◌, ◌-◌, ◌++◌, map, take, replicate}
-use Rattle.board_c.specs.Counts.{no_chair}
-use Rattle.board_c.specs.Rows.{without_indices}
-use Rattle.board_c.proofs.counts.rows_of.Given as goal
-
-abbrev pub invariant-loop-place : goal.invariant-loop-place
-invariant-loop-place l = l.chairs ≡ map without_indices (take l.place l.rows) ++ replicate (32 - l.place) no_chair

@@ -1,0 +1,5 @@
+pub mod Values
+pub mod Fields
+pub mod ReplyFacts
+pub mod HandleFacts
+mod WorkedCases

@@ -1,0 +1,109 @@
+-- Worked cases of a handle's calls, and what they refuse.
+use Rattle.std.proofs.Common.{◌≡◌, ℕ, List, [], ◌∷◌, None, Some, Ok, Err, inl, inr, refl, ap, arith, length, get_or, ◌∙◌, ◌⊎◌, Option}
+use Rattle.std.specs.Option.{option_map_or}
+use denote.RawPtr.{null_ptr}
+use Rattle.council_core.specs.Ledgers.{Ledger, sheet_of}
+use Rattle.council_core.specs.Refusals.{code_of}
+use Rattle.council_core.specs.Sequential.{Sequential}
+use Rattle.council_core.specs.declared.commands.Command.TheVariants.{Open, Close}
+use Rattle.council_core.specs.declared.refusals.Refusal.TheVariants.{BadChair, ChairNotOpen, ChairOpen, JournalFull, NoRegister, OutOfMemory}
+use Rattle.council_core.specs.declared.commands.Command.{Command}
+use Rattle.council_core.specs.declared.refusals.Refusal.{Refusal}
+use Rattle.c_values.specs.Given.{command_with, given_opening}
+use Rattle.c_values.specs.declared.counts.BoardCounts.{BoardCounts}
+use Rattle.c_values.specs.declared.commands.BoardCommand.{BoardCommand}
+use Rattle.board_register.specs.Calls.{AcceptsAs, Answers, AnswersCopy, AnswersWith, IsCopied, IsRefusedStart, IsStarted, OfRegister, WritesAt, WritesCommand, WritesCounts, opening_entry, reply_number, register_in, reply, row_at, start_reply}
+use Rattle.board_register.specs.declared.handles.BoardRegister.{BoardRegister}
+
+-- member AAA with 10 votes; chair 1 is opened and published, and chair 2 is opened; two commands fit
+abbrev small : Sequential
+small = record {
+  ledger = record { opening = (65 ∷ 65 ∷ 65 ∷ [], 10) ∷ []; journal = Open 1 ∷ Open 2 ∷ []; limit = 2 };
+  published = 1;
+}
+
+abbrev handle : ℕ → BoardRegister
+handle state = record { at = null_ptr; state = state; register = small }
+
+abbrev no_code : List ℕ
+no_code = 0 ∷ 0 ∷ 0 ∷ 0 ∷ []
+
+abbrev command : ℕ → ℕ → BoardCommand
+command kind chair = command_with kind no_code chair 0
+
+-- only state 1 has a register
+pub states : (register_in (handle 0) ≡ None) × (register_in (handle 1) ≡ Some small) × (register_in (handle 2) ≡ None)
+states = (refl, refl, refl)
+
+-- the refusal of a handle without a register comes first, then that of a struct, then the register's
+pub replies : (reply (handle 0) (command 0 33) ≡ Err NoRegister) × (reply (handle 1) (command 0 33) ≡ Err BadChair)
+    × (reply (handle 1) (command 0 2) ≡ Err ChairOpen) × (reply (handle 1) (command 1 3) ≡ Err ChairNotOpen)
+    × (reply (handle 1) (command 0 3) ≡ Err JournalFull) × (reply_number (reply (handle 0) (command 0 1)) ≡ 34)
+replies = (refl, refl, refl, refl, refl, refl)
+
+-- no refusal is answered by 10, nor by 0
+pub not_out_of_memory : (Answers (Err ChairOpen) 10 → ⊥) × (Answers (Err ChairOpen) 0 → ⊥) × Answers (Ok tt) 10
+not_out_of_memory = ((λ e. omega (arith, e)), (λ e. omega (arith, e)), inr refl)
+
+-- member 0 sits nowhere, and there is no member 1
+pub rows : ((r : _) → row_at small 0 ≡ Some r → r.votes ≡ 10) × (row_at small 1 ≡ None) × (opening_entry small 1 ≡ None)
+rows = ((λ r e. cc), refl, refl)
+
+-- a copy after one command has one, which is published; the register itself is no such copy, and a copy
+-- needs a register
+abbrev first_command : Sequential
+first_command = record { ledger = record { opening = small.ledger.opening; journal = Open 1 ∷ []; limit = 2 }; published = 1 }
+
+pub copies : IsCopied (Some small) 1 (record { at = null_ptr; state = 1; register = first_command })
+    × (IsCopied (Some small) 1 (handle 1) → ⊥) × (IsCopied None 1 (handle 0) → ⊥) × (AnswersCopy None 10 → ⊥)
+copies = (
+  refl,
+  (λ e. let two : 2 ≡ 1 = ap (λ (o : Option Sequential). option_map_or (λ s. length s.ledger.journal) o 0) e in omega (arith, two)),
+  (λ e. e),
+  (λ e. omega (arith, e)),
+)
+
+-- what isn't there isn't written
+pub nothing_written : (WritesCommand None 0 (command 0 1) (command 0 1) → ⊥) × (OfRegister {A = ℕ} None 0 0 0 (λ s. Unit {0}) → ⊥)
+nothing_written = ((λ e. omega (arith, e.0)), (λ e. omega (arith, e.0)))
+
+-- parts that a command doesn't have are written as 0
+pub parts : WritesCommand (Some (Open 1)) 0 (command 0 2) (command_with 0 no_code 1 7) → ⊥
+parts e = let votes : 7 ≡ 0 = ap (λ (c : BoardCommand). c.votes) e.1 in omega (arith, votes)
+
+-- an index without an item writes nothing, and one with an item writes it
+pub indices : (WritesAt {A = ℕ} None 0 5 5 → ⊥) × (WritesAt {A = ℕ} (Some 7) 0 5 5 → ⊥) × (AnswersWith {A = ℕ} 7 0 5 → ⊥)
+indices = ((λ e. omega (arith, e.0)), (λ e. omega (arith, e.1)), (λ e. omega (arith, e.1)))
+
+-- a register with another accepted command, or without the command, has not accepted this one
+abbrev with_third : Command → Sequential
+with_third c = record { ledger = record { opening = small.ledger.opening; journal = Open 1 ∷ Open 2 ∷ c ∷ []; limit = 2 }; published = 1 }
+
+pub another_command : (AcceptsAs small (with_third (Open 4)) (command 0 3) 3 → ⊥) × (AcceptsAs small small (command 0 3) 2 → ⊥)
+another_command = (
+  (λ h.
+      let is : Open 3 ≡ h.0 = cc h.1 in
+      let third : Open 4 ≡ h.0 = ap (λ (s : Sequential). get_or s.ledger.journal 2 (Open 4)) h.2 in
+      cc (is, third)),
+  (λ h. let longer : 2 ≡ 3 = ap (λ (s : Sequential). length s.ledger.journal) h.2 in omega (arith, longer)),
+)
+
+-- a register with commands is not one at its start, and no start that is accepted is refused
+pub not_at_start : (IsStarted [] 2 (handle 1) → ⊥) × (IsStarted [] 2 (handle 0) → ⊥) × (IsRefusedStart [] 5 0 → ⊥)
+not_at_start = (
+  (λ h.
+      let same : small ≡ h.0 = cc h.1 in
+      let none : 2 ≡ 0 = ap (λ (s : Sequential). length s.ledger.journal) (same ∙ h.2.3) in
+      omega (arith, none)),
+  (λ h. cc h.1),
+  (λ h. refused h.0 h.1 h.2),
+)
+  where
+    refused : (why : Refusal) → 0 ≡ code_of why → (why ≡ OutOfMemory) ⊎ (start_reply (given_opening []) 5 ≡ Err why) → ⊥
+    refused why zero (inl memory) = let at : 0 ≡ 10 = zero ∙ ap code_of memory in omega (arith, at)
+    refused why zero (inr reply) = cc reply
+
+-- nothing is counted by a number of no majority
+pub no_majority : (counts : BoardCounts) → WritesCounts 4 (sheet_of small.ledger) 0 counts counts → ⊥
+no_majority counts (inl h) = let known : None ≡ Some h.1.majority = h.1.known in cc known
+no_majority counts (inr h) = omega (arith, h.0)

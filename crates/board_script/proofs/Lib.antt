@@ -1,0 +1,7 @@
+mod ListFacts
+mod LineFacts
+mod PlaceFacts
+mod PlainFacts
+mod ItemFacts
+mod InputFacts
+mod WorkedCases

@@ -1,0 +1,18 @@
+use Rattle.std.proofs.Common.{◌≡◌, ◌≤◌, ◌<◌, ◌+◌, ◌^◌, [], length}
+use Rattle.council_core.specs.declared.limits.TheConstants.{MAX_MEMBERS}
+use Rattle.board_text.specs.Text.{opening_of}
+use Rattle.board_text.specs.Text.{members_before}
+use Rattle.board_text.proofs.opening.read_members.Given as goal
+
+-- the records that are left open the run as all do, and have the members that follow
+abbrev pub invariant-records : goal.invariant-records
+invariant-records l = record {
+  same : opening_of [] 2 l.fn.script ≡ opening_of l.members.items l.number l.script;
+  front : members_before [] l.fn.script ≡ members_before l.members.items l.script;
+  bound : length l.members.items ≤ MAX_MEMBERS;
+  numbers : l.number + length l.script ≤ 2 + length l.fn.script;
+  short : length l.fn.script < 2 ^ 31;
+}
+
+abbrev pub decreases-records : goal.decreases-records
+decreases-records l = length l.script

@@ -1,0 +1,11 @@
+use Rattle.std.proofs.Common.{◌-◌, ◌+◌, replicate, arith}
+use Rattle.c_values.specs.Counts.{no_chair}
+use Rattle.c_values.specs.Rows.{without_indices}
+use Rattle.c_values.proofs.RowLemmas.{first_left, next_image}
+use Rattle.c_values.proofs.counts.rows_of.Goals as goal
+
+pub loop-place-preserved : goal.loop-place-preserved
+loop-place-preserved c =
+    let at = c.loop-place.place in
+    let next = next_image without_indices c.args.rows.now at c.index-rows-place.result no_chair (replicate (32 - (at + 1)) no_chair) (omega arith) c.index-rows-place.is in
+    rw (c.loop-place.invariant, first_left 32 at no_chair (omega arith), c.chair_of.ensures) next

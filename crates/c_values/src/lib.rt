@@ -1,0 +1,17 @@
+//! What a program in C and the library's calls exchange: members, commands and counts as plain
+//! structs, and what each struct means.
+#![tactic(auto)]
+
+mod codes;
+mod commands;
+mod counts;
+mod entries;
+mod majorities;
+
+pub use commands::{
+    ADMIT, BoardCommand, CLOSE, MOVE, OPEN, PUBLISH, READ, RESTORE, SUSPEND, VOTES, WITHDRAW,
+    command_for, command_of,
+};
+pub use counts::{BoardAllCounts, BoardChair, BoardCounts, all_counts_of_sheet, counts_by_number};
+pub use entries::{BoardEntry, BoardMemberRow, entry_for, opening_of, row_for};
+pub use majorities::number_for;

@@ -1,0 +1,6 @@
+use Rattle.std.proofs.Common.{◌≡◌}
+use Rattle.council_core.specs.Ledgers.{ledger_as_of}
+use Rattle.council_core.proofs.registers.Register.as_of.Given as goal
+
+abbrev pub invariant-loop-place : goal.invariant-loop-place
+invariant-loop-place l = l.copy ≡ ledger_as_of l.self l.place
