@@ -65,7 +65,8 @@ copies = (
 
 -- what isn't there isn't written
 pub nothing_written : (WritesCommand None 0 (command 0 1) (command 0 1) → ⊥) × (OfRegister {A = ℕ} None 0 0 0 (λ s. Unit {0}) → ⊥)
-nothing_written = ((λ e. omega (arith, e.0)), (λ e. omega (arith, e.0)))
+    × (OfRegister {A = ℕ} None 34 5 6 (λ s. Unit {0}) → ⊥) × (WritesAt {A = ℕ} None 35 5 6 → ⊥)
+nothing_written = ((λ e. omega (arith, e.0)), (λ e. omega (arith, e.0)), (λ e. omega (arith, e.1)), (λ e. omega (arith, e.1)))
 
 -- parts that a command doesn't have are written as 0
 pub parts : WritesCommand (Some (Open 1)) 0 (command 0 2) (command_with 0 no_code 1 7) → ⊥
