@@ -3,20 +3,21 @@ use Rattle.std.proofs.Common.{◌≡◌, ◌==◌, ℕ, ◌+◌, Bool, true, fal
 use Rattle.std.specs.Bool.{⊤}
 use Rattle.std.specs.List.{list_any}
 use Rattle.csv.specs.Reading.{default_config, records, strip_bom}
-use Rattle.council_core.specs.Ledgers.{has_duplicate, start_verdict}
+use Rattle.council_core.specs.Ledgers.{Ledger, has_duplicate, start_verdict}
 use Rattle.council_core.specs.declared.limits.TheConstants.{MAX_COMMANDS, MAX_MEMBERS}
 use Rattle.council_core.specs.Rolls.{Opening}
 use Rattle.council_core.specs.Refusals.{code_of}
-use Rattle.council_core.specs.Sequential.{Sequential}
 use Rattle.council_core.specs.declared.refusals.Refusal.{Refusal}
 use Rattle.council_core.specs.declared.refusals.Refusal.TheVariants.{BadHeader, BadLimit, BadReader, BadRecord, DuplicateMember, NoScript, TooLong, TooManyMembers}
+use Rattle.board_text.specs.Lines.{LineBytes}
 use Rattle.board_text.specs.Requests.{Row, request_of, is_mark, is_header, member_of}
-use Rattle.board_text.specs.Text.{Begun, Opened, Run, begun_of, run_begun_with, in_range, is_served, member_then, opened_of, opening_of, request_within, started_with, valid_or_refused}
+use Rattle.board_text.specs.Schedules.{act_of, is_scheduled}
+use Rattle.board_text.specs.Text.{Begun, Opened, Run, begun_of, run_begun_with, in_range, is_served, member_then, opened_of, opening_of, started_with, valid_or_refused}
 use Rattle.board_text.specs.declared.bounds.Limits.{Limits}
 use Rattle.board_text.specs.declared.faults.Fault.{Fault}
-use Rattle.board_text.specs.declared.requests.Request.{Request}
 use Rattle.board_runs.specs.Replays.{replay_start, replay_step, reply_to, run_of}
-use Rattle.board_text.specs.Scripts.{Turn, begun_run, run_of_script, run_step, script_run, turn_of}
+use Rattle.board_runs.specs.Traces.{machine_turn, trace_of, trace_start, trace_step}
+use Rattle.board_text.specs.Scripts.{Turn, begun_run, interpreted_run, run_of_script, run_step, script_run, turn_of}
 
 -- the numbers of the faults that an input may have
 abbrev pub is_of_input : ℕ → Bool
@@ -81,35 +82,47 @@ begun-errs lim bytes =
     (either (nat_le (length bytes) 4194304) _ _ (begun_with-errs lim _ (opened-errs (records default_config (strip_bom bytes)))) refl)
     refl
 
-request-errs : (fits : Request → Bool) (q : Option Request) → IfErr (valid_or_refused fits q) (λ why. IsTrue (is_of_input (code_of why)))
-request-errs fits None = refl
-request-errs fits (Some q) = served (fits q)
+valid-errs : {A : Type 0} (fits : A → Bool) (q : Option A) → IfErr (valid_or_refused fits q) (λ why. IsTrue (is_of_input (code_of why)))
+valid-errs fits None = refl
+valid-errs fits (Some q) = served (fits q)
   where
     served : (b : Bool) → IfErr (if b then Ok q else Err BadReader) (λ why. IsTrue (is_of_input (code_of why)))
     served true = tt
     served false = refl
 
-turn-errs : (s : Sequential) (r : Result Request Refusal) → IfErr r (λ why. IsTrue (is_of_input (code_of why))) → IfErr (turn_of (reply_to s) r) (λ why. IsTrue (is_of_input (code_of why)))
-turn-errs s (Ok q) p = tt
-turn-errs s (Err why) p = p
+abbrev TurnErrs : {S : Type 0} → Turn S → Type 0
+TurnErrs turn = IfErr turn (λ why. IsTrue (is_of_input (code_of why)))
 
-step-ends : (k : ℕ) (turn : Turn Sequential) (more : Sequential → Run) → IfErr turn (λ why. IsTrue (is_of_input (code_of why))) → ((s : Sequential) → EndsByInput (more s).end) → EndsByInput (run_step k turn more).end
+turn-errs : {S A : Type 0} (effect : A → List LineBytes × S) (r : Result A Refusal) → IfErr r (λ why. IsTrue (is_of_input (code_of why))) → TurnErrs (turn_of effect r)
+turn-errs effect (Ok q) p = tt
+turn-errs effect (Err why) p = p
+
+step-ends : {S : Type 0} (k : ℕ) (turn : Turn S) (more : S → Run) → TurnErrs turn → ((s : S) → EndsByInput (more s).end) → EndsByInput (run_step k turn more).end
 step-ends k (Err why) more is rest = is
 step-ends k (Ok p) more is rest = rest p.1
-
-script_run-ends : (lim : Limits) (s : Sequential) (k : ℕ) (rs : List Row) → EndsByInput (script_run (replay_step lim) s k rs).end
-unfolding script_run
-script_run-ends lim s k [] = tt
-script_run-ends lim s k (r ∷ rs) = step-ends k (replay_step lim s r) _ (turn-errs s (request_within lim r) (request-errs (is_served lim) (request_of r))) (λ t. script_run-ends lim t (k + 1) rs)
-
-begun_run-ends : (lim : Limits) (begun : Result Begun Fault) → ErrsByInput begun → EndsByInput (begun_run (run_of_script replay_start replay_step lim) begun).end
-begun_run-ends lim (Err f) p = p
-begun_run-ends lim (Ok b) p = script_run-ends lim _ b.1 b.2
 
 end-by_input : (end : Option Fault) (f : Fault) → EndsByInput end → end ≡ Some f → IsOfInput f
 end-by_input None f p is = cc is
 end-by_input (Some g) f p is = let same : g ≡ f = cc is in subst IsOfInput same p
 
--- where a fault ends a run, it is one of these
+-- an interpreter whose steps are refused only by faults that an input has
+module _ {S : Type 0} (opened : Limits → Ledger → S) (step : Limits → S → Row → Turn S) (lim : Limits) (errs : (s : S) (r : Row) → TurnErrs (step lim s r)) where
+  script_run-ends : (s : S) (k : ℕ) (rs : List Row) → EndsByInput (script_run (step lim) s k rs).end
+  unfolding script_run
+  script_run-ends s k [] = tt
+  script_run-ends s k (r ∷ rs) = step-ends k (step lim s r) _ (errs s r) (λ t. script_run-ends t (k + 1) rs)
+
+  begun_run-ends : (begun : Result Begun Fault) → ErrsByInput begun → EndsByInput (begun_run (run_of_script opened step lim) begun).end
+  begun_run-ends (Err f) p = p
+  begun_run-ends (Ok b) p = script_run-ends _ b.1 b.2
+
+  interpreted-ends : (bytes : List ℕ) (f : Fault) → (interpreted_run opened step lim bytes).end ≡ Some f → IsTrue (is_of_input f.code)
+  interpreted-ends bytes f is = end-by_input _ f (begun_run-ends (begun_of lim bytes) (begun-errs lim bytes)) is
+
+-- where a fault ends a replay, it is one of these
 pub run-ends : (lim : Limits) (bytes : List ℕ) (f : Fault) → (run_of lim bytes).end ≡ Some f → IsTrue (is_of_input f.code)
-run-ends lim bytes f is = end-by_input _ f (begun_run-ends lim (begun_of lim bytes) (begun-errs lim bytes)) is
+run-ends lim = interpreted-ends replay_start replay_step lim (λ s r. turn-errs (reply_to s) _ (valid-errs (is_served lim) (request_of r)))
+
+-- and where one ends a trace
+pub trace-ends : (lim : Limits) (bytes : List ℕ) (f : Fault) → (trace_of lim bytes).end ≡ Some f → IsTrue (is_of_input f.code)
+trace-ends lim = interpreted-ends trace_start trace_step lim (λ m r. turn-errs (machine_turn m) _ (valid-errs (is_scheduled lim) (act_of r)))

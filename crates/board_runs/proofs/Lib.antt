@@ -2,4 +2,4 @@ pub mod EndFacts
 pub mod DeskFacts
 pub mod ReplayFacts
 pub mod TraceFacts
-mod WorkedCases
+pub mod WorkedCases

@@ -1,13 +1,18 @@
--- What the definitions of how a run ends take and refuse.
+-- What the definitions of how a run ends take and refuse, and a run of each kind.
 use Rattle.std.proofs.Common.{◌≡◌, ℕ, inl, inr, List, [], ◌∷◌, ◌++◌, Option, Some, Ok, Err, get_or, refl, sym, ap, ◌∙◌, subst, arith}
 use Rattle.std.specs.Prelude.{codes}
 use Rattle.std.specs.Fmt.{digits}
+use Rattle.csv.specs.Machine.{next_record}
+use Rattle.csv.specs.Reading.{records_from, strip_bom}
 use Rattle.council_core.specs.declared.refusals.Refusal.TheVariants.{BadRecord, OutOfMemory, ReadFault, WriteFault}
 use Rattle.board_text.specs.Lines.{LineBytes, fault_line}
 use Rattle.board_text.specs.Output.{IsBroken}
-use Rattle.board_text.specs.Text.{Run, fault_at, printed_run, stopped_run, text_of}
+use Rattle.board_text.specs.Scripts.{script_run}
+use Rattle.board_text.specs.Text.{Run, begun_of, fault_at, opening_of, printed_run, run_limits, stopped_run, text_of}
 use Rattle.board_text.specs.declared.faults.Fault.{Fault}
 use Rattle.board_runs.specs.Ended.{BreaksOff, CutsOff, EndsAsReported, IsBrokenOff, IsOutputOf, Replays}
+use Rattle.board_runs.specs.Replays.{run_of}
+use Rattle.board_runs.specs.Traces.{trace_of}
 
 -- a run of one line
 abbrev one_line : Run
@@ -127,3 +132,17 @@ replays_to_seven (inr (inr cut)) = cuts_off_to_seven cut
 -- a failed write in the middle of a line
 cuts_off : CutsOff (Some []) (Some (codes "beg")) (fault_at WriteFault 0) one_line
 cuts_off = (refl, (its_text, inl refl, (codes "beg", (codes "an" ++ 10 ∷ [], refl), refl)))
+
+-- member,votes / AAA,1 / script / writer,1
+abbrev pub schedule : List ℕ
+schedule = codes "member,votes\nAAA,1\nscript\nwriter,1"
+
+-- the fourth record is a step of the two-copy machine
+pub of_the_machine : trace_of (run_limits 1 10) schedule ≡ printed_run (codes "skipped" ∷ [])
+unfolding begun_of opening_of script_run records_from strip_bom next_record
+of_the_machine = refl
+
+-- and nothing that a replay carries out
+pub of_the_register : run_of (run_limits 1 10) schedule ≡ stopped_run (fault_at BadRecord 4)
+unfolding begun_of opening_of script_run records_from strip_bom next_record
+of_the_register = refl
