@@ -1,11 +1,11 @@
 /* The counts of a voting board: which weights and sizes win, the number of winning coalitions,
  * and the swings of each chair; a register of members, votes and chairs, the script of a register
- * as data, and its complete replay as text.
+ * as data, and its complete replay as text; the trace of a schedule as text.
  *
  * Each call with a result returns BOARD_DONE after it has done what it was asked. Any other result
  * is the number of a refusal, and then everything is unchanged: the register, and what the call
- * writes. board_script, board_replay and board_replay_length also write after a refusal, as they
- * say.
+ * writes. board_script, board_replay, board_replay_length, board_trace and board_trace_length also
+ * write after a refusal, as they say.
  *
  * A call that counts builds its lists in the board_room that the caller lends. The contents of the
  * room before a call have no effect, and its contents after a call, also after a refusal, have no
@@ -13,9 +13,9 @@
  *
  * A register's memory is allocated with malloc and realloc by board_register_start,
  * board_register_apply and board_register_copy, and freed by board_register_free, or where a
- * handle gets another register. board_script, board_replay and board_replay_length free what they
- * allocate before they return. No other call allocates memory. If malloc or realloc returns no
- * memory, the call returns BOARD_OUT_OF_MEMORY.
+ * handle gets another register. board_script, board_replay, board_replay_length, board_trace and
+ * board_trace_length free what they allocate before they return. No other call allocates memory.
+ * If malloc or realloc returns no memory, the call returns BOARD_OUT_OF_MEMORY.
  *
  * A call keeps no state but that of its register, starts no thread and takes no lock. Calls on
  * several threads are independent if each has its own handle, room, counts and other places to
@@ -39,8 +39,8 @@
  * - What a call reads and what it writes do not overlap, and during the call no other thread
  *   reads or writes what it writes, or writes what it reads.
  * - The thread has 64 KB of stack for a count or a call on a register, and 256 KB for
- *   board_script, board_replay and board_replay_length. A board_room is 1.25 MiB, so it belongs in
- *   static memory or on the heap.
+ *   board_script, board_replay, board_replay_length, board_trace and board_trace_length. A
+ *   board_room is 1.25 MiB, so it belongs in static memory or on the heap.
  */
 #ifndef BOARD_H
 #define BOARD_H
@@ -99,7 +99,7 @@ enum {
     BOARD_BAD_MEMBER = 15,       /* a member's code is not three ASCII capitals */
     BOARD_VOTES_TOO_LARGE = 16,  /* a member has more than 2^40 votes */
     BOARD_BAD_RECORD = 17,       /* no majority, or no command, has this number; a bad record */
-    BOARD_WRITE_FAULT = 20,      /* of board_replay: its text is longer than the room for it */
+    BOARD_WRITE_FAULT = 20,      /* of board_replay, board_trace: the text is longer than its room */
     BOARD_BAD_HEADER = 21,       /* the first record is not 'member,votes' */
     BOARD_BAD_READER = 22,       /* there is no reader of this number */
     BOARD_MEMBER_EXISTS = 25,    /* a member has this code already */
@@ -383,6 +383,24 @@ uint8_t board_replay(const uint8_t *input, size_t len, uint32_t readers, uint32_
  * of board_replay with as much room, so the result is never BOARD_WRITE_FAULT. */
 uint8_t board_replay_length(const uint8_t *input, size_t len, uint32_t readers, uint32_t journal, uint64_t *length,
                             uint32_t *record);
+
+/* Traces an input as the program `board trace` does: one writer and `readers` readers, from 1 to 4,
+ * of the two-copy machine take the steps that the records of the `len` bytes at `input` ask for,
+ * and no others. The machine's register accepts at most `journal` commands, from 1 to 1,000,000.
+ * After the call, `out` holds the lines of the run, or the prefix of them that fits in `out_len`
+ * bytes; *written is the number of bytes written, and the bytes after them are unchanged. The
+ * records, lines and faults are those of docs/FORMATS.md, and an input has at most 4,194,304
+ * bytes.
+ *
+ * The result and *record mean what they mean for board_replay. So does the text: after a fault of
+ * the run, after BOARD_WRITE_FAULT and after BOARD_OUT_OF_MEMORY. */
+uint8_t board_trace(const uint8_t *input, size_t len, uint32_t readers, uint32_t journal, uint8_t *out, size_t out_len,
+                    uint64_t *written, uint32_t *record);
+
+/* Sets *length to the number of bytes of the text of this trace. The result and *record are those
+ * of board_trace with as much room, so the result is never BOARD_WRITE_FAULT. */
+uint8_t board_trace_length(const uint8_t *input, size_t len, uint32_t readers, uint32_t journal, uint64_t *length,
+                           uint32_t *record);
 
 /* The version of the library, which is that of the program. This call and the next one are not
  * proved: they read a table, which is tested. The strings that they return are static and must

@@ -1,3 +1,4 @@
+mod KindFacts
 mod LimitFacts
 mod TextFacts
 mod WorkedCases

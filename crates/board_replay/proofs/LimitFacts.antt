@@ -1,4 +1,4 @@
--- Limits that are out of range have one run.
+-- Limits that are out of range have one run of each kind.
 use Rattle.std.proofs.Common.{◌≡◌, ◌<◌, ◌&&◌, ℕ, List, Bool, Err, true, false, nat_le, sym, ap, refl, ◌∙◌}
 use Rattle.std.proofs.lemmas.Bool.{lt-leb}
 use Rattle.council_core.specs.declared.refusals.Refusal.TheVariants.{BadLimit}
@@ -6,17 +6,27 @@ use Rattle.council_core.specs.declared.limits.TheConstants.{MAX_COMMANDS}
 use Rattle.two_copy_steps.specs.declared.table.TheConstants.{READERS}
 use Rattle.board_text.specs.Text.{begun_of, fault_at, in_range}
 use Rattle.board_text.specs.declared.bounds.Limits.{Limits}
-use Rattle.board_runs.specs.Replays.{replay_start, replay_step, run_of}
-use Rattle.board_text.specs.Scripts.{begun_run, run_of_script}
+use Rattle.council_core.specs.Ledgers.{Ledger}
+use Rattle.board_text.specs.Requests.{Row}
+use Rattle.board_text.specs.Scripts.{Turn, begun_run, interpreted_run, run_of_script}
+use Rattle.board_runs.specs.Replays.{replay_start, replay_step}
+use Rattle.board_runs.specs.Traces.{trace_start, trace_step}
+use Rattle.board_replay.specs.Kinds.{run_as}
+use Rattle.board_replay.specs.declared.kinds.Kind.{Kind}
+use Rattle.board_replay.specs.declared.kinds.Kind.TheVariants as kind
 
 begun-out_of_range : (lim : Limits) (bytes : List ℕ) → in_range lim ≡ false → begun_of lim bytes ≡ Err (fault_at BadLimit 0)
 unfolding begun_of
 begun-out_of_range lim bytes out = rw out refl
 
-pub same-out_of_range : (a b : Limits) (bytes : List ℕ) → in_range a ≡ false → in_range b ≡ false → run_of a bytes ≡ run_of b bytes
-same-out_of_range a b bytes first second =
-    ap (begun_run (run_of_script replay_start replay_step a)) (begun-out_of_range a bytes first)
-    ∙ sym (ap (begun_run (run_of_script replay_start replay_step b)) (begun-out_of_range b bytes second))
+interpreted-out_of_range : {S : Type 0} (opened : Limits → Ledger → S) (step : Limits → S → Row → Turn S) (a b : Limits) (bytes : List ℕ) → in_range a ≡ false → in_range b ≡ false → interpreted_run opened step a bytes ≡ interpreted_run opened step b bytes
+interpreted-out_of_range opened step a b bytes first second =
+    ap (begun_run (run_of_script opened step a)) (begun-out_of_range a bytes first)
+    ∙ sym (ap (begun_run (run_of_script opened step b)) (begun-out_of_range b bytes second))
+
+pub same-out_of_range : (k : Kind) (a b : Limits) (bytes : List ℕ) → in_range a ≡ false → in_range b ≡ false → run_as k a bytes ≡ run_as k b bytes
+same-out_of_range kind.Replay a b bytes first second = interpreted-out_of_range replay_start replay_step a b bytes first second
+same-out_of_range kind.Trace a b bytes first second = interpreted-out_of_range trace_start trace_step a b bytes first second
 
 second-false : (a c d : Bool) → (((a && false) && c) && d) ≡ false
 second-false true c d = refl

@@ -1,13 +1,18 @@
 -- Worked examples and refutations of what a caller finds.
 use Rattle.std.proofs.lemmas.List.{append-nil}
-use Rattle.std.proofs.Common.{◌≡◌, ◌++◌, ◌∙◌, Some, length, arith, length-append, inl, ℕ, List, [], ◌∷◌, None, refl, ap}
+use Rattle.std.proofs.Common.{◌≡◌, ◌++◌, ◌∙◌, Some, length, arith, length-append, inl, ℕ, List, [], ◌∷◌, None, get_or, refl, sym, ap}
+use Rattle.std.specs.Prelude.{codes}
 use Rattle.council_core.specs.Refusals.{code_of}
 use Rattle.council_core.specs.declared.refusals.Refusal.TheVariants.{BadRecord, OutOfMemory, WriteFault}
-use Rattle.board_text.specs.Text.{Run, fault_at, line_text, printed_run, stopped_run, text_of}
+use Rattle.board_text.specs.Text.{Run, fault_at, line_text, output, printed_run, run_limits, stopped_run, text_of}
+use Rattle.board_runs.proofs.WorkedCases.{of_the_machine, of_the_register, schedule}
+use Rattle.board_replay.specs.Kinds.{run_as}
 use Rattle.board_replay.specs.Shown.{ShowsOutOfMemory, Shows}
+use Rattle.board_replay.specs.declared.kinds.Kind.TheVariants as kind
 use Rattle.board_replay.specs.declared.TheConstants.{DONE}
 use Rattle.board_text.specs.Lines.{fault_line}
 use Rattle.board_text.proofs.PlayFacts.{text-after}
+use Rattle.board_replay.proofs.KindFacts.{kind-ends}
 use Rattle.board_replay.proofs.TextFacts.{shows-done, shows-place}
 
 -- a run of one line, "A"
@@ -41,3 +46,18 @@ one_fault = stopped_run (fault_at BadRecord 5)
 -- the number of another record is refused
 another_record : (n : ℕ) (shown : List ℕ) → Shows one_fault n shown (code_of BadRecord) 6 → ⊥
 another_record n shown shows = let is = shows-place one_fault (fault_at BadRecord 5) n shown 6 shows refl (λ at. cc at) (λ at. cc at) in cc is
+
+-- an input whose fourth record is a step of the two-copy machine, and nothing that a replay carries out: no replay of it
+-- ends without a fault
+replay_ends_well : (n : ℕ) (shown : List ℕ) (place : ℕ) → Shows (run_as kind.Replay (run_limits 1 10) schedule) n shown DONE place → ⊥
+replay_ends_well n shown place shows =
+    let is = shows-done _ (kind-ends kind.Replay (run_limits 1 10) schedule) n shown DONE place shows refl in
+    let ended : Some (fault_at BadRecord 4) ≡ None = sym (ap (λ (r : Run). r.end) of_the_register) ∙ is.0 in
+    cc ended
+
+-- and its text is none of a trace that ends without one
+text_of_a_replay : (n place : ℕ) → Shows (run_as kind.Trace (run_limits 1 10) schedule) n (codes "fault,4,BadRecord\n") DONE place → ⊥
+text_of_a_replay n place shows =
+    let is = shows-done _ (kind-ends kind.Trace (run_limits 1 10) schedule) n _ DONE place shows refl in
+    let first : 102 ≡ 115 = ap (λ (bytes : List ℕ). get_or bytes 0 0) (is.1 ∙ ap output of_the_machine) in
+    omega (arith, first)

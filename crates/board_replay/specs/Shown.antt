@@ -1,4 +1,4 @@
--- The bytes that `board_replay` leaves in its caller's buffer, and the number that it returns.
+-- The bytes that `board_replay` and `board_trace` leave in their caller's buffer, and the number that they return.
 use Rattle.std.specs.Prelude.{◌≡◌, ◌<◌, ℕ, ◌⊎◌, List, Option, Some, None, length, take, nat_le, if◌then◌else◌}
 use Rattle.council_core.specs.declared.refusals.Refusal.TheVariants.{OutOfMemory, WriteFault}
 use Rattle.board_text.specs.Text.{Run, fault_at, output}

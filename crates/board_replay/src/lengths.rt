@@ -1,10 +1,10 @@
-//! The length of a replay's text.
+//! The length of a run's text.
+ghost use Rattle.board_replay.specs.Kinds.{run_as};
 ghost use Rattle.board_replay.specs.Shown.{Measures, answered_number, record_of};
-ghost use Rattle.board_runs.specs.Replays.{run_of};
-ghost use Rattle.board_text.specs.Text.{Run};
+ghost use Rattle.board_text.specs.Text.{Run, run_limits};
 
-use crate::{Shown, is_of_device};
-use board_runs::replay;
+use crate::kinds::{Kind, carry_out, limits_of};
+use crate::showing::{Shown, is_of_device};
 use board_text::{Fault, Limits, line_of_fault};
 use council_core::Refusal;
 use recording_io::RecordingReader;
@@ -23,14 +23,14 @@ fn measure_lack_of_memory() -> Shown
     }
 }
 
-// The length of the text of a replay.
-pub(crate) fn measure(alloc: Global, input: &[u8], limits: Limits) -> Shown
-    ensures measures { Measures (run_of limits input.now) result.count (answered_number result.end)
+// The length of the text of a run.
+fn measure_text(alloc: Global, kind: Kind, input: &[u8], limits: Limits) -> Shown
+    ensures measures { Measures (run_as kind limits input.now) result.count (answered_number result.end)
         (record_of result.end) }
 {
     let mut text = Vec::new(alloc);
     let mut from = RecordingReader::new(input);
-    let end = match replay(alloc, &mut from, &mut text, limits) {
+    let end = match carry_out(alloc, kind, &mut from, &mut text, limits) {
         Ok(()) => None,
         Err(fault) if is_of_device(fault) => return measure_lack_of_memory(),
         Err(fault) => Some(fault),
@@ -39,4 +39,13 @@ pub(crate) fn measure(alloc: Global, input: &[u8], limits: Limits) -> Shown
         count: text.len(),
         end,
     }
+}
+
+// The length of the text of a run with these limits: what `board_replay_length` and
+// `board_trace_length` find.
+pub(crate) fn measure(alloc: Global, kind: Kind, input: &[u8], readers: u32, journal: u32) -> Shown
+    ensures measures { Measures (run_as kind (run_limits readers journal) input.now) result.count
+        (answered_number result.end) (record_of result.end) }
+{
+    measure_text(alloc, kind, input, limits_of(readers, journal))
 }

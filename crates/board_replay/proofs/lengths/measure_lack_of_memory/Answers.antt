@@ -1,4 +1,4 @@
-use Rattle.std.proofs.Common.{◌≡◌, List, ℕ, [], ◌∷◌, ◌++◌, Some, inr, refl, ap, sym, ◌∙◌}
+use Rattle.std.proofs.Common.{[], Some, inr, refl, ap, sym, ◌∙◌}
 use Rattle.std.proofs.lemmas.List.{append-nil}
 use Rattle.board_text.specs.Lines.{fault_line}
 use Rattle.board_text.specs.Text.{line_text}

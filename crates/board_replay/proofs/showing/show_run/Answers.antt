@@ -1,24 +1,23 @@
-use Rattle.std.proofs.Common.{◌∙◌, sym}
-use Rattle.board_runs.specs.Replays.{run_of}
-use Rattle.board_runs.proofs.EndFacts.{run-ends}
 use Rattle.board_text.specs.Text.{run_limits}
+use Rattle.board_replay.specs.Kinds.{run_as}
+use Rattle.board_replay.proofs.KindFacts.{kind-ends}
 use Rattle.board_replay.proofs.TextFacts.{shows-done, shows-reads, shows-writes}
-use Rattle.board_replay.proofs.board_replay.Goals as goal
+use Rattle.board_replay.proofs.showing.show_run.Goals as goal
 
 pub returns-clause-done : goal.returns-clause-done
-returns-clause-done c = rw c.tell.ensures.count (λ done.
+returns-clause-done c =
     let lim = run_limits c.args.readers c.args.journal in
-    let shows = rw (c.limits_of.ensures.same c.args.input.now) at c.replay_into-shown.ensures.shows in
-    shows-done (run_of lim c.args.input.now) (run-ends lim c.args.input.now) _ _ _ _ shows (sym c.tell.ensures.answer ∙ done))
+    let shows = rw (c.limits_of.ensures.same c.args.kind c.args.input.now) at c.run_into.ensures.shows in
+    shows-done (run_as c.args.kind lim c.args.input.now) (kind-ends c.args.kind lim c.args.input.now) _ _ _ _ shows
 
 pub returns-clause-reads : goal.returns-clause-reads
-returns-clause-reads c = λ read.
+returns-clause-reads c =
     let lim = run_limits c.args.readers c.args.journal in
-    let shows = rw (c.limits_of.ensures.same c.args.input.now) at c.replay_into-shown.ensures.shows in
-    shows-reads (run_of lim c.args.input.now) (run-ends lim c.args.input.now) _ _ _ _ shows (sym c.tell.ensures.answer ∙ read)
+    let shows = rw (c.limits_of.ensures.same c.args.kind c.args.input.now) at c.run_into.ensures.shows in
+    shows-reads (run_as c.args.kind lim c.args.input.now) (kind-ends c.args.kind lim c.args.input.now) _ _ _ _ shows
 
 pub returns-clause-writes : goal.returns-clause-writes
-returns-clause-writes c = λ write.
+returns-clause-writes c =
     let lim = run_limits c.args.readers c.args.journal in
-    let shows = rw (c.limits_of.ensures.same c.args.input.now) at c.replay_into-shown.ensures.shows in
-    shows-writes (run_of lim c.args.input.now) (run-ends lim c.args.input.now) _ _ _ _ shows (sym c.tell.ensures.answer ∙ write)
+    let shows = rw (c.limits_of.ensures.same c.args.kind c.args.input.now) at c.run_into.ensures.shows in
+    shows-writes (run_as c.args.kind lim c.args.input.now) (kind-ends c.args.kind lim c.args.input.now) _ _ _ _ shows
