@@ -192,14 +192,16 @@ static void read_script(const uint8_t *input, size_t len) {
     }
 }
 
-/* A replay's length with each allocation refused. */
-static void read_length(const uint8_t *input, size_t len) {
+typedef uint8_t (*length_call)(const uint8_t *, size_t, uint32_t, uint32_t, uint64_t *, uint32_t *);
+
+/* The length of a replay or a trace with each allocation refused. */
+static void read_length(length_call length_of, const uint8_t *input, size_t len) {
     uint64_t length;
     uint32_t record;
     long before = blocks;
     for (long number = 0;; number++) {
         left = number;
-        uint8_t answer = board_replay_length(input, len, 1, BOARD_COMMANDS, &length, &record);
+        uint8_t answer = length_of(input, len, 1, BOARD_COMMANDS, &length, &record);
         int was_refused = left == NEVER;
         left = NEVER;
         if (blocks != before) stop("a length keeps memory", (uint64_t)number);
@@ -219,7 +221,8 @@ int main(int many, char **words) {
     start_both(seed, commands);
     apply_all(seed, commands);
     read_script(input, len);
-    read_length(input, len);
+    read_length(board_replay_length, input, len);
+    read_length(board_trace_length, input, len);
     for (int time = 0; time < 2; time++) {
         board_register_free(&handle);
         board_register_free(&other);

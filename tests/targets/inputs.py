@@ -1,4 +1,5 @@
-"""Inputs of a replay: those of tests/cases, some at the limits, and files that are changed at random, from a seed."""
+"""Inputs of a replay or a trace: those of tests/cases, some at the limits, and files that are changed at random, from a
+seed."""
 from __future__ import annotations
 
 import random
@@ -27,12 +28,13 @@ BYTES = b',,,"""\r\n\n0123456789ABCDEFabcdef \xef\xbb\xbf\x00\xff'
 
 @dataclass(frozen=True)
 class Call:
-    """An input of a replay, and the limits."""
+    """An input of a replay or a trace, and the limits."""
 
     name: str
     text: bytes
     readers: int = 1
     journal: int = JOURNAL
+    command: str = "replay"
 
 
 def put_byte(some: random.Random, text: bytes) -> bytes:
@@ -110,17 +112,17 @@ def mutated(seed: int, many: int) -> list[Call]:
     return found
 
 
-def replays() -> list[Case]:
-    """The cases of `replay`, except those whose words are refused or ask for help."""
-    return [it for it in all_cases() if it.words[:1] == ["replay"] and it.status != 2 and "--help" not in it.words]
+def replays(command: str = "replay") -> list[Case]:
+    """The cases of `replay` or of `trace`, except those whose words are refused or ask for help."""
+    return [it for it in all_cases() if it.words[:1] == [command] and it.status != 2 and "--help" not in it.words]
 
 
-def of_cases() -> list[Call]:
-    """The calls that the cases of `replay` make."""
+def of_cases(command: str = "replay") -> list[Call]:
+    """The calls that the cases of `replay` or of `trace` make."""
     found = []
-    for it in replays():
+    for it in replays(command):
         limits = {name.removeprefix("--"): int(value) for name, value in zip(it.words[1::2], it.words[2::2])}
-        found.append(Call(it.name, it.given, **limits))
+        found.append(Call(it.name, it.given, **limits, command=command))
     return found
 
 

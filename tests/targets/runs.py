@@ -1,4 +1,4 @@
-"""Replays of inputs: by the program, by board_replay from C, and by the WebAssembly module."""
+"""Replays and traces of inputs: by the program, by board_replay and board_trace from C, and by the WebAssembly module."""
 from __future__ import annotations
 
 import base64
@@ -19,7 +19,7 @@ Words = list[str]
 
 @dataclass(frozen=True)
 class Run:
-    """The text of a replay, and the number of the fault that ended it and of its record: 0 if there is none."""
+    """The text of a run, and the number of the fault that ended it and of its record: 0 if there is none."""
 
     text: bytes
     fault: int
@@ -44,7 +44,7 @@ def faults() -> dict[bytes, int]:
 
 def by_program(program: Path, call: Call) -> Run:
     """The run of the program. Its status, its standard error and its last line must report the same fault."""
-    words = [str(program), "replay", "--readers", str(call.readers), "--journal", str(call.journal)]
+    words = [str(program), call.command, "--readers", str(call.readers), "--journal", str(call.journal)]
     done = subprocess.run(words, input=call.text, stdout=subprocess.PIPE, stderr=subprocess.PIPE)
     if done.returncode == 0:
         assert not done.stderr, call.name
