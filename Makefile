@@ -13,11 +13,14 @@ SHELL       := bash
 
 O    := $(CURDIR)/out
 KIT  := $(patsubst %/bin/rt,%,$(realpath $(shell command -v rt)))
-ifeq ($(KIT),)
-$(error rt, which proves the crates, is not on the PATH: README.md says which toolchain the repository needs)
-endif
+# What needs no proof needs no rt.
+UNPROVED := portable docs lint clean help
+ifneq ($(KIT),)
 # out/kit names the toolchain that made the results.
 $(shell mkdir -p $O; cmp -s $(KIT)/KIT-ID $O/kit || cp $(KIT)/KIT-ID $O/kit)
+else ifneq ($(filter-out $(UNPROVED),$(or $(MAKECMDGOALS),board)),)
+$(error rt, which proves the crates, is not on the PATH: README.md says which toolchain the repository needs)
+endif
 
 # Processes for one crate (more than four gain nothing), and crates proved in parallel, as far as memory allows.
 JOBS := $(shell n=$$(nproc); echo $$((n < 4 ? n : 4)))
@@ -100,8 +103,12 @@ proves $(subst $O/$1.toolchain,$(KIT)/toolchain,$(subst lib$1.a,$1.wasm.a,$(stat
 $(KIT)/bin/rattle-link --target wasm64-unknown-unknown --toolchain $(KIT)/toolchain -o $O/$1.wasm $O/$1.wasm.a
 endef
 
-.PHONY: board all check gate module aarch64 page release deep clean help
+.PHONY: board portable all check gate module aarch64 one-file page release deep clean help
 board: $O/board.proved  ## the program, out/board
+portable: portable/out/board  ## the program from portable/board.c, portable/out/board: needs no rt, proves nothing
+portable/out/board: portable/board.c portable/board.h
+	@mkdir -p $(@D)
+	$(CC) -O2 -DBOARD_MAIN $< -o $@
 all: $(CRATES:%=$O/%.proved)  ## proofs of all crates, and their tests
 	@mkdir -p $O/said; echo "$(words $(CRATES)) passed, 0 failed" | tee $O/said/$@
 check:  ## proofs and tests, worked examples on the program, and calls with memory refused
@@ -152,9 +159,12 @@ wasm/out/board.wasm: $(modules) wasm/build wasm/heap.c
 aarch64: aarch64/out/libboard.a  ## the library for aarch64
 aarch64/out/libboard.a: $(modules) aarch64/build aarch64/heap.c
 	@aarch64/build
+one-file: portable/out/board.c  ## the C file made again, portable/out/board.c
+portable/out/board.c: $(modules) aarch64/heap.c crates/board_c/board.h crates/board_c/names.c portable/build $(wildcard portable/src/*.c)
+	@portable/build
 page: module  ## the page, page/out/board.html
 	@page/build
-release: board module aarch64 page  ## a release, out/board-VERSION-x86_64-linux.tar.gz
+release: board module aarch64 page  ## a release: out/board-VERSION-x86_64-linux.tar.gz, and -windows.zip
 	@./release
 
 # The gate's parts. Each prints a line for each test and, last, 'N passed, M failed'; its output is kept in out/said.
@@ -167,7 +177,7 @@ tail -qn 1 $O/said/* | awk -v status=$$status '/^[0-9]+ passed, [0-9]+ failed$$/
   END {print passed + 0 " passed, " (status && !failed ? 1 : failed + 0) " failed"}'
 exit $$status
 endef
-.PHONY: docs lint tools ci edits cases independent memory register script stress figures targets page-tests release-tests kit-gate
+.PHONY: docs lint tools ci edits cases independent memory register script stress figures targets compilers page-tests release-tests kit-gate
 docs:  ## names, links and made parts of the documents
 	$(call said,docs/check)
 lint:  ## what no clause can say of the sources
@@ -205,14 +215,16 @@ figures: board  ## the scripts of figures
 	$(call said,figures/check $O/board)
 targets: board module aarch64  ## the library, also for aarch64 and WebAssembly, against the program
 	$(call said,tests/targets/run $O/board)
+compilers: board one-file  ## the C file by each compiler and on each system, against the program
+	$(call said,tests/portable/run $O/board)
 page-tests: board page  ## board.html in Chromium and Firefox
 	$(call said,page/tests/run)
 release-tests: release  ## a release, unpacked and run without the toolchain
 	$(call said,tests/release/run)
 
 gate:  ## all that must pass before a change lands
-	+@$(call judged,"docs lint tools" ci "edits cases independent figures memory register script" stress targets page-tests release-tests)
+	+@$(call judged,"docs lint tools" ci "edits cases independent figures memory register script" stress targets compilers page-tests release-tests)
 clean:  ## removes all results
-	@rm -rf $O {wasm,aarch64,page}/out
+	@rm -rf $O {wasm,aarch64,page,portable}/out
 help:  ## this list
 	@sed -nE 's/^([a-z-]+):.*  ## (.*)/make \1\t\2/p' Makefile | expand -t 20

@@ -4,4 +4,4 @@ export { counts, countsOfAll, countsOfMembers, replay } from "./calls.mjs";
 export { Fraction } from "./fractions.mjs";
 export { Register } from "./register.mjs";
 
-export const version = "0.8.0";
+export const version = "0.8.1";

@@ -63,6 +63,13 @@ enum {
 
 enum { BOARD_SHEET_WORDS = 34, BOARD_ROOM_SETS = 65536 };
 
+/* A number that is aligned to 8 bytes in a struct, also where a uint64_t is aligned to 4. */
+#if defined(__GNUC__) && defined(__i386__)
+typedef uint64_t board_word __attribute__((aligned(8)));
+#else
+typedef uint64_t board_word;
+#endif
+
 /* The bytes of each struct below, for callers without a C compiler. Each is aligned to
  * BOARD_ALIGNMENT bytes. */
 enum {
@@ -108,7 +115,8 @@ enum {
     BOARD_TOO_LONG = 29,         /* the input has more than 4,194,304 bytes */
     BOARD_BAD_SHEET = 32,        /* the words, weights or members are not a board's */
     BOARD_NO_REGISTER = 34,      /* the handle has no register */
-    BOARD_BAD_INDEX = 35         /* there is no item at this index */
+    BOARD_BAD_INDEX = 35,        /* there is no item at this index */
+    BOARD_TRAPPED = 255          /* of board.c alone: its compiled code broke a rule of its proof */
 };
 
 /* Majorities. */
@@ -189,11 +197,11 @@ uint8_t board_counts_of_weights(const uint64_t *weights, size_t len, uint64_t to
 uint8_t board_counts_of_members(const struct board_member *members, size_t len, uint32_t open_chairs, uint32_t majority,
                                 struct board_room *room, struct board_counts *counts);
 
-/* A handle, through which a program calls a register. The two words are 0 at first, as in
+/* A handle, through which a program calls a register. Its words are 0 at first, as in
  *
  *     struct board_register handle = {0};
  *
- * and from then on only the library changes them. A copy of the two words is not a second handle,
+ * and from then on only the library changes them. A copy of these words is not a second handle,
  * and must not be passed to a call: board_register_copy copies a register. (A handle may move to
  * another place, where the old one is used no more.) One call at a time may run on a handle, also
  * of those that only read. Between calls it may go to another thread, which must see what was done
@@ -204,14 +212,17 @@ uint8_t board_counts_of_members(const struct board_member *members, size_t len, 
  * number of something. So a second board_register_free does no harm, nor does one of a handle
  * whose words are 0. */
 struct board_register {
-    void *at;       /* what is there belongs to the library */
-    uint64_t state; /* 1 if the handle has a register, and 0 if not */
+    void *at; /* what is there belongs to the library */
+#if UINTPTR_MAX < UINT64_MAX
+    uint32_t high; /* 0 */
+#endif
+    board_word state; /* 1 if the handle has a register, and 0 if not */
 };
 
 /* A member with which a register starts. */
 struct board_entry {
-    char code[4];   /* three capitals and a 0 */
-    uint64_t votes; /* at most 2^40 */
+    char code[4];     /* three capitals and a 0 */
+    board_word votes; /* at most 2^40 */
 };
 
 /* Kinds of commands; and of the other records of a script, which are no commands. */
@@ -231,10 +242,10 @@ enum {
 /* A command. Only the parts that its kind names above are looked at, and in a command that the
  * library writes the others are 0. */
 struct board_command {
-    uint32_t kind;  /* BOARD_OPEN to BOARD_WITHDRAW */
-    char code[4];   /* three capitals and a 0 */
-    uint64_t chair; /* from 1 to 32; of BOARD_MOVE also 0, no chair */
-    uint64_t votes; /* at most 2^40 */
+    uint32_t kind;    /* BOARD_OPEN to BOARD_WITHDRAW */
+    char code[4];     /* three capitals and a 0 */
+    board_word chair; /* from 1 to 32; of BOARD_MOVE also 0, no chair */
+    board_word votes; /* at most 2^40 */
 };
 
 /* A member of a register. */

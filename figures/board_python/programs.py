@@ -55,10 +55,10 @@ class Program:
         return done.stdout.decode(errors="replace").strip()
 
     def file(self) -> Path:
-        """The program's own file: for the script `board` of the repository the file that it builds and runs."""
+        """The program's own file: for the script `board` of the repository the file that it builds or compiles."""
         path = Path(shutil.which(self.path) or self.path).resolve()
-        built = TOP / "crates" / "board" / "out" / "board"
-        return built if path == TOP / "board" and built.exists() else path
+        built = [it for it in (TOP / "out" / "board", TOP / "portable" / "out" / "board") if it.exists()]
+        return built[0] if path == TOP / "board" and built else path
 
     def why(self, name: str) -> str:
         """A refusal's name, with its reason."""

@@ -2,6 +2,7 @@
 from __future__ import annotations
 
 import base64
+import hashlib
 import json
 import re
 import shutil
@@ -15,14 +16,44 @@ from oracle import TOP, Oracle
 
 MOST_BYTES = 700_000
 BUILT = TOP / "page" / "out" / "board.html"
-VERSION = re.compile(r"board (\d+\.\d+\.\d+)")
+COMMITTED = TOP / "board.html"
+COMMIT = re.compile(r'<meta name="generator" content="board \S+, commit ([^"]*)">')
+# The parts of a page, and last the whole. The module is in base64: its first bytes are a zero and asm.
+MODULE = r"AGFzb[A-Za-z0-9+/]+=*"
+PARTS = {"module": MODULE, "script": "<script.*?</script>", "style": "<style.*?</style>", "text": ".*"}
 
 
-def module_in(page: Path) -> bytes:
-    """The WebAssembly module that a page holds in base64: its first bytes are a zero and asm."""
-    found = set(re.findall(rb"AGFzb[A-Za-z0-9+/]+=*", page.read_bytes()))
-    assert len(found) == 1, f"{page} holds {len(found)} modules"
-    return base64.b64decode(found.pop())
+def text_of(page: Path) -> str:
+    return page.read_bytes().decode()
+
+
+def part_of(text: str, pattern: str) -> list[str]:
+    return re.findall(pattern, text, re.DOTALL)
+
+
+def commit_of(text: str) -> str:
+    """The commit that a page names."""
+    found = COMMIT.search(text)
+    assert found, "the page names no commit"
+    return found[1]
+
+
+def with_commit(text: str, commit: str) -> str:
+    """A page that names another commit: in its policy, the scripts that name it have other sums."""
+    other = text.replace(commit_of(text), commit)
+    for one, another in zip(*(part_of(it, "<script>(.*?)</script>") for it in (text, other))):
+        other = other.replace(sum_of(one), sum_of(another))
+    return other
+
+
+def sum_of(script: str) -> str:
+    return base64.b64encode(hashlib.sha256(script.encode()).digest()).decode()
+
+
+def other_tools() -> str:
+    """The tools here that differ from those that made the committed page."""
+    look = "tools/made-with | diff tools/made-with.txt -"
+    return subprocess.run(["sh", "-c", look], cwd=TOP, stdout=subprocess.PIPE, text=True).stdout or "none"
 
 
 def test_size(page: Page) -> None:
@@ -39,14 +70,18 @@ def test_same_bytes(page: Page) -> None:
 
 def test_module(page: Page) -> None:
     # Catches: a page whose count isn't the proved program's, since another module was built into it.
-    assert module_in(BUILT) == (TOP / "wasm" / "out" / "board.wasm").read_bytes()
+    modules = part_of(text_of(BUILT), MODULE)
+    assert list(map(base64.b64decode, modules)) == [(TOP / "wasm" / "out" / "board.wasm").read_bytes()]
 
 
 def test_committed(page: Page) -> None:
-    # Catches: a board.html at the top of the repository whose module isn't the one of its version.
-    committed = TOP / "board.html"
-    versions = [set(VERSION.findall(it.read_text())) for it in [BUILT, committed]]
-    assert versions[0] != versions[1] or module_in(committed) == module_in(BUILT), "the modules differ"
+    # Catches: a board.html at the top of the repository that isn't what the repository makes. It may name an earlier
+    # commit, but a whole one.
+    committed = text_of(COMMITTED)
+    assert re.fullmatch("[0-9a-f]{40}", commit_of(committed)), "board.html was made with changes that aren't committed"
+    built = with_commit(text_of(BUILT), commit_of(committed))
+    differ = [name for name, pattern in PARTS.items() if part_of(committed, pattern) != part_of(built, pattern)]
+    assert not differ, f"board.html and page/out/board.html differ in the {differ[0]}. Other tools:\n{other_tools()}"
 
 
 def test_no_request(page: Page) -> None:

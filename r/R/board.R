@@ -13,7 +13,7 @@ board_largest_journal <- 1e6
 board_write_fault <- 20
 
 # The version of the board.
-board_version <- function() "0.8.0"
+board_version <- function() "0.8.1"
 
 # A number in the form of a message.
 board_shown <- function(number) format(number, digits = 15, scientific = FALSE, trim = TRUE)

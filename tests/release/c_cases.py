@@ -12,25 +12,26 @@ from steps import TOP, Case, ran
 
 STRICT = ["-std=c11", "-Wall", "-Wextra", "-Wconversion", "-pedantic", "-Werror", "-pthread", "-Iinclude"]
 SOURCES = TOP / "tests" / "release"
+LIBRARY = "lib/libboard.a"
 
 
-def check_calls(room: Path) -> None:
+def check_calls(room: Path, library: str = LIBRARY) -> None:
     """The calls of board.h: against a count over all coalitions, and on input that is refused."""
-    ran(["cc", *STRICT, str(SOURCES / "calls.c"), "lib/libboard.a", "-o", "calls"], room)
+    ran(["cc", *STRICT, str(SOURCES / "calls.c"), library, "-o", "calls"], room)
     ran(["./calls"], room)
 
 
-def check_answers(room: Path, what: str) -> None:
+def check_answers(room: Path, what: str, library: str = LIBRARY) -> None:
     """The library gives the program's answers for boards or scripts."""
     folder = answers_in(room)
-    ran(["cc", "-O2", *STRICT, str(SOURCES / "answers.c"), "lib/libboard.a", "-o", "answers_c"], room)
+    ran(["cc", "-O2", *STRICT, str(SOURCES / "answers.c"), library, "-o", "answers_c"], room)
     got = ran(["sh", "-c", f"./answers_c {what} < {folder}/{what}.txt"], room)
     assert got == (folder / f"{what}.txt").read_text(), f"the answers to {what} differ"
 
 
 def check_needs(room: Path) -> None:
     """The proved object asks the C library to copy and to fill memory, and for nothing else: it has no heap."""
-    part = ran(["nm", "-u", "lib/libboard.a"], room).partition("board_c.o:")[2].strip().partition("\n\n")[0]
+    part = ran(["nm", "-u", LIBRARY], room).partition("board_c.o:")[2].strip().partition("\n\n")[0]
     needs = {line.split()[-1] for line in part.splitlines()}
     assert needs == {"memcpy", "memset"}, f"it asks for {needs}"
 
@@ -41,15 +42,16 @@ def version_of(room: Path) -> str:
 
 def check_names(room: Path) -> None:
     """The version and the name of each number are those of VERSION and docs/FORMATS.md, from both libraries and, for
-    results, from the header."""
+    results, from the header. Two results have no name: 0, and 255 of the C file alone."""
     rows = re.findall(r"^\| (\d+) \| (\w+) \| .* \|$", (room / "docs/FORMATS.md").read_text(), re.MULTILINE)
     wanted = "".join(f"{number} {name}\n" for number, name in rows)
-    for library in [["lib/libboard.a"], ["-Llib", "-lboard", f"-Wl,-rpath,{room}/lib"]]:
+    for library in [[LIBRARY], ["-Llib", "-lboard", f"-Wl,-rpath,{room}/lib"]]:
         ran(["cc", *STRICT, str(SOURCES / "names.c"), *library, "-o", "names"], room)
         got = ran(["./names"], room)
         assert got == f"{version_of(room)}\n{wanted}", f"{library}: {got}"
     results = (room / "include/board.h").read_text().partition("/* Results")[2].partition("};")[0]
-    declared = {number: name for name, number in re.findall(r"\bBOARD_(\w+) = (\d+)", results) if number != "0"}
+    pairs = re.findall(r"\bBOARD_(\w+) = (\d+)", results)
+    declared = {number: name for name, number in pairs if number not in ("0", "255")}
     assert len(declared) > 20, declared
     named = {number: re.sub(r"\B([A-Z])", r"_\1", name).upper() for number, name in rows}
     assert declared.items() <= named.items(), f"the header names {declared.items() - named.items()}"
@@ -119,7 +121,7 @@ def check_structs(room: Path) -> None:
     languages = [("cc", ["-std=c11"])] + [("g++", ["-x", "c++", f"-std={it}"]) for it in ("c++11", "c++20")]
     for compiler, flags in [it for it in languages if shutil.which(it[0])]:
         warnings = ["-Wall", "-Wextra", "-pedantic", "-Werror", "-Iinclude"]
-        source = [*flags, str(SOURCES / "structs.c"), "-x", "none", "lib/libboard.a"]
+        source = [*flags, str(SOURCES / "structs.c"), "-x", "none", LIBRARY]
         ran([compiler, *warnings, *source, "-o", "structs"], room)
         assert ran(["./structs"], room) == "3 swings\n", compiler
 
