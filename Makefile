@@ -40,6 +40,8 @@ CRATES   := $(patsubst uses_%,%,$(filter uses_%,$(.VARIABLES)))
 TESTS    := $(filter %_tests,$(CRATES))
 STATIC   := $(shell sed -nE 's/^([a-z0-9_]+) .*\bstaticlib\b.*/\1/p' crates.txt)
 PROGRAMS := $(patsubst crates/%/src/main.rt,%,$(wildcard crates/*/src/main.rt))
+# With the static libraries, what tools/steps looks at: the program, and the tests with each call that takes no memory.
+STEPPED  := board memory_tests
 EDITED   := $(patsubst crates/%/must-fail,%,$(wildcard crates/*/must-fail))
 
 # Programs over the libraries, used only for timing.
@@ -63,7 +65,7 @@ over      = --crate-name $1 src/$(if $(filter $1,$(PROGRAMS) $(BENCH)),main,lib)
             $(foreach it,std $(uses_$1),$(call extern,$(it),$2)) -L dependency=$O$2 -L dependency=$(KIT)/rlibs --links $1= \
             $(if $(filter $1,$(STATIC)),--crate-type staticlib) --antt-project $(KIT)/rattle/logic/antt-project.json
 checked   := --logic-built $(KIT)/logic_built
-linked    = --toolchain $(KIT)/toolchain --backend llvm $(if $(filter $1,$(TESTS)),--test) -o $O/$1.o
+linked    = --toolchain $(if $(filter $1,$(STEPPED)),$O/$1.toolchain,$(KIT)/toolchain) --backend llvm $(if $(filter $1,$(TESTS)),--test) -o $O/$1.o
 static    = --toolchain $O/$1.toolchain --backend llvm --incremental $O/$1.kept -o $O/lib$1.a
 how       = $(if $(filter $1,$(LINKED)),$(linked),$(if $(filter $1,$(STATIC)),$(static),--statements -o $O/$1.rlib))
 
@@ -116,7 +118,7 @@ check:  ## proofs and tests, worked examples on the program, and calls with memo
 
 $O/%.proved: $$(call sources,$$*) $$(call below,$$*)
 	@touch $O/$*.begun
-	$(if $(filter $*,$(STATIC)),$(call toolchain,$*))
+	$(if $(filter $*,$(STATIC) $(STEPPED)),$(call toolchain,$*))
 	$(call rattle,$*,build)
 	proves $(call how,$*)
 	$(if $(filter $*,$(LINKED)),$(call run,$*))
@@ -177,7 +179,7 @@ tail -qn 1 $O/said/* | awk -v status=$$status '/^[0-9]+ passed, [0-9]+ failed$$/
   END {print passed + 0 " passed, " (status && !failed ? 1 : failed + 0) " failed"}'
 exit $$status
 endef
-.PHONY: docs lint tools ci edits cases independent memory register script stress figures targets compilers page-tests release-tests kit-gate
+.PHONY: docs lint tools ci steps steps-tests edits cases independent memory register script stress figures targets compilers page-tests release-tests kit-gate
 docs:  ## names, links and made parts of the documents
 	$(call said,docs/check)
 lint:  ## what no clause can say of the sources
@@ -186,7 +188,7 @@ ci: $O/kit  ## the kit's gate over a copy without the mutations; its proofs and 
 	@mkdir -p $O/said; touch $O/ci.begun; copy=$$(mktemp -d); trap 'rm -rf "$$copy"' EXIT
 	tar --create --exclude=.git --exclude=out --exclude=must-fail . | tar --extract --directory "$$copy"
 	(cd "$$copy" && rt ci 2>&1) | tee $O/said/ci
-	for it in $(filter-out $(STATIC),$(CRATES)); do
+	for it in $(filter-out $(STATIC) $(STEPPED),$(CRATES)); do
 	  made=$$copy/crates/$$it/out to=$O/$$it
 	  if [[ $$it == *_tests ]]; then made=$$made/$${it}_tests
 	  elif [[ -d $$made/rlib ]]; then made=$$made/rlib/$$it.rlib to=$$to.rlib
@@ -198,6 +200,10 @@ kit-gate:  ## the kit's gate with nothing left out, on a clean clone: it tests e
 	git clone --quiet . "$$copy/clone" && cd "$$copy/clone" && rt ci
 tools:  ## the code that decides whether a mutation was rejected
 	$(call said,tests/tools/run)
+steps: $(patsubst %,$O/%.proved,$(STEPPED) $(STATIC))  ## the atomic steps, memory and writes of the compiled code
+	$(call said,tools/steps tools/steps.txt $(patsubst %,$O/%.bc,$(STEPPED) $(STATIC)))
+steps-tests: $O/memory_tests.proved  ## changes of the compiled code that the part before must refuse
+	$(call said,tests/steps/run $O/memory_tests.bc)
 edits: $(EDITED:%=$O/%.edits)  ## the mutations
 cases: board  ## worked examples, and the examples of the documents, on the program
 	$(call said,tests/cases/run $O/board)
@@ -223,7 +229,7 @@ release-tests: release  ## a release, unpacked and run without the toolchain
 	$(call said,tests/release/run)
 
 gate:  ## all that must pass before a change lands
-	+@$(call judged,"docs lint tools" ci "edits cases independent figures memory register script" stress targets compilers page-tests release-tests)
+	+@$(call judged,"docs lint tools" ci "steps steps-tests edits cases independent figures memory register script" stress targets compilers page-tests release-tests)
 clean:  ## removes all results
 	@rm -rf $O {wasm,aarch64,page,portable}/out
 help:  ## this list
