@@ -202,7 +202,7 @@ tools:  ## the code that decides whether a mutation was rejected
 	$(call said,tests/tools/run)
 steps: $(patsubst %,$O/%.proved,$(STEPPED) $(STATIC))  ## the atomic steps, memory and writes of the compiled code
 	$(call said,tools/steps tools/steps.txt $(patsubst %,$O/%.bc,$(STEPPED) $(STATIC)))
-steps-tests: $O/memory_tests.proved  ## changes of the compiled code that the part before must refuse
+steps-tests: $O/memory_tests.proved  ## changes planted in the compiled code, which steps must refuse
 	$(call said,tests/steps/run $O/memory_tests.bc)
 edits: $(EDITED:%=$O/%.edits)  ## the mutations
 cases: board  ## worked examples, and the examples of the documents, on the program
