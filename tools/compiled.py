@@ -78,7 +78,8 @@ def acts_of(block: str, line: str) -> list[Act]:
         callee = CALLEE.search(line)
         if not callee or not callee[1]:
             return [Act(block, "pointer", "a call through a pointer")]
-        return [Act(block, "call", bare(callee[1]))]
+        name = bare(callee[1])
+        return [Act(block, "atomic" if re.match(r"llvm\..*\batomic\b", name) else "call", name)]
     unnamed = re.sub(r'"[^"]*"', '""', line)
     if found := ATOMIC.match(unnamed.replace(" volatile ", " ", 1)):
         what = found[1] or found[2] or f"atomicrmw {found[3]}"
