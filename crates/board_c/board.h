@@ -22,7 +22,8 @@
  * write to.
  *
  * The results of a call and what it writes are proved to be what this header says, except for
- * board_version and board_refusal_name. That memory is freed, and that BOARD_OUT_OF_MEMORY comes
+ * board_version and board_refusal_name; portable/board.c, the same calls in C, is made from what is
+ * proved in steps that are tested. That memory is freed, and that BOARD_OUT_OF_MEMORY comes
  * only where it is refused, is tested and not proved. Nothing checks the callers, who must ensure
  * the following:
  *
@@ -116,7 +117,7 @@ enum {
     BOARD_BAD_SHEET = 32,        /* the words, weights or members are not a board's */
     BOARD_NO_REGISTER = 34,      /* the handle has no register */
     BOARD_BAD_INDEX = 35,        /* there is no item at this index */
-    BOARD_TRAPPED = 255          /* of board.c alone: its compiled code broke a rule of its proof */
+    BOARD_TRAPPED = 255          /* of portable/board.c: the code came to what its proof rules out */
 };
 
 /* Majorities. */
@@ -129,20 +130,20 @@ enum {
 
 /* An open chair. */
 struct board_chair {
-    uint64_t chair;  /* its number, from 1 to 32 */
-    uint64_t weight; /* its weight, in votes */
-    uint64_t swings; /* its swings: sets of other open chairs that lose, and that win with it */
+    board_word chair;  /* its number, from 1 to 32 */
+    board_word weight; /* its weight, in votes */
+    board_word swings; /* its swings: sets of other open chairs that lose, and that win with it */
 };
 
 /* The least weight and size that win on a board, and its coalitions: 824 bytes. */
 struct board_counts {
-    uint64_t quota;      /* the least weight that wins, in votes */
-    uint64_t least_size; /* the least number of chairs that wins; 0 if the majority requires none */
-    uint64_t cast;       /* the votes of all open chairs together */
-    uint64_t total;      /* the total voting power, in votes */
-    uint64_t chairs;     /* the number of open chairs */
-    uint64_t omega;      /* the number of winning coalitions */
-    uint64_t coalitions; /* the number of all coalitions: 2^chairs */
+    board_word quota;      /* the least weight that wins, in votes */
+    board_word least_size; /* the least number of chairs that wins; 0 if the majority requires none */
+    board_word cast;       /* the votes of all open chairs together */
+    board_word total;      /* the total voting power, in votes */
+    board_word chairs;     /* the number of open chairs */
+    board_word omega;      /* the number of winning coalitions */
+    board_word coalitions; /* the number of all coalitions: 2^chairs */
     struct board_chair rows[BOARD_CHAIRS]; /* open chairs by number, then zeros */
 };
 
@@ -156,15 +157,15 @@ struct board_all_counts {
 
 /* A member. */
 struct board_member {
-    uint64_t votes;
-    uint64_t chair;     /* the number of its chair, from 1 to 32, or 0 for a member in no chair */
-    uint64_t suspended; /* 0 for a member that votes, any other number for a suspended one */
+    board_word votes;
+    board_word chair;     /* the number of its chair, from 1 to 32, or 0 for a member in no chair */
+    board_word suspended; /* 0 for a member that votes, any other number for a suspended one */
 };
 
 /* Memory for the lists of a call: 1,310,720 bytes, aligned to 8. */
 struct board_room {
-    uint64_t left_sums[BOARD_ROOM_SETS];
-    uint64_t right_sums[BOARD_ROOM_SETS];
+    board_word left_sums[BOARD_ROOM_SETS];
+    board_word right_sums[BOARD_ROOM_SETS];
     uint16_t left_masks[BOARD_ROOM_SETS];
     uint16_t right_masks[BOARD_ROOM_SETS];
 };
@@ -252,8 +253,8 @@ struct board_command {
 struct board_member_row {
     char code[4];       /* three capitals and a 0 */
     uint32_t suspended; /* 1 for a suspended member, and 0 for any other */
-    uint64_t chair;     /* the number of its chair, or 0 for a member in none */
-    uint64_t votes;     /* its votes, also while it is suspended */
+    board_word chair;   /* the number of its chair, or 0 for a member in none */
+    board_word votes;   /* its votes, also while it is suspended */
 };
 
 /* Starts a register of these members in the handle, with an empty journal that accepts at most

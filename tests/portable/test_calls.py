@@ -1,6 +1,8 @@
 """The calls of board.c, by programs in C of the other tests, against the program and the libraries."""
 from __future__ import annotations
 
+from pathlib import Path
+
 import pytest
 from answers import Answers, batch, boards_drawn, inputs
 from compilers import AARCH64, CLANG, CPLUSPLUS, GCC, I686, MUSL, REFUSING, RISCV64, SANITIZERS, SYSTEMS, THREADED
@@ -40,6 +42,13 @@ def test_commands(built: Built, answers: Answers, draw: str) -> None:
     commands = answers.native(source, ["made", draw, str(many)], b"")
     found = printed([*built.calling(source), "answers"], commands)
     assert found == answers.native(source, ["answers"], commands), "other answers"
+
+
+@on([*(it for it in SYSTEMS if it != WINDOWS), *SANITIZERS])
+@pytest.mark.parametrize("draw", DRAWS)
+def test_registers(built: Built, program: Path, draw: str) -> None:
+    # Catches: a count, a member, a command or a copy of a register that isn't the model's, or the program's.
+    printed([*built.calling("register/commands.c"), "test", str(program), draw, str(SLOW_COMMANDS)])
 
 
 @on([*SYSTEMS, *SANITIZERS])

@@ -1,12 +1,12 @@
-"""The program that board.c is with BOARD_MAIN, against the proved program: its worked examples, and its devices."""
+"""The program that board.c is with BOARD_MAIN, and a program over its register, against the proved program."""
 from __future__ import annotations
 
 from pathlib import Path
 
 import pytest
 from case_files import Case, all_cases
-from compilers import SYSTEMS, Built, Ended, ended, on
-from inputs import TOP, at_limits
+from compilers import SANITIZERS, SYSTEMS, Built, Ended, ended, on
+from inputs import TOP, at_limits, of_cases
 from runs import Words
 
 REFUSED = 2
@@ -54,6 +54,16 @@ def test_examples(built: Built, program: Path) -> None:
         fault = case.fault(found.status, found.output, found.complaint)
         faults += [f"{case.name}: {fault or found}"] * (bool(fault) or differs(found, wanted))
     assert not faults
+
+
+@on([*SYSTEMS, *SANITIZERS])
+def test_replays_as_data(built: Built, program: Path) -> None:
+    # Catches: a script as data, or what a register does or counts, by which a replay isn't the program's.
+    for call in built.some(of_cases("replay")):
+        readers, journal = str(call.readers), str(call.journal)
+        found = ended([*built.calling("register/replay.c"), readers, journal], call.text)
+        wanted = ended([str(program), "replay", "--readers", readers, "--journal", journal], call.text)
+        assert found == wanted, call.name
 
 
 @on(SYSTEMS)
