@@ -5,7 +5,7 @@ from pathlib import Path
 
 import pytest
 from case_files import Case, all_cases
-from compilers import SANITIZERS, SYSTEMS, Built, Ended, ended, on
+from compilers import GCC, SANITIZERS, SYSTEMS, Built, Ended, ended, on
 from inputs import TOP, at_limits, of_cases
 from runs import Words
 
@@ -83,6 +83,15 @@ def test_long_inputs(built: Built, program: Path, command: str) -> None:
     for call in at_limits():
         found, wanted = (ended([*it, command], call.text) for it in (built.program(), [str(program)]))
         assert found == wanted, call.name
+
+
+@on([GCC])
+def test_little_memory(built: Built, program: Path) -> None:
+    # Catches: a run that ends since there is no room for a longer text than its own.
+    longest = next(it.text for it in at_limits() if it.name == "the longest input")
+    little = ["bash", "-c", 'ulimit -v 100000; exec "$@"', "bash"]
+    found, wanted = (ended([*little, *it, "replay"], longest) for it in (built.program(), [str(program)]))
+    assert found == wanted
 
 
 @on(SYSTEMS)
