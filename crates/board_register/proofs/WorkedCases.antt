@@ -12,8 +12,13 @@ use Rattle.council_core.specs.declared.refusals.Refusal.{Refusal}
 use Rattle.c_values.specs.Given.{command_with, given_opening}
 use Rattle.c_values.specs.declared.counts.BoardCounts.{BoardCounts}
 use Rattle.c_values.specs.declared.commands.BoardCommand.{BoardCommand}
+use Rattle.board_register.specs.declared.TheConstants.{DONE}
 use Rattle.board_register.specs.Calls.{AcceptsAs, Answers, AnswersCopy, AnswersWith, IsCopied, IsRefusedStart, IsStarted, OfRegister, WritesAt, WritesCommand, WritesCounts, opening_entry, reply_number, register_in, reply, row_at, start_reply}
 use Rattle.board_register.specs.declared.handles.BoardRegister.{BoardRegister}
+
+-- the answer of a call that is not refused
+done : DONE ≡ 0
+done = refl
 
 -- member AAA with 10 votes; chair 1 is opened and published, and chair 2 is opened; two commands fit
 abbrev small : Sequential

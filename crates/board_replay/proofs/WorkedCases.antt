@@ -15,6 +15,10 @@ use Rattle.board_text.proofs.PlayFacts.{text-after}
 use Rattle.board_replay.proofs.KindFacts.{kind-ends}
 use Rattle.board_replay.proofs.TextFacts.{shows-done, shows-place}
 
+-- the answer of a run without a fault
+done : DONE ≡ 0
+done = refl
+
 -- a run of one line, "A"
 abbrev one_line : Run
 one_line = printed_run ((65 ∷ []) ∷ [])

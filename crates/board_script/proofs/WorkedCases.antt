@@ -7,10 +7,15 @@ use Rattle.csv.specs.Reading.{records_from, strip_bom}
 use Rattle.board_text.specs.Requests.{Row}
 use Rattle.board_text.specs.Text.{begun_of, members_before, fault_at, opening_of, run_limits}
 use Rattle.c_values.specs.Given.{command_with, no_code}
+use Rattle.board_script.specs.declared.TheConstants.{DONE}
 use Rattle.board_script.specs.Contents.{fault_from, items_from, items_of, members_of}
 use Rattle.board_script.specs.Items.{item_with, only_kind}
 use Rattle.board_script.specs.Places.{IsRecordAt}
 use Rattle.board_script.specs.Written.{overlaid}
+
+-- the answer of a call that is not refused
+done : DONE ≡ 0
+done = refl
 
 -- records 4 to 9 of an input; there are two readers, so the fifth of these has a fault
 abbrev rows : List Row

@@ -1,17 +1,24 @@
 -- Which faults may end a run of the threads, and after which lines; and what the definitions exclude.
-use Rattle.std.proofs.Common.{◌≡◌, ◌++◌, ℕ, true, false, List, [], ◌∷◌, replicate, Option, Some, Ok, Err, refl, sym, ap, arith, ⊎_elim}
-use Rattle.council_core.specs.Sequential.{Sequential}
+use Rattle.std.proofs.Common.{◌≡◌, ◌++◌, ◌∙◌, ◌⊎◌, inl, inr, ℕ, true, false, List, [], ◌∷◌, length, map, replicate, Option, Some, None, Ok, Err, refl, sym, ap, arith, ⊎_elim, All, get_or, subst}
+use Rattle.std.proofs.lemmas.List.Elements.{recursion_from_All}
+use Rattle.std.specs.Io.KnownBytes.{Appends}
+use Rattle.council_core.specs.Rolls.{IsLegal}
+use Rattle.council_core.specs.Sequential.{Sequential, answered}
+use Rattle.council_core.specs.declared.calls.Answer.{Answer}
 use Rattle.council_core.proofs.WorkedCases.{accepted, published, refused}
 use Rattle.council_core.specs.declared.refusals.Refusal.TheVariants as why
 use Rattle.majority_rule.specs.declared.majorities.Majority.TheVariants.{Half}
 use Rattle.board_audits.specs.declared.audits.AuditFault.TheVariants as found
-use Rattle.board_text.specs.Output.{Plays}
-use Rattle.board_text.specs.Text.{fault_at}
+use Rattle.board_share.specs.Readers.{IsLegalSheet}
+use Rattle.board_text.specs.Lines.{LineBytes, audit_line}
+use Rattle.board_text.specs.Output.{AppendsFront, IsBroken, Plays}
+use Rattle.board_text.specs.Text.{fault_at, output, stopped_run, text_of}
 use Rattle.board_text.specs.declared.faults.Fault.{Fault}
 use Rattle.board_text.specs.declared.stops.Stop.TheVariants as stop
-use Rattle.board_serve.specs.Outcomes.{CanBeFound, omegas_by}
+use Rattle.board_serve.specs.Outcomes.{CanBeFound, IsOutcome, IsServed, ServedLegalRecords, omegas_by, sheets_of, winning_of}
 use Rattle.board_serve.specs.Plans.{Planned}
-use Rattle.board_serve.specs.Serving.{Differs, EndsAfter, audited_run, work_lines}
+use Rattle.board_serve.specs.Serving.{Differs, EndsAfter, Serves, ServesWhole, audited_run, work_lines}
+use Rattle.board_serve.specs.declared.serving.Served.{Served}
 use Rattle.board_serve.specs.Work.{IsHeldUp, IsRising, cuts_of}
 use Rattle.board_serve.specs.declared.plan.TheConstants.{SERVED_READERS}
 
@@ -84,3 +91,95 @@ falling h = omega (arith, h.1.0)
 -- of a sheet on which chair 1 has all 10 votes one coalition wins, and a reader without readings has no number
 counted : omegas_by ((Half ∷ []) ∷ [] ∷ []) (((11 ∷ replicate 31 0 ++ 10 ∷ 2 ∷ []) ∷ []) ∷ [] ∷ []) ≡ (1 ∷ []) ∷ [] ∷ []
 counted = refl
+
+-- what an input with a bad record 2 may have written: a prefix of the output of a run that its fault, a failed read or
+-- memory that ran out ends
+abbrev bad : Fault
+bad = fault_at why.BadRecord 2
+
+abbrev seven : Option (List ℕ)
+seven = Some (7 ∷ [])
+
+abbrev code_in : Option Fault → ℕ
+code_in None = 0
+code_in (Some f) = f.code
+
+-- the output of a run that ends at once begins with an f, and so does each prefix of it that isn't empty
+no_seven : (f : Fault) → AppendsFront (Some []) seven (output (stopped_run f)) → ⊥
+no_seven f w =
+    let first : 102 ≡ 7 = ap (λ (bytes : List ℕ). get_or bytes 0 0) (w.1.1 ∙ ap (λ (front : List ℕ). front ++ w.1.0) (sym w.2)) in
+    omega (arith, first)
+
+no_other_byte : Serves (Some []) seven (Err (fault_at why.WriteFault 0)) (Err bad) → ⊥
+no_other_byte h = by_end h.0.lines h.0.end h.1 h.2
+  where
+    by_end : (lines : List LineBytes) (end : Option Fault) → EndsAfter (Err bad) lines end
+        → ((end ≡ Some (fault_at why.WriteFault 0)) × Appends (Some []) seven (output (record { lines = lines; end = end })))
+        ⊎ ((fault_at why.WriteFault 0 ≡ fault_at why.WriteFault 0) × AppendsFront (Some []) seven (output (record { lines = lines; end = end }))) → ⊥
+    by_end lines None e t = e
+    by_end lines (Some f) e (inl t) =
+        let twenty : f.code ≡ 20 = ap code_in t.0 in
+        ⊎_elim
+        (λ is. let other : f.code ≡ 17 = ap (λ (g : Fault). g.code) is in omega (arith, twenty, other))
+        (⊎_elim
+        (λ is. let other : f.code ≡ 10 = ap (λ (g : Fault). g.code) is in omega (arith, twenty, other))
+        (λ is. let other : f.code ≡ 19 = ap (λ (g : Fault). g.code) is in omega (arith, twenty, other))) e.1
+    by_end lines (Some f) e (inr t) =
+        let P : List LineBytes → Type 0 = λ ls. AppendsFront (Some []) seven (output (record { lines = ls; end = Some f })) in
+        no_seven f (subst P e.0 t.1)
+
+-- nor does the run that ends in the fault leave another byte
+no_other_line : Serves (Some []) seven (Err bad) (Err bad) → ⊥
+no_other_line h = by_end h.0.lines h.0.end h.1 h.2
+  where
+    by_end : (lines : List LineBytes) (end : Option Fault) → EndsAfter (Err bad) lines end
+        → ((end ≡ Some bad) × Appends (Some []) seven (output (record { lines = lines; end = end })))
+        ⊎ ((bad ≡ fault_at why.WriteFault 0) × AppendsFront (Some []) seven (output (record { lines = lines; end = end }))) → ⊥
+    by_end lines None e t = e
+    by_end lines (Some f) e (inl t) =
+        let P : List LineBytes → Type 0 = λ ls. Appends (Some []) seven (output (record { lines = ls; end = Some f })) in
+        let is : 7 ∷ [] ≡ output (stopped_run f) = subst P e.0 t.1 in
+        let first : 7 ≡ 102 = ap (λ (bytes : List ℕ). get_or bytes 0 0) is in
+        omega (arith, first)
+    by_end lines (Some f) e (inr t) = other_fault 17 20 (λ e. omega (arith, e)) t.0
+
+-- a run that serves to its end writes its lines
+no_silence : (s : Served) → ServesWhole (Some []) (Some []) s (Ok one_reading) → ⊥
+no_silence s h =
+    let same : one_reading ≡ h.0 = cc h.1 in
+    let is : [] ≡ text_of (work_lines one_reading ++ audit_line ∷ []) = h.4 ∙ ap (λ (p : Planned). text_of (work_lines p ++ audit_line ∷ [])) (sym same) in
+    let first : 0 ≡ 114 = ap (λ (bytes : List ℕ). get_or bytes 0 0) is in
+    omega (arith, first)
+
+-- what is served of this plan: no command and no cut, one reading of the first reader, of a legal list, and its omega
+module _ (s : Served) (h : IsServed one_reading s) where
+  no_command : s.journal.items ≡ []
+  no_command = h.journal
+
+  no_cut : s.cuts.items ≡ []
+  no_cut = h.cuts
+
+  legal_commands : IsLegal one_reading.start.ledger.opening s.journal.items
+  legal_commands = h.legal_journal
+
+  one_sheet : map length (sheets_of s) ≡ 1 ∷ 0 ∷ []
+  one_sheet = h.counts
+
+  legal_sheets : All (λ sheets. All (IsLegalSheet one_reading.start.ledger.opening) sheets) (sheets_of s)
+  legal_sheets = h.legal
+
+  omega_of_sheet : (words : List ℕ) → sheets_of s ≡ (words ∷ []) ∷ [] ∷ [] → winning_of s ≡ omegas_by ((Half ∷ []) ∷ [] ∷ []) ((words ∷ []) ∷ [] ∷ [])
+  omega_of_sheet words is = h.winning ∙ ap (omegas_by ((Half ∷ []) ∷ [] ∷ [])) is
+
+  no_falling_fronts : sheets_of s ≡ ((replicate 33 0 ++ 1 ∷ []) ∷ (replicate 33 0 ++ 0 ∷ []) ∷ []) ∷ [] ∷ [] → ⊥
+  no_falling_fronts is =
+      let P : List (List (List ℕ)) → Type 0 = λ sheets. All (IsRising 0) sheets in
+      let found : All (IsRising 0) (((replicate 33 0 ++ 1 ∷ []) ∷ (replicate 33 0 ++ 0 ∷ []) ∷ []) ∷ [] ∷ []) = subst P is h.rising in
+      falling (recursion_from_All (IsRising 0) (((replicate 33 0 ++ 1 ∷ []) ∷ (replicate 33 0 ++ 0 ∷ []) ∷ []) ∷ [] ∷ []) found).0
+
+-- an outcome of a plan without commands has no answer
+no_answer : (answers : List Answer) (s : Served) → IsOutcome one_reading answers s → map answered answers ≡ []
+no_answer answers s h = h.replies
+
+outcome_served : (answers : List Answer) (s : Served) → IsOutcome one_reading answers s → map length (sheets_of s) ≡ 1 ∷ 0 ∷ []
+outcome_served answers s h = h.served.counts

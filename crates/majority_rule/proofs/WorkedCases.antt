@@ -62,3 +62,52 @@ reaching_wins law = (law Quorum three_chairs 100 2).0 (omega arith, omega arith)
 
 pub winning_reaches : QuotaLaw → quota_of Quorum three_chairs ≤ 100
 winning_reaches law = ((law Quorum three_chairs 100 2).1 refl).0
+
+-- chairs 1 and 2 with 50 votes each, and none elsewhere: a tie, and an even number of chairs
+abbrev two_chairs : List ℕ
+two_chairs = 51 ∷ 51 ∷ replicate 30 0 ++ 100 ∷ 4 ∷ []
+
+-- half of the votes cast is not more than half
+pub half_of_two : (quota_of Half two_chairs ≡ 51) × (wins Half two_chairs 50 1 ≡ false) × (wins Half two_chairs 51 2 ≡ true)
+half_of_two = (refl, refl, refl)
+
+-- half of an even number of chairs is no majority of them, with any votes
+pub one_of_two : (least_size_of Quorum two_chairs ≡ 2) × (wins Quorum two_chairs 100 1 ≡ false) × (wins Quorum two_chairs 50 2 ≡ true)
+one_of_two = (refl, refl, refl)
+
+-- exactly 70 per cent, 85 per cent and half of the total are enough, and one vote less is not
+pub seventy_of_two : (quota_of Seventy two_chairs ≡ 70) × (wins Seventy two_chairs 70 2 ≡ true) × (wins Seventy two_chairs 69 2 ≡ false)
+seventy_of_two = (refl, refl, refl)
+
+pub eighty_five_of_two : (quota_of EightyFive two_chairs ≡ 85) × (wins EightyFive two_chairs 85 2 ≡ true) × (wins EightyFive two_chairs 84 2 ≡ false)
+eighty_five_of_two = (refl, refl, refl)
+
+pub quorum_of_two : (quota_of Quorum two_chairs ≡ 50) × (wins Quorum two_chairs 50 2 ≡ true) × (wins Quorum two_chairs 49 2 ≡ false)
+quorum_of_two = (refl, refl, refl)
+
+-- chairs 1 to 4 with 25, 25, 25 and 26 votes: an odd number of votes, which no percentage divides
+abbrev four_chairs : List ℕ
+four_chairs = 26 ∷ 26 ∷ 26 ∷ 27 ∷ replicate 28 0 ++ 101 ∷ 8 ∷ []
+
+pub half_of_four : (quota_of Half four_chairs ≡ 51) × (wins Half four_chairs 51 2 ≡ true) × (wins Half four_chairs 50 2 ≡ false)
+half_of_four = (refl, refl, refl)
+
+pub seventy_of_four : (quota_of Seventy four_chairs ≡ 71) × (wins Seventy four_chairs 71 3 ≡ true) × (wins Seventy four_chairs 70 3 ≡ false)
+seventy_of_four = (refl, refl, refl)
+
+pub eighty_five_of_four : (quota_of EightyFive four_chairs ≡ 86) × (wins EightyFive four_chairs 86 4 ≡ true) × (wins EightyFive four_chairs 85 4 ≡ false)
+eighty_five_of_four = (refl, refl, refl)
+
+pub quorum_of_four : (quota_of Quorum four_chairs ≡ 51) × (wins Quorum four_chairs 51 3 ≡ true) × (wins Quorum four_chairs 50 3 ≡ false)
+quorum_of_four = (refl, refl, refl)
+
+-- three of four chairs are a majority of them, and two are not
+pub three_of_four : (least_size_of Quorum four_chairs ≡ 3) × (wins Quorum four_chairs 101 2 ≡ false) × (wins Quorum four_chairs 101 3 ≡ true)
+three_of_four = (refl, refl, refl)
+
+-- without an open chair and without a vote nothing wins; only more than half of the votes cast and the shares ask for a vote
+pub quotas_of_none : (quota_of Half (replicate 34 0) ≡ 1) × (quota_of Seventy (replicate 34 0) ≡ 1) × (quota_of EightyFive (replicate 34 0) ≡ 1) × (quota_of Quorum (replicate 34 0) ≡ 0)
+quotas_of_none = (refl, refl, refl, refl)
+
+pub none_wins : (wins Half (replicate 34 0) 0 0 ≡ false) × (wins EightyFive (replicate 34 0) 0 0 ≡ false) × (wins Quorum (replicate 34 0) 0 0 ≡ false) × (least_size_of Quorum (replicate 34 0) ≡ 1)
+none_wins = (refl, refl, refl, refl)
