@@ -107,6 +107,35 @@ impl<'a, C: Clock + Sync> Gate for HoldingGate<'a, C> {
     }
 }
 
+// A gate that counts the places that each thread has passed, and closes at one that isn't the
+// thread's next.
+#[derive(Drop)]
+struct CountingGate {
+    writer: AtomicU64,
+    first: AtomicU64,
+    second: AtomicU64,
+}
+
+impl Gate for CountingGate {
+    fn pass(&self, at: Place) -> Result<(), GateClosed> {
+        let (passed, k, after) = match at {
+            Place::BeforePublish(k) => (&self.writer, k, 0u64),
+            Place::AfterPublish(k) => (&self.writer, k, 1u64),
+            Place::BeforeReading(1, k) => (&self.first, k, 0u64),
+            Place::AfterReading(1, k) => (&self.first, k, 1u64),
+            Place::BeforeReading(2, k) => (&self.second, k, 0u64),
+            Place::AfterReading(2, k) => (&self.second, k, 1u64),
+            _ => return Err(GateClosed),
+        };
+        let before = passed.fetch_add(1, Ordering::SeqCst);
+        if u64::from(k) * 2 + after == before.wrapping_add(2) {
+            Ok(())
+        } else {
+            Err(GateClosed)
+        }
+    }
+}
+
 // A gate that is closed at one place.
 #[derive(Clone, Copy)]
 struct ClosedGate(Place);
@@ -175,6 +204,30 @@ fn two_threads_meet(rt: HostRuntime) -> Result<(), Fail> {
 #[test]
 fn all_places_in_order(rt: HostRuntime) -> Result<(), Fail> {
     assert!(rt; hold_up(&rt, rt.alloc(), IN_ORDER) == (Some([1, 2, 1]), true, ALL));
+    Ok(())
+}
+
+// Catches a number that stops at some publication or reading, and a place that is left out from some
+// number on: no contract says that gates are passed.
+#[test]
+fn twelve_of_each(rt: HostRuntime) -> Result<(), Fail> {
+    let gate = CountingGate {
+        writer: AtomicU64::new(0),
+        first: AtomicU64::new(0),
+        second: AtomicU64::new(0),
+    };
+    let mut text: Vec<u8> = Vec::new(rt.alloc());
+    text.extend_from_slice(b"member,votes\nAAA,10\nscript\n")?;
+    for _turn in 0..12u32 {
+        text.extend_from_slice(b"publish\nread,1,half\nread,2,half\n")?;
+    }
+    let mut input = RecordingReader::new(text.as_slice());
+    let mut out: Vec<u8> = Vec::new(rt.alloc());
+    let result = serve(&rt, rt.alloc(), &gate, &mut input, &mut out, 10);
+    assert!(rt; result.is_ok());
+    for passed in [&gate.writer, &gate.first, &gate.second] {
+        assert_eq!(rt; passed.load(Ordering::SeqCst), 24);
+    }
     Ok(())
 }
 
