@@ -48,7 +48,8 @@ pub const DONE: u8 = 0;
 ///
 /// - A fault of the input: those of `board_runs::replay`, in the same order.
 /// - `WriteFault` (20): the text is longer than `out`, and `out` is full. With more room the same
-///   call goes further.
+///   call goes further. Or `malloc` returned no memory, and `out` has no room for the line of that
+///   fault.
 /// - `OutOfMemory` (10): `malloc` returned no memory. The text is a prefix of the run's lines,
 ///   perhaps none, and the line of this fault.
 ///
@@ -123,7 +124,8 @@ pub extern "C" fn board_replay_length(
 ///
 /// - A fault of the input: those of `board_runs::trace`, in the same order.
 /// - `WriteFault` (20): the text is longer than `out`, and `out` is full. With more room the same
-///   call goes further.
+///   call goes further. Or `malloc` returned no memory, and `out` has no room for the line of that
+///   fault.
 /// - `OutOfMemory` (10): `malloc` returned no memory. The text is a prefix of the run's lines,
 ///   perhaps none, and the line of this fault.
 ///
