@@ -1,0 +1,109 @@
+"""The names, limits and sentences of the library. Made by tools/names from the sources: do not edit."""
+
+from typing import Literal
+
+VERSION = "0.9.0"
+CHAIRS = 32
+MEMBERS = 256
+COMMANDS = 1_000_000
+READERS = 4
+INPUT_BYTES = 4_194_304
+MEMBER_VOTES = 1_099_511_627_776
+TOTAL_VOTES = 281_474_976_710_656
+
+Majority = Literal["half", "70", "85", "quorum"]
+
+#: The majorities in the order of the library's numbers, from 0.
+MAJORITIES: tuple[Majority, ...] = ("half", "70", "85", "quorum")
+
+#: What wins by each majority.
+MEANINGS: dict[Majority, str] = {
+    "half": "more than half of the votes cast, if all open chairs vote",
+    "70": "at least one vote, and at least 70 per cent of the total",
+    "85": "at least one vote, and at least 85 per cent of the total",
+    "quorum": "more than half of the open chairs, with at least half of the total",
+}
+
+Kind = Literal[
+    "open",
+    "close",
+    "move",
+    "votes",
+    "suspend",
+    "restore",
+    "admit",
+    "withdraw",
+]
+
+#: The parts of each kind of command, in the order of the library's numbers, from 0.
+KINDS: dict[Kind, tuple[str, ...]] = {
+    "open": ("chair",),
+    "close": ("chair",),
+    "move": ("code", "chair"),
+    "votes": ("code", "votes"),
+    "suspend": ("code",),
+    "restore": ("code",),
+    "admit": ("code", "votes"),
+    "withdraw": ("code",),
+}
+PUBLISH = 8
+READ = 9
+
+#: The name and the reason of each refusal and each fault by its number.
+REFUSALS: dict[int, tuple[str, str]] = {
+    1: ("ChairOpen", "the chair is open already"),
+    2: ("ChairNotOpen", "the chair is not open"),
+    3: ("ChairHasMembers", "the chair has members, suspended ones counted"),
+    4: ("UnknownMember", "no member has this code"),
+    5: ("MemberSuspended", "the member's voting rights are suspended"),
+    6: ("AlreadyThere", "the member is there already"),
+    7: ("AlreadySuspended", "the member is suspended already"),
+    8: ("NotSuspended", "the member is not suspended"),
+    9: ("JournalFull", "as many commands as the journal limit were accepted"),
+    10: ("OutOfMemory", "out of memory"),
+    11: ("DuplicateMember", "two members have the same code"),
+    12: ("TooManyMembers", "there are more than 256 members"),
+    13: ("BadLimit", "a limit is out of its range"),
+    14: ("BadChair", "a chair's number is not from 1 to 32"),
+    15: ("BadMember", "a member's code is not three ASCII capitals"),
+    16: ("VotesTooLarge", "a member has more than 2^40 votes"),
+    17: ("BadRecord", "a record is not well formed"),
+    18: ("NoEntry", "no place or no entry for a reader"),
+    19: ("ReadFault", "the input could not be read"),
+    20: ("WriteFault", "the output could not be written"),
+    21: ("BadHeader", "the first record is not 'member,votes'"),
+    22: ("BadReader", "there is no reader of this number"),
+    23: ("Busy", "a reader is blocking the publication"),
+    24: ("Mismatch", "a reading is not the sheet of a publication, or is older than the one before"),
+    25: ("MemberExists", "a member has this code already"),
+    26: ("MemberSeated", "the member sits in a chair"),
+    27: ("GateClosed", "a gate was closed"),
+    28: ("NoScript", "the input ends before the record 'script'"),
+    29: ("TooLong", "the input has more than 4,194,304 bytes"),
+    30: ("BadJournal", "a command of the journal is refused"),
+    31: ("BadCuts", "the cuts are not in order, or one is past the journal's end"),
+    32: ("BadSheet", "the words are not a sheet's"),
+    33: ("TooManyChairs", "more chairs are open than are counted"),
+    34: ("NoRegister", "the handle has no register"),
+    35: ("BadIndex", "there is no item at this index"),
+}
+
+#: What is allowed for a value.
+ALLOWED: dict[str, str] = {
+    "weight": "votes are whole numbers from 0",
+    "weights": "a board has at most 32 chairs",
+    "total": "votes are whole numbers from 0",
+    "total_most": "at most 281474976710656",
+    "total_least": "at least the sum of the weights",
+    "votes": "votes are whole numbers from 0 to 1099511627776",
+    "chair": "a chair is a whole number from 1 to 32",
+    "seat": "a chair is a whole number from 1 to 32, or None for no chair",
+    "code": "a code is three ASCII capitals",
+    "name": "a name is text",
+    "suspended": "True or False",
+    "majority": "half, 70, 85 or quorum",
+    "readers": "a whole number from 1 to 4",
+    "journal": "a whole number from 1 to 1000000",
+    "length": "a whole number from 0 to the number of accepted commands",
+    "columns": "the columns are code, votes, chair, chair_name and suspended",
+}

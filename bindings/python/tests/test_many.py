@@ -1,0 +1,107 @@
+"""Many boards in one call."""
+from __future__ import annotations
+
+import pickle
+import signal
+import threading
+import time
+from typing import Any
+
+import pytest
+
+from voting_board import MAJORITIES, Majority, ManyIndices, indices, indices_of_many
+
+ROWS = [[50, 49, 1], [5, 5], [], [0, 0, 0, 7]]
+
+
+def check(many: ManyIndices) -> None:
+    """The arrays have the answers of `indices`, followed by zeros."""
+    assert (len(many), many.chairs.tolist(), many.total.tolist()) == (4, [3, 2, 0, 4], [100, 10, 0, 7])
+    assert many.weights.tolist() == [[50, 49, 1, 0], [5, 5, 0, 0], [0] * 4, [0, 0, 0, 7]]
+    shares = many.floats("share").tolist()
+    for at, (row, found) in enumerate(zip(ROWS, many)):
+        assert tuple(found) == tuple(dict.fromkeys(many.majorities))
+        for place, majority in enumerate(many.majorities):
+            one = indices(row, majority)
+            assert found[majority] == many[at][majority] == one
+            assert (many.omega[at, place], many.quota[at, place]) == (one.omega, one.quota)
+            assert many.least_size[at, place] == one.least_size
+            assert many.swings.tolist()[at][place] == [*one.swings, *[0] * (4 - len(row))]
+            assert str(shares[at][place]) == str([*one.values("share"), *[float("nan")] * (4 - len(row))])
+
+
+@pytest.mark.parametrize("majorities", [
+    MAJORITIES, ["quorum", "half"], ["85"], ["quorum", "85", "half", "70"], ["quorum", "85", "half", "70", "half"],
+])
+@pytest.mark.parametrize("processors", [None, 1, 2])
+def test_rows(majorities: list[Majority], processors: int | None) -> None:
+    check(indices_of_many(ROWS, majorities, processors=processors))
+    check(indices_of_many((iter(row) for row in ROWS), iter(majorities), processors=processors))
+
+
+def test_indexing() -> None:
+    many = indices_of_many(ROWS, ["half", "85"])
+    assert many[3]["half"].chairs[3].share == 1 and many[-1] == many[3]
+    assert [list(it) for it in many] == [["half", "85"]] * 4
+    for at in (4, -5):
+        with pytest.raises(IndexError):
+            many[at]
+    with pytest.raises(KeyError):
+        many[0]["70"]
+    with pytest.raises(ValueError, match="no index 'power'"):
+        many.floats("power")  # type: ignore[arg-type]
+
+
+def test_order_over_chunks() -> None:
+    # Catches: results in the order in which threads end.
+    rows = [[at, 2 * at % 7, 3, *[1] * (at % 9)] for at in range(500)]
+    many = indices_of_many(rows, MAJORITIES, processors=4)
+    assert [it["half"] for it in many] == [indices(row, "half") for row in rows]
+    assert [it["quorum"] for it in many] == [indices(row, "quorum") for row in rows]
+
+
+def test_empty() -> None:
+    assert len(indices_of_many([], MAJORITIES)) == 0 and list(indices_of_many([], ["half"])) == []
+    assert indices_of_many([[]], ["half"])[0]["half"].coalitions == 1
+    assert indices_of_many([[1]], [])[0] == {}
+    assert indices_of_many([], ["half"]).floats("share").tolist() == []
+
+
+def test_arguments() -> None:
+    many = indices_of_many([[1, 2], [3]], ["70"], totals=iter([10, 4]))
+    assert [it["70"].quota for it in many] == [7, 3]
+    with pytest.raises(ValueError, match="there are 1 totals for 2 rows"):
+        indices_of_many([[1], [1]], ["70"], totals=[1])
+    for processors in (0, -1, 1.5, "2", True):
+        with pytest.raises(ValueError, match="^processors is .*: a whole number from 1$"):
+            indices_of_many([[1]], ["half"], processors=processors)  # type: ignore[arg-type]
+
+
+def test_named_rows() -> None:
+    many = indices_of_many([{"A": 50, "B": 49}, [1]], ["half"])
+    assert (many[0]["half"].names, many[1]["half"].names) == (("A", "B"), (None,))
+
+
+def test_pickle() -> None:
+    for rows in (ROWS, [], [[]], [{"A": 1}]):
+        many = indices_of_many(rows, ["half", "85"])  # type: ignore[arg-type]
+        other = pickle.loads(pickle.dumps(many))
+        assert list(other) == list(many) and other.swings.tolist() == many.swings.tolist()
+
+
+def test_results_are_immutable() -> None:
+    many: Any = indices_of_many(ROWS, ["half"])
+    with pytest.raises(AttributeError):
+        many.total = 5
+    with pytest.raises((ValueError, TypeError)):
+        many.total[0] = 5
+
+
+def test_interrupt() -> None:
+    # Catches: a call of a minute that Ctrl-C doesn't end.
+    rows = [[2**43 - at - chair for chair in range(32)] for at in range(20_000)]
+    threading.Timer(0.7, signal.raise_signal, [signal.SIGINT]).start()
+    start = time.monotonic()
+    with pytest.raises(KeyboardInterrupt):
+        indices_of_many(rows, MAJORITIES)
+    assert time.monotonic() - start < 5
