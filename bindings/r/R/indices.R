@@ -1,0 +1,254 @@
+# The voting power of a board.
+
+board_indices <- function(x, majority, ...) UseMethod("board_indices")
+
+board_indices_of_all <- function(x, ...) UseMethod("board_indices_of_all")
+
+board_indices.default <- function(x, majority, ..., total = NULL) {
+  no_more(...)
+  indices_of_weights(x, majority_number(majority), total)
+}
+
+board_indices_of_all.default <- function(x, ..., total = NULL) {
+  no_more(...)
+  indices_of_weights(x, ALL, total)
+}
+
+board_indices.list <- function(x, majority, ..., open_chairs = NULL) {
+  no_more(...)
+  indices_of_members(x, majority_number(majority), open_chairs)
+}
+
+board_indices_of_all.list <- function(x, ..., open_chairs = NULL) {
+  no_more(...)
+  indices_of_members(x, ALL, open_chairs)
+}
+
+# The weights of a board as doubles, checked. `board` begins each message.
+weights_of <- function(weights, board = "") {
+  place <- function(at) paste0(board, "weight ", at, " is")
+  if (!is.atomic(weights) || length(dim(weights)) > 1 || is.null(weights)) {
+    wrong_type(paste0(board, "the weights are"), weights, ALLOWED[["weight"]])
+  }
+  numbers <- numbers_of(weights, place, ALLOWED[["weight"]])
+  if (length(numbers) > CHAIRS) refuse("BadSheet", board, length(numbers), " weights: ", ALLOWED[["weights"]])
+  check_votes(numbers, place, row = function(at) NULL)
+}
+
+# The total of a board, checked: the sum of the weights unless given.
+total_of <- function(total, weights, board = "") {
+  place <- paste0(board, "the total is")
+  cast <- sum(weights)
+  whole <- if (is.null(total)) cast else one_number(total, place, ALLOWED[["total"]])
+  check_votes(whole, function(at) place, row = function(at) NULL)
+  if (whole < cast) {
+    refuse("BadSheet", place, " ", shown(whole), ": ", ALLOWED[["total_least"]], ", ", shown(cast))
+  }
+  whole
+}
+
+# What a call that counts returned.
+counted <- function(got) if (is.integer(got)) refuse_number(got) else got
+
+indices_of_weights <- function(weights, number, total) {
+  numbers <- weights_of(weights)
+  counted(.Call(C_weights, numbers, total_of(total, numbers), number, names_by_chair(names(weights))))
+}
+
+# The names of chairs 1, 2 and so on, as names of all chairs; NULL if none has one.
+names_by_chair <- function(names) {
+  if (is.null(names) || all(is.na(names) | names == "")) return()
+  names[names == ""] <- NA
+  c(enc2utf8(names), rep(NA_character_, CHAIRS - length(names)))
+}
+
+indices_of_members <- function(table, number, open_chairs) {
+  members <- members_of(table, in_register = FALSE)
+  total <- sum(members$votes[!members$suspended])
+  check_votes(total, function(at) "the total is", row = function(at) NULL)
+  mask <- sum(2^(unique(open_of(open_chairs)) - 1))
+  names <- members$chair_names
+  counted(.Call(C_members, members$votes, members$seats, members$suspended, mask, number, names))
+}
+
+open_of <- function(open_chairs) {
+  if (is.null(open_chairs)) return(numeric(0))
+  place <- function(at) paste0("open chair ", at, " is")
+  chairs <- numbers_of(open_chairs, place, ALLOWED[["chair"]])
+  at <- first(!is_whole(chairs, 1, CHAIRS))
+  if (!is.null(at)) refuse("BadSheet", place(at), " ", shown(chairs[at]), ": ", ALLOWED[["chair"]])
+  chairs
+}
+
+# Many boards.
+
+board_indices_of_many <- function(rows, majorities = c("half", "70", "85", "quorum"), totals = NULL) {
+  boards <- boards_of(rows)
+  weights <- lapply(seq_along(boards), function(at) weights_of(boards[[at]], paste0("board ", at, ": ")))
+  sums <- totals_of(totals, weights)
+  if (!is.character(majorities) || is.object(majorities)) {
+    wrong_type("the majorities are", majorities, ALLOWED[["majority"]])
+  }
+  numbers <- vapply(majorities, majority_number, 0L, USE.NAMES = FALSE)
+  many <- .Call(C_many, weights, sums, numbers)
+  names(weights) <- names(boards)
+  arrays_of(many, weights, majorities)
+}
+
+# Boards as a list of weights: the rows of a matrix or of a data frame of numbers, or a list of vectors.
+boards_of <- function(rows) {
+  if (is.data.frame(rows)) rows <- as.matrix(rows)
+  if (is.matrix(rows)) {
+    if (is.object(rows)) wrong_type("the boards are", rows, "a matrix of numbers, a row each, or a list of vectors")
+    names <- rownames(rows)
+    columns <- colnames(rows)
+    rows <- lapply(seq_len(nrow(rows)), function(at) structure(rows[at, ], names = columns))
+    names(rows) <- names
+    return(rows)
+  }
+  if (!is.list(rows)) wrong_type("the boards are", rows, "a matrix of numbers, a row each, or a list of vectors")
+  rows
+}
+
+totals_of <- function(totals, weights) {
+  if (!is.null(totals)) {
+    totals <- numbers_of(totals, function(at) paste0("board ", at, ": the total is"), ALLOWED[["total"]])
+    if (length(totals) != length(weights)) {
+      type_error("there are ", length(totals), " totals, and ", length(weights), " boards")
+    }
+  }
+  vapply(seq_along(weights), function(at) total_of(totals[at], weights[[at]], paste0("board ", at, ": ")), 0)
+}
+
+# The results of many boards as arrays by board, majority and chair.
+arrays_of <- function(many, weights, majorities) {
+  boards <- length(weights)
+  kinds <- length(majorities)
+  most <- max(0L, lengths(weights))
+  by_majority <- list(names(weights), majorities)
+  for (name in c("quota", "least_size", "omega")) many[[name]] <- array(many[[name]], c(boards, kinds), by_majority)
+  by_chair <- c(by_majority, list(NULL))
+  swings <- many$swings <- array(many$swings, c(boards, kinds, most), by_chair)
+  all <- rowSums(swings, na.rm = TRUE, dims = 2)
+  divided <- function(by) array(swings / ifelse(c(by) == 0, NA, c(by)), dim(swings), by_chair)
+  losing <- many$coalitions - many$omega
+  weight <- t(vapply(weights, function(it) c(it, rep(NA_real_, most - length(it))), numeric(most)))
+  weight <- array(if (most == 1) t(weight) else weight, c(boards, most), list(names(weights), NULL))
+  rest <- list(
+    act = many$omega / many$coalitions, weight = weight, banzhaf = divided(rep(many$coalitions / 2, kinds)),
+    share = divided(all), prevent = divided(many$omega), initiate = divided(losing)
+  )
+  structure(c(list(majorities = majorities), many, rest), class = "board_indices_of_many")
+}
+
+as.data.frame.board_indices_of_many <- function(x, row.names = NULL, optional = FALSE, ...) {
+  no_more(...)
+  at <- arrayInd(which(!is.na(x$swings)), dim(x$swings))
+  at <- at[order(at[, 1], at[, 2], at[, 3]), , drop = FALSE]
+  names <- rownames(x$omega)
+  frame <- data.frame(
+    board = if (is.null(names)) at[, 1] else names[at[, 1]], majority = x$majorities[at[, 2]],
+    omega = x$omega[at[, 1:2, drop = FALSE]], chair = at[, 3], weight = x$weight[at[, c(1, 3), drop = FALSE]]
+  )
+  for (name in c("swings", names(divisors(1, 1, 1)))) frame[[name]] <- x[[name]][at]
+  frame
+}
+
+print.board_indices_of_many <- function(x, ...) {
+  cat("The voting power on ", length(x$total), " boards of up to ", ncol(x$weight), " chairs, by ", sep = "")
+  cat(paste(x$majorities, collapse = ", "), "\n", sep = "")
+  cat("In it: ", paste(names(x), collapse = ", "), "\n", sep = "")
+  invisible(x)
+}
+
+# The object of class board_indices.
+
+# The numbers by which swings are divided, by the name of the fraction.
+divisors <- function(coalitions, omega, all_swings) {
+  list(banzhaf = coalitions / 2, share = all_swings, prevent = omega, initiate = coalitions - omega)
+}
+
+# The four fractions of swings: doubles, or texts in lowest terms. NA where the divisor is 0.
+fractions_of <- function(swings, coalitions, omega, all_swings, exact = FALSE) {
+  lapply(divisors(coalitions, omega, all_swings), function(by) {
+    by <- rep_len(by, length(swings))
+    if (exact) exact_fraction(swings, by) else ifelse(by == 0, NA_real_, swings / by)
+  })
+}
+
+exact_fraction <- function(numerator, denominator) {
+  both <- denominator
+  rest <- numerator
+  while (any(rest > 0)) {
+    next_rest <- ifelse(rest > 0, both %% rest, 0)
+    both <- ifelse(rest > 0, rest, both)
+    rest <- next_rest
+  }
+  over <- denominator / both
+  text <- sprintf("%.0f", numerator / both)
+  ifelse(denominator == 0, NA_character_, ifelse(over == 1, text, sprintf("%s/%.0f", text, over)))
+}
+
+is_exact <- function(choice) match.arg(choice, c("double", "exact")) == "exact"
+
+as.data.frame.board_indices <- function(x, row.names = NULL, optional = FALSE, ..., fractions = "double") {
+  no_more(...)
+  frame <- x$chairs
+  if (!is_exact(fractions)) return(frame)
+  texts <- fractions_of(frame$swings, x$coalitions, x$omega, sum(frame$swings), exact = TRUE)
+  frame[names(texts)] <- texts
+  frame
+}
+
+# What wins, in a line.
+headline <- function(x) {
+  size <- if (x$least_size > 0) paste(" of", x$least_size, "chairs or more")
+  text <- c(x$quota, x$total, x$omega, x$coalitions)
+  text <- sprintf("%.0f", text)
+  paste0(
+    "Majority ", x$majority, ": ", text[1], " of ", text[2], " votes", size, " win, ", text[3], " of ", text[4],
+    " coalitions do"
+  )
+}
+
+format.board_indices <- function(x, ..., fractions = "double") {
+  chairs <- as.data.frame(x, fractions = fractions)
+  c(headline(x), if (nrow(chairs) > 0) capture.output(print(chairs, ..., row.names = FALSE)))
+}
+
+print.board_indices <- function(x, ..., fractions = "double") {
+  cat(format(x, ..., fractions = fractions), sep = "\n")
+  invisible(x)
+}
+
+# Each chair's share of the votes cast beside its share of power.
+shares_of <- function(x) {
+  shares <- x$chairs[intersect(c("chair", "name"), names(x$chairs))]
+  shares$votes <- x$chairs$weight / if (x$cast == 0) NA else x$cast
+  shares$power <- x$chairs$share
+  shares$ratio <- shares$power / shares$votes
+  shares
+}
+
+summary.board_indices <- function(object, ...) {
+  no_more(...)
+  structure(list(headline = headline(object), act = object$act, shares = shares_of(object)),
+    class = "summary.board_indices")
+}
+
+print.summary.board_indices <- function(x, digits = 4, ...) {
+  cat(x$headline, "\nPower to act: ", format(x$act, digits = digits), "\n", sep = "")
+  cat("Each chair's share of the votes cast and of power:\n")
+  print(x$shares, digits = digits, row.names = FALSE, ...)
+  invisible(x)
+}
+
+plot.board_indices <- function(x, ..., main = headline(x), ylab = "Share", legend.text = c("votes", "power")) {
+  shares <- shares_of(x)
+  if (nrow(shares) == 0) stop("no chair is open: there is nothing to plot", call. = FALSE)
+  labels <- as.character(shares$chair)
+  if (!is.null(shares$name)) labels <- ifelse(is.na(shares$name), labels, shares$name)
+  bars <- rbind(votes = shares$votes, power = shares$power)
+  bars[is.na(bars)] <- 0
+  barplot(bars, beside = TRUE, names.arg = labels, main = main, ylab = ylab, legend.text = legend.text, ...)
+}

@@ -1,0 +1,3 @@
+library(testthat)
+library(votingboard)
+test_check("votingboard")
