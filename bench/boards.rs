@@ -1,7 +1,7 @@
 //! Counts the boards of a file at all four majorities by the crate for Rust, as bench/boards.c does from C, and prints
 //! the sum of all omegas: boards FILE
 use std::{env, fs};
-use voting_board::counts_of_all;
+use voting_board::indices_of_all;
 
 /// The bytes of a board: 24 words of 64 bits.
 const BOARD: usize = 24 * 8;
@@ -16,5 +16,5 @@ fn main() {
 fn omegas(board: &[u8]) -> u64 {
     let word = |it: &[u8]| u64::from_le_bytes(it.try_into().expect("8 bytes"));
     let weights: Vec<u64> = board.chunks_exact(8).map(word).collect();
-    counts_of_all(&weights, None).expect("a board").iter().map(|it| it.omega).sum()
+    indices_of_all(&weights).expect("a board").iter().map(|it| it.omega).sum()
 }

@@ -1,0 +1,32 @@
+/* board.c over a malloc that fails once where a test asks for it, and with a call that a test has trapped. */
+#include <stdint.h>
+#include <stdlib.h>
+
+static _Thread_local long before = -1;
+static _Thread_local int trapped = 0;
+
+/* Whether this allocation fails. */
+static int fails(void) { return before >= 0 && before-- == 0; }
+static void *faulty_malloc(size_t size) { return fails() ? NULL : malloc(size); }
+static void *faulty_realloc(void *at, size_t size) { return fails() ? NULL : realloc(at, size); }
+
+/* The allocation fails before which there are so many; none, if the number is below 0. Returns what is left of the
+ * number, so one below 0 if an allocation failed. */
+long faults_after(long number) {
+    long left = before;
+    before = number;
+    return left;
+}
+
+/* Every command that follows is trapped, or none. */
+void faults_trap(int on) { trapped = on; }
+
+#define malloc faulty_malloc
+#define realloc faulty_realloc
+#define board_register_apply sound_apply
+#include "board.c"
+#undef board_register_apply
+
+uint8_t board_register_apply(struct board_register *handle, const struct board_command *command, uint32_t *accepted) {
+    return trapped ? BOARD_TRAPPED : sound_apply(handle, command, accepted);
+}
