@@ -1,5 +1,6 @@
 /** The proved replay: the module's bytes become a function from a script to its lines. */
-import { Board } from "../../wasm/board.mjs";
+import { loadSync } from "../../bindings/javascript/src/load";
+import { replayBytes } from "../../bindings/javascript/src/text";
 
 /** The lines of a replay, and the milliseconds that it took. */
 export interface Replayed {
@@ -8,11 +9,11 @@ export interface Replayed {
 }
 
 export function replayOver(bytes: Uint8Array): (script: string) => Replayed {
-  const board = new Board(new WebAssembly.Module(bytes));
-  const encoder = new TextEncoder();
+  loadSync(bytes);
+  const [encoder, decoder] = [new TextEncoder(), new TextDecoder()];
   return (script) => {
     const begun = performance.now();
-    const { text } = board.replay(encoder.encode(script));
+    const text = decoder.decode(replayBytes(encoder.encode(script)).bytes);
     return { text, milliseconds: performance.now() - begun };
   };
 }

@@ -7,10 +7,3 @@ declare module "*.csv" {
   const text: string;
   export default text;
 }
-/** What the page uses of the wrapper of the module. */
-declare module "*/wasm/board.mjs" {
-  export class Board {
-    constructor(module: WebAssembly.Module);
-    replay(input: Uint8Array): { text: string; fault: number; record: number };
-  }
-}
