@@ -51,6 +51,10 @@ uses_auditing := $(uses_timing) board_audits
 uses_reading  := $(uses_timing) left_right board_audits two_copy_steps board_share
 LINKED        := $(PROGRAMS) $(TESTS) $(BENCH)
 
+# The folders of bindings.
+LANGUAGES     := python r rust javascript
+PACKAGED      := $(LANGUAGES:%=$O/%.packaged)
+
 # A crate with all crates below it; the proofs directly below it; its folder; its sources.
 whole     = $(sort $1 $(foreach it,$(filter $(CRATES),$(uses_$1)),$(call whole,$(it))))
 below     = $(patsubst %,$O$2/%.proved,$(filter $(CRATES),$(uses_$1)))
@@ -166,7 +170,7 @@ portable/out/board.c: $(modules) aarch64/heap.c crates/board_c/board.h crates/bo
 	@portable/build
 page: module  ## the page, page/out/board.html
 	@page/build
-release: board module aarch64 page  ## a release: out/board-VERSION-x86_64-linux.tar.gz, and -windows.zip
+release: board module aarch64 page $(PACKAGED)  ## a release: out/board-VERSION-x86_64-linux.tar.gz, and -windows.zip
 	@./release
 
 # The gate's parts. Each prints a line for each test and, last, 'N passed, M failed'; its output is kept in out/said.
@@ -179,7 +183,7 @@ tail -qn 1 $O/said/* | awk -v status=$$status '/^[0-9]+ passed, [0-9]+ failed$$/
   END {print passed + 0 " passed, " (status && !failed ? 1 : failed + 0) " failed"}'
 exit $$status
 endef
-.PHONY: docs lint tools ci steps steps-tests edits cases independent memory register script stress figures targets compilers page-tests release-tests kit-gate
+.PHONY: docs lint tools ci steps steps-tests edits cases independent memory register script stress figures targets compilers $(LANGUAGES) page-tests release-tests kit-gate
 docs:  ## names, links and made parts of the documents
 	$(call said,docs/check)
 lint:  ## what no clause can say of the sources
@@ -223,13 +227,27 @@ targets: board module aarch64  ## the library, also for aarch64 and WebAssembly,
 	$(call said,tests/targets/run $O/board)
 compilers: board one-file  ## the C file by each compiler and on each system, against the program
 	$(call said,tests/portable/run $O/board)
+# What the program answers to boards, scripts and commands, with which each package is compared.
+answers := $O/answers/register.txt
+$(answers): $O/board.proved tests/packages/answers.py $(wildcard tests/targets/*.py tests/cases/*)
+	@mkdir -p $(@D) && tests/packages/answers.py $O/board $(@D)
+python: $(answers)  ## the package for Python: built, installed in fresh environments, and tested there
+r: $(answers)  ## the package for R
+rust: $(answers)  ## the crates for Rust
+javascript: $(answers) module  ## the package for JavaScript
+$(LANGUAGES):
+	$(call said,env -u MAKEFLAGS -u MFLAGS BOARD_ANSWERS=$O/answers bindings/$@/check)
+	touch $O/$@.packaged
+# The packages in out/packages, which are made when they are tested.
+$(PACKAGED): $O/%.packaged: $$(shell git ls-files bindings/$$* portable wasm) $(answers) wasm/out/board.wasm
+	$(MAKE) $*
 page-tests: board page  ## board.html in Chromium and Firefox
 	$(call said,page/tests/run)
-release-tests: release  ## a release, unpacked and run without the toolchain
+release-tests: release $(answers)  ## a release, unpacked and run without the toolchain
 	$(call said,tests/release/run)
 
 gate:  ## all that must pass before a change lands
-	+@$(call judged,"docs lint tools" ci "steps steps-tests edits cases independent figures memory register script" stress targets compilers page-tests release-tests)
+	+@$(call judged,"docs lint tools" ci "steps steps-tests edits cases independent figures memory register script" stress targets compilers "$(LANGUAGES)" page-tests release-tests)
 clean:  ## removes all results
 	@rm -rf $O {wasm,aarch64,page,portable}/out
 help:  ## this list

@@ -7,12 +7,13 @@ import shutil
 from functools import partial
 from pathlib import Path
 
-from answers import answers_in
 from steps import TOP, Case, ran
 
 STRICT = ["-std=c11", "-Wall", "-Wextra", "-Wconversion", "-pedantic", "-Werror", "-pthread", "-Iinclude"]
 SOURCES = TOP / "tests" / "release"
 LIBRARY = "lib/libboard.a"
+# What the program answers, which make writes.
+ANSWERS = TOP / "out" / "answers"
 
 
 def check_calls(room: Path, library: str = LIBRARY) -> None:
@@ -23,10 +24,9 @@ def check_calls(room: Path, library: str = LIBRARY) -> None:
 
 def check_answers(room: Path, what: str, library: str = LIBRARY) -> None:
     """The library gives the program's answers for boards or scripts."""
-    folder = answers_in(room)
     ran(["cc", "-O2", *STRICT, str(SOURCES / "answers.c"), library, "-o", "answers_c"], room)
-    got = ran(["sh", "-c", f"./answers_c {what} < {folder}/{what}.txt"], room)
-    assert got == (folder / f"{what}.txt").read_text(), f"the answers to {what} differ"
+    got = ran(["sh", "-c", f"./answers_c {what} < {ANSWERS}/{what}.txt"], room)
+    assert got == (ANSWERS / f"{what}.txt").read_text(), f"the answers to {what} differ"
 
 
 def check_needs(room: Path) -> None:
@@ -58,8 +58,8 @@ def check_names(room: Path) -> None:
 
 
 def check_shared(room: Path) -> None:
-    """The shared library names itself by two numbers of the version, exports the calls of board.h and R's alone, and
-    needs the C library alone, none newer than 2.17."""
+    """The shared library names itself by two numbers of the version, exports the calls of board.h alone, and needs
+    the C library alone, none newer than 2.17."""
     name = f"libboard.so.{version_of(room).rpartition('.')[0]}"
     link = room / "lib" / "libboard.so"
     assert link.is_symlink() and str(link.readlink()) == name, "libboard.so is no link to the shared library"
@@ -70,8 +70,7 @@ def check_shared(room: Path) -> None:
     newest = max(tuple(map(int, it.split("."))) for it in re.findall(r"@GLIBC_([\d.]+)", symbols))
     assert newest <= (2, 17), f"it needs glibc {newest}"
     declared = set(re.findall(r"\b(board_\w+)\(", (room / "include/board.h").read_text()))
-    for_r = set(re.findall(r"\bvoid (board_r_\w+)\(", (room / "r/board_r.c").read_text()))
-    assert set(re.findall(r" T (\w+)", symbols)) == declared | for_r, symbols
+    assert set(re.findall(r" T (\w+)", symbols)) == declared, symbols
 
 
 def check_package_config(room: Path) -> None:

@@ -20,7 +20,7 @@ from case_files import all_cases, readme_cases  # noqa: E402
 WINE = "/usr/lib/wine"
 # The files of the archive alone, and those that it shares with the one for Linux.
 OWN = {"README.txt", "board.exe", "LICENCES-mingw-w64.txt"}
-SHARED = re.compile(r"CHANGELOG\.md|LICENCES\.txt|VERSION|board\.html|(docs|examples|portable)/.*")
+SHARED = re.compile(r"CHANGELOG\.md|LICENCES\.txt|VERSION|board\.html|(bindings|docs|examples|portable)/.*")
 COMMAND = "board.exe replay < examples\\three-chairs.csv"
 # The status of a program, its standard output and its standard error.
 Ended = tuple[int, bytes, bytes]

@@ -1,12 +1,15 @@
 #!/usr/bin/env python3
-"""Writes the program's answers to random boards and scripts, which the tests of each language compare with theirs.
+"""Writes the program's answers to random boards, scripts and commands, which the tests of each package compare with
+the package's.
 
-    tests/release/answers.py PROGRAM FOLDER
+    tests/packages/answers.py PROGRAM FOLDER
 
 FOLDER/boards.txt has, for each board, `board,TOTAL,WEIGHT..`, then for each majority
 `MAJORITY,CHAIRS,QUOTA,CAST,TOTAL,WINNING,COALITIONS` and the lines `chair,..` of the reading. FOLDER/scripts.txt has,
 for each script, `READERS,JOURNAL,STATUS,INPUT,TEXT`: the limits, the status of the program, and the bytes of the input
-and of the output, each byte as two hexadecimal digits."""
+and of the output, each byte as two hexadecimal digits. FOLDER/register.csv is a script of random commands, with readings
+after each few of them, and FOLDER/register.txt has its lines: one for each record of the script, and below a reading
+those of its chairs."""
 from __future__ import annotations
 
 import random
@@ -14,6 +17,7 @@ import subprocess
 import sys
 from collections.abc import Iterator
 from concurrent.futures import ThreadPoolExecutor
+from itertools import islice
 from pathlib import Path
 
 sys.path.insert(0, str(Path(__file__).resolve().parents[1] / "targets"))
@@ -28,6 +32,10 @@ MOST = 20_000
 WORKERS = 2
 CHAIRS = 32
 LARGEST_VOTES = 2**40
+# The commands of the register, after how many of them it is read, and its members and chairs.
+COMMANDS = 9_000
+EVERY = 30
+MEMBERS, CODES, SEATS = 60, 80, 16
 MAJORITIES = ["half", "70", "85", "quorum"]
 SECONDS = 60
 
@@ -80,22 +88,38 @@ def script_line(program: Path, call: Call) -> str:
     return f"{call.readers},{call.journal},{status},{call.text.hex()},{text.hex()}\n"
 
 
+def record(some: random.Random, names: list[str]) -> str:
+    """A random command, which may be refused."""
+    code, chair, votes = some.choice(names), some.randint(1, SEATS), some.randint(0, some.choice([9, 400_000, 2**40]))
+    kinds = [f"open,{chair}", f"close,{chair}", f"votes,{code},{votes}", f"suspend,{code}", f"restore,{code}"]
+    kinds += [f"admit,{code},{votes}", f"withdraw,{code}", f"move,{code},none"]
+    return some.choices([*kinds, f"move,{code},{chair}"], [3, 1, 6, 1, 2, 1, 1, 1, 8])[0]
+
+
+def commands(seed: int) -> str:
+    """A script of random commands with readings."""
+    some = random.Random(seed)
+    names = list(islice(codes(), CODES))
+    lines = ["member,votes", *(f"{it},{some.randint(0, 400_000)}" for it in names[:MEMBERS]), "script"]
+    for at in range(COMMANDS):
+        lines.append(record(some, names))
+        if at % EVERY == EVERY - 1:
+            lines += ["publish", *(f"read,1,{it}" for it in MAJORITIES)]
+    return "\n".join([*lines, ""])
+
+
 def write(program: Path, folder: Path) -> None:
-    """Writes both files."""
+    """Writes the files."""
+    register = commands(SEED)
+    (folder / "register.csv").write_text(register)
+    status, text = ran(program, Call("a register", register.encode()))
+    assert status == 0, text
+    (folder / "register.txt").write_bytes(text)
     scripts = [*(it for it in of_cases() if len(it.text) <= MOST), *mutated(SEED, SCRIPTS)]
     with ThreadPoolExecutor(WORKERS) as pool:
         counted = pool.map(lambda it: board_lines(program, it), boards(SEED, BOARDS))
         (folder / "boards.txt").write_text("".join(counted))
         (folder / "scripts.txt").write_text("".join(pool.map(lambda it: script_line(program, it), scripts)))
-
-
-def answers_in(room: Path) -> Path:
-    """The folder of both files in an unpacked release, which are written if they don't exist yet."""
-    folder = room / "answers"
-    if not folder.exists():
-        folder.mkdir()
-        write(room / "board", folder)
-    return folder
 
 
 if __name__ == "__main__":
