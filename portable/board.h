@@ -387,7 +387,7 @@ uint8_t board_script(const uint8_t *input, size_t len, uint32_t readers, struct 
  * record, counted from 1, or 0 if it has none. The last line of the text is the fault's, except
  * after BOARD_WRITE_FAULT: then the text is longer than `out_len`, and `out` holds its first
  * `out_len` bytes. After BOARD_OUT_OF_MEMORY the text is some first lines of the run, perhaps
- * none, and the line of this fault. */
+ * none, and the line of this fault; if that line does not fit, the result is BOARD_WRITE_FAULT. */
 uint8_t board_replay(const uint8_t *input, size_t len, uint32_t readers, uint32_t journal, uint8_t *out, size_t out_len,
                      uint64_t *written, uint32_t *record);
 
