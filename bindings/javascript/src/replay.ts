@@ -48,7 +48,7 @@ export interface Reading extends Indices {
   readonly front: number;
 }
 
-/** What comes of a record of a script. */
+/** The outcome of a record of a script. */
 export type Outcome = Accepted | Refusal | Published | Reading;
 
 /** The replay of an input on a register. */
@@ -90,8 +90,8 @@ class Run {
 }
 
 /**
- * A replay: iterating over it carries out the records of a script one by one, from the start each time, and gives what
- * comes of each. No more than one outcome is held in memory, and the loop may end at any time.
+ * A replay: iterating over it carries out the records of a script one by one, from the start each time, and gives the
+ * outcome of each. No more than one outcome is held in memory, and the loop may end at any time.
  */
 export class Replay implements Iterable<Outcome> {
   /** The input as data. */

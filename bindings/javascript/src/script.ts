@@ -92,7 +92,7 @@ export class Records {
   }
 }
 
-/** Reads an input in an instance. `place` is told each address that is reserved. */
+/** Reads an input in an instance. `place` takes each address that is reserved. */
 function scriptIn(instance: Instance, input: Uint8Array, readers: number, place: (at: number) => number) {
   const given = place(instance.put(input));
   const [counts, members] = [place(instance.reserve(3 * WORD)), place(instance.reserve(ENTRY * MEMBERS))];

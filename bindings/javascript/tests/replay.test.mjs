@@ -129,7 +129,7 @@ test("the records of a script with the places of their bytes", () => {
   equal(new Script(`${begun}read,4,half`, { readers: 4 }).item(0).reader, 4);
 });
 
-test("each iteration begins anew, and a loop may end at any time", () => {
+test("each iteration begins again, and a loop may end at any time", () => {
   const run = replay(EXAMPLE);
   for (const it of run) if (it.record === 8) break;
   equal([...run].length, 8);

@@ -66,7 +66,8 @@ ones, and \code{board_undo} that of those that stay, all of them invisibly. \cod
 \section{Conditions}{
 \link{board_refused}: a command that the register refuses changes nothing. A list is refused with the number and the
 text of its first refused record. Where memory runs out
-while a list is taken back, the records before that one stay carried out. A record \code{read} is refused, since it is no command.
+while a list is taken back, the records before that one stay carried out. A record \code{read} is refused, since it is
+no command.
 }
 \examples{
 r <- board_register(c(AAA = 50, BBB = 49, CCC = 1))

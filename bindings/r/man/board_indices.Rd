@@ -25,7 +25,7 @@ board_indices_of_all(x, ...)
   the chairs' names. Or a table of members, see Details. Or a register (\code{\link{board_register}}), which is counted
   as it stands. Of the methods: what \code{board_indices} returned.}
 \item{majority}{\code{"half"}: more than half of the votes cast, if all open chairs vote. \code{"70"} and \code{"85"}:
-  at least one vote, and at least so many per cent of the total. \code{"quorum"}: more than half of the open chairs,
+  at least one vote, and at least 70 or 85 per cent of the total. \code{"quorum"}: more than half of the open chairs,
   with at least half of the total. It is always given.}
 \item{...}{\code{total}, with weights alone: the total voting power in votes, at least the sum of the weights, which it
   is unless given, and at most 2^48. \code{open_chairs}, with a table alone: the numbers of chairs that are open even if

@@ -12,7 +12,7 @@ board_from_script(text, journal = 1000000, file = NULL)
 \arguments{
 \item{r}{A register, of \code{\link{board_register}}.}
 \item{text}{A script: one text, its lines as \code{readLines} returns them, or raw bytes. It may have more than the
-  4,194,304 bytes of an input of the program \code{board}, but its members are in the first so many.}
+  4,194,304 bytes of an input of the program \code{board}, but its members are within that many.}
 \item{journal}{The most commands that the register accepts, from 1 to 1,000,000.}
 \item{file}{The path of a file, in place of \code{text}.}
 }

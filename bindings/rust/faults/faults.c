@@ -10,8 +10,8 @@ static int fails(void) { return before >= 0 && before-- == 0; }
 static void *faulty_malloc(size_t size) { return fails() ? NULL : malloc(size); }
 static void *faulty_realloc(void *at, size_t size) { return fails() ? NULL : realloc(at, size); }
 
-/* The allocation fails before which there are so many; none, if the number is below 0. Returns what is left of the
- * number, so one below 0 if an allocation failed. */
+/* Lets this number of allocations pass and fails the next one; none, if the number is below 0. Returns what is left of
+ * the number, so one below 0 if an allocation failed. */
 long faults_after(long number) {
     long left = before;
     before = number;

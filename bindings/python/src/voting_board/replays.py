@@ -29,8 +29,8 @@ from .values import Whole, journal_of, readers_of
 
 @dataclass(frozen=True)
 class Replay:
-    """A replay as data. Each iteration carries the script out anew, record by record, and yields an `Accepted`,
-    `Refusal`, `Published` or `Reading` for each; the memory does not grow with their number.
+    """A replay as data. Each iteration carries the script out from its start, record by record, and yields an
+    `Accepted`, `Refusal`, `Published` or `Reading` for each; the memory does not grow with their number.
 
     script: the bytes of the script
     readers: how many readers there are

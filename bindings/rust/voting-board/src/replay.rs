@@ -22,7 +22,7 @@ pub struct Reading {
     pub indices: Indices,
 }
 
-/// What comes of a record of a replay.
+/// The outcome of a record of a replay.
 #[derive(Clone, Debug, PartialEq, Eq)]
 #[cfg_attr(feature = "serde", derive(serde::Serialize, serde::Deserialize))]
 #[cfg_attr(feature = "serde", serde(tag = "outcome", rename_all = "lowercase"))]
