@@ -65,6 +65,8 @@ function counts(given) {
     const list = (width) => words.subarray(at + 1, (at += 1 + width * Number(words[at])));
     const [weights, total, members, mask] = [list(1), words[at++], list(3), Number(words[at++])];
     const rows = Array.from({ length: members.length / 3 }, (_, it) => members.subarray(3 * it));
+    // The package refuses a table without rows. A suspended member in no chair changes nothing.
+    if (rows.length === 0) rows.push([0n, 0n, 1n]);
     const columns = {
       votes: rows.map(([votes]) => votes),
       chair: rows.map(([, chair]) => chair || null),
