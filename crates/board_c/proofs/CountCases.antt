@@ -1,5 +1,5 @@
 -- The counts and results for three chairs: worked examples, and what the definitions exclude.
-use Rattle.std.proofs.Common.{◌≡◌, ◌≤◌, ◌++◌, ℕ, true, false, List, [], ◌∷◌, map, replicate, refl, subst, sym, arith, None, Some}
+use Rattle.std.proofs.Common.{◌≡◌, ◌≤◌, ◌++◌, ◌∙◌, ◌⊎◌, ⊎_elim, inl, inr, ℕ, true, false, List, [], ◌∷◌, map, replicate, refl, subst, sym, arith, None, Some}
 use Rattle.std.specs.Prelude.{IsTrue, ◌↔◌}
 use Rattle.std.proofs.lemmas.List.Elements.{All-from_recursion, recursion_from_All}
 use Rattle.majority_rule.specs.declared.majorities.Majority.{Majority}
@@ -8,16 +8,18 @@ use Rattle.majority_rule.specs.Winning.{rule_of, wins}
 use Rattle.council_core.specs.Coalitions.{omega_of}
 use Rattle.council_core.specs.Rolls.{Roll, sheet_words as roll_words}
 use Rattle.council_core.specs.Sheets.{IsSheet, open_chairs}
+use Rattle.council_core.specs.Refusals.{code_of}
+use Rattle.council_core.specs.declared.refusals.Refusal.{Refusal}
 use Rattle.council_core.specs.declared.refusals.Refusal.TheVariants.{BadRecord, BadSheet, OutOfMemory, JournalFull}
 use Rattle.c_values.specs.declared.counts.BoardAllCounts.{BoardAllCounts}
 use Rattle.c_values.specs.declared.counts.BoardCounts.{BoardCounts}
 use Rattle.board_c.specs.declared.members.BoardMember.{BoardMember}
 use Rattle.c_values.specs.declared.counts.BoardChair.{BoardChair}
 use Rattle.c_values.specs.Counts.{ShowsCounts, ShowsAllCounts, chair_row, majority_numbered, no_chair}
-use Rattle.board_c.specs.Counts.{IsRefusedAs, IsRefusalOfWords, words_of_weights}
+use Rattle.board_c.specs.Counts.{IsRefusal, IsRefusedAs, IsRefusalOfWords, words_of_weights}
 use Rattle.board_c.specs.Laws.{MembersLaw, RollLaw}
 use Rattle.board_c.specs.declared.TheConstants.{DONE}
-use Rattle.board_c.specs.Members.{AreRefusedAs, IsBoard, member_words}
+use Rattle.board_c.specs.Members.{AreRefusedAs, IsBoard, IsRefusalOfMembers, member_words}
 use Rattle.board_c.proofs.WorkedCases.{member}
 
 -- chairs 1, 2 and 3 with 50, 49 and 1 votes
@@ -101,6 +103,23 @@ known_sheet = ((λ sheet refused. refused (record { long = refl; sheet = sheet }
 number_of_words : (answer : ℕ) → IsRefusalOfWords [] answer → answer ≡ 32
 number_of_words answer refused = refused.0
 
+-- the number of a refusal is 17 or 32, and at a known majority no sheet has a refusal
+reason_numbered : (why : Refusal) → IsRefusedAs 4 three why → (code_of why ≡ 17) ⊎ (code_of why ≡ 32)
+reason_numbered BadRecord h = inl refl
+reason_numbered BadSheet h = inr refl
+reason_numbered why h = absurd h
+
+refusal_numbered : (answer : ℕ) → IsRefusal 4 three answer → (answer ≡ 17) ⊎ (answer ≡ 32)
+refusal_numbered answer h = ⊎_elim (λ e. inl (h.1 ∙ e)) (λ e. inr (h.1 ∙ e)) (reason_numbered h.0 h.2)
+
+no_reason : IsSheet three → (why : Refusal) → IsRefusedAs 0 three why → ⊥
+no_reason sheet BadRecord h = cc h.1
+no_reason sheet BadSheet h = h (record { long = refl; sheet = sheet })
+no_reason sheet why h = h
+
+no_refusal : IsSheet three → (answer : ℕ) → IsRefusal 0 three answer → ⊥
+no_refusal sheet answer h = no_reason sheet h.0 h.2
+
 words_come_first : IsRefusedAs 4 [] BadRecord → ⊥
 words_come_first h = omega (arith, h.0.long)
 
@@ -113,6 +132,23 @@ empty_board = record { seated = All-from_recursion (λ (m : BoardMember). m.chai
 
 empty_not_refused : (AreRefusedAs 0 [] BadSheet → ⊥) × (AreRefusedAs 0 [] JournalFull → ⊥) × (AreRefusedAs 0 [] OutOfMemory → ⊥)
 empty_not_refused = ((λ h. h empty_board), (λ h. h), (λ h. h))
+
+-- a board without members is refused as 17 at a number of no majority, and at no other number
+reason_of_none : (why : Refusal) → AreRefusedAs 4 [] why → code_of why ≡ 17
+reason_of_none BadRecord h = refl
+reason_of_none BadSheet h = absurd (h empty_board)
+reason_of_none why h = absurd h
+
+refusal_of_none : (answer : ℕ) → IsRefusalOfMembers 4 [] answer → answer ≡ 17
+refusal_of_none answer h = h.1 ∙ reason_of_none h.0 h.2
+
+no_reason_of_none : (why : Refusal) → AreRefusedAs 0 [] why → ⊥
+no_reason_of_none BadRecord h = cc h.1
+no_reason_of_none BadSheet h = h empty_board
+no_reason_of_none why h = h
+
+no_refusal_of_none : (answer : ℕ) → IsRefusalOfMembers 0 [] answer → ⊥
+no_refusal_of_none answer h = no_reason_of_none h.0 h.2
 
 members_come_first : AreRefusedAs 4 (member 1 33 0 ∷ []) BadRecord → ⊥
 members_come_first h = omega (arith, (recursion_from_All (λ (m : BoardMember). m.chair ≤ 32) (member 1 33 0 ∷ []) h.0.seated).0)
