@@ -88,6 +88,13 @@ none_shown counts h =
 no_sheet_shown : (counts : BoardCounts) → ShowsCounts 0 [] counts → ⊥
 no_sheet_shown counts h = omega (arith, h.whole.long)
 
+no_sheet_shown_by_all : (counts : BoardAllCounts) → ShowsAllCounts [] counts → ⊥
+no_sheet_shown_by_all counts h = omega (arith, h.whole.long)
+
+-- the words whose counts are shown have the ranges of a sheet
+sheet_shown : (words : List ℕ) (counts : BoardCounts) → ShowsCounts 0 words counts → IsSheet words
+sheet_shown words counts h = h.whole.sheet
+
 -- no other refusal is due; and that of a number is due of a sheet's words alone
 no_other : (IsRefusedAs 0 three JournalFull → ⊥) × (IsRefusedAs 0 three OutOfMemory → ⊥)
 no_other = ((λ h. h), (λ h. h))
