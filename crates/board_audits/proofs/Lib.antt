@@ -3,3 +3,4 @@ pub mod FirstFaults
 pub mod LegalAudits
 pub mod FirstPlaces
 pub mod WorkedCases
+mod LimitCases

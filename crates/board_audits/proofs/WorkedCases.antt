@@ -9,21 +9,21 @@ use Rattle.council_core.specs.Sequential.{AreCuts, AreLegalRecords}
 use Rattle.council_core.specs.declared.refusals.Refusal.TheVariants.{DuplicateMember}
 use Rattle.board_audits.specs.declared.audits.AuditFault.TheVariants.{Start, BadJournal, BadCuts, Mismatch, OutOfMemory}
 
-abbrev one_member : Opening
+abbrev pub one_member : Opening
 one_member = (65 ∷ 65 ∷ 65 ∷ [], 10) ∷ []
 
 -- a chair is opened, and the member moves into it
-abbrev seated : List Command
+abbrev pub seated : List Command
 seated = Open 1 ∷ Move (65 ∷ 65 ∷ 65 ∷ []) (Some 1) ∷ []
 
 -- the sheets after none, one and both of the commands
-abbrev none_done : List ℕ
+abbrev pub none_done : List ℕ
 none_done = replicate 32 0 ++ 10 ∷ 0 ∷ []
 
-abbrev one_done : List ℕ
+abbrev pub one_done : List ℕ
 one_done = 1 ∷ replicate 31 0 ++ 10 ∷ 1 ∷ []
 
-abbrev both_done : List ℕ
+abbrev pub both_done : List ℕ
 both_done = 11 ∷ replicate 31 0 ++ 10 ∷ 2 ∷ []
 
 -- two readers, of whom each saw whole publications, none older than the one before

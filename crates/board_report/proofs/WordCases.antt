@@ -1,10 +1,10 @@
 -- Words that ask for each call, with the limits that they say; and words that ask for none.
-use Rattle.std.proofs.Common.{◌≡◌, List, [], ◌∷◌, false, Some, codes, inl, inr, refl, rules}
+use Rattle.std.proofs.Common.{◌≡◌, ℕ, List, [], ◌∷◌, true, false, Option, Some, codes, inl, inr, refl, sym, ap, subst, get_or, arith, rules}
 use Rattle.clap.proofs.OnLiterals.{clap_on_literals}
 use Rattle.clap.specs.Words.{Row, Text, one_of, subcommand_of, takes}
 use Rattle.std.specs.Option.{option_map_or}
 use Rattle.clap.specs.declared.error.kind.ErrorKind.TheVariants.{DisplayHelp}
-use Rattle.board_report.specs.Calls.{AreNotTaken, AskText, Asks, HaveFault, Says}
+use Rattle.board_report.specs.Calls.{AreNotTaken, AskText, Asks, HasJournal, HasReaders, HaveFault, Says}
 use Rattle.board_report.specs.Commands.{IsTaken, board_app}
 use Rattle.board_report.specs.declared.calls.Invocation.TheVariants.{Replay, Serve, Trace}
 
@@ -119,3 +119,79 @@ unknown_word_asks_no_text (k, inl same, inr version) = cc (same, version)
 unknown_word_asks_no_text (k, inr (inl same), inl help) = cc (same, help)
 unknown_word_asks_no_text (k, inr (inl same), inr version) = cc (same, version)
 unknown_word_asks_no_text (k, inr (inr none), shown) = none
+
+-- from one to four readers, and a journal of one to a million commands
+abbrev with_readers : Text → List Text
+with_readers number = codes "board" ∷ codes "replay" ∷ codes "--readers" ∷ number ∷ []
+
+abbrev journal_of : Text → List Text
+journal_of number = codes "board" ∷ codes "replay" ∷ codes "--journal" ∷ number ∷ []
+
+readers_taken : (takes board_app (with_readers (codes "0")) ≡ false) × (takes board_app (with_readers (codes "1")) ≡ true) × (takes board_app (with_readers (codes "4")) ≡ true) × (takes board_app (with_readers (codes "x")) ≡ false)
+unfolding clap_on_literals
+readers_taken = (refl, refl, refl, refl)
+
+journals_taken : (takes board_app (journal_of (codes "0")) ≡ false) × (takes board_app (journal_of (codes "1")) ≡ true) × (takes board_app (journal_of (codes "1000000")) ≡ true) × (takes board_app (journal_of (codes "1000001")) ≡ false)
+unfolding clap_on_literals
+journals_taken = (refl, refl, refl, refl)
+
+-- a text says its number and no other, if the number has that many bits
+says_plus : Says 8 (codes "+255") 255
+says_plus = record { numeral = search rules; small = search rules; same = refl }
+
+says_another : Says 8 (codes "4") 5 → ⊥
+says_another h = let e = h.same in omega (arith, e)
+
+says_nine_bits : Says 8 (codes "256") 256 → ⊥
+says_nine_bits h = let e = h.small in omega (arith, e)
+
+-- words that ask for a call ask for no other, and with no other limits
+abbrev rows_of : Option (Text × List Row) → List Row
+rows_of found = option_map_or (λ p. p.1) found []
+
+abbrev first_letter : Option (Text × List Row) → ℕ
+first_letter found = option_map_or (λ p. get_or p.0 0 0) found 0
+
+trace_by_four_alone : Asks (with_limits (codes "trace")) (Trace 3 70) → ⊥
+unfolding clap_on_literals
+trace_by_four_alone (r, taken, limits) =
+    let same : rows (with_limits (codes "trace")) ≡ r = ap rows_of taken.found in
+    let said : Says 8 (codes "4") 3 = subst (λ (r : List Row). HasReaders r 3) (sym same) limits.readers_said in
+    omega (arith, said.same)
+
+trace_of_seventy_alone : Asks (with_limits (codes "trace")) (Trace 4 71) → ⊥
+unfolding clap_on_literals
+trace_of_seventy_alone (r, taken, limits) =
+    let same : rows (with_limits (codes "trace")) ≡ r = ap rows_of taken.found in
+    let said : Says 32 (codes "70") 71 = subst (λ (r : List Row). HasJournal r 71) (sym same) limits.journal_said in
+    omega (arith, said.same)
+
+serve_of_seventy_alone : Asks with_journal (Serve 71) → ⊥
+unfolding clap_on_literals
+serve_of_seventy_alone (r, taken, said) =
+    let same : rows with_journal ≡ r = ap rows_of taken.found in
+    let says : Says 32 (codes "70") 71 = subst (λ (r : List Row). HasJournal r 71) (sym same) said in
+    omega (arith, says.same)
+
+trace_is_no_replay : (readers journal : ℕ) → Asks (with_limits (codes "trace")) (Replay readers journal) → ⊥
+unfolding clap_on_literals
+trace_is_no_replay readers journal (r, taken, limits) = omega (arith, ap first_letter taken.found)
+
+replay_is_no_trace : (readers journal : ℕ) → Asks (plain (codes "replay")) (Trace readers journal) → ⊥
+unfolding clap_on_literals
+replay_is_no_trace readers journal (r, taken, limits) = omega (arith, ap first_letter taken.found)
+
+replay_is_no_serve : (journal : ℕ) → Asks (plain (codes "replay")) (Serve journal) → ⊥
+unfolding clap_on_literals
+replay_is_no_serve journal (r, taken, said) = omega (arith, ap first_letter taken.found)
+
+replay_by_one_alone : Asks (plain (codes "replay")) (Replay 2 1000000) → ⊥
+unfolding clap_on_literals
+replay_by_one_alone (r, taken, limits) =
+    let same : rows (plain (codes "replay")) ≡ r = ap rows_of taken.found in
+    let said : Says 8 (codes "1") 2 = subst (λ (r : List Row). HasReaders r 2) (sym same) limits.readers_said in
+    omega (arith, said.same)
+
+five_readers_not_taken : (name : Text) (r : List Row) → IsTaken (with_readers (codes "5")) name r → ⊥
+unfolding clap_on_literals
+five_readers_not_taken name r h = let e = h.taken in cc e

@@ -28,6 +28,16 @@ output_without_memory h = let e = h.out_kept in cc e
 status_without_memory : LacksMemory 2 to_error → ⊥
 status_without_memory h = let e = h.status_is in cc e
 
+-- a program that has written nothing may end so, with that status and no other
+abbrev unwritten : Written
+unwritten = written_streams (Some []) (Some []) (Some []) (Some [])
+
+nothing_said : LacksMemory 1 unwritten
+nothing_said = record { status_is = refl; out_kept = refl; said = ([], (_, refl), refl) }
+
+no_other_status : (LacksMemory 0 unwritten → ⊥) × (LacksMemory 2 unwritten → ⊥)
+no_other_status = (λ h. omega (arith, h.status_is), λ h. omega (arith, h.status_is))
+
 -- help leaves standard error as it is, and a refusal standard output
 help_to_error : (words : List (List ℕ)) → AnswersWords words 0 to_error → ⊥
 help_to_error words (inl shown) = let e = shown.1 in cc e

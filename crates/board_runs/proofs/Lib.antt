@@ -3,3 +3,4 @@ pub mod DeskFacts
 pub mod ReplayFacts
 pub mod TraceFacts
 pub mod WorkedCases
+mod RunCases

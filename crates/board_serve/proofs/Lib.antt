@@ -5,3 +5,5 @@ pub mod OutcomeFacts
 pub mod AuditFacts
 pub mod ServeFacts
 pub mod WorkedCases
+mod PlanCases
+mod WorkCases

@@ -30,7 +30,7 @@ readers = refl
 abbrev register : Sequential
 register = record { ledger = record { opening = (65 ∷ 65 ∷ 65 ∷ [], 10) ∷ []; journal = []; limit = 100 }; published = 0 }
 
-abbrev one_reading : Planned
+abbrev pub one_reading : Planned
 one_reading = record { start = register; shares = record { orders = []; asked = (Half ∷ []) ∷ [] ∷ [] } }
 
 has_lines : work_lines one_reading ≡ [] → ⊥

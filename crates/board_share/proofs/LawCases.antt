@@ -1,16 +1,21 @@
 -- The laws of a rule speak of the board that the rule is of: the history that each gives begins as that board does.
-use Rattle.std.proofs.Common.{◌≡◌, ℕ, map}
+use Rattle.std.proofs.Common.{◌≡◌, ◌⊎◌, ℕ, List, [], map}
+use lib.ListN.{get_elem?}
+use mathlib.Core.Option.{some}
 use Rattle.atomic_table.specs.Table as table
 use Rattle.council_core.specs.Ledgers.{IsLedger}
 use Rattle.council_core.specs.Sequential.{AreLegalRecords}
+use Rattle.two_copy_steps.specs.Lawful.{IsPublishable}
+use Rattle.two_copy_steps.specs.Transitions.{machine_at_start}
+use Rattle.two_copy_steps.specs.declared.events.Event.{Event}
 use Rattle.two_copy_steps.specs.Runs.{ReportsReplies}
 use Rattle.two_copy_steps.specs.Auxiliary.{IsApart}
 use Rattle.board_share.specs.declared.views.View.{View}
 use Rattle.board_share.specs.declared.views.Beginning.{Beginning}
 use Rattle.board_share.specs.declared.views.History.{History}
-use Rattle.board_share.specs.Histories.{Adds, is_writers, known_after}
+use Rattle.board_share.specs.Histories.{Adds, history_with, is_writers, known_after}
 use Rattle.board_share.specs.Writers.{Publisher, TookTry, publication}
-use Rattle.board_share.specs.Laws.{HistoryLaw, SharedRecordsLaw, ApartLaw, SharedRepliesLaw}
+use Rattle.board_share.specs.Laws.{HistoryLaw, HoldersLaw, IsKnownIn, OneOrderLaw, SeatStartLaw, SharedRecordsLaw, ApartLaw, SharedRepliesLaw, SplitLaw}
 
 module _ (holds : Beginning → table.State Unit View → Type 0) (begun : Beginning) (s : table.State Unit View) (held : holds begun s) where
   of_this_board : HistoryLaw holds → (h : History) × (h.begun ≡ begun)
@@ -22,8 +27,31 @@ module _ (holds : Beginning → table.State Unit View → Type 0) (begun : Begin
   apart_on_this_board : ApartLaw holds → (h : History) × (h.begun ≡ begun) × (let k = known_after h in IsApart k.writer.state (map (λ v. v.stage) k.readers))
   apart_on_this_board law = let found = law begun s held in (found.0, found.1, found.3)
 
+  words_on_this_board : HistoryLaw holds → (h : History) × (s.words ≡ (known_after h).words)
+  words_on_this_board law = let found = law begun s held in (found.0, found.2.words)
+
+  -- each holder's history is a prefix of one history of this board with such outputs
+  holders_on_this_board : HoldersLaw holds → IsLedger begun.register → (h : History) → IsKnownIn s h
+      → (whole : History) × (whole.begun ≡ begun) × ReportsReplies begun.register begun.readers whole.events × ((rest : List Event) × (whole ≡ history_with h rest))
+  holders_on_this_board law ledger h known =
+      let found = law begun s ledger held in
+      (found.0, found.1, found.2, found.3 h known)
+
+  -- of any two seats, the history of one begins with that of the other
+  one_order_on_this_board : OneOrderLaw holds → (i j : ℕ) (v w : View) → get_elem? s.views i ≡ some v → get_elem? s.views j ≡ some w
+      → ((more : List Event) × (w.history ≡ history_with v.history more)) ⊎ ((more : List Event) × (v.history ≡ history_with w.history more))
+  one_order_on_this_board law i j v w at_i at_j = law begun s held i j v w at_i at_j
+
   replies_on_this_board : SharedRepliesLaw holds → IsLedger begun.register → (h : History) × (h.begun ≡ begun) × ReportsReplies begun.register begun.readers h.events
   replies_on_this_board law ledger = let found = law begun s ledger held in (found.0, found.1, found.3)
+
+-- the rule holds of a board's first seat, and still holds when a seat is split
+start_used : (holds : Beginning → table.State Unit View → Type 0) (first : Beginning → View) → SeatStartLaw holds first → (begun : Beginning) → IsPublishable begun.register.opening begun.register.journal
+    → holds begun (table.opening (machine_at_start begun.register begun.readers).words [] (first begun))
+start_used holds first law begun publishable = law begun publishable
+
+split_used : (holds : Beginning → table.State Unit View → Type 0) (left right : View → View) → SplitLaw holds left right → (begun : Beginning) (v : View) → table.Splits (holds begun) 3 v (left v) (right v)
+split_used holds left right law begun v = law begun 3 v
 
 -- an attempt to publish leaves the writer's published commands, cuts and quiescent readers as its history gives them
 module _ (steps : ℕ) (before after : Publisher) (took : TookTry steps before after) where

@@ -19,7 +19,7 @@ abbrev one_member : Opening
 one_member = (65 ∷ 65 ∷ 65 ∷ [], 10) ∷ []
 
 -- a chair is opened, and the member moves into it
-abbrev seated : List Command
+abbrev pub seated : List Command
 seated = Open 1 ∷ Move (65 ∷ 65 ∷ 65 ∷ []) (Some 1) ∷ []
 
 -- the sheets after none, one and both of the commands
@@ -33,7 +33,7 @@ abbrev both_done : List ℕ
 both_done = 11 ∷ replicate 31 0 ++ 10 ∷ 2 ∷ []
 
 -- a board over that register, with one reader
-abbrev begun : Beginning
+abbrev pub begun : Beginning
 begun = record { register = record { opening = one_member; journal = []; limit = 100 }; readers = 1 }
 
 -- the events of a publication: the commands are submitted, it begins, and steps are taken
@@ -71,7 +71,7 @@ uncounted h = none (ap (filter is_writers) (ap (λ (x : History). x.events) h.lo
     none e = cc
 
 -- a table of the words that one reader needs
-abbrev table : TableId
+abbrev pub table : TableId
 table = record { words = 70; slots = 0; views_name = 0; atom = 0; block = 0; offset = 0; slot_names = [] }
 
 -- the front of the last reading, or 0 before the first

@@ -11,3 +11,5 @@ pub mod ReadingFacts
 pub mod RecordFacts
 pub mod InterpretFacts
 pub mod WorkedCases
+mod RecordCases
+mod LineCases

@@ -1,6 +1,7 @@
 mod PublishedLemmas
 pub mod WorkedCases
 pub mod LawCases
+mod LimitCases
 pub mod SheetLemmas
 pub mod RollLemmas
 pub mod MirrorLemmas

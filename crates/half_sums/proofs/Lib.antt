@@ -7,3 +7,4 @@ pub mod GroupFacts
 pub mod SetSums
 pub mod MaskLemmas
 pub mod WorkedCases
+mod LimitCases

@@ -1,5 +1,6 @@
 pub mod BoardLaw
 pub mod WorkedCases
+mod LimitCases
 pub mod HalfLemmas
 pub mod Bounds
 pub mod RowLemmas

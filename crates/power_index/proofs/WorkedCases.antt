@@ -7,7 +7,7 @@ use Rattle.power_index.specs.declared.indices.Indices.{Indices}
 use Rattle.power_index.specs.Indices.{ratio, indices_of}
 
 -- indices: front, open chairs, quota, least size, votes cast, total, winning coalitions, all of them
-abbrev indices : Majority → ℕ → ℕ → ℕ → ℕ → ℕ → ℕ → ℕ → ℕ → List ChairPower → Indices
+abbrev pub indices : Majority → ℕ → ℕ → ℕ → ℕ → ℕ → ℕ → ℕ → ℕ → List ChairPower → Indices
 indices majority front chairs quota least_size cast total winning coalitions rows =
     record {
       majority = majority;
@@ -25,7 +25,7 @@ indices majority front chairs quota least_size cast total winning coalitions row
 
 -- a row: chair, weight and swings, of the sets of the other chairs, of all swings, of the coalitions
 -- that win, and of those that lose
-abbrev row : ℕ → ℕ → ℕ → ℕ → ℕ → ℕ → ℕ → ChairPower
+abbrev pub row : ℕ → ℕ → ℕ → ℕ → ℕ → ℕ → ℕ → ChairPower
 row chair weight swings others all winning losing =
     record {
       chair = chair;
@@ -51,7 +51,7 @@ powerless_row weight =
     }
 
 -- chairs 1, 2 and 3 with 50, 49 and 1 votes
-abbrev three_chairs : List ℕ
+abbrev pub three_chairs : List ℕ
 three_chairs = 51 ∷ 50 ∷ 2 ∷ replicate 29 0 ++ 100 ∷ 6 ∷ []
 
 -- a chair of one vote has as much power as one of 49

@@ -8,4 +8,5 @@ pub mod Meeting
 pub mod SizeLemmas
 pub mod LargePairs
 pub mod WorkedCases
+mod LimitCases
 pub mod Routes

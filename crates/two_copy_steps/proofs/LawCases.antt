@@ -67,7 +67,7 @@ least_refuted h = true≢false (same (h.1 0 (omega arith)))
     same e = cc
 
 -- a register of one member can begin
-ledger : IsLedger one_member
+pub ledger : IsLedger one_member
 ledger = record { legal = (refl, omega arith); within = omega arith; small = omega arith }
 
 three_votes_stay_in_range : RangeLaw → IsPublishable one_member.opening (SetVotes code 3 ∷ [])
@@ -103,7 +103,7 @@ never_older_while_held_up law = law one_member 1 ledger blocking
 
 -- the publication that the reader blocks, at the 42nd event, names the least reader that is not
 -- quiescent
-abbrev held_up : MachineState
+abbrev pub held_up : MachineState
 held_up = machine_after one_member 1 (take 41 blocking)
 
 busy_used : BusyLaw → (a : Auxiliary) → IsLawful IsPublishable held_up a → (r : ℕ) × (1 ≡ suc r) × IsLeastUnseen held_up.writer.seen_out r

@@ -12,6 +12,8 @@ pub mod Fixed
 pub mod Steps
 pub mod WorkedCases
 pub mod LawCases
+mod LimitCases
+mod LawfulCases
 pub mod Fresh
 pub mod EffectLists
 pub mod StateFacts

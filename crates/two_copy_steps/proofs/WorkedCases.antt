@@ -32,10 +32,10 @@ blocking =
     replicate 2 (Reader 1) ++ Submit (Open 1) ∷ Publish ∷ [] ++ replicate 35 Writer ++ Submit (Move (65 ∷ 65 ∷ 65 ∷ []) (Some 1)) ∷ Publish ∷ Writer ∷ [] ++ replicate 35 (Reader 1) ++ Publish ∷ [] ++ replicate 36 Writer
     ++ replicate 37 (Reader 1)
 
-abbrev first_sheet : List ℕ
+abbrev pub first_sheet : List ℕ
 first_sheet = replicate 32 0 ++ 10 ∷ 0 ∷ []
 
-abbrev last_sheet : List ℕ
+abbrev pub last_sheet : List ℕ
 last_sheet = 11 ∷ replicate 31 0 ++ 10 ∷ 2 ∷ []
 
 way_notes : notes (machine_at_start one_member 1) blocking

@@ -1,0 +1,152 @@
+-- What is said of a writer with and without pending commands, computed; and of the steps, seats and histories of a board, part by part.
+use Rattle.std.proofs.Common.{◌≡◌, ◌++◌, ℕ, Bool, true, false, List, [], ◌∷◌, length, replicate, slice_get, Option, Some, None, refl, ap}
+use Rattle.std.specs.List.{filter}
+use lib.ListN.{get_elem?}
+use mathlib.Core.Option.{some}
+use Rattle.atomic_table.specs.Seated.{TableId}
+use Rattle.atomic_table.specs.Table as table
+use Rattle.council_core.specs.Ledgers.{IsLedger}
+use Rattle.council_core.specs.Rolls.{IsLegal, Opening, sheet}
+use Rattle.council_core.specs.declared.commands.Command.{Command}
+use Rattle.council_core.specs.declared.commands.Command.TheVariants.{Open}
+use Rattle.two_copy_steps.specs.Runs.{KeepsRecordsReported, ReportsReplies}
+use Rattle.two_copy_steps.specs.States.{LawfulFor}
+use Rattle.two_copy_steps.specs.declared.events.Event.{Event}
+use Rattle.two_copy_steps.specs.declared.events.Event.TheVariants.{Submit, Publish, Writer, Reader}
+use Rattle.two_copy_steps.specs.declared.views.WriterView.{WriterView}
+use Rattle.board_share.specs.declared.views.Beginning.{Beginning}
+use Rattle.board_share.specs.declared.views.History.{History}
+use Rattle.board_share.specs.declared.views.View.{View}
+use Rattle.board_share.specs.Histories.{Adds, KnowsAfter, first_history, handed_over, history_with, is_readers, is_writers, known_after, machine_of, reported_in}
+use Rattle.board_share.specs.Laws.{SharedOutputsLaw}
+use Rattle.board_share.specs.Readers.{IsLegalSheet, ReaderSeen, TookSteps, known_by, number_of}
+use Rattle.board_share.specs.Rule.{IsAfter, KnowsPrefix, RuleHolds}
+use Rattle.board_share.specs.Seats.{Part, Seated, as_reader}
+use Rattle.board_share.specs.Writers.{IsViewOf, Publisher, TookTries, TookTry, cuts_after, has_pending, look_count, publication_steps, seen_out_after}
+use Rattle.board_share.proofs.WorkedCases.{begun, seated, table}
+
+-- events of the writer, and of a reader by its number
+whose : (is_writers (Submit (Open 1)) ≡ true) × (is_writers Publish ≡ true) × (is_writers Writer ≡ true) × (is_writers (Reader 1) ≡ false) × (is_readers 1 (Reader 1) ≡ true) × (is_readers 1 (Reader 2) ≡ false) × (is_readers 1 Writer ≡ false)
+whose = (refl, refl, refl, refl, refl, refl, refl)
+
+-- the commands after those staged are submitted
+handed : (handed_over [] seated ≡ Submit (Open 1) ∷ handed_over (Open 1 ∷ []) seated) × (handed_over seated seated ≡ [])
+handed = (refl, refl)
+
+-- a writer that has published none or one of its commands, with the first of two readers quiescent
+abbrev writer_with : List Command → Publisher
+writer_with published = record {
+  table = table;
+  ledger = record begun.register { journal = Open 1 ∷ [] };
+  published = published;
+  cuts = 0 ∷ [];
+  seen_out = true ∷ false ∷ [];
+  history = first_history begun;
+}
+
+one_pending : (has_pending (writer_with []) ≡ true) × (cuts_after (writer_with []) ≡ 0 ∷ 1 ∷ []) × (seen_out_after (writer_with []) ≡ false ∷ false ∷ [])
+one_pending = (refl, refl, refl)
+
+none_pending : (has_pending (writer_with (Open 1 ∷ [])) ≡ false) × (cuts_after (writer_with (Open 1 ∷ [])) ≡ 0 ∷ []) × (seen_out_after (writer_with (Open 1 ∷ [])) ≡ true ∷ false ∷ [])
+none_pending = (refl, refl, refl)
+
+-- with all readers quiescent, or none of four
+steps_of_publications : (publication_steps (true ∷ []) ≡ 35) × (publication_steps (replicate 4 false) ≡ 39) × (look_count (false ∷ []) (false ∷ []) ≡ 1)
+steps_of_publications = (refl, refl, refl)
+
+-- a history after another has its events first
+module _ (own : List Event) (before after : History) (added : Adds is_writers own before after) where
+  earlier_first : after.events ≡ before.events ++ added.events
+  earlier_first = ap (λ (h : History). h.events) added.longer_by
+
+  own_alone : filter is_writers added.events ≡ own
+  own_alone = added.own_are
+
+-- a reader's steps are its own, and it has the view of the machine's reader after them
+module _ (before after : ReaderSeen) (took : TookSteps 2 before after) where
+  two_steps : Adds (is_readers (number_of before)) (Reader (number_of before) ∷ Reader (number_of before) ∷ []) before.history after.history
+  two_steps = took.adds
+
+  reader_after_them : slice_get (known_after after.history).readers after.index ≡ Some (known_by after)
+  reader_after_them = took.knows
+
+-- the machine's writer after a history, and its register
+module _ (h : History) (v : WriterView) (knows : KnowsAfter h v) where
+  its_writer : (known_after h).writer ≡ v
+  its_writer = knows.writer
+
+  its_register : (machine_of h).ledger ≡ record h.begun.register { journal = v.state.staged }
+  its_register = knows.register
+
+-- a legal sheet is that of a legal list
+sheet_of_legal : (opening : Opening) (words : List ℕ) → IsLegalSheet opening words → (list : List Command) × IsLegal opening list × (words ≡ sheet opening list)
+sheet_of_legal opening words is = (is.0, is.1, is.2)
+
+-- each seat knows a prefix of the history, and no later event is of an actor that it holds
+module _ (v : View) (whole : History) (knows : KnowsPrefix v whole) where
+  prefix_first : whole.events ≡ v.history.events ++ knows.rest
+  prefix_first = ap (λ (h : History). h.events) knows.whole_is
+
+  no_later_step_of_the_writer : (opening : Opening) (w : WriterView) → v.writer ≡ Some (opening, w) → filter is_writers knows.rest ≡ []
+  no_later_step_of_the_writer opening w is = knows.writer (opening, w) is
+
+  no_later_step_of_a_reader : (x : Part) → as_reader 1 v ≡ Some x → filter (is_readers 2) knows.rest ≡ []
+  no_later_step_of_a_reader x is = knows.readers 1 x is
+
+-- a part that is there is in one seat and in no other
+module _ (part : View → Option Part) (views : List View) (x : Part) (seated : Seated part views (Some x)) where
+  in_some_seat : (id : ℕ) × (v : View) × (get_elem? views id ≡ some v) × (part v ≡ Some x)
+  in_some_seat = seated.covered x refl
+
+  the_same_part : (id : ℕ) (v : View) (y : Part) → get_elem? views id ≡ some v → part v ≡ Some y → Some x ≡ Some y
+  the_same_part = seated.same
+
+  in_one_seat : (i j : ℕ) (u v : View) → get_elem? views i ≡ some u → get_elem? views j ≡ some v → part u ≡ Some x → part v ≡ Some x → i ≡ j
+  in_one_seat i j u v at_i at_j in_u in_v = seated.alone i j u v x x at_i at_j in_u in_v
+
+-- where the rule holds, the words and the seats are those after a history of this board, which is lawful and has all readers
+module _ (begun : Beginning) (s : table.State Unit View) (rule : RuleHolds begun s) where
+  words_after : s.words ≡ (known_after rule.history).words
+  words_after = rule.after.words
+
+  prefixes_known : (id : ℕ) (v : View) → get_elem? s.views id ≡ some v → KnowsPrefix v rule.history
+  prefixes_known = rule.after.prefixes
+
+  of_this_board : rule.history.begun ≡ begun
+  of_this_board = rule.begun_is
+
+  register_staged : KnowsAfter rule.history (known_after rule.history).writer
+  register_staged = rule.register
+
+  lawful_after : LawfulFor begun.register.opening (known_after rule.history)
+  lawful_after = rule.lawful
+
+  all_readers : length (known_after rule.history).readers ≡ begun.readers
+  all_readers = rule.count
+
+-- a writer's seat has its opening and its history
+module _ (b : Publisher) (v : View) (is : IsViewOf b v) where
+  writer_of_seat : v.writer ≡ Some (b.ledger.opening, is.held)
+  writer_of_seat = is.writes
+
+  history_of_seat : v.history ≡ b.history
+  history_of_seat = is.history
+
+-- a publication after one that was abandoned: both are tries, and the register between them is the same
+module _ (before after : Publisher) (took : TookTries 1 before after) where
+  first_abandoned : TookTry (look_count before.seen_out took.0.seen_out) before took.0
+  first_abandoned = took.1
+
+  register_between : took.0.ledger ≡ before.ledger
+  register_between = took.2
+
+  then_published : TookTry (publication_steps took.0.seen_out) took.0 after
+  then_published = took.3
+
+-- the outputs of every history are the register's replies, and the readings in them the records
+module _ (law : SharedOutputsLaw) (h : History) (ledger : IsLedger h.begun.register) where
+  replies_of_history : ReportsReplies h.begun.register h.begun.readers h.events
+  replies_of_history = (law h ledger).0
+
+  records_of_history : KeepsRecordsReported h.begun.register h.begun.readers h.events (reported_in h)
+  records_of_history = (law h ledger).1

@@ -1,0 +1,240 @@
+-- The lines of worked examples, computed; and what the definitions of reading, starting and writing exclude.
+use Rattle.std.proofs.Common.{◌≡◌, ◌+◌, ◌++◌, ◌∷◌, ◌⊎◌, inl, inr, ℕ, true, false, List, [], length, replicate, Option, Some, None, Result, Ok, Err, refl, ap, subst, arith}
+use Rattle.std.specs.Prelude.{codes}
+use Rattle.std.specs.Fmt.{digits}
+use Rattle.std.specs.Io.KnownBytes.{Appends}
+use Rattle.council_core.specs.Ledgers.{Ledger, start_verdict}
+use Rattle.council_core.specs.Rolls.{Opening}
+use Rattle.council_core.specs.declared.commands.Command.TheVariants.{Open}
+use Rattle.council_core.specs.Sequential.{answered, reading}
+use Rattle.council_core.specs.declared.calls.Answer.TheVariants as answer
+use Rattle.council_core.specs.declared.calls.Order.TheVariants as order
+use Rattle.council_core.specs.declared.refusals.Refusal.TheVariants.{BadHeader, BadIndex, BadLimit, BadRecord, ChairOpen, DuplicateMember, OutOfMemory, ReadFault, WriteFault}
+use Rattle.majority_rule.specs.declared.majorities.Majority.TheVariants.{Half, Seventy, EightyFive, Quorum}
+use Rattle.power_index.specs.declared.indices.Fraction.{Fraction}
+use Rattle.power_index.specs.Indices.{indices_of}
+use Rattle.recording_io.specs.Tapes.{Giving}
+use Rattle.two_copy_steps.specs.declared.events.Note.TheVariants as note
+use Rattle.board_text.specs.Inputs.{Reads}
+use Rattle.board_text.specs.Lines.{audit_line, fault_line, fault_name, fraction, fraction_if_any, note_lines, reader_line, reading_line, reading_lines, reply_line, reply_lines}
+use Rattle.board_text.specs.Output.{Ends, EndsRun, Plays, ReadTo, Starts, StartsRun, Writes, WritesSome, at_record, fault_of, stop_of}
+use Rattle.board_text.specs.Text.{fault_at, ledger_at_start, line_text, output, printed_run, run_limits, stopped_run, text_of, with_lines}
+use Rattle.board_text.specs.Words.{word_of_majority}
+use Rattle.board_text.specs.declared.beginning.RunStart.{RunStart}
+use Rattle.board_text.specs.declared.faults.Fault.{Fault}
+use Rattle.board_text.specs.declared.requests.Request.TheVariants as ask
+use Rattle.board_text.specs.declared.stops.Stop.{Stop}
+use Rattle.board_text.specs.declared.stops.Stop.TheVariants as stop
+
+-- chair 1 with 60 of 100 votes, after two commands
+abbrev one_chair : List ℕ
+one_chair = 61 ∷ replicate 31 0 ++ 100 ∷ 2 ∷ []
+
+read_by_half : reading_lines 3 Half one_chair ≡ codes "reading,3,2,half,1,31,60,100,1,2" ∷ codes "chair,1,60,1,1/1,1/1,1/1,1/1" ∷ []
+unfolding digits
+read_by_half = refl
+
+-- nothing wins, so that two of the fractions are absent
+read_by_seventy : reading_lines 3 Seventy one_chair ≡ codes "reading,3,2,70,1,70,60,100,0,2" ∷ codes "chair,1,60,0,0/1,-,-,0/2" ∷ []
+unfolding digits
+read_by_seventy = refl
+
+words_of_majorities : (word_of_majority Half ≡ codes "half") × (word_of_majority Seventy ≡ codes "70") × (word_of_majority EightyFive ≡ codes "85") × (word_of_majority Quorum ≡ codes "quorum")
+words_of_majorities = (refl, refl, refl, refl)
+
+fractions : (fraction (record { num = 3; den = 40 }) ≡ codes "3/40") × (fraction_if_any None ≡ codes "-")
+unfolding digits
+fractions = (refl, refl)
+
+-- the lines of each output of the machine
+printed_notes : (note_lines (note.Accepted 6) ≡ codes "accepted,6" ∷ []) × (note_lines (note.Refused ChairOpen) ≡ codes "refused,1,ChairOpen" ∷ []) × (note_lines note.Began ≡ codes "began" ∷ []) × (note_lines (note.Published 6) ≡ codes "published,6" ∷ []) × (note_lines (note.Busy 2) ≡ codes "busy,2" ∷ []) × (note_lines note.Skipped ≡ codes "skipped" ∷ [])
+unfolding digits
+printed_notes = (refl, refl, refl, refl, refl, refl)
+
+printed_sheet : note_lines (note.Read 4 one_chair) ≡ codes "sheet,4,2,60,100" ∷ []
+unfolding digits
+printed_sheet = refl
+
+move_prints_nothing : note_lines note.Moved ≡ []
+move_prints_nothing = refl
+
+-- and of each reply of the register
+printed_replies : (reply_line (answered (answer.Accepted 6)) ≡ codes "accepted,6") × (reply_line (answered (answer.Refused ChairOpen)) ≡ codes "refused,1,ChairOpen") × (reply_line (answered (answer.Published 6)) ≡ codes "published,6")
+unfolding digits
+printed_replies = (refl, refl, refl)
+
+replies_to_requests : (reply_lines (ask.Order order.Publish) (answered (answer.Published 6)) ≡ codes "published,6" ∷ []) × (reply_lines (ask.Read 3 Half) (reading one_chair) ≡ reading_lines 3 Half one_chair)
+unfolding digits
+replies_to_requests = (refl, refl)
+
+-- the line of a fault has its place and its name
+faults_of_no_record : (fault_line (fault_at BadHeader 0) ≡ codes "fault,0,BadHeader") × (fault_line (fault_at BadRecord 17) ≡ codes "fault,17,BadRecord") × (fault_name 35 ≡ codes "BadIndex") × (fault_name 36 ≡ [])
+unfolding digits
+faults_of_no_record = (refl, refl, refl, refl)
+
+numbers_of_faults : ((fault_at BadIndex 3).code ≡ 35) × ((fault_at BadIndex 3).place ≡ 3)
+numbers_of_faults = (refl, refl)
+
+served_lines : (reader_line 2 15 ≡ codes "reader,2,15") × (audit_line ≡ codes "audit,ok")
+unfolding digits
+served_lines = (refl, refl)
+
+-- each line ends in a line feed, and a fault's line is the last
+text_of_two : text_of (codes "began" ∷ codes "skipped" ∷ []) ≡ codes "began\nskipped\n"
+text_of_two = refl
+
+outputs : (output (printed_run (codes "began" ∷ [])) ≡ codes "began\n") × (output (with_lines (codes "began" ∷ []) (stopped_run (fault_at BadRecord 5))) ≡ codes "began\nfault,5,BadRecord\n")
+unfolding digits
+outputs = (refl, refl)
+
+-- what becomes of each stop
+faults_of_stops : (fault_of stop.OutOfMemory ≡ Some (fault_at OutOfMemory 0)) × (fault_of stop.ReadFault ≡ Some (fault_at ReadFault 0)) × (fault_of stop.WriteFault ≡ None) × (fault_of (stop.Input (fault_at BadRecord 5)) ≡ Some (fault_at BadRecord 5))
+faults_of_stops = (refl, refl, refl, refl)
+
+stops_of_refusals : (stop_of OutOfMemory ≡ stop.OutOfMemory) × (stop_of BadLimit ≡ stop.Input (fault_at BadLimit 0)) × (at_record {A = Unit {0}} 5 (Err BadRecord) ≡ Err (stop.Input (fault_at BadRecord 5)))
+stops_of_refusals = (refl, refl, refl)
+
+-- a write of a text appends all of it, or fails and appends a prefix
+abbrev seven : List ℕ
+seven = 7 ∷ []
+
+-- the first byte of a text, or 0
+abbrev first_of : List ℕ → ℕ
+first_of [] = 0
+first_of (byte ∷ bytes) = byte
+
+text_left_out : Writes (Some []) (Some []) (Ok tt) seven → ⊥
+text_left_out h = cc h
+
+failed_otherwise : Writes (Some []) (Some []) (Err stop.ReadFault) seven → ⊥
+failed_otherwise h = let e = h.0 in cc e
+
+another_byte_written : Writes (Some []) (Some (8 ∷ [])) (Err stop.WriteFault) seven → ⊥
+another_byte_written (failed, ([], whole, new)) = let e = new in cc e
+another_byte_written (failed, (byte ∷ front, whole, new)) = omega (arith, ap first_of whole.1, ap first_of new)
+
+more_than_the_text : WritesSome (Some []) (Some seven) (Ok 2) seven → ⊥
+more_than_the_text h = omega (arith, h.0)
+
+one_byte_left_out : WritesSome (Some []) (Some []) (Ok 1) seven → ⊥
+one_byte_left_out h = let e = h.1 in cc e
+
+some_failed_otherwise : WritesSome (Some []) (Some []) (Err stop.ReadFault) seven → ⊥
+some_failed_otherwise h = let e = h.0 in cc e
+
+some_of_another : WritesSome (Some []) (Some (8 ∷ [])) (Err stop.WriteFault) seven → ⊥
+some_of_another (failed, ([], whole, new)) = let e = new in cc e
+some_of_another (failed, (byte ∷ front, whole, new)) = omega (arith, ap first_of whole.1, ap first_of new)
+
+-- a run that stops has written the lines before the fault, or some of them where memory ran out
+fault_in_a_good_run : Plays {A = Unit {0}} (Some []) (Some []) (Err (stop.Input (fault_at BadRecord 5))) (printed_run []) → ⊥
+fault_in_a_good_run h = let e = h.0 in cc e
+
+line_before_a_fault_left_out : Plays {A = Unit {0}} (Some []) (Some []) (Err (stop.Input (fault_at BadRecord 5))) (with_lines (codes "began" ∷ []) (stopped_run (fault_at BadRecord 5))) → ⊥
+line_before_a_fault_left_out h = let e = h.1 in cc e
+
+line_made_up : Plays {A = Unit {0}} (Some []) (Some seven) (Err stop.OutOfMemory) (printed_run []) → ⊥
+line_made_up ([], whole, new) = let e = new in cc e
+line_made_up (line ∷ front, whole, new) = let e = whole.1 in cc e
+
+byte_made_up : Plays {A = Unit {0}} (Some []) (Some seven) (Err stop.WriteFault) (printed_run []) → ⊥
+byte_made_up ([], whole, new) = let e = new in cc e
+byte_made_up (byte ∷ front, whole, new) = let e = whole.1 in cc e
+
+-- what is read is all of it, except where the reading stopped
+part_called_whole : ReadTo {T = Unit {0}} (Ok tt) [] seven → ⊥
+part_called_whole e = cc e
+
+another_part : ReadTo {T = Unit {0}} (Err stop.OutOfMemory) (8 ∷ []) seven → ⊥
+another_part h = omega (arith, ap first_of h.1)
+
+-- a register starts as it was asked, or is refused as the definition says
+starts_otherwise : Starts (run_limits 1 9) [] (Ok (ledger_at_start (run_limits 1 8) [])) → ⊥
+starts_otherwise h = let e = ap (λ (l : Ledger). l.limit) h.1 in omega (arith, e)
+
+started_without_room : Starts (run_limits 1 0) [] (Ok (ledger_at_start (run_limits 1 0) [])) → ⊥
+started_without_room h = let e = h.0 in cc e
+
+refused_without_reason : Starts (run_limits 1 9) [] (Err (stop.Input (fault_at BadLimit 0))) → ⊥
+refused_without_reason (why, is, same) = let e = is in cc e
+
+refused_at_a_record : Starts (run_limits 1 0) [] (Err (stop.Input (fault_at BadLimit 5))) → ⊥
+refused_at_a_record (why, is, same) = let e = ap (λ (f : Fault). f.place) same in omega (arith, e)
+
+-- a run starts with members that fit, with these and no other, and with no command
+begun_with_one_code_twice : (begun : RunStart) → begun.members.items ≡ (65 ∷ 65 ∷ 65 ∷ [], 1) ∷ (65 ∷ 65 ∷ 65 ∷ [], 1) ∷ [] → StartsRun begun → ⊥
+begun_with_one_code_twice begun are h =
+    let refused : Err DuplicateMember ≡ Ok tt = subst (λ (members : Opening). start_verdict members 1000000 ≡ Ok tt) are h.starts in
+    cc refused
+
+begun_with_others : (begun : RunStart) → begun.members.items ≡ [] → begun.register.opening ≡ (65 ∷ 65 ∷ 65 ∷ [], 1) ∷ [] → StartsRun begun → ⊥
+begun_with_others begun none other h = let e = h.members in cc (none, other, e)
+
+begun_with_a_command : (begun : RunStart) → begun.register.journal ≡ Open 1 ∷ [] → StartsRun begun → ⊥
+begun_with_a_command begun one h = let e = h.none in cc (one, e)
+
+-- the line of a fault is written, and the fault returned, or a failed write
+fault_without_its_line : Ends (Some []) (Some []) (fault_at BadRecord 5) (fault_at BadRecord 5) → ⊥
+unfolding digits
+fault_without_its_line (inl h) = let e = h.1 in cc e
+fault_without_its_line (inr h) = let e = ap (λ (f : Fault). f.code) h.0 in omega (arith, e)
+
+another_fault_returned : Ends (Some []) (Some (codes "fault,5,BadRecord\n")) (fault_at BadRecord 5) (fault_at BadRecord 6) → ⊥
+another_fault_returned (inl h) = let e = ap (λ (f : Fault). f.place) h.0 in omega (arith, e)
+another_fault_returned (inr h) = let e = ap (λ (f : Fault). f.place) h.0 in omega (arith, e)
+
+another_line_written : Ends (Some []) (Some seven) (fault_at BadRecord 5) (fault_at WriteFault 0) → ⊥
+unfolding digits
+another_line_written (inl h) = let e = ap (λ (f : Fault). f.place) h.0 in omega (arith, e)
+another_line_written (inr (same, ([], whole, new))) = let e = new in cc e
+another_line_written (inr (same, (byte ∷ front, whole, new))) = omega (arith, ap first_of whole.1, ap first_of new)
+
+-- a run that ends well writes nothing more and keeps its value, and no run ends well after a stop
+written_behind_the_run : EndsRun {A = Unit {0}} (Some []) (Some seven) (Ok tt) (Ok tt) → ⊥
+written_behind_the_run h = let e = h.1 in cc e
+
+another_value : EndsRun {A = ℕ} (Some []) (Some []) (Ok 1) (Ok 2) → ⊥
+another_value h = let e = h.0 in cc e
+
+stop_forgotten : EndsRun {A = Unit {0}} (Some []) (Some []) (Err stop.WriteFault) (Ok tt) → ⊥
+stop_forgotten h = h
+
+written_after_a_failure : EndsRun {A = Unit {0}} (Some []) (Some seven) (Err stop.WriteFault) (Err (fault_at WriteFault 0)) → ⊥
+written_after_a_failure h = let e = h.1 in cc e
+
+failure_called_otherwise : EndsRun {A = Unit {0}} (Some []) (Some []) (Err stop.WriteFault) (Err (fault_at ReadFault 0)) → ⊥
+failure_called_otherwise h = let e = ap (λ (f : Fault). f.code) h.0 in omega (arith, e)
+
+-- one read: bytes were given, or it was interrupted and counted, or the input has ended
+abbrev reader : List ℕ → ℕ → ℕ → Giving
+reader gave vain interruptions = record { left = None; gave = gave; ended = false; asks = vain; vain = vain; interruptions = interruptions }
+
+uncounted_retry : Reads (reader [] 0 0) (reader [] 1 1) 0 0 seven None → ⊥
+uncounted_retry h = omega (arith, h.0)
+
+no_interruption : Reads (reader [] 0 0) (reader [] 0 0) 0 1 seven None → ⊥
+no_interruption h = let e = h.1 in omega (arith, e)
+
+interrupted_with_a_byte : Reads (reader [] 0 0) (reader seven 1 1) 0 1 seven None → ⊥
+interrupted_with_a_byte h = let e = h.2.gave in cc e
+
+retried_in_vain : Reads (reader [] 0 0) (reader [] 2 1) 0 1 seven None → ⊥
+retried_in_vain h = let e = h.3 in omega (arith, e)
+
+counted_a_byte : Reads (reader [] 0 0) (reader seven 0 0) 0 1 seven (Some 1) → ⊥
+counted_a_byte h = let e = h.0 in omega (arith, e)
+
+more_than_the_piece : Reads (reader [] 0 0) (reader seven 0 0) 0 0 seven (Some 2) → ⊥
+more_than_the_piece h = let e = h.1 in omega (arith, e)
+
+another_byte_given : Reads (reader [] 0 0) (reader (8 ∷ []) 0 0) 0 0 seven (Some 1) → ⊥
+another_byte_given h = let e = h.2.gave in cc e
+
+end_made_up : Reads (reader [] 0 0) (reader [] 1 0) 0 0 seven (Some 0) → ⊥
+end_made_up h = let e = (h.3 refl (omega arith)).0 in cc e
+
+byte_in_vain : Reads (reader [] 0 0) (reader seven 1 0) 0 0 seven (Some 1) → ⊥
+byte_in_vain h = let e = h.4 (omega arith) in omega (arith, e)
+
+interruption_of_a_byte : Reads (reader [] 0 0) (reader seven 1 1) 0 0 seven (Some 1) → ⊥
+interruption_of_a_byte h = let e = h.5 in omega (arith, e)
