@@ -183,7 +183,7 @@ tail -qn 1 $O/said/* | awk -v status=$$status '/^[0-9]+ passed, [0-9]+ failed$$/
   END {print passed + 0 " passed, " (status && !failed ? 1 : failed + 0) " failed"}'
 exit $$status
 endef
-.PHONY: docs lint tools ci steps steps-tests edits cases independent memory register script stress figures targets compilers $(LANGUAGES) page-tests release-tests kit-gate
+.PHONY: docs lint tools ci steps steps-tests edits cases independent memory register script stress figures targets compilers $(LANGUAGES) tables page-units page-tests release-tests kit-gate
 docs:  ## names, links and made parts of the documents
 	$(call said,docs/check)
 lint:  ## what no clause can say of the sources
@@ -241,13 +241,17 @@ $(LANGUAGES):
 # The packages in out/packages, which are made when they are tested.
 $(PACKAGED): $O/%.packaged: $$(shell git ls-files bindings/$$* portable wasm) $(answers) wasm/out/board.wasm
 	$(MAKE) $*
+tables:  ## the page's reader of tables over a corpus of cases, in Node
+	$(call said,tests/tables/run)
+page-units: page  ## the page's modules, in Node
+	$(call said,page/units/run)
 page-tests: board page  ## board.html in Chromium and Firefox
 	$(call said,page/tests/run)
 release-tests: release $(answers)  ## a release, unpacked and run without the toolchain
 	$(call said,tests/release/run)
 
 gate:  ## all that must pass before a change lands
-	+@$(call judged,"docs lint tools" ci "steps steps-tests edits cases independent figures memory register script" stress targets compilers "$(LANGUAGES)" page-tests release-tests)
+	+@$(call judged,"docs lint tools" ci "steps steps-tests edits cases independent figures memory register script" stress targets compilers "$(LANGUAGES)" "tables page-units" page-tests release-tests)
 clean:  ## removes all results
 	@rm -rf $O {wasm,aarch64,page,portable}/out
 help:  ## this list

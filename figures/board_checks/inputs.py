@@ -58,6 +58,10 @@ BAD = {
         HEAD + "AAA,1.5,1\nBBB,2,1\nCCCC,3,1\nDDD,4,33\n",
         ["line 2, votes: '1.5' is no whole number", "line 4: 'CCCC' is no code", "line 5: '33' is no chair"],
     ),
+    "a suspended member": (
+        "code,votes,chair,suspended\nAAA,5,1,false\nBBB,6,2,true\n",
+        ["line 3: this member is suspended"],
+    ),
     "two problems in a row": (HEAD + "A1A,x,1\n", ["line 2: 'A1A' is no code", "line 2, votes: 'x' is no whole"]),
     "no votes": (HEAD + "AAA,,1\n", ["line 2, votes: '' is no whole number"]),
     "a sign": (HEAD + "AAA,-5,1\n", ["line 2, votes: '-5' is no whole number"]),

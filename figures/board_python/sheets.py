@@ -114,6 +114,17 @@ def delimiter_of(text: str, header_row: int | None = None) -> str:
     return max(",;\t", key=width)
 
 
+def check_suspensions(sheet: Sheet) -> None:
+    """Checks that a column `suspended` suspends nobody: these scripts have no place for that in a table."""
+    heads = [head.casefold() for head in sheet.header]
+    if "suspended" not in heads:
+        return
+    at = heads.index("suspended")
+    for line, cells in sheet.rows:
+        if at < len(cells) and cells[at].casefold() not in ("", "false", "no", "0"):
+            raise BadInput("this member is suspended: say 'false' here, and suspend it by a scenario's command", line)
+
+
 def sheet_of(text: str, header_row: int | None = None) -> Sheet:
     """The rows of a text."""
     delimiter = delimiter_of(text, header_row)
@@ -122,7 +133,9 @@ def sheet_of(text: str, header_row: int | None = None) -> Sheet:
         named = f"--header-row {header_row}: there is nothing in that row"
         raise BadInput("there is nothing in the table" if header_row is None else named)
     below = list(records_of(text, delimiter))[row:]
-    return Sheet(delimiter, row - 1, line, header, [(at, cells) for at, cells in below if any(cells)])
+    sheet = Sheet(delimiter, row - 1, line, header, [(at, cells) for at, cells in below if any(cells)])
+    check_suspensions(sheet)
+    return sheet
 
 
 def places_of(sheet: Sheet, columns: Columns) -> dict[str, int]:

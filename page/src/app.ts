@@ -1,40 +1,63 @@
-/** The state of the page: a study with undo, its view, and the last count. */
-import { counted, Fault, type Counted, type Replay } from "./count";
+/** The state of the page: a study with undo, its view, what is open in the page, and the last counts. */
+import type { Counted, Counter, Curve } from "./count";
 import { History } from "./history";
-import type { Replays } from "./replays";
-import { ScenarioCounts } from "./scenarios";
-import type { Study, View } from "./study";
+import { Cancelled } from "./pausing";
+import { Results, type Sweep } from "./results";
+import type { Study, SweepAsked, View } from "./study";
 
 export type State = "counting" | "ready" | "fault";
 
-/** A study and the values of its lines. */
+/** A study and its count. */
 export interface Shown {
   readonly study: Study;
   readonly counted: Counted;
 }
 
+/** Work that a person waits for. */
+export interface Waiting {
+  readonly words: string;
+  /** How much of it is done, from 0 to 1. */
+  readonly done: number;
+  cancel(): void;
+}
+
+/** What is open and typed in the page, beside the study and its view. */
+export interface Open {
+  /** The cards of chairs that are open, and the text by which members are filtered. */
+  readonly cards: Set<string>;
+  filter: string;
+  /** The fields of a sweep that isn't asked for yet. */
+  sweep: SweepAsked | null;
+  /** Whether the table of a chart is open, and whether the page is being printed. */
+  isTableOpen: boolean;
+  isPrinting: boolean;
+}
+
 export class App {
   readonly history: History<Study>;
-  readonly replays: Replays;
+  readonly counter: Counter;
+  readonly results = new Results();
+  readonly open: Open = { cards: new Set(), filter: "", sweep: null, isTableOpen: false, isPrinting: false };
   /** Whether the module's bytes have the hash that the build recorded. */
   readonly isOwnModule: boolean;
-  readonly scenarios = new ScenarioCounts();
   view: View;
+  /** The study as it was opened or saved last. */
+  savedStudy: Study;
   shown: Shown | null = null;
   state: State = "counting";
-  fault: Fault | Error | null = null;
-  /** Chairs whose cards are open, and the text by which members are filtered. */
-  readonly openCards = new Set<string>();
-  filter = "";
+  fault: Error | null = null;
+  waiting: Waiting | null = null;
   #run = 0;
   #counting: Promise<void> = Promise.resolve();
+  #rest: Promise<void> = Promise.resolve();
   readonly #paint: (app: App) => void;
 
-  constructor(study: Study, view: View, replays: Replays, isOwnModule: boolean, paint: (app: App) => void) {
+  constructor(study: Study, view: View, counter: Counter, isOwnModule: boolean, paint: (app: App) => void) {
     this.history = new History(study);
-    this.replays = replays;
+    this.counter = counter;
     this.isOwnModule = isOwnModule;
     this.view = view;
+    this.savedStudy = study;
     this.#paint = paint;
   }
 
@@ -42,20 +65,31 @@ export class App {
     return this.history.state;
   }
 
-  readonly replay: Replay = async (script) => (await this.replays.replay(script)).text;
-
   /** Sets another study. Studies of one gesture are one step of undo. */
   take(study: Study, gesture = ""): void {
     this.history.take(study, gesture);
     void this.count();
   }
 
-  /** Changes the view of the study. Readings of other majorities are made first. */
+  /** Opens a study: it isn't changed yet. */
+  openStudy(study: Study, view: View = this.view): void {
+    this.open.cards.clear();
+    this.open.sweep = null;
+    this.view = view;
+    this.savedStudy = study;
+    this.take(study);
+  }
+
+  /** Whether the study differs from the one that was opened or saved last. */
+  get isUnsaved(): boolean {
+    return this.study !== this.savedStudy;
+  }
+
+  /** Changes the view of the study. Readings of other majorities, and a curve that is shown, are counted first. */
   look(part: Partial<View>): void {
-    const needsCount = part.majorities !== undefined;
     this.view = { ...this.view, ...part };
-    if (needsCount) void this.count();
-    else this.repaint();
+    if (part.majorities !== undefined || part.tab === "curve") void this.count();
+    if (part.majorities === undefined) this.repaint();
   }
 
   undo(): void {
@@ -72,26 +106,51 @@ export class App {
     this.#paint(this);
   }
 
-  /** Ends when the last count has ended, with its scenarios. */
+  /** The sweep that the study asks for, if it was counted on the board shown. */
+  get sweep(): Sweep | undefined {
+    const { shown } = this;
+    return shown?.study.sweep
+      ? this.results.sweep(shown.counted, shown.study.changes, shown.study.sweep)
+      : undefined;
+  }
+
+  /** The curve of that sweep, or null. */
+  get curve(): Curve | null {
+    const { sweep } = this;
+    return sweep && !("problem" in sweep) ? sweep : null;
+  }
+
+  /** Counts all that the study has, the sweep too even if it isn't shown, and returns the study with its count. */
+  async whole(): Promise<Shown> {
+    await this.#rest;
+    const { shown } = this;
+    if (!shown) throw this.fault ?? new Error("there is no count yet");
+    await this.#countSweep(this.#run, shown);
+    return shown;
+  }
+
+  /** Ends when the study is counted. */
   get counting(): Promise<void> {
     return this.#counting;
   }
 
-  /** Counts the study and then its scenarios. A run is dropped if another one overtakes it. */
+  /** Counts the study, then its scenarios and its sweep. A run is dropped if another one overtakes it. */
   count(): Promise<void> {
-    this.#counting = this.#count();
-    return this.#counting;
+    this.waiting?.cancel();
+    const run = (this.#run += 1);
+    this.#counting = this.#count(run);
+    this.#rest = this.#counting.then(() => this.#countRest(run));
+    return this.#rest;
   }
 
-  async #count(): Promise<void> {
-    const run = (this.#run += 1);
+  async #count(run: number): Promise<void> {
     const [study, { majorities }] = [this.study, this.view];
     performance.mark("edit");
     this.#set("counting");
     try {
-      const result = await counted(this.replay, study.base, study.changes, majorities);
+      const counted = await this.counter.count(study.base, study.changes, majorities);
       if (run !== this.#run) return;
-      this.shown = { study, counted: result };
+      this.shown = { study, counted };
       this.fault = null;
       this.#set("ready");
     } catch (why) {
@@ -104,14 +163,63 @@ export class App {
       const { duration } = performance.measure("edit to numbers", "edit");
       document.documentElement.dataset["milliseconds"] = duration.toFixed(1);
     });
-    await this.#countScenarios(run, study);
   }
 
-  /** Counts the scenarios, after the study itself. */
-  async #countScenarios(run: number, { base, scenarios }: Study): Promise<void> {
-    const isNew = await this.scenarios.fill(this.replay, base, scenarios, this.view.majorities);
-    if (isNew && run === this.#run) this.repaint();
+  async #countRest(run: number): Promise<void> {
+    const { shown, fault } = this;
+    if (!shown || fault || run !== this.#run) return;
+    const { base, scenarios } = shown.study;
+    const { majorities } = shown.counted;
+    const missing = scenarios.filter((it) => !this.results.scenario(base, it, majorities));
+    for (const it of missing) {
+      this.results.keepScenario(it, await this.counter.count(base, it.changes, majorities));
+    }
+    if (missing.length && run === this.#run) this.repaint();
+    if (this.view.tab === "curve") await this.#countSweep(run, shown);
   }
+
+  async #countSweep(run: number, { study: { changes, sweep: asked }, counted }: Shown): Promise<void> {
+    if (!asked || this.results.sweep(counted, changes, asked) || run !== this.#run) return;
+    const keep = (value: Sweep) => this.results.keepSweep(counted, changes, asked, value);
+    try {
+      const words = "The sweep is being counted.";
+      keep(await this.wait(words, (report) => this.counter.sweep(counted, changes, asked, report)));
+    } catch (why) {
+      if (run !== this.#run && why instanceof Cancelled) return;
+      keep({ problem: why instanceof Error ? why.message : String(why) });
+    }
+    if (run === this.#run) this.repaint();
+  }
+
+  /** Carries out a task that a person waits for, with its progress on the page, until it ends or is cancelled. */
+  async wait<Answer>(
+    words: string,
+    begin: (report: (done: number) => void) => Promise<{ answer: Promise<Answer>; cancel(): void }>,
+  ): Promise<Answer> {
+    let [waiting, isCancelled]: [Waiting | null, boolean] = [null, false];
+    const show = (done: number) => {
+      if (waiting && this.waiting !== waiting) return;
+      waiting = this.waiting = { words, done, cancel };
+      this.repaintWaiting();
+    };
+    const task = await begin(show);
+    const cancel = () => {
+      isCancelled = true;
+      task.cancel();
+    };
+    show(0);
+    try {
+      const answer = await task.answer;
+      if (isCancelled) throw new Cancelled();
+      return answer;
+    } finally {
+      if (this.waiting === waiting) this.waiting = null;
+      this.repaintWaiting();
+    }
+  }
+
+  /** Paints the progress of what is waited for; the page sets it at its beginning. */
+  repaintWaiting: () => void = () => {};
 
   #set(state: State): void {
     this.state = state;

@@ -1,7 +1,9 @@
 /** The shared parts of all charts: colours for light and dark, the shapes of majorities, the frame with its legend. */
 import { select, type Selection } from "d3-selection";
 import { symbol, symbolCircle, symbolDiamond, symbolSquare, symbolTriangle, type SymbolType } from "d3-shape";
-import { MAJORITIES, MAJORITY, type Majority } from "./words";
+import { drawn, type Ratio } from "./fractions";
+import { isolated } from "./names";
+import { MAJORITIES, MAJORITY, type Majority, type Measure } from "./words";
 
 export interface Palette {
   readonly ink: string;
@@ -48,6 +50,11 @@ const SHAPES: Readonly<Record<Majority, SymbolType>> = {
   quorum: symbolDiamond,
 };
 
+/** A value on its axis: shares in per cent. */
+export function onAxis(ratio: Ratio, measure: Measure): number {
+  return (measure === "share" ? 100 : 1) * drawn(ratio);
+}
+
 /** Room for a letter, at the size of the charts' text. */
 export const TEXT = 12;
 const LETTER = 6.6;
@@ -58,7 +65,8 @@ const PATHS = new Map(MAJORITIES.map((it) => [it, symbol().type(SHAPES[it]).size
 /** A text that fits into a width. */
 export function fitted(text: string, width: number): string {
   const most = Math.max(3, Math.floor(width / LETTER));
-  return text.length <= most ? text : `${text.slice(0, most - 1)}…`;
+  const letters = [...text];
+  return letters.length <= most ? text : `${letters.slice(0, most - 1).join("")}…`;
 }
 
 /** A drawing: its root, and the height that is used so far. */
@@ -150,7 +158,7 @@ interface Named {
 }
 
 function nameOf({ chair, name }: Named): string {
-  return `${chair} ${name}`;
+  return `${chair} ${isolated(name)}`;
 }
 
 /** The group of a row: with its chair's number in `data-chair`, and a band under every second one. */
@@ -171,7 +179,8 @@ export function rowGroup(
 /** Writes a row's name. */
 export function labelled(group: Selection, row: Named, look: Look, head: number, left: number, height: number): void {
   const label = group.append("text").attr("fill", look.palette.ink);
-  label.text(fitted(nameOf(row), head ? look.width - 20 : left - 10));
+  const room = (head ? look.width - 20 : left - 10) - LETTER * `${row.chair} `.length;
+  label.text(`${row.chair} ${isolated(fitted(row.name, room))}`);
   if (head) label.attr("x", 8).attr("y", 13);
   else label.attr("x", left - 10).attr("y", height / 2 + 4).attr("text-anchor", "end");
 }

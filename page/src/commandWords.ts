@@ -1,8 +1,9 @@
 /** Changes in words: the effect of each one, with old and new values. */
-import type { Outcome } from "./count";
+import type { Outcome } from "./orders";
 import { grouped } from "./fractions";
+import { isolated } from "./names";
 import { recordOf } from "./script";
-import type { Standing } from "./standing";
+import type { Seat, Standing } from "./standing";
 import type { Change, Command } from "./study";
 import { reasonOf } from "./words";
 
@@ -13,21 +14,21 @@ export function chairWords(chair: number | null | undefined): string {
 
 /** A member's code and name. */
 export function memberWords(code: string, name: string | undefined): string {
-  return name ? `${code} ${name}` : code;
+  return name ? `${code} ${isolated(name)}` : code;
 }
 
 /** The requested percentage, in words. */
 function askedWords({ what }: Change): string {
-  if (what.word !== "percent") return "";
+  if (what.kind !== "percent") return "";
   return what.of === "own" ? ` (${what.percent} %)` : ` (${what.percent} % of the total)`;
 }
 
 function commandWords(
   command: Command,
   who: string,
-  before: { votes: number; chair: number | null } | undefined,
+  before: Seat | null,
 ): string {
-  switch (command.word) {
+  switch (command.kind) {
     case "open":
       return `Chair ${command.chair} is opened`;
     case "close":
@@ -35,13 +36,13 @@ function commandWords(
     case "move":
       return `${who}${before ? `: ${chairWords(before.chair)}` : ""} → ${chairWords(command.chair)}`;
     case "votes":
-      return `${who}: ${before ? `${grouped(before.votes)} → ` : ""}${grouped(command.votes)}`;
+      return `${who}: ${before ? `${grouped(before.votes)} → ` : ""}${grouped(command.votes ?? 0)}`;
     case "suspend":
       return `${who} is suspended`;
     case "restore":
       return `${who} is restored`;
     case "admit":
-      return `${who} is admitted with ${grouped(command.votes)} votes`;
+      return `${who} is admitted with ${grouped(command.votes ?? 0)} votes`;
     case "withdraw":
       return `${who} withdraws`;
   }
@@ -50,12 +51,12 @@ function commandWords(
 /** A change in words, with its old and new values if it was accepted. */
 export function changeWords(change: Change, outcome: Outcome | undefined, names: Standing): string {
   const { what } = change;
-  const code = "code" in what ? what.code : "";
-  const name = change.name ?? names.place(code)?.name;
+  const code = what.code ?? "";
+  const name = change.name ?? names.memberName(code);
   const who = memberWords(code, name);
   const command = outcome && "command" in outcome ? outcome.command : what;
-  if (command.word === "percent") return `${who}: votes${askedWords(change)}`;
-  const before = outcome?.kind === "accepted" ? outcome.before : undefined;
+  if (command.kind === "percent") return `${who}: votes${askedWords(change)}`;
+  const before = outcome?.kind === "accepted" ? outcome.before : null;
   return commandWords(command, who, before) + askedWords(change);
 }
 

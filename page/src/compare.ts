@@ -1,15 +1,15 @@
 /** Base against changed: rows of chairs, their order, and the sentence on gains. All of it is made here. */
-import type { Counted, Readings } from "./count";
+import type { Counted } from "./count";
 import { compared, difference, fractionText, grouped, percent, rounded, signed, type Ratio } from "./fractions";
-import { chairIn, measureOf, voteShare, type ChairLine } from "./lines";
-import { chairName } from "./standing";
-import type { Base, View } from "./study";
-import { MAJORITY, type Majority, type Measure } from "./words";
+import { isolated } from "./names";
+import { chairIn, measureOf, voteShare, type ChairReading, type Readings } from "./reading";
+import type { View } from "./study";
+import { MAJORITY, MEASURE, type Majority, type Measure } from "./words";
 
-/** A chair at a majority. A value is null if the program prints `-`, and undefined if the chair isn't open. */
+/** A chair at a majority; it is undefined where the chair isn't open. */
 export interface AtMajority {
-  readonly before: ChairLine | undefined;
-  readonly after: ChairLine | undefined;
+  readonly before: ChairReading | undefined;
+  readonly after: ChairReading | undefined;
   readonly gain: Ratio | null;
 }
 
@@ -17,46 +17,50 @@ export interface AtMajority {
 export interface ChairRow {
   readonly chair: number;
   readonly name: string;
+  /** Its place in the changed board: also in the base, opened by a change, or closed there. */
+  readonly kind: "kept" | "opened" | "closed";
   readonly votesBefore: Ratio | null;
   readonly votesAfter: Ratio | null;
   readonly at: ReadonlyMap<Majority, AtMajority>;
 }
 
-const ratioOf = (chair: ChairLine | undefined, measure: Measure): Ratio | null => {
+const ratioOf = (chair: ChairReading | undefined, measure: Measure): Ratio | null => {
   return chair ? measureOf(chair, measure) : null;
 };
 
 function shareOfVotes(readings: Readings, chair: number): Ratio | null {
   const [reading] = readings.values();
-  const line = chairIn(reading, chair);
-  return reading && line ? voteShare(reading, line) : null;
+  const found = chairIn(reading, chair);
+  return reading && found ? voteShare(reading, found) : null;
 }
 
-function atMajority(counted: Counted, majority: Majority, chair: number, measure: Measure): AtMajority {
-  const before = chairIn(counted.before.get(majority), chair);
-  const after = chairIn(counted.after.get(majority), chair);
-  return { before, after, gain: difference(ratioOf(after, measure), ratioOf(before, measure)) };
-}
-
-/** The chairs that are open in the base or changed, by number. */
-function chairsOf({ before, after }: Counted): number[] {
-  const all = [...before.values(), ...after.values()].flatMap((it) => it.chairs.map((line) => line.chair));
-  return [...new Set(all)].sort((left, right) => left - right);
+/** The row of a chair. One that was closed and opened again is two chairs, with a row each. */
+function rowOf(counted: Counted, { majorities, measure }: View, chair: number, kind: ChairRow["kind"]): ChairRow {
+  const before: Readings = kind === "opened" ? new Map() : counted.before;
+  const after: Readings = kind === "closed" ? new Map() : counted.after;
+  const at = majorities.map((it): [Majority, AtMajority] => {
+    const [earlier, later] = [chairIn(before.get(it), chair), chairIn(after.get(it), chair)];
+    const gain = difference(ratioOf(later, measure), ratioOf(earlier, measure));
+    return [it, { before: earlier, after: later, gain }];
+  });
+  const standing = kind === "closed" || !counted.standing.in(chair).length ? counted.opening : counted.standing;
+  return {
+    chair,
+    name: (kind === "opened" ? counted.standing : standing).name(chair),
+    kind,
+    votesBefore: shareOfVotes(before, chair),
+    votesAfter: shareOfVotes(after, chair),
+    at: new Map(at),
+  };
 }
 
 /** The rows of all chairs in the order of a view. */
-export function chairRows(base: Base, counted: Counted, view: View): ChairRow[] {
-  const rows = chairsOf(counted).map((chair): ChairRow => {
-    const at = view.majorities.map((it) => [it, atMajority(counted, it, chair, view.measure)] as const);
-    const standing = counted.standing.in(chair).length ? counted.standing : counted.opening;
-    return {
-      chair,
-      name: chairName(base, standing, chair),
-      votesBefore: shareOfVotes(counted.before, chair),
-      votesAfter: shareOfVotes(counted.after, chair),
-      at: new Map(at),
-    };
-  });
+export function chairRows(counted: Counted, view: View): ChairRow[] {
+  const { opening, standing } = counted;
+  const stays = (chair: number) => standing.open().includes(chair) && !standing.isNew(chair);
+  const old = opening.open().map((it) => rowOf(counted, view, it, stays(it) ? "kept" : "closed"));
+  const opened = standing.open().filter((it) => standing.isNew(it)).map((it) => rowOf(counted, view, it, "opened"));
+  const rows = [...old, ...opened].sort((left, right) => left.chair - right.chair);
   return inOrder(rows, view);
 }
 
@@ -106,38 +110,43 @@ function extremes(
   return found;
 }
 
-/** Words, and the fractions of their numbers with the lines that they come from. */
+/** Words, and the fractions of their numbers. */
 export interface Said {
   readonly words: string;
   readonly source: string;
 }
 
-/** A chair's value in the form of its line. */
-function lineSource(line: ChairLine | undefined, measure: Measure): string {
-  return line ? `${fractionText(ratioOf(line, measure))} (line ${line.line})` : "-";
-}
-
 function gainSource({ chair, name, at }: ChairRow, majority: Majority, measure: Measure): string {
   const found = at.get(majority);
-  const values = [found?.after, found?.before].map((it) => lineSource(it, measure));
-  return `${chair} ${name}, made here: ${values.join(" less ")}`;
+  const values = [found?.after, found?.before].map((it) => fractionText(ratioOf(it, measure)));
+  return `${chair} ${isolated(name)}, made here: ${values.join(" less ")}`;
 }
 
-/** The chair that gains most, or loses most: its name and its gain. Null if there is none. */
+/** The chairs that a sentence names at most; it counts the others. */
+const MOST_NAMED = 3;
+
+/** Chairs by number and name. */
+function chairsWords(rows: readonly ChairRow[]): string {
+  const names = rows.slice(0, MOST_NAMED).map(({ chair, name }) => `${chair} ${isolated(name)}`);
+  const others = rows.length - names.length;
+  const last = others ? `${grouped(others)} more` : names.length > 1 ? names.pop() : undefined;
+  return names.join(", ") + (last === undefined ? "" : ` and ${last}`);
+}
+
+/** The chairs that gain most, or lose most: their names and the gain of each. Null if there are none. */
 function extreme(rows: readonly ChairRow[], view: View, majority: Majority, direction: 1 | -1) {
   const found = extremes(rows, majority, direction);
   const [first] = found?.best ?? [];
   if (!found || !first) return null;
-  const others = found.best.length - 1;
   return {
-    who: `${first.chair} ${first.name}${others ? ` and ${others} more` : ""}`,
-    isOne: others === 0,
+    who: chairsWords(found.best),
+    isOne: found.best.length === 1,
     gain: gainText(found.gain, view.measure, view.digits),
     source: gainSource(first, majority, view.measure),
   };
 }
 
-/** The chair that gains most, or loses most, in a cell of a table. */
+/** The chairs that gain most, or lose most, in a cell of a table. */
 export function extremeCell(rows: readonly ChairRow[], view: View, majority: Majority, direction: 1 | -1): Said {
   const found = extreme(rows, view, majority, direction);
   return found ? { words: `${found.who} (${found.gain})`, source: found.source } : { words: "nobody", source: "" };
@@ -145,44 +154,71 @@ export function extremeCell(rows: readonly ChairRow[], view: View, majority: Maj
 
 /** Chairs that are open only in the base or only in the changed board, which have no gain. */
 function openedWords(rows: readonly ChairRow[], view: View, majority: Majority): string {
-  const named = (what: string, some: readonly ChairRow[]) => {
-    const values = some.map((row) => {
+  const named = (what: string, kind: ChairRow["kind"]) => {
+    const values = rows.filter((it) => it.kind === kind).map((row) => {
       const at = row.at.get(majority);
       const value = valueText(ratioOf(at?.after ?? at?.before, view.measure), view.measure, view.digits);
-      return `${row.chair} ${row.name} (${value})`;
+      return `${row.chair} ${isolated(row.name)} (${value})`;
     });
     return values.length ? ` ${what}: ${values.join(", ")}.` : "";
   };
-  const opened = rows.filter((row) => row.at.get(majority)?.before === undefined);
-  const closed = rows.filter((row) => row.at.get(majority)?.after === undefined);
-  return named("New", opened) + named("Closed", closed);
+  return named("New", "opened") + named("Closed", "closed");
+}
+
+/** The measure inside a sentence. */
+export function measureWords(measure: Measure): string {
+  return MEASURE[measure].label.replace(/^(?!Banzhaf)./, (letter) => letter.toLowerCase());
 }
 
 /** The sentence on the greatest gain and the greatest loss at a majority. */
 function gainSentence(rows: readonly ChairRow[], view: View, majority: Majority): Said {
   const [best, worst] = [extreme(rows, view, majority, 1), extreme(rows, view, majority, -1)];
   const unit = view.measure === "share" ? " points" : "";
-  const [gain, lose] = [best?.isOne ? "gains" : "gain", worst?.isOne ? "loses" : "lose"];
-  const gains = best ? `chair ${best.who} ${gain} most (${best.gain}${unit})` : "no chair gains";
-  const loses = worst ? `chair ${worst.who} ${lose} most (${worst.gain})` : "no chair loses";
+  const said = (found: typeof best, verb: string, none: string) => {
+    if (!found) return none;
+    const [chairs, each] = found.isOne ? ["chair", ""] : ["chairs", " each"];
+    return `${chairs} ${found.who} ${found.isOne ? `${verb}s` : verb} most (${found.gain}${unit}${each})`;
+  };
+  const gains = said(best, "gain", "no chair gains");
+  const loses = said(worst, "lose", "no chair loses");
   const source = [best, worst].flatMap((it) => (it ? [it.source] : [])).join("; ");
-  return { words: `${MAJORITY[majority].at} ${gains}, ${loses}.${openedWords(rows, view, majority)}`, source };
+  const about = `${MAJORITY[majority].at}, by ${measureWords(view.measure)}`;
+  return { words: `${about}, ${gains}, ${loses}.${openedWords(rows, view, majority)}`, source };
 }
 
-/** The sentence on a base without changes: the chair with the greatest measure. */
+/** The greatest value of a measure, and the chairs that have it. */
+interface Greatest {
+  readonly most: Ratio;
+  readonly chairs: ChairRow[];
+}
+
+/** The chairs with the greatest measure. */
+function greatest(rows: readonly ChairRow[], view: View, majority: Majority): Greatest | null {
+  let found: Greatest | null = null;
+  for (const row of rows) {
+    const value = ratioOf(row.at.get(majority)?.after, view.measure);
+    if (!value) continue;
+    const order = found ? compared(value, found.most) : 1;
+    if (order > 0) found = { most: value, chairs: [row] };
+    else if (order === 0) found?.chairs.push(row);
+  }
+  return found;
+}
+
+/** The sentence on a base without changes: the chairs with the greatest measure. */
 function mostSentence(rows: readonly ChairRow[], view: View, majority: Majority): Said {
-  const lineOf = (row: ChairRow) => row.at.get(majority)?.after;
-  const value = (row: ChairRow) => ratioOf(lineOf(row), view.measure);
-  const [first] = rows.filter(value).sort((left, right) => {
-    const [here, there] = [value(left), value(right)];
-    return here && there ? compared(there, here) || left.chair - right.chair : 0;
-  });
-  if (!first) return { words: `${MAJORITY[majority].at} no chair has any power.`, source: "" };
-  const votes = first.votesAfter ? `, with ${percent(first.votesAfter, view.digits)} % of the votes cast` : "";
-  const most = valueText(value(first), view.measure, view.digits);
+  const found = greatest(rows, view, majority);
+  const [first, ...others] = found?.chairs ?? [];
+  if (!found || !first) return { words: `${MAJORITY[majority].at} no chair has any power.`, source: "" };
+  const votes = others.length || !first.votesAfter
+    ? ""
+    : `, with ${percent(first.votesAfter, view.digits)} % of the votes cast`;
+  const most = valueText(found.most, view.measure, view.digits);
+  const who = chairsWords(found.chairs);
+  const has = others.length === 0 ? `chair ${who} has the greatest` : `chairs ${who} have the greatest, each the same`;
   return {
-    words: `${MAJORITY[majority].at} chair ${first.chair} ${first.name} has most: ${most}${votes}.`,
-    source: `counted: ${lineSource(lineOf(first), view.measure)}; votes, made here: ${fractionText(first.votesAfter)}`,
+    words: `${MAJORITY[majority].at}, by ${measureWords(view.measure)}, ${has}: ${most}${votes}.`,
+    source: `counted: ${fractionText(found.most)}; votes, made here: ${fractionText(first.votesAfter)}`,
   };
 }
 
@@ -190,17 +226,16 @@ function mostSentence(rows: readonly ChairRow[], view: View, majority: Majority)
 export function emptySentence(counted: Counted, majority: Majority): string | null {
   const reading = counted.after.get(majority);
   if (!reading || reading.winning > 0) return null;
-  const { open, cast, total } = reading;
+  const { chairs: { length: open }, cast, total } = reading;
   const votes = `${open} ${open === 1 ? "chair casts" : "chairs cast"} ${grouped(cast)} of ${grouped(total)}`;
   return `${MAJORITY[majority].at} no coalition wins: ${votes}.`;
 }
 
 /** The sentences of all majorities that are shown. */
 export function sentences(rows: readonly ChairRow[], counted: Counted, view: View): Said[] {
-  const isChanged = [...counted.outcomes.values()].some((it) => it.kind === "accepted");
   return view.majorities.map((majority) => {
     const empty = emptySentence(counted, majority);
-    if (empty) return { words: empty, source: `counted: line ${counted.after.get(majority)?.line}` };
-    return (isChanged ? gainSentence : mostSentence)(rows, view, majority);
+    if (empty) return { words: empty, source: "counted: WINNING is 0" };
+    return (counted.isChanged ? gainSentence : mostSentence)(rows, view, majority);
   });
 }

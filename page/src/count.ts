@@ -1,185 +1,149 @@
-/** Carries a study out: percentages become votes, the script is replayed, and its lines are read. */
-import { decimalRatio, nearest, type Ratio } from "./fractions";
-import { answersOf, misfits, type Answer, type Reading } from "./lines";
-import { baseRecords, readRecords, recordOf, scriptOf, textOf } from "./script";
-import { Standing, type Place } from "./standing";
-import type { Base, Change, Command, Percentage } from "./study";
-import { MOST_VOTES, type Majority } from "./words";
+/** Studies and their counts: the page's side of the registers. */
+import type { Boards, Report, Task } from "./boards";
+import type { Board, Orders, Outcome, Point, Swept } from "./orders";
+import type { MemberRow } from "../../bindings/javascript/src/tables";
+import { readings, type Readings } from "./reading";
+import { readRecords, recordOf, scriptOf, scriptWith } from "./script";
+import { Standing } from "./standing";
+import type { Base, Change, Command, SweepAsked } from "./study";
+import type { Majority } from "./words";
 
-export type Replay = (script: string) => Promise<string>;
+export type { Outcome };
 
-/** The outcome of a change. `command` is its record in the script, and `before` the member before the change. */
-export type Outcome =
-  | { readonly kind: "off" }
-  | { readonly kind: "impossible"; readonly why: string }
-  | { readonly kind: "accepted"; readonly command: Command; readonly before: Place | undefined; readonly line: number }
-  | {
-      readonly kind: "refused";
-      readonly command: Command;
-      readonly line: number;
-      readonly number: number;
-      readonly name: string;
-    };
+/** A list of changes on a base, counted. */
+export class Counted {
+  constructor(
+    readonly base: Base,
+    readonly majorities: readonly Majority[],
+    readonly commands: readonly Command[],
+    readonly before: Readings,
+    readonly after: Readings,
+    readonly outcomes: ReadonlyMap<number, Outcome>,
+    /** The members and the chairs of the base, and after the changes. */
+    readonly opening: Standing,
+    readonly standing: Standing,
+  ) {}
 
-/** The readings of one register by majority. */
-export type Readings = ReadonlyMap<Majority, Reading>;
+  /** Whether a change was carried out. */
+  get isChanged(): boolean {
+    return [...this.outcomes.values()].some((it) => it.kind === "accepted");
+  }
 
-/** The values of the lines of a list of changes. */
-export interface Counted {
-  readonly script: string;
-  readonly lines: string;
-  readonly commands: readonly Command[];
-  readonly before: Readings;
-  readonly after: Readings;
-  readonly outcomes: ReadonlyMap<number, Outcome>;
-  /** The members in the base and after the changes. */
-  readonly opening: Standing;
+  /** How many changes weren't carried out although they are on. */
+  get refused(): number {
+    return [...this.outcomes.values()].filter((it) => it.kind === "refused" || it.kind === "impossible").length;
+  }
+
+  /** The script that gives these readings. */
+  get script(): string {
+    return scriptOf(this.base.script, this.commands, this.majorities);
+  }
+}
+
+/** A sweep that was counted, and the script that gives its readings. */
+export interface Curve extends Swept {
+  readonly asked: SweepAsked;
+  readonly majorities: readonly Majority[];
+  /** The members and the chairs of the board that was swept. */
   readonly standing: Standing;
-  /** The numbers that don't fit together; empty if all checks passed. */
-  readonly misfits: readonly string[];
+  readonly script: string;
 }
 
-/** A run that ended in a fault. `record` is the number of the record, or 0. */
-export class Fault extends Error {
-  constructor(readonly record: number, override readonly name: string, readonly line: number) {
-    super(name);
+/** The names of members that accepted changes admit. */
+function admitted(changes: readonly Change[], outcomes: ReadonlyMap<number, Outcome>): Record<string, string> {
+  const isAdmitted = ({ what, id }: Change) => what.kind === "admit" && outcomes.get(id)?.kind === "accepted";
+  const named = changes.filter((it) => it.name !== undefined && isAdmitted(it));
+  return Object.fromEntries(named.map(({ what, name }) => [what.code ?? "", name ?? ""]));
+}
+
+/** The registers, to which each base is sent once. */
+export class Counter {
+  readonly boards: Boards;
+  readonly #numbers = new Map<string, number>();
+
+  constructor(boards: Boards) {
+    this.boards = boards;
+  }
+
+  /** The number of a base's script, which is sent first if it is new. */
+  async #number(script: string): Promise<number> {
+    const known = this.#numbers.get(script);
+    if (known !== undefined) return known;
+    const number = this.#numbers.size + 1;
+    await this.boards.ask("base", { number, script }).answer;
+    this.#numbers.set(script, number);
+    return number;
+  }
+
+  async #board({ script }: Base, changes: readonly Change[]): Promise<Board> {
+    return { base: await this.#number(script), changes };
+  }
+
+  /** The script of a table's members. */
+  tableScript(rows: readonly MemberRow[]): Promise<string> {
+    return this.boards.ask("table", rows).answer;
+  }
+
+  /** Counts a base, and the board after the changes. */
+  async count(base: Base, changes: readonly Change[], majorities: readonly Majority[]): Promise<Counted> {
+    const board = await this.#board(base, changes);
+    const { answer } = this.boards.ask("count", { ...board, majorities });
+    const { before, after, opening, standing, outcomes, commands } = await answer;
+    return new Counted(
+      base,
+      majorities,
+      commands,
+      readings(before),
+      readings(after),
+      outcomes,
+      new Standing(opening, base),
+      new Standing(standing, base, admitted(changes, outcomes)),
+    );
+  }
+
+  /** Counts a sweep over the base of a count, or over its changed board. */
+  async sweep(of: Counted, changes: readonly Change[], asked: SweepAsked, report: Report): Promise<Task<Curve>> {
+    const isBase = asked.on === "base";
+    const { base, majorities } = of;
+    const board = await this.#board(base, isBase ? [] : changes);
+    const { answer, cancel } = this.boards.ask("sweep", { ...board, majorities, asked }, report);
+    const commands = isBase ? [] : of.commands;
+    const curve = answer.then((it): Curve => {
+      const script = sweepScript(base, commands, it.points, majorities);
+      return { ...it, asked, majorities, standing: isBase ? of.opening : of.standing, script };
+    });
+    return { answer: curve, cancel };
+  }
+
+  /** Tries all single moves to a chair on a changed board. */
+  async best(
+    base: Base,
+    changes: readonly Change[],
+    ask: Omit<Orders["best"]["ask"], keyof Board>,
+    report: Report,
+  ): Promise<Task<Orders["best"]["answer"]>> {
+    return this.boards.ask("best", { ...(await this.#board(base, changes)), ...ask }, report);
+  }
+
+  /** Whether the script of a count gives the count's readings. */
+  isGiven({ script, before, after }: Counted): Promise<boolean> {
+    return this.boards.ask("check", { script, readings: [...before.values(), ...after.values()] }).answer;
+  }
+
+  /** The text that `board replay` prints for a script. */
+  lines(script: string): Promise<string> {
+    return this.boards.ask("lines", script).answer;
   }
 }
 
-/** The answers of a script that ends in no fault. */
-export async function answered(replay: Replay, script: string): Promise<{ lines: string; answers: Answer[] }> {
-  const lines = await replay(script);
-  const answers = answersOf(lines);
-  const last = answers[answers.length - 1];
-  if (last?.kind === "fault") throw new Fault(last.record, last.name, last.line);
-  return { lines, answers };
-}
-
-/** The register's own numbers for a member, from two readings: without its votes, and with them. */
-export interface Probe {
-  readonly isSuspended: boolean;
-  /** The total voting power without the member, and the member's votes. */
-  readonly rest: number;
-  readonly own: number;
-}
-
-/** Asks the register for a member's votes by suspending and restoring it. Null if there is no such member. */
-export async function probed(replay: Replay, records: readonly string[], code: string): Promise<Probe | null> {
-  const read = readRecords(["half"]);
-  const probe = [...records, `suspend,${code}`, ...read, `restore,${code}`, ...read];
-  const { answers } = await answered(replay, textOf(probe));
-  const [suspended, , without, restored, , whole] = answers.slice(-6);
-  if (restored?.kind !== "accepted" || without?.kind !== "reading" || whole?.kind !== "reading") return null;
-  const rest = without.reading.total;
-  return { isSuspended: suspended?.kind === "refused", rest, own: whole.reading.total - rest };
-}
-
-/** The votes for a share of the total voting power: p/(100-p) of the votes of all others. */
-export function shareVotes(percent: Ratio, rest: number): Ratio | null {
-  const left = 100n * percent.denominator - percent.numerator;
-  if (left <= 0n || rest === 0) return null;
-  return { numerator: percent.numerator * BigInt(rest), denominator: left };
-}
-
-/** The exact votes that a percentage asks for, or why there are none. */
-function asked({ of, code, percent }: Percentage, { isSuspended, rest, own }: Probe): Ratio | string {
-  const size = decimalRatio(percent.replace(/^[+-]/, ""));
-  if (of === "own") {
-    const all = 100n * size.denominator + (percent.startsWith("-") ? -size.numerator : size.numerator);
-    return { numerator: all * BigInt(own), denominator: 100n * size.denominator };
-  }
-  if (isSuspended) return `${code} is suspended, so it has no share of the total voting power`;
-  return shareVotes(size, rest) ?? `no number of votes is ${percent} per cent of the total voting power`;
-}
-
-/** A percentage as a command: rounded once to whole votes, half to even; or why it can't be one. */
-async function withNumber(replay: Replay, records: readonly string[], what: Percentage): Promise<Command | string> {
-  const probe = await probed(replay, records, what.code);
-  if (!probe) return `no member has the code ${what.code}`;
-  const exact = asked(what, probe);
-  if (typeof exact === "string") return exact;
-  const votes = nearest(exact);
-  if (votes < 0n || votes > BigInt(MOST_VOTES)) return `${votes} votes, which is not from 0 to 2^40`;
-  return { word: "votes", code: what.code, votes: Number(votes) };
-}
-
-interface Resolved {
-  readonly change: Change;
-  /** The command, or why there is none. */
-  readonly command: Command | string;
-}
-
-/** The commands of the changes that are switched on. */
-async function resolved(replay: Replay, base: Base, changes: readonly Change[]): Promise<Resolved[]> {
-  const records = baseRecords(base);
-  const done: Resolved[] = [];
-  for (const change of changes.filter((it) => it.on)) {
-    const { what } = change;
-    const command = what.word === "percent" ? await withNumber(replay, records, what) : what;
-    if (typeof command !== "string") records.push(recordOf(command));
-    done.push({ change, command });
-  }
-  return done;
-}
-
-function readingsOf(answers: readonly Answer[]): Readings {
-  const readings = answers.flatMap((it) => (it.kind === "reading" ? [it.reading] : []));
-  return new Map(readings.map((it) => [it.majority, it]));
-}
-
-/** Applies a command to the standing if its answer accepts it. */
-function outcomeOf(standing: Standing, command: Command, answer: Answer | undefined, name?: string): Outcome {
-  if (answer?.kind === "refused") {
-    return { kind: "refused", command, line: answer.line, number: answer.number, name: answer.name };
-  }
-  if (answer?.kind !== "accepted") throw new Error(`no answer to ${recordOf(command)}`);
-  const before = "code" in command ? standing.place(command.code) : undefined;
-  standing.take(command, name);
-  return { kind: "accepted", command, before, line: answer.line };
-}
-
-/** The differences between the members on the page and a reading, as lines of text. */
-function unlike(standing: Standing, reading: Reading): string[] {
-  const wrong = reading.chairs.filter((it) => it.weight !== standing.weight(it.chair));
-  const found = wrong.map((it) => `line ${it.line}: chair ${it.chair} has other members here`);
-  if (reading.total !== standing.total()) found.push(`line ${reading.line}: the total is another here`);
-  if (reading.chairs.map((it) => it.chair).join() !== standing.open().join()) {
-    found.push(`line ${reading.line}: other chairs are open here`);
-  }
-  return found;
-}
-
-/** Carries out changes on a base, and reads at majorities. Throws a Fault if the run ends in one. */
-export async function counted(
-  replay: Replay,
+/** The script of a sweep: the base, the commands before it, and for each point its commands and readings. */
+function sweepScript(
   base: Base,
-  changes: readonly Change[],
+  commands: readonly Command[],
+  points: readonly Point[],
   majorities: readonly Majority[],
-): Promise<Counted> {
-  const steps = await resolved(replay, base, changes);
-  const commands = steps.flatMap(({ command }) => (typeof command === "string" ? [] : [command]));
-  const script = scriptOf(base, commands, majorities);
-  const { lines, answers } = await answered(replay, script);
-
-  const reads = 1 + majorities.length;
-  const [ofBase, firstReads] = [base.commands.length, base.commands.length + reads];
-  const opening = Standing.opening(base.members);
-  base.commands.forEach((command, at) => outcomeOf(opening, command, answers[at]));
-  const standing = opening.copy();
-  const outcomes = new Map<number, Outcome>();
-  for (const change of changes.filter((it) => !it.on)) outcomes.set(change.id, { kind: "off" });
-  let at = firstReads;
-  for (const { change, command } of steps) {
-    if (typeof command === "string") outcomes.set(change.id, { kind: "impossible", why: command });
-    else {
-      outcomes.set(change.id, outcomeOf(standing, command, answers[at], change.name));
-      at += 1;
-    }
-  }
-  const [before, after] = [readingsOf(answers.slice(ofBase, firstReads)), readingsOf(answers.slice(at))];
-  const wrong = [
-    ...[...before.values()].flatMap((it) => [...misfits(it), ...unlike(opening, it)]),
-    ...[...after.values()].flatMap((it) => [...misfits(it), ...unlike(standing, it)]),
-  ];
-  return { script, lines, commands, before, after, outcomes, opening, standing, misfits: wrong };
+): string {
+  const reads = readRecords(majorities);
+  const steps = points.flatMap((it) => [...it.commands.map(recordOf), ...reads]);
+  return scriptWith(base.script, [...commands.map(recordOf), ...steps]);
 }

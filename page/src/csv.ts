@@ -1,7 +1,7 @@
 /** The table of a study as CSV, with the columns of board_study: a row for each scenario, majority and chair. */
-import type { Readings } from "./count";
 import { difference, rounded, type Ratio } from "./fractions";
-import { chairIn, measureOf, voteShare, type ChairLine, type Reading } from "./lines";
+import { chairIn, measureOf, voteShare, type ChairReading, type Reading, type Readings } from "./reading";
+import type { Standing } from "./standing";
 import type { Measure } from "./words";
 
 const PLACES = 10;
@@ -14,19 +14,26 @@ const ALL = [
   ...FRACTIONS.flatMap((it) => [`${it}_numerator`, `${it}_denominator`, it, `${it}_difference`]),
 ];
 
-/** A register that was read: its label, and the sweep and its per cent if it is a step of one. */
+/** A register that was read: its label and its chairs; and the sweep and its value if it is a step of one. */
 export interface Labelled {
   readonly label: string;
   readonly sweep?: string;
   readonly percent?: string;
   readonly readings: Readings;
+  readonly standing: Standing;
+}
+
+/** A cell that no spreadsheet takes for a formula. */
+export function plainCell(cell: string): string {
+  return /^[=+\-@\t\r]/.test(cell) && !/^[+-]?[0-9.,]+$/.test(cell) ? `'${cell}` : cell;
 }
 
 function quoted(cell: string): string {
-  return /[",\r\n]/.test(cell) ? `"${cell.replace(/"/g, '""')}"` : cell;
+  const plain = plainCell(cell);
+  return /[",#\r\n]/.test(plain) ? `"${plain.replace(/"/g, '""')}"` : plain;
 }
 
-function fractionsOf(reading: Reading, chair: ChairLine): (Ratio | null)[] {
+function fractionsOf(reading: Reading, chair: ChairReading): (Ratio | null)[] {
   return [voteShare(reading, chair), ...MEASURES.map((it) => measureOf(chair, it))];
 }
 
@@ -36,23 +43,22 @@ function fractionCells(ratio: Ratio | null, before: Ratio | null): string[] {
   return [...own, added ? rounded(added, PLACES) : ""];
 }
 
-function rowOf(of: Labelled, reading: Reading, chair: ChairLine, name: string, base: Readings): string[] {
+function rowOf(of: Labelled, reading: Reading, chair: ChairReading, base: Readings): string[] {
   const earlier = base.get(reading.majority);
-  const line = chairIn(earlier, chair.chair);
+  const line = of.standing.isNew(chair.chair) ? undefined : chairIn(earlier, chair.chair);
   const before = earlier && line ? fractionsOf(earlier, line) : [];
-  const board = [reading.open, reading.quota, reading.cast, reading.total, reading.winning, reading.coalitions];
+  const { chairs, quota, cast, total, winning, coalitions } = reading;
+  const board = [chairs.length, quota, cast, total, winning, coalitions];
   const fractions = fractionsOf(reading, chair).flatMap((it, at) => fractionCells(it, before[at] ?? null));
-  const own = [chair.chair, name, chair.weight, chair.swings].map(String);
+  const own = [String(chair.chair), of.standing.name(chair.chair), String(chair.weight), String(chair.swings)];
   return [of.label, of.sweep ?? "", of.percent ?? "", reading.majority, ...board.map(String), ...own, ...fractions];
 }
 
 /** The table of registers, of which the first is the base. */
-export function csvOf(all: readonly Labelled[], nameOf: (chair: number) => string): string {
-  const base = all[0]?.readings ?? new Map();
+export function csvOf(all: readonly Labelled[]): string {
+  const base: Readings = all[0]?.readings ?? new Map();
   const rows = all.flatMap((it) =>
-    [...it.readings.values()].flatMap((reading) =>
-      reading.chairs.map((chair) => rowOf(it, reading, chair, nameOf(chair.chair), base)),
-    ),
+    [...it.readings.values()].flatMap((reading) => reading.chairs.map((chair) => rowOf(it, reading, chair, base))),
   );
   return [ALL, ...rows].map((row) => `${row.map(quoted).join(",")}\n`).join("");
 }

@@ -2,10 +2,9 @@
 import { axisBottom, axisLeft, axisRight } from "d3-axis";
 import { scaleLinear, type Linear } from "d3-scale";
 import type { Selection } from "d3-selection";
-import { caption, dot, ended, framed, majorityItems, tinted, type LegendItem, type Look } from "./charts";
-import { drawn, type Ratio } from "./fractions";
-import { chairIn, measureOf, voteShare } from "./lines";
-import type { Readings } from "./count";
+import { caption, dot, ended, framed, majorityItems, onAxis, tinted, type LegendItem, type Look } from "./charts";
+import type { Ratio } from "./fractions";
+import { chairIn, measureOf, voteShare, type Readings } from "./reading";
 import { MEASURE, type Majority, type Measure } from "./words";
 
 export interface CurvePoint {
@@ -29,7 +28,7 @@ const HEIGHT = 340;
 const SHAPES = 14;
 
 function yOf(ratio: Ratio | null, measure: Measure): number | null {
-  return ratio === null ? null : (measure === "share" ? 100 : 1) * drawn(ratio);
+  return ratio && onAxis(ratio, measure);
 }
 
 function votesAt(point: CurvePoint, chair: number): number | null {

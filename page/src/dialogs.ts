@@ -1,5 +1,5 @@
 /** Dialogs: each is made when it opens and removed when it closes. */
-import { button, h, type Child } from "./dom";
+import { add, button, h, type Child } from "./dom";
 
 /** Opens a dialog with a heading. It closes by its button, by Escape and by the function that `close` returns. */
 export function openDialog(
@@ -23,7 +23,7 @@ export function openDialog(
   );
   const body = dialog.lastElementChild;
   const children = content(close);
-  if (body) appendTo(body, children);
+  if (body) add(body, [children]);
   dialog.addEventListener("close", () => {
     dialog.remove();
     onClose();
@@ -32,9 +32,4 @@ export function openDialog(
   document.body.append(dialog);
   dialog.showModal();
   return dialog;
-}
-
-function appendTo(place: Element, child: Child): void {
-  if (Array.isArray(child)) for (const one of child as readonly Child[]) appendTo(place, one);
-  else if (child !== null && child !== false) place.append(child instanceof Node ? child : String(child));
 }

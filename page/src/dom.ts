@@ -12,7 +12,8 @@ function setAttribute(element: Element, name: string, value: Value): void {
   else if (value !== false && value !== null && value !== undefined) element.setAttribute(name, String(value));
 }
 
-function add(element: Element, children: readonly Child[]): void {
+/** Adds children to an element. */
+export function add(element: Element, children: readonly Child[]): void {
   for (const child of children) {
     if (Array.isArray(child)) add(element, child as readonly Child[]);
     else if (child !== null && child !== false) element.append(child instanceof Node ? child : String(child));

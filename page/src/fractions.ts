@@ -1,4 +1,5 @@
 /** Exact fractions, and decimals of them: each is rounded once, half to even, in whole-number arithmetic. */
+import type { Fraction } from "../../bindings/javascript/src/fraction";
 
 /** A fraction. Its denominator is above 0. */
 export interface Ratio {
@@ -11,7 +12,12 @@ export function over(numerator: number | bigint, denominator: number | bigint): 
   return BigInt(denominator) === 0n ? null : { numerator: BigInt(numerator), denominator: BigInt(denominator) };
 }
 
-/** A fraction as the program prints it, or `-`. */
+/** A fraction of the package, or null. */
+export function exact(fraction: Fraction | null): Ratio | null {
+  return fraction && over(fraction.numerator, fraction.denominator);
+}
+
+/** A fraction as text, or `-`. */
 export function fractionText(ratio: Ratio | null): string {
   return ratio === null ? "-" : `${ratio.numerator}/${ratio.denominator}`;
 }

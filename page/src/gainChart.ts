@@ -3,13 +3,13 @@ import { axisTop } from "d3-axis";
 import { scaleLinear, type Linear } from "d3-scale";
 import type { Selection } from "d3-selection";
 import {
-  caption, dot, ended, framed, labelled, labelRoom, legendBar, majorityItems, rowGroup, tinted,
+  caption, dot, ended, framed, labelled, labelRoom, legendBar, majorityItems, onAxis, rowGroup, tinted,
   type Frame, type Look,
 } from "./charts";
-import { difference, drawn, type Ratio } from "./fractions";
+import { difference } from "./fractions";
 import type { ChairRow } from "./compare";
 import type { PowerModel } from "./powerChart";
-import { MEASURE, type Majority, type Measure } from "./words";
+import { MEASURE, type Majority } from "./words";
 
 const [LANE, SPACE] = [12, 8] as const;
 /** Hatches by majority, so that bars can be distinguished without colour: an angle and a distance. */
@@ -19,10 +19,6 @@ const HATCHES: Readonly<Record<Majority, readonly [number, number]>> = {
   "85": [90, 4],
   quorum: [135, 7],
 };
-
-function place(ratio: Ratio, measure: Measure): number {
-  return measure === "share" ? 100 * drawn(ratio) : drawn(ratio);
-}
 
 function hatches(root: Selection, majorities: readonly Majority[], look: Look): void {
   const shared = root.append("defs");
@@ -38,10 +34,10 @@ function hatches(root: Selection, majorities: readonly Majority[], look: Look): 
 /** The gains of a chair: a value for each lane, the votes first if the measure is a share. */
 function lanesOf(row: ChairRow, model: PowerModel): (readonly [Majority | "votes", number | null])[] {
   const votes = difference(row.votesAfter, row.votesBefore);
-  const first = model.measure === "share" ? [["votes", votes && place(votes, "share")] as const] : [];
+  const first = model.measure === "share" ? [["votes", votes && onAxis(votes, "share")] as const] : [];
   const rest = model.majorities.map((majority) => {
     const gain = row.at.get(majority)?.gain ?? null;
-    return [majority, gain && place(gain, model.measure)] as const;
+    return [majority, gain && onAxis(gain, model.measure)] as const;
   });
   return [...first, ...rest];
 }
@@ -95,7 +91,7 @@ export function drawGains(target: Element, model: PowerModel, look: Look): void 
     const inside = group.append("g").attr("transform", `translate(0,${head + SPACE / 2})`);
     drawLanes(inside, lanes, scale, look);
     if (lanes.some(([, gain]) => gain !== null)) return;
-    const where = row.votesBefore === null ? "not open in the base" : "not open in the changed board";
+    const where = row.kind === "closed" ? "not open in the changed board" : "not open in the base";
     caption(inside, where, scale(0) + 6, LANE, look.palette);
   });
   ended(frame, look, bottom);

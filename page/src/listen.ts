@@ -1,35 +1,34 @@
 /** The controls that are in the page from its beginning. */
 import type { App } from "./app";
+import { keyboardDrag } from "./carry";
 import { byId } from "./dom";
-import { readFiles, readText } from "./files";
+import { pointerDrag } from "./drag";
+import { readFiles, readText, refusePaste } from "./files";
+import { keys } from "./keys";
 import { notes } from "./note";
+import { fitTables } from "./paper";
+import { sheets } from "./sheets";
+import { hasMergedCells } from "./tables/html";
 import { withChanges } from "./study";
 import { openBest } from "./views/best";
-import { openExports } from "./views/exportDialog";
+import { openExports, saveStudy } from "./views/exportDialog";
 import { paintForPaper } from "./views/figures";
 import { openSeal } from "./views/foot";
 import { openAdmit } from "./views/member";
 import { paintChairs } from "./views/chairs";
 import { openRecount } from "./views/recount";
+import { orRefuse } from "./views/refusal";
 import { openPaste } from "./views/tableDialog";
-
-function openSheet(name: string, isOpen: boolean): void {
-  for (const id of ["chairs", "right"]) {
-    const isThis = id === name && isOpen;
-    byId(id).classList.toggle("open", isThis);
-    document.querySelector(`.sheets [data-sheet="${id}"]`)?.setAttribute("aria-expanded", String(isThis));
-  }
-}
-
-function sheets(): void {
-  for (const button of document.querySelectorAll<HTMLElement>("[data-sheet]")) {
-    const name = button.dataset["sheet"] ?? "";
-    button.addEventListener("click", () => openSheet(name, !byId(name).classList.contains("open")));
-  }
-}
+import { listenPublished } from "./views/top";
 
 function onClick(id: string, act: () => void): void {
   byId(id).addEventListener("click", act);
+}
+
+/** Whether a paste goes into a field: a box to tick or a file's isn't one. */
+function takesText(target: EventTarget | null): boolean {
+  if (target instanceof HTMLInputElement) return !/^(radio|checkbox|range|file|button)$/.test(target.type);
+  return target instanceof HTMLTextAreaElement;
 }
 
 /** Files that are chosen or dropped, and text that is pasted outside of a field. */
@@ -49,18 +48,45 @@ function takeFiles(app: App): void {
   const read = (text: string, name: string) => void readText(app, text, name);
   onClick("paste", () => openPaste(read));
   document.addEventListener("paste", (event) => {
-    const text = event.clipboardData?.getData("text/plain") ?? "";
-    const isField = event.target instanceof HTMLInputElement || event.target instanceof HTMLTextAreaElement;
-    if (isField || !text.includes("\n") || document.querySelector("dialog[open]")) return;
+    const plain = event.clipboardData?.getData("text/plain") ?? "";
+    const html = event.clipboardData?.getData("text/html") ?? "";
+    const isPlain = plain.includes("\n") && !hasMergedCells(html);
+    if (takesText(event.target) || (!isPlain && !/<table\b/i.test(html))) return;
     event.preventDefault();
-    read(text, "Pasted table");
+    const open = document.querySelector("dialog[open] h2");
+    if (open) refusePaste(open.textContent ?? "");
+    else read(isPlain ? plain : `<html>${html}`, "Pasted table");
   });
 }
 
-export function listen(app: App): void {
-  takeFiles(app);
-  notes();
+/** Asks before the page is left, if the study has changed since it was opened or saved. */
+function guardLeaving(app: App): void {
+  addEventListener("beforeunload", (event) => {
+    if (!app.isUnsaved) return;
+    event.preventDefault();
+    // Older browsers ask only with this.
+    event.returnValue = "unsaved";
+  });
+}
+
+/** Paints again when the window, the paper or the colours are others. */
+function watchScreen(app: App): void {
+  let width = innerWidth;
+  addEventListener("resize", () => {
+    if (width !== innerWidth) app.repaint();
+    width = innerWidth;
+  });
+  addEventListener("beforeprint", () => {
+    paintForPaper(app, true);
+    fitTables();
+  });
+  addEventListener("afterprint", () => paintForPaper(app, false));
+  matchMedia("(prefers-color-scheme: dark)").addEventListener("change", () => app.repaint());
+}
+
+function buttons(app: App): void {
   onClick("export", () => openExports(app));
+  onClick("save-study", () => orRefuse(saveStudy(app)));
   onClick("seal", () => openSeal(app));
   onClick("best-open", () => openBest(app));
   onClick("recount-open", () => openRecount(app));
@@ -68,28 +94,22 @@ export function listen(app: App): void {
   onClick("redo", () => app.redo());
   onClick("admit-open", () => openAdmit(app));
   onClick("clear-changes", () => app.take(withChanges(app.study, [])));
+}
+
+/** Listens to the controls that are in the page from its beginning. */
+export function listen(app: App): void {
+  takeFiles(app);
+  notes();
+  buttons(app);
   byId("filter").addEventListener("input", () => {
-    app.filter = byId<HTMLInputElement>("filter").value;
+    app.open.filter = byId<HTMLInputElement>("filter").value;
     paintChairs(app);
   });
-  byId("published").addEventListener("change", () => {
-    const digits = byId<HTMLInputElement>("published").value.replace(/[^0-9]/g, "");
-    app.take({ ...app.study, published: digits ? Number(digits) : null });
-  });
-  document.addEventListener("keydown", (event) => {
-    if (!(event.ctrlKey || event.metaKey) || event.key.toLowerCase() !== "z") return;
-    if (event.target instanceof HTMLInputElement || event.target instanceof HTMLTextAreaElement) return;
-    event.preventDefault();
-    if (event.shiftKey) app.redo();
-    else app.undo();
-  });
+  listenPublished(app);
+  pointerDrag(app);
+  keyboardDrag(app);
+  keys(app);
   sheets();
-  let width = innerWidth;
-  addEventListener("resize", () => {
-    if (width !== innerWidth) app.repaint();
-    width = innerWidth;
-  });
-  addEventListener("beforeprint", () => paintForPaper(app, true));
-  addEventListener("afterprint", () => paintForPaper(app, false));
-  matchMedia("(prefers-color-scheme: dark)").addEventListener("change", () => app.repaint());
+  guardLeaving(app);
+  watchScreen(app);
 }

@@ -3,6 +3,8 @@ import made from "../out/made.json";
 
 export const VERSION = made.version;
 export const COMMIT = made.commit;
+/** The date of the version, in CHANGELOG.md. */
+export const RELEASED = made.date;
 export const MODULE_HASH = made.module;
 /** The commit for the eye. */
 export const SHORT_COMMIT = made.commit.slice(0, 7) + (made.commit.length > 40 ? "+" : "");

@@ -2,39 +2,39 @@
 import "./pageText";
 import exampleText from "../../examples/members.csv";
 import { App } from "./app";
+import { boardsOver } from "./boards";
+import { Counter } from "./count";
 import { byId } from "./dom";
-import { keyboardDrag } from "./drag";
 import { hashOf, MODULE_HASH, moduleBytes, NO_HASH } from "./made";
-import { replaysOver } from "./replays";
-import { guessedLayout, NO_ANSWERS, readTable, sheetOf } from "./table";
-import { FIRST_VIEW, type Study } from "./study";
+import { baseOf } from "./tables/base";
+import { guessedLayout } from "./tables/columns";
+import { readTable } from "./tables/read";
+import { sheetOf } from "./tables/text";
+import { NO_ANSWERS } from "./tables/types";
+import { FIRST_VIEW, studyOf } from "./study";
 import { readData, type StudyData } from "./studyData";
 import { listen } from "./listen";
 import { paintPage } from "./paint";
+import { paintWaiting } from "./views/waiting";
 
-async function example(): Promise<StudyData> {
+async function example(counter: Counter): Promise<StudyData> {
   const sheet = sheetOf(exampleText);
-  const { base } = readTable(sheet, guessedLayout(sheet), { ...NO_ANSWERS, merged: false });
-  if (!base) throw new Error("the example isn't whole");
-  const hash = await hashOf(exampleText);
-  const study: Study = {
-    name: "Example: invented votes",
-    base: { ...base, choices: [], hash },
-    changes: [],
-    scenarios: [],
-    published: null,
-  };
-  return { study, view: FIRST_VIEW };
+  const { base: table } = readTable(sheet, guessedLayout(sheet), NO_ANSWERS);
+  if (!table) throw new Error("the example isn't whole");
+  const base = await baseOf(counter, { ...table, choices: [] }, await hashOf(exampleText));
+  return { study: studyOf("Example: invented votes", base), view: FIRST_VIEW };
 }
 
 async function begin(): Promise<void> {
   if (typeof HTMLDialogElement !== "function") throw new Error("no dialogs");
   const held = readData(byId("study-data").textContent ?? "null");
   const bytes = moduleBytes();
-  const [replays, { study, view }, hash] = await Promise.all([replaysOver(bytes), held ?? example(), hashOf(bytes)]);
-  const app = new App(study, view, replays, hash === MODULE_HASH || hash === NO_HASH, paintPage);
+  const [boards, hash] = await Promise.all([boardsOver(bytes), hashOf(bytes)]);
+  const counter = new Counter(boards);
+  const { study, view } = held ?? (await example(counter));
+  const app = new App(study, view, counter, hash === MODULE_HASH || hash === NO_HASH, paintPage);
+  app.repaintWaiting = () => paintWaiting(app);
   listen(app);
-  keyboardDrag(app);
   await app.count();
 }
 

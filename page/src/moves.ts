@@ -1,16 +1,54 @@
 /** Moves of a member: to a chair, to none, or to a new chair, which is opened first. */
 import type { App } from "./app";
-import { withAdded, type Command } from "./study";
-import { closedChair } from "./views/chairs";
+import { memberWords, refusalWords } from "./commandWords";
+import { byId } from "./dom";
+import { isolated } from "./names";
+import type { Place } from "./standing";
+import { withAdded, type Command, type Study } from "./study";
+import { CHAIRS } from "./words";
 
-/** Moves a member to the place of a card. */
-export function moveTo(app: App, code: string, place: string): void {
+/** The place of a card: a chair's number, `none` or `new`. */
+export type CardPlace = string;
+
+/** The lowest number of a closed chair, or null where all are open. */
+export function closedChair(open: readonly number[]): number | null {
+  return CHAIRS.find((it) => !open.includes(it)) ?? null;
+}
+
+/** Tells screen readers a sentence. */
+export function say(words: string): void {
+  byId("live").textContent = words;
+}
+
+/** The place of a member in words. */
+function where(app: App, chair: number | null): string {
+  if (chair === null || !app.shown) return "no chair";
+  return `chair ${chair} ${isolated(app.shown.counted.standing.name(chair))}`;
+}
+
+/** What the register made of a move, the last change of a study, once it is counted. */
+async function sayOutcome(app: App, study: Study, place: Place, chair: number | null): Promise<void> {
+  await app.counting;
+  if (app.study !== study) return;
+  const change = study.changes[study.changes.length - 1];
+  const outcome = app.shown?.study === study && change ? app.shown.counted.outcomes.get(change.id) : undefined;
+  const who = memberWords(place.code, place.name);
+  if (outcome?.kind === "accepted") say(`${who} is moved to ${where(app, chair)}.`);
+  else say(`${who} isn't moved: ${refusalWords(outcome) || "the count ended in a fault"}.`);
+}
+
+/** Moves a member to the place of a card, and says what came out of it. On its own card nothing is changed. */
+export async function moveTo(app: App, code: string, target: CardPlace): Promise<void> {
   const standing = app.shown?.counted.standing;
-  if (!standing) return;
+  const place = standing?.place(code);
+  if (!standing || !place) return;
   const fresh = closedChair(standing.open());
-  if (place === "new" && fresh === null) return;
-  const chair = place === "none" ? null : place === "new" ? fresh : Number(place);
-  const opens: Command[] = place === "new" && fresh !== null ? [{ word: "open", chair: fresh }] : [];
-  app.openCards.add(chair === null ? "none" : String(chair));
-  app.take(withAdded(app.study, [...opens, { word: "move", code, chair }]));
+  if (target === "new" && fresh === null) return;
+  const chair = target === "none" ? null : target === "new" ? fresh : Number(target);
+  if (chair === place.chair) return say(`${memberWords(code, place.name)} stays in ${where(app, chair)}.`);
+  const opens: Command[] = target === "new" && fresh !== null ? [{ kind: "open", chair: fresh }] : [];
+  app.open.cards.add(chair === null ? "none" : String(chair));
+  const study = withAdded(app.study, [...opens, { kind: "move", code, chair }]);
+  app.take(study);
+  await sayOutcome(app, study, place, chair);
 }

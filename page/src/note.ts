@@ -16,4 +16,5 @@ export function notes(): void {
     (document.querySelector("dialog[open]") ?? document.body).append(note);
     ends = setTimeout(() => note.remove(), 1000 * SECONDS);
   });
+  document.addEventListener("keydown", (event) => event.key === "Escape" && note.remove());
 }

@@ -11,6 +11,7 @@ import {
   labelRoom,
   legendBar,
   majorityItems,
+  onAxis,
   rowGroup,
   tinted,
   type Frame,
@@ -18,8 +19,8 @@ import {
   type Look,
 } from "./charts";
 import type { ChairRow } from "./compare";
-import { drawn, type Ratio } from "./fractions";
-import { measureOf, type ChairLine } from "./lines";
+import type { Ratio } from "./fractions";
+import { measureOf, type ChairReading } from "./reading";
 import { MEASURE, type Majority, type Measure } from "./words";
 
 export interface PowerModel {
@@ -31,13 +32,11 @@ export interface PowerModel {
 
 const [VOTES, LANE, SPACE] = [12, 11, 9] as const;
 
-/** A value on its axis: shares and votes in per cent. */
 function place(ratio: Ratio | null, measure: Measure): number | null {
-  if (ratio === null) return null;
-  return measure === "share" ? 100 * drawn(ratio) : drawn(ratio);
+  return ratio && onAxis(ratio, measure);
 }
 
-function value(chair: ChairLine | undefined, measure: Measure): number | null {
+function value(chair: ChairReading | undefined, measure: Measure): number | null {
   return chair ? place(measureOf(chair, measure), measure) : null;
 }
 

@@ -1,38 +1,82 @@
-/** The provenance of figures: version, commit, and the hashes of module, table, script and lines. */
-import type { Shown } from "./app";
-import { COMMIT, hashOf, MODULE_HASH, VERSION } from "./made";
+/** The provenance of figures: version, commit, and the hashes of module, table, scripts and lines. */
+import type { App, Shown } from "./app";
+import { COMMIT, hashOf, MODULE_HASH, RELEASED, VERSION } from "./made";
+
+/** A script, and what it gives the readings of. */
+export interface Source {
+  readonly of: string;
+  readonly script: string;
+}
+
+/** The script of a study's base and its changes. */
+export function studySource({ counted }: Shown): Source {
+  return { of: "", script: counted.script };
+}
+
+/** Where the numbers of a file come from, each in a line. */
+export interface Provenance {
+  readonly counted: string;
+  readonly module: string;
+  readonly table: string;
+  /** The hashes of the scripts that give the numbers, and of their lines. */
+  readonly scripts: readonly string[];
+  readonly date: string;
+  readonly check: string;
+  readonly choices: readonly string[];
+}
+
+export async function provenanceOf(app: App, { study }: Shown, sources: readonly Source[]): Promise<Provenance> {
+  const hashes = await Promise.all(sources.map((it) => sourceLines(app, it)));
+  return {
+    counted: `counted by board ${VERSION}, commit ${COMMIT}`,
+    module: `module board.wasm sha256 ${MODULE_HASH}`,
+    table: `table ${oneLine(study.name)} sha256 ${study.base.hash || "none: the study came as a script"}`,
+    scripts: hashes.flat(),
+    date: `date ${today()}`,
+    check: "to check: board replay < SCRIPT.csv | sha256sum prints the hash of the lines",
+    choices: study.base.choices.map((it) => oneLine(`choice: ${it}`)),
+  };
+}
 
 /** The first lines of each exported file. */
-export async function provenance({ study, counted }: Shown): Promise<string[]> {
-  const [script, lines] = await Promise.all([hashOf(counted.script), hashOf(counted.lines)]);
-  const choices = study.base.choices.map((it) => `choice: ${it}`);
-  return [
-    `counted by board ${VERSION}, commit ${COMMIT}`,
-    `module board.wasm sha256 ${MODULE_HASH}`,
-    `table ${oneLine(study.name)} sha256 ${study.base.hash || "none: the study came as a script"}`,
-    `script sha256 ${script}`,
-    `lines sha256 ${lines}`,
-    `date ${new Date().toISOString().slice(0, 10)}`,
-    "to check: board replay < SCRIPT.csv | sha256sum prints the hash of the lines",
-    ...choices.map(oneLine),
-  ];
+export function firstLines({ counted, module, table, scripts, date, check, choices }: Provenance): string[] {
+  return [counted, module, table, ...scripts, date, check, ...choices];
+}
+
+async function sourceLines(app: App, { of, script }: Source): Promise<string[]> {
+  const lines = await app.counter.lines(script);
+  const words = of ? ` of ${oneLine(of)}` : "";
+  return [`script${words} sha256 ${await hashOf(script)}`, `lines${words} sha256 ${await hashOf(lines)}`];
+}
+
+function today(): string {
+  return new Date().toISOString().slice(0, 10);
 }
 
 function oneLine(text: string): string {
   return text.replace(/\s+/g, " ");
 }
 
-/** How to cite: a text, and an entry of BibTeX. */
-export async function citation(shown: Shown): Promise<{ text: string; bibtex: string }> {
-  const lines = await provenance(shown);
-  const date = new Date().toISOString().slice(0, 10);
-  const text = `board ${VERSION}: a proved register of voting power. Commit ${COMMIT}. ${lines.slice(1).join("; ")}.`;
+/** A text for BibTeX. */
+function escaped(text: string): string {
+  const marks: Readonly<Record<string, string>> = {
+    "\\": "\\textbackslash{}", "~": "\\textasciitilde{}", "^": "\\textasciicircum{}",
+  };
+  return text.replace(/[\\~^]|[&%$#_{}]/g, (it) => marks[it] ?? `\\${it}`);
+}
+
+/** How to cite: a text, and an entry of BibTeX, with the version's date. */
+export async function citation(app: App, shown: Shown): Promise<{ text: string; bibtex: string }> {
+  const { counted, module, table, scripts, check } = await provenanceOf(app, shown, [studySource(shown)]);
+  const sources = [module, table, ...scripts].join("; ");
+  const text = `board ${VERSION} (${RELEASED}): a proved register of voting power. ${counted}; ${sources}.`;
+  const note = `Commit ${COMMIT}; ${sources}; ${check}`;
   const bibtex = [
     "@software{board,",
     "  title = {board: a proved register of voting power},",
     `  version = {${VERSION}},`,
-    `  date = {${date}},`,
-    `  note = {Commit ${COMMIT}; ${lines.slice(1, 5).join("; ")}; check: board replay < SCRIPT.csv | sha256sum},`,
+    `  date = {${RELEASED}},`,
+    `  note = {${escaped(note)}},`,
     "}",
   ];
   return { text, bibtex: bibtex.join("\n") };

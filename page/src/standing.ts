@@ -1,72 +1,55 @@
-/** The member and the chair of a name: the table's members, and the commands that the program accepted. */
-import type { Base, Command, Member } from "./study";
+/** The members and the open chairs of a register at one moment, with their names. */
+import type { Base } from "./study";
 
-/** A member's present place: its chair, or null if it is in none. */
-export interface Place {
+/** A member as the register has it. */
+export interface Seat {
   readonly code: string;
-  readonly name: string;
-  readonly row: number;
   readonly votes: number;
+  /** The number of its chair, or null if it is in none. */
   readonly chair: number | null;
   readonly suspended: boolean;
 }
 
+/** The members of a register in order of entry, and its open chairs by number. */
+export interface Snapshot {
+  readonly seats: readonly Seat[];
+  readonly open: readonly number[];
+  /** Those of them that changes opened. */
+  readonly opened: readonly number[];
+}
+
+/** A member with its name, and its row in the table, which is 0 for one that is in none. */
+export interface Place extends Seat {
+  readonly name: string;
+  readonly row: number;
+}
+
 /** Members in order of entry, and open chairs. */
 export class Standing {
-  readonly #places: Map<string, Place>;
-  readonly #open: Set<number>;
+  readonly #places: ReadonlyMap<string, Place>;
+  readonly #inChair = new Map<number | null, Place[]>();
 
-  private constructor(places: Map<string, Place>, open: Set<number>) {
-    this.#places = places;
-    this.#open = open;
-  }
-
-  static opening(members: readonly Member[]): Standing {
-    const places = members.map((it): [string, Place] => [it.code, { ...it, chair: null, suspended: false }]);
-    return new Standing(new Map(places), new Set());
-  }
-
-  copy(): Standing {
-    return new Standing(new Map(this.#places), new Set(this.#open));
-  }
-
-  /** Applies a command that the program accepted. */
-  take(command: Command, name = ""): void {
-    switch (command.word) {
-      case "open":
-        this.#open.add(command.chair);
-        break;
-      case "close":
-        this.#open.delete(command.chair);
-        break;
-      case "admit":
-        this.#set({ code: command.code, name, row: 0, votes: command.votes, chair: null, suspended: false });
-        break;
-      case "withdraw":
-        this.#places.delete(command.code);
-        break;
-      case "move":
-        this.#change(command.code, { chair: command.chair });
-        break;
-      case "votes":
-        this.#change(command.code, { votes: command.votes });
-        break;
-      default:
-        this.#change(command.code, { suspended: command.word === "suspend" });
-    }
-  }
-
-  #set(place: Place): void {
-    this.#places.set(place.code, place);
-  }
-
-  #change(code: string, part: Partial<Place>): void {
-    const place = this.#places.get(code);
-    if (place) this.#set({ ...place, ...part });
+  constructor(
+    readonly snapshot: Snapshot,
+    private readonly base: Base,
+    private readonly admitted: Readonly<Record<string, string>> = {},
+  ) {
+    const places = snapshot.seats.map((it) => ({
+      ...it,
+      name: this.memberName(it.code),
+      row: base.rows[it.code] ?? 0,
+    }));
+    this.#places = new Map(places.map((it) => [it.code, it]));
+    for (const it of places) this.#inChair.set(it.chair, [...this.in(it.chair), it]);
   }
 
   place(code: string): Place | undefined {
     return this.#places.get(code);
+  }
+
+  /** The name of a member, now or earlier; empty if it has none. */
+  memberName(code: string): string {
+    return this.admitted[code] ?? this.base.names[code] ?? "";
   }
 
   members(): Place[] {
@@ -74,36 +57,32 @@ export class Standing {
   }
 
   /** Members of a chair, or of none. */
-  in(chair: number | null): Place[] {
-    return this.members().filter((it) => it.chair === chair);
+  in(chair: number | null): readonly Place[] {
+    return this.#inChair.get(chair) ?? [];
   }
 
   /** The open chairs by number. */
-  open(): number[] {
-    return [...this.#open].sort((left, right) => left - right);
+  open(): readonly number[] {
+    return this.snapshot.open;
   }
 
-  /** The votes that members of a chair cast, to compare with the program's. */
-  weight(chair: number): number {
-    return votesOf(this.in(chair));
+  /** Whether a chair was opened by a change, so that it isn't the base's chair of this number. */
+  isNew(chair: number): boolean {
+    return this.snapshot.opened.includes(chair);
   }
 
-  /** The votes of all members, to compare with the program's. */
-  total(): number {
-    return votesOf(this.members());
+  /** A chair's name: the one that was given, else its member with the most votes and how many others there are. */
+  name(chair: number): string {
+    const given = this.base.chairNames[chairKey(chair, this.isNew(chair))];
+    if (given) return given;
+    const seated = this.in(chair);
+    const [first] = [...seated].sort((left, right) => right.votes - left.votes);
+    if (!first) return `chair ${chair}`;
+    return (first.name || first.code) + (seated.length > 1 ? ` and ${seated.length - 1} more` : "");
   }
 }
 
-function votesOf(members: readonly Place[]): number {
-  return members.reduce((sum, it) => sum + (it.suspended ? 0 : it.votes), 0);
-}
-
-/** A chair's name: the table's, else its member with the most votes and how many others there are. */
-export function chairName(base: Base, standing: Standing, chair: number): string {
-  const given = base.chairNames[chair];
-  if (given) return given;
-  const seated = standing.in(chair);
-  const [first] = [...seated].sort((left, right) => right.votes - left.votes);
-  if (!first) return `chair ${chair}`;
-  return (first.name || first.code) + (seated.length > 1 ? ` and ${seated.length - 1} more` : "");
+/** The key of a chair's name in a base: that of the base's chair, or that of one that was opened by a change. */
+export function chairKey(chair: number, isNew: boolean): string {
+  return isNew ? `new ${chair}` : String(chair);
 }

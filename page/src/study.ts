@@ -1,24 +1,18 @@
-/** A study: the table's register, the changes, and named scenarios. Nothing in it is changed in place. */
+/** A study: the base as a script, the changes, named scenarios, and a sweep. Nothing in it is changed in place. */
+import type { Kind } from "../../bindings/javascript/src/names";
 import type { Majority, Measure } from "./words";
 
-/** A member of the table; its row there, from 1, or 0 if it has none. */
-export interface Member {
-  readonly code: string;
-  readonly name: string;
-  readonly votes: number;
-  readonly row: number;
+/** A command of a script, as in docs/FORMATS.md, with the parts of its kind. A move to no chair has null. */
+export interface Command {
+  readonly kind: Kind;
+  readonly code?: string | null;
+  readonly chair?: number | null;
+  readonly votes?: number | null;
 }
-
-/** A command of a script, as in docs/FORMATS.md. A chair that is null is `none`. */
-export type Command =
-  | { readonly word: "open" | "close"; readonly chair: number }
-  | { readonly word: "move"; readonly code: string; readonly chair: number | null }
-  | { readonly word: "votes" | "admit"; readonly code: string; readonly votes: number }
-  | { readonly word: "suspend" | "restore" | "withdraw"; readonly code: string };
 
 /** Votes asked for in per cent: `+40` and `-40` of the member's own, `15` of the total voting power. */
 export interface Percentage {
-  readonly word: "percent";
+  readonly kind: "percent";
   readonly of: "own" | "total";
   readonly code: string;
   readonly percent: string;
@@ -39,16 +33,34 @@ export interface Scenario {
   readonly changes: readonly Change[];
 }
 
-/** The register that the table gives, and what was chosen when the table was read. */
+/** The register that a table or a script gives, and how it was read. */
 export interface Base {
-  readonly members: readonly Member[];
-  readonly commands: readonly Command[];
-  readonly chairNames: Readonly<Record<number, string>>;
-  /** Choices made when the table was read, each a sentence. */
+  /** The beginning of a script, without the study's changes and readings; its last line has a line end. */
+  readonly script: string;
+  /** The names of members by their codes, and of chairs by their numbers. */
+  readonly names: Readonly<Record<string, string>>;
+  readonly chairNames: Readonly<Record<string, string>>;
+  /** The members' rows in the table, from 1. */
+  readonly rows: Readonly<Record<string, number>>;
+  /** Choices made when the base was read, each a sentence. */
   readonly choices: readonly string[];
   /** The SHA-256 of the table's text, and its columns by what they mean. */
   readonly hash: string;
   readonly columns: Readonly<Record<string, string>>;
+}
+
+export type Who =
+  | { readonly kind: "member"; readonly code: string }
+  | { readonly kind: "chair"; readonly chair: number };
+
+/** A sweep's request. From, to and by are plain decimals: votes, or per cent of the total voting power. */
+export interface SweepAsked {
+  readonly who: Who;
+  readonly on: "base" | "changed";
+  readonly unit: "votes" | "percent";
+  readonly from: string;
+  readonly to: string;
+  readonly by: string;
 }
 
 export interface Study {
@@ -58,6 +70,7 @@ export interface Study {
   readonly scenarios: readonly Scenario[];
   /** The published total to compare with, or null. */
   readonly published: number | null;
+  readonly sweep: SweepAsked | null;
 }
 
 export const TABS = ["power", "change", "curve", "table"] as const;
@@ -74,6 +87,9 @@ export interface View {
   readonly digits: number;
   readonly fractions: boolean;
   readonly tab: Tab;
+  /** The chair whose curve is shown, or null for that of the sweep; and whether its votes are drawn, too. */
+  readonly curveChair: number | null;
+  readonly curveVotes: boolean;
 }
 
 export const FIRST_VIEW: View = {
@@ -84,7 +100,14 @@ export const FIRST_VIEW: View = {
   digits: 3,
   fractions: false,
   tab: "power",
+  curveChair: null,
+  curveVotes: false,
 };
+
+/** A study of a base, without changes. */
+export function studyOf(name: string, base: Base, changes: readonly Change[] = []): Study {
+  return { name, base, changes, scenarios: [], published: null, sweep: null };
+}
 
 /** The study with other changes. */
 export function withChanges(study: Study, changes: readonly Change[]): Study {
@@ -93,8 +116,8 @@ export function withChanges(study: Study, changes: readonly Change[]): Study {
 
 /** A number that no change of the study has. */
 export function freshId(study: Study): number {
-  const all = [...study.changes, ...study.scenarios.flatMap((it) => it.changes)];
-  return 1 + Math.max(0, ...all.map((it) => it.id));
+  const all = [study.changes, ...study.scenarios.map((it) => it.changes)];
+  return all.flat().reduce((most, { id }) => Math.max(most, id), 0) + 1;
 }
 
 /** The study with changes added at the end. */

@@ -1,18 +1,28 @@
-/** A study as data: in a page that holds one, and in the file next to an exported script. It checks what it reads. */
+/** A study as data: in a page that holds one, and in a saved file. It checks what it reads. */
+import { Command } from "../../bindings/javascript/src/commands";
+import { scriptWith } from "./script";
 import {
-  FIRST_VIEW, ORDERS, TABS, type Base, type Change, type Command, type Member, type Percentage, type Scenario,
-  type Study, type View,
+  FIRST_VIEW, ORDERS, TABS, type Base, type Change, type Percentage, type Scenario, type Study, type SweepAsked,
+  type View,
 } from "./study";
-import { CHAIRS, MAJORITIES, MEASURES, MOST_VOTES } from "./words";
+import { CHAIRS, MAJORITIES, MEASURES } from "./words";
 
 export interface StudyData {
   readonly study: Study;
   readonly view: View;
 }
 
+const [FORMAT, FIRST_FORMAT] = ["board study 2", "board study 1"];
+const MOST_DIGITS = 10;
+
 /** The data as a text that is safe in a page. */
 export function dataText(data: StudyData, provenance: readonly string[]): string {
-  return JSON.stringify({ format: "board study 1", provenance, ...data }, null, 1).replace(/</g, "\\u003c");
+  return JSON.stringify({ format: FORMAT, provenance, ...data }, null, 1).replace(/</g, "\\u003c");
+}
+
+/** Whether a text is a study as data. */
+export function isData(text: string): boolean {
+  return /^\ufeff?\s*\{\s*"format": "board study/.test(text);
 }
 
 type Fields = Readonly<Record<string, unknown>>;
@@ -34,7 +44,7 @@ function list(value: unknown, what: string): readonly unknown[] {
 }
 
 function text(value: unknown, what: string): string {
-  must(typeof value === "string" && value.length < 10_000, what);
+  must(typeof value === "string", what);
   return value as string;
 }
 
@@ -49,53 +59,28 @@ function oneOf<Item>(items: readonly Item[], value: unknown, what: string): Item
   return found as Item;
 }
 
-function code(value: unknown): string {
-  const found = text(value, "a code");
-  must(/^[A-Z]{3}$/.test(found), `the code ${found}`);
-  return found;
-}
-
-function votes(value: unknown): number {
-  const found = whole(value, "votes");
-  must(found <= MOST_VOTES, "votes");
-  return found;
-}
-
+/** A command, whose parts have the types of its kind; the register judges their values. */
 function command(value: unknown): Command {
-  const found = fields(value, "a command");
-  const { word } = found;
-  switch (word) {
-    case "open":
-    case "close":
-      return { word, chair: oneOf(CHAIRS, found["chair"], "a chair") };
-    case "move":
-      return {
-        word,
-        code: code(found["code"]),
-        chair: found["chair"] === null ? null : oneOf(CHAIRS, found["chair"], "a chair"),
-      };
-    case "votes":
-    case "admit":
-      return { word, code: code(found["code"]), votes: votes(found["votes"]) };
-    case "suspend":
-    case "restore":
-    case "withdraw":
-      return { word, code: code(found["code"]) };
-    default:
-      throw new NotAStudy("this is no study of this page: a command");
+  try {
+    return new Command(fields(value, "a command") as never);
+  } catch (why) {
+    throw new NotAStudy(`this is no study of this page: ${why instanceof Error ? why.message : String(why)}`);
   }
+}
+
+function decimal(value: unknown, what: string): string {
+  const found = text(value, what);
+  must(/^[+-]?[0-9]+(\.[0-9]+)?$/.test(found), what);
+  return found;
 }
 
 function what(value: unknown): Command | Percentage {
   const found = fields(value, "a change");
-  if (found["word"] !== "percent") return command(value);
-  const percent = text(found["percent"], "a percentage");
+  if (found["kind"] !== "percent") return command(value);
   const of = oneOf(["own", "total"] as const, found["of"], "a percentage");
-  must(
-    (of === "own" ? /^[+-][0-9]{1,9}(\.[0-9]{1,9})?$/ : /^[0-9]{1,9}(\.[0-9]{1,9})?$/).test(percent),
-    "a percentage",
-  );
-  return { word: "percent", of, code: code(found["code"]), percent };
+  const percent = decimal(found["percent"], "a percentage");
+  must(/^[+-]/.test(percent) === (of === "own"), "the sign of a percentage");
+  return { kind: "percent", of, code: text(found["code"], "a code"), percent };
 }
 
 function change(value: unknown): Change {
@@ -104,31 +89,44 @@ function change(value: unknown): Change {
   return { id: whole(found["id"], "a change"), on: found["on"] === true, what: what(found["what"]), ...name };
 }
 
-function member(value: unknown): Member {
-  const found = fields(value, "a member");
-  const row = whole(found["row"], "a row");
-  return { code: code(found["code"]), name: text(found["name"], "a name"), votes: votes(found["votes"]), row };
-}
+type Read<Value> = (value: unknown, name: string) => Value;
 
-function texts(value: unknown, name: string): Record<string, string> {
-  return Object.fromEntries(Object.entries(fields(value, name)).map(([key, it]) => [key, text(it, name)]));
+function record<Value>(value: unknown, name: string, of: Read<Value>): Record<string, Value> {
+  return Object.fromEntries(Object.entries(fields(value, name)).map(([key, it]) => [key, of(it, name)]));
 }
 
 function base(value: unknown): Base {
   const found = fields(value, "a base");
   return {
-    members: list(found["members"], "members").map(member),
-    commands: list(found["commands"], "commands").map(command),
-    chairNames: texts(found["chairNames"], "names of chairs"),
+    script: text(found["script"], "a script"),
+    names: record(found["names"], "names", text),
+    chairNames: record(found["chairNames"], "names of chairs", text),
+    rows: record(found["rows"], "rows", whole),
     choices: list(found["choices"], "choices").map((it) => text(it, "a choice")),
     hash: text(found["hash"], "a hash"),
-    columns: texts(found["columns"], "columns"),
+    columns: record(found["columns"], "columns", text),
   };
 }
 
 function scenario(value: unknown): Scenario {
   const found = fields(value, "a scenario");
   return { name: text(found["name"], "a name"), changes: list(found["changes"], "changes").map(change) };
+}
+
+function sweep(value: unknown): SweepAsked | null {
+  if (value === null || value === undefined) return null;
+  const found = fields(value, "a sweep");
+  const who = fields(found["who"], "a sweep");
+  return {
+    who: who["kind"] === "chair"
+      ? { kind: "chair", chair: oneOf(CHAIRS, who["chair"], "a chair") }
+      : { kind: "member", code: text(who["code"], "a code") },
+    on: oneOf(["base", "changed"] as const, found["on"], "a sweep"),
+    unit: oneOf(["votes", "percent"] as const, found["unit"], "a sweep"),
+    from: decimal(found["from"], "a sweep"),
+    to: decimal(found["to"], "a sweep"),
+    by: decimal(found["by"], "a sweep"),
+  };
 }
 
 function study(value: unknown): Study {
@@ -139,6 +137,7 @@ function study(value: unknown): Study {
     changes: list(found["changes"], "changes").map(change),
     scenarios: list(found["scenarios"], "scenarios").map(scenario),
     published: found["published"] === null ? null : whole(found["published"], "a total"),
+    sweep: sweep(found["sweep"]),
   };
 }
 
@@ -150,18 +149,47 @@ function view(value: unknown): View {
     measure: oneOf(MEASURES, found["measure"], "a measure"),
     order: oneOf(ORDERS, found["order"], "an order"),
     orderAt: oneOf(MAJORITIES, found["orderAt"], "a majority"),
-    digits: Math.min(10, whole(found["digits"], "digits")),
+    digits: Math.min(MOST_DIGITS, whole(found["digits"], "digits")),
     fractions: found["fractions"] === true,
     tab: oneOf(TABS, found["tab"], "a tab"),
+    curveChair: CHAIRS.find((it) => it === found["curveChair"]) ?? null,
+    curveVotes: found["curveVotes"] === true,
   };
+}
+
+/** A command of the first format, which had `word` for `kind`. */
+function renamed(value: unknown): Fields {
+  const { word, ...parts } = fields(value, "a command");
+  return { kind: word, ...parts };
+}
+
+/** The data of the first format in the present one: there a base had members and commands in place of a script. */
+function fromFirst(data: Fields): Fields {
+  const old = fields(data["study"], "a study");
+  const { members, commands, ...rest } = fields(old["base"], "a base");
+  const all = list(members, "members").map((it) => fields(it, "a member"));
+  const pairs = (part: string) => Object.fromEntries(all.map((it) => [text(it["code"], "a code"), it[part]]));
+  const entries = all.map((it) => `${text(it["code"], "a code")},${whole(it["votes"], "votes")}`);
+  const records = list(commands, "commands").map((it) => String(command(renamed(it))));
+  const changed = (value: unknown) => list(value, "changes").map((it) => {
+    const found = fields(it, "a change");
+    return { ...found, what: renamed(found["what"]) };
+  });
+  const scenarios = list(old["scenarios"], "scenarios").map((it) => {
+    const found = fields(it, "a scenario");
+    return { ...found, changes: changed(found["changes"]) };
+  });
+  const script = scriptWith("member,votes\n", [...entries, "script", ...records]);
+  const base = { ...rest, script, names: pairs("name"), rows: pairs("row") };
+  return { ...data, study: { ...old, base, changes: changed(old["changes"]), scenarios } };
 }
 
 /** The study in a text of data, or null if it has none. Throws if it isn't a study. */
 export function readData(json: string): StudyData | null {
-  const found: unknown = JSON.parse(json);
+  const found: unknown = JSON.parse(json.replace(/^\ufeff/, ""));
   if (found === null) return null;
-  const data = fields(found, "its data");
-  must(data["format"] === "board study 1", "its format");
-  const read = { study: study(data["study"]), view: view(data["view"]) };
-  return read;
+  const given = fields(found, "its data");
+  const data = given["format"] === FIRST_FORMAT ? fromFirst(given) : given;
+  must([FORMAT, FIRST_FORMAT].includes(text(data["format"], "its format")), "its format");
+  return { study: study(data["study"]), view: view(data["view"]) };
 }

@@ -1,7 +1,7 @@
-/** The words of majorities, measures, refusals and faults, from docs/FORMATS.md and docs/DEFINITIONS.md. */
+/** The words of majorities and measures; the names, limits and reasons are those of the package. */
+import { CHAIRS as MOST, MAJORITIES, REFUSALS, type Majority } from "../../bindings/javascript/src/names";
 
-export const MAJORITIES = ["half", "70", "85", "quorum"] as const;
-export type Majority = typeof MAJORITIES[number];
+export { MAJORITIES, type Majority };
 
 interface MajorityWords {
   /** The form at the beginning of a sentence. */
@@ -47,7 +47,7 @@ interface MeasureWords {
   readonly label: string;
   readonly definition: string;
   readonly source: string;
-  /** Its column of the line `chair`. */
+  /** Its column in the lines of `board replay`. */
   readonly column: string;
 }
 
@@ -84,40 +84,14 @@ export const MEASURE: Readonly<Record<Measure, MeasureWords>> = {
   },
 };
 
-/** The refusals and faults of docs/FORMATS.md, by their names. */
-const REASONS: Readonly<Record<string, string>> = {
-  ChairOpen: "the chair is open already",
-  ChairNotOpen: "the chair is not open",
-  ChairHasMembers: "the chair has members, suspended ones counted",
-  UnknownMember: "no member has this code",
-  MemberSuspended: "the member's voting rights are suspended",
-  AlreadyThere: "the member is there already",
-  AlreadySuspended: "the member is suspended already",
-  NotSuspended: "the member is not suspended",
-  JournalFull: "as many commands as the journal limit were accepted",
-  OutOfMemory: "out of memory",
-  DuplicateMember: "two members have the same code",
-  TooManyMembers: "there are more than 256 members",
-  BadChair: "a chair's number is not from 1 to 32",
-  BadMember: "a member's code is not three ASCII capitals",
-  VotesTooLarge: "a member has more than 2^40 votes",
-  BadRecord: "a record is not well formed",
-  BadHeader: "the first record is not 'member,votes'",
-  BadReader: "there is no reader of this number",
-  MemberExists: "a member has this code already",
-  MemberSeated: "the member sits in a chair",
-  NoScript: "the input ends before the record 'script'",
-  TooLong: "the input has more than 4,194,304 bytes",
-};
-
-/** The reason of a refusal or a fault in words. */
+/** The reason of a refusal or a fault, by its name in docs/FORMATS.md. */
 export function reasonOf(name: string): string {
-  return REASONS[name] ?? name;
+  return REFUSALS.find(([it]) => it === name)?.[1] ?? name;
 }
 
-export const MOST_MEMBERS = 256;
-export const MOST_CHAIRS = 32;
-export const MOST_VOTES = 2 ** 40;
+export {
+  CHAIRS as MOST_CHAIRS, INPUT_BYTES, MEMBERS as MOST_MEMBERS, MEMBER_VOTES as MOST_VOTES,
+} from "../../bindings/javascript/src/names";
 
 /** All numbers that a chair may have. */
-export const CHAIRS: readonly number[] = Array.from({ length: MOST_CHAIRS }, (_, at) => at + 1);
+export const CHAIRS: readonly number[] = Array.from({ length: MOST }, (_, at) => at + 1);

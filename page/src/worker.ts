@@ -1,36 +1,36 @@
-/** The worker: it replays scripts over the module, and counts a board over all its coalitions. */
-import { plainCount, type Weights } from "./plain";
-import { replayOver, type Replayed } from "./module";
+/** The worker: it carries out the page's orders, of which a long one gives way to others from time to time. */
+import { Engine } from "./engine";
+import type { Kind, Orders } from "./orders";
+import { pausing } from "./pausing";
+import { problemOf, type Problem } from "./problem";
 
-/** An order of the page, with a number that the answer repeats. */
-export type Order =
-  | { readonly id: number; readonly kind: "module"; readonly bytes: Uint8Array }
-  | { readonly id: number; readonly kind: "replay"; readonly script: string }
-  | { readonly id: number; readonly kind: "plain"; readonly weights: Weights };
+/** An order with a number that all answers to it repeat; or the number of an order that is cancelled. */
+export type Message =
+  | { readonly id: number; readonly kind: Kind; readonly ask: Orders[Kind]["ask"] }
+  | { readonly id: number; readonly kind: "cancel" };
 
 export type Reply =
-  | { readonly id: number; readonly value: Replayed | number[] | null }
-  | { readonly id: number; readonly error: string };
+  | { readonly id: number; readonly value: Orders[Kind]["answer"] }
+  | { readonly id: number; readonly done: number }
+  | { readonly id: number; readonly error: Problem };
 
 /** The part of a worker's global scope that the page uses. */
-declare const self: { onmessage: (event: MessageEvent<Order>) => void; postMessage(reply: Reply): void };
+declare const self: { onmessage: (event: MessageEvent<Message>) => void; postMessage(reply: Reply): void };
 
-let replay: ((script: string) => Replayed) | null = null;
+const engine = new Engine();
+const cancelled = new Set<number>();
 
-function carryOut(order: Order): Replayed | number[] | null {
-  if (order.kind === "plain") return plainCount(order.weights);
-  if (order.kind === "replay") {
-    if (!replay) throw new Error("no module was sent");
-    return replay(order.script);
+self.onmessage = async ({ data }) => {
+  const { id, kind } = data;
+  if (kind === "cancel") {
+    cancelled.add(id);
+    return;
   }
-  replay = replayOver(order.bytes);
-  return null;
-}
-
-self.onmessage = ({ data }) => {
+  const progress = pausing((done) => self.postMessage({ id, done }), () => cancelled.has(id));
   try {
-    self.postMessage({ id: data.id, value: carryOut(data) });
+    self.postMessage({ id, value: await engine.carryOut(kind, data.ask as never, progress) });
   } catch (why) {
-    self.postMessage({ id: data.id, error: String(why) });
+    self.postMessage({ id, error: problemOf(why) });
   }
+  cancelled.delete(id);
 };

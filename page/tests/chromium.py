@@ -14,6 +14,8 @@ from selenium.webdriver.support.select import Select
 from selenium.webdriver.support.wait import WebDriverWait
 
 SECONDS = 20.0
+# The browsers of a module of tests that is run in all of them.
+EVERY = ["chromium", "firefox"]
 WIDE, NARROW = 1280, 390
 HERE = Path(__file__).parent
 ACCESS, ACTS = ((HERE / name).read_text() for name in ["access.js", "acts.js"])

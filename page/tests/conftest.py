@@ -1,4 +1,6 @@
-"""Fixtures of the tests: one browser for all of them, and the page opened from scratch for each."""
+"""Fixtures of the tests: one browser of a kind for all of them, and the page opened from scratch for each.
+
+A module with `BROWSERS = EVERY` is run in Chromium and in Firefox, the others in Chromium."""
 from __future__ import annotations
 
 import os
@@ -7,10 +9,13 @@ from pathlib import Path
 
 import pytest
 from _pytest.terminal import TerminalReporter
-from chromium import Page
+from chromium import EVERY, Page
+from firefox import FirefoxPage, firefox
 from oracle import TOP, Oracle
 
 BUILT = TOP / "page" / "out" / "board.html"
+# Chromium's words when a test leaves a page that would ask first, but that nobody has clicked on.
+LEFT = "Blocked attempt to show a 'beforeunload' confirmation panel"
 # Lines for the report's end.
 TIMES: list[str] = []
 
@@ -20,20 +25,34 @@ def oracle() -> Oracle:
     return Oracle(Path(os.environ["BOARD"]))
 
 
+def pytest_generate_tests(metafunc: pytest.Metafunc) -> None:
+    """Runs the tests of a module in its browsers, all of them in one before the other."""
+    if "page" not in metafunc.fixturenames:
+        return
+    is_chromium_alone = metafunc.function.__name__ in getattr(metafunc.module, "NOT_IN_FIREFOX", ())
+    browsers = EVERY[:1] if is_chromium_alone else getattr(metafunc.module, "BROWSERS", EVERY[:1])
+    metafunc.parametrize("browser", browsers, indirect=True, scope="session")
+
+
 @pytest.fixture(scope="session")
-def browser(tmp_path_factory: pytest.TempPathFactory) -> Iterator[Page]:
-    page = Page(BUILT, tmp_path_factory.mktemp("downloads"))
+def browser(request: pytest.FixtureRequest, tmp_path_factory: pytest.TempPathFactory) -> Iterator[Page]:
+    downloads = tmp_path_factory.mktemp("downloads")
+    if request.param == "firefox":
+        with firefox(downloads) as fox:
+            yield FirefoxPage(BUILT, downloads, fox)
+        return
+    page = Page(BUILT, downloads)
     yield page
     page.driver.quit()
 
 
 @pytest.fixture
 def page(browser: Page) -> Iterator[Page]:
-    """The page, just opened. A test fails if anything appears on the console."""
+    """The page, just opened. A test fails if anything appears on Chromium's console."""
     browser.driver.get_log("browser")
     browser.open()
     yield browser
-    said = browser.driver.get_log("browser")
+    said = [it for it in browser.driver.get_log("browser") if LEFT not in it["message"]]
     assert not said, f"on the console: {said}"
 
 

@@ -27,8 +27,14 @@ EACH = 3
 
 
 def rows(page: Page) -> dict[int, list[tuple[str, str]]]:
-    """The table's cells by chair: the text, and the exact fraction."""
-    return {chair: [(text, fraction) for text, fraction in cells] for chair, cells in page.wait_for(ROWS)}
+    """The table's cells by chair: the text, and the exact fraction. A chair that was closed and opened again has two
+    rows, one with the cells of the base and one with those of the changed board."""
+    found: dict[int, list[tuple[str, str]]] = {}
+    for chair, cells in page.wait_for(ROWS):
+        earlier = found.get(chair, [("", "")] * len(cells))
+        both = zip(earlier, cells)
+        found[chair] = [(old[0], old[1]) if old[1] else (new[0], new[1]) for old, new in both]
+    return found
 
 
 def shown_majorities(page: Page) -> list[str]:
@@ -39,9 +45,15 @@ def measure_of(chair: Chair, measure: str) -> Ratio | None:
     return Ratio(chair.swings, 1) if measure == "swings" else getattr(chair, measure)
 
 
+def lowest(ratio: Ratio | None) -> str:
+    """A fraction as the page has it: in lowest terms, and with a denominator of 1, too."""
+    value = ratio and exact(ratio)
+    return "-" if value is None else f"{value.numerator}/{value.denominator}"
+
+
 def fraction_text(ratio: Ratio | None, measure: str) -> str:
-    """A fraction in the page's form: as the program prints it, and swings as a number."""
-    return "-" if ratio is None else str(ratio.numerator) if measure == "swings" else str(ratio)
+    """A value in the page's form: a fraction, and swings as a number."""
+    return str(ratio.numerator) if ratio and measure == "swings" else lowest(ratio)
 
 
 def check_figures(page: Page, oracle: Oracle, commands: list[str], measure: str = "share") -> None:

@@ -17,7 +17,7 @@ LEAST_CONTRAST = 4.5
 MOST_STOPS = 400
 # Higher than the page, so that nothing is scrolled away.
 TALL = 12_000
-OPENERS = ["#export", "#paste", "#seal", "#admit-open", "#best-open", "#recount-open", "#cite-open"]
+OPENERS = ["#name-1", "#export", "#paste", "#seal", "#admit-open", "#best-open", "#recount-open", "#cite-open"]
 TABS = ["#tab-power", "#tab-change", "#tab-curve", "#tab-table"]
 
 
@@ -79,6 +79,21 @@ def test_contrast(page: Page, scheme: str) -> None:
     page.run(DROP, "faulty.csv", inputs.FAULTY)
     page.until(lambda: page.all("#table-dialog"), "the preview")
     check_contrast(page, "the preview")
+
+
+@pytest.mark.parametrize("scheme", ["light", "dark"])
+def test_contrast_of_what_is_refused(page: Page, scheme: str) -> None:
+    # Catches: a sentence under a field, or a chair that a filter dims, that can't be read.
+    page.show(height=TALL, scheme=scheme)
+    page.write("#published", "504.90")
+    page.write("#filter", "XAD")
+    assert page.all(".line") and page.text("#published-wrong")
+    check_contrast(page, "the page")
+    page.click("#chip-XAD")
+    page.write("#votes-total", "12,500")
+    assert page.text("#votes-total-wrong")
+    check_contrast(page, "the menu")
+    check_names(page, "the menu")
 
 
 def test_width_of_a_phone(page: Page) -> None:

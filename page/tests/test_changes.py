@@ -186,8 +186,8 @@ def test_overtaken_run(page: Page, oracle: Oracle) -> None:
       const at = (place) => document.querySelector(`#changes ${place}`);
       const look = () => Number(getComputedStyle(document.getElementById("panel")).opacity), looks = [look()];
       for (const percent of [50, 60, 70]) {
-        at("input[type=number]").value = percent;
-        at("input[type=number]").dispatchEvent(new Event("input", { bubbles: true }));
+        at("input[type=range]").value = percent;
+        at("input[type=range]").dispatchEvent(new Event("input", { bubbles: true }));
         looks.push(look());
       }
       at("[id^=remove]").click();

@@ -12,7 +12,7 @@ from pathlib import Path
 import pytest
 from board_python.replay_output import read_output
 from chromium import Page
-from figures import BEFORE, EACH, check_figures, rows, shown_majorities
+from figures import BEFORE, EACH, check_figures, lowest, rows, shown_majorities
 from oracle import EXAMPLE, TOP, Oracle
 from selenium.webdriver.common.keys import Keys
 from test_random import table_of
@@ -54,7 +54,7 @@ def test_script(study: Page, oracle: Oracle) -> None:
 def test_beside(study: Page, oracle: Oracle) -> None:
     # Catches: a script that is passed on without a word on where its numbers come from.
     name, content = study.downloaded("#export-beside")
-    assert name.endswith(".provenance.json")
+    assert name.endswith(".study.json")
     check_provenance("\n".join(json.loads(content)["provenance"]), study, oracle)
 
 
@@ -63,7 +63,7 @@ def test_csv(study: Page, oracle: Oracle) -> None:
     _, content = study.downloaded("#export-csv")
     head = [line for line in content.decode().splitlines() if line.startswith("# ")]
     check_provenance("\n".join(head), study, oracle)
-    assert table_of(content.decode()) == oracle.study({"changed": COMMANDS}, shown_majorities(study))
+    assert table_of(content.decode()) == table_of(oracle.study({"changed": COMMANDS}, shown_majorities(study)))
 
 
 def test_csv_of_the_script(study: Page, oracle: Oracle, tmp_path: Path) -> None:
@@ -184,7 +184,7 @@ def test_script_of_another_form(page: Page, oracle: Oracle) -> None:
     for reading in last:
         at = shown_majorities(page).index(reading.majority)
         found = {chair: of[BEFORE + EACH * at + 1][1] for chair, of in rows(page).items()}
-        assert found == {it.chair: str(it.share) for it in reading.chairs}
+        assert found == {it.chair: lowest(it.share) for it in reading.chairs}
     assert len(last) == 2 < len(readings)
     assert "another form" in page.text("#choices")
 

@@ -5,7 +5,7 @@ import pytest
 from board_python.replay_output import Ratio
 from board_python.rounding import exact, rounded
 from chromium import Page
-from figures import BEFORE, EACH, check_figures, gains, measure_of, rows, shown_majorities
+from figures import BEFORE, EACH, check_figures, gains, lowest, measure_of, rows, shown_majorities
 from oracle import MAJORITIES, Oracle
 
 COMMANDS = ["votes,XAD,318104", "move,XAA,2"]
@@ -71,8 +71,8 @@ def test_sentence(changed: Page, oracle: Oracle) -> None:
     best, worst = max(of, key=lambda it: of[it]), min(of, key=lambda it: of[it])
     names = oracle.table.chair_names
     points = {it: rounded(100 * of[it], 3) for it in (best, worst)}
-    wanted = f"At 85 per cent chair {best} {names[best]} gains most (+{points[best]} points), "
-    wanted += f"chair {worst} {names[worst]} loses most ({points[worst]})."
+    wanted = f"At 85 per cent, by share of power, chair {best} {names[best]} gains most (+{points[best]} points), "
+    wanted += f"chair {worst} {names[worst]} loses most ({points[worst]} points)."
     assert wanted in changed.texts("#sentences p")
 
 
@@ -96,7 +96,7 @@ def test_fraction_at_each_number(page: Page, oracle: Oracle) -> None:
       row.dispatchEvent(new MouseEvent("pointerover", { bubbles: true }));
     """)
     for reading in oracle.output([], shown_majorities(page)).readings:
-        assert str(reading.chairs[4].share) in page.text("#readout")
+        assert lowest(reading.chairs[4].share) in page.text("#readout")
     page.click("#tab-table")
     page.click("#toggle-fractions")
     assert rows(page)[5][BEFORE][0] == rows(page)[5][BEFORE][1]

@@ -11,7 +11,7 @@ from board_python.replay_output import Chair, Ratio
 from board_python.rounding import exact, rounded
 from board_python.standing import standing_of
 from chromium import ACTS, Page
-from figures import check_figures, gains, shown_majorities
+from figures import check_figures, gains, lowest, shown_majorities
 from oracle import Oracle, least
 from selenium.webdriver.common.action_chains import ActionChains
 from test_exports import DROP
@@ -63,7 +63,7 @@ def test_sweep_of_a_member(page: Page, oracle: Oracle) -> None:
     for value, votes, _, *shares in cells[::6]:
         [command] = with_numbers(standing_of(oracle.table), f"votes,XAD,{value}% of total")
         assert command == f"votes,XAD,{votes.replace(',', '')}"
-        assert shares == [str(chair_at(oracle, [command], at, 4).share) for at in ("half", "85")]
+        assert shares == [lowest(chair_at(oracle, [command], at, 4).share) for at in ("half", "85")]
 
 
 def test_threshold(page: Page, oracle: Oracle) -> None:
@@ -97,7 +97,7 @@ def test_sweep_of_a_chair_on_the_changed_board(page: Page, oracle: Oracle) -> No
     assert seated
     for value, votes, _, *shares in page.run(CELLS)[::8]:
         assert votes.replace(",", "") == value
-        assert shares == [str(chair_at(oracle, others(int(value)), at, 5).share) for at in ("half", "85")]
+        assert shares == [lowest(chair_at(oracle, others(int(value)), at, 5).share) for at in ("half", "85")]
     votes = least(lambda it: is_one(chair_at(oracle, others(it), "85", 5).prevent), 0, MOST_VOTES)
     assert any(f"prevents everything from {votes:,} votes" in it for it in page.texts("#thresholds li"))
 
@@ -107,7 +107,7 @@ def test_sweep_in_csv(page: Page, oracle: Oracle, first: str, last: str, by: str
     # Catches: steps that are written differently from board_study's.
     sweep(page, "XAD", "base", first, last, by)
     wanted = oracle.study({}, shown_majorities(page), f"XAD {first}..{last} by {by} %")
-    assert table_of(page.act("exported", "export-csv")) == wanted
+    assert table_of(page.act("exported", "export-csv")) == table_of(wanted)
 
 
 @pytest.mark.parametrize(("first", "last", "by"), [("10", "20", "3"), ("20", "10", "1"), ("0", "99", "0.01")])
@@ -136,7 +136,7 @@ def test_scenarios(page: Page, oracle: Oracle) -> None:
             words = page.text(f'#scenarios tr[data-scenario="{name}"][data-majority="{majority}"]')
             wanted = [f"{it} {names[it]} ({signed(rounded(100 * of[it], 3))})" for it in (best, worst)]
             assert " ".join(wanted) in words
-    assert table_of(page.act("exported", "export-csv")) == oracle.study(kept, shown_majorities(page))
+    assert table_of(page.act("exported", "export-csv")) == table_of(oracle.study(kept, shown_majorities(page)))
     page.click('[aria-label="Show A move"]')
     check_figures(page, oracle, kept["A move"])
     page.click('[aria-label="Remove A move"]')
@@ -150,7 +150,7 @@ def test_csv_of_a_scenario_just_kept(page: Page, oracle: Oracle) -> None:
     keep = 'document.getElementById("scenario-keep").click();'
     csv = page.wait_for(keep + ACTS, "exported", "export-csv")
     wanted = {"changed": ["votes,XAD,318104"], "More votes": ["votes,XAD,318104"]}
-    assert table_of(csv) == oracle.study(wanted, shown_majorities(page))
+    assert table_of(csv) == table_of(oracle.study(wanted, shown_majorities(page)))
 
 
 def test_best_move(page: Page, oracle: Oracle) -> None:
@@ -165,7 +165,7 @@ def test_best_move(page: Page, oracle: Oracle) -> None:
     found = dict(page.run(rows))
     elsewhere = [it.code for it in oracle.table.members if it.chair != 5]
     wanted = {code: chair_at(oracle, [f"move,{code},5"], "85", 5).share for code in elsewhere}
-    assert found == {code: str(it) for code, it in wanted.items()}
+    assert found == {code: lowest(it) for code, it in wanted.items()}
     shares = [exact(it) for it in (wanted[code] for code in found) if it]
     assert shares == sorted(shares, reverse=True) and len(shares) == len(elsewhere)
 
@@ -178,10 +178,10 @@ def test_slider(page: Page, oracle: Oracle) -> None:
         9, 0
     ).release().perform()
     page.settle()
-    votes = int(str(page.at("#changes input[type=number]").get_property("value")))
+    votes = int(str(page.at("#changes .slider [id^=number-]").get_property("value")))
     assert votes > 300_000
     check_figures(page, oracle, [f"votes,XAD,{votes}"])
-    page.write("#changes input[type=number]", "400000")
+    page.write("#changes .slider [id^=number-]", "400000")
     check_figures(page, oracle, ["votes,XAD,400000"])
     for before in [votes, 300_000]:
         page.click("#undo")
@@ -193,8 +193,7 @@ def test_slider(page: Page, oracle: Oracle) -> None:
 def test_independent_count(page: Page) -> None:
     # Catches: a second count that agrees since it is never made.
     page.run(DROP, "council.csv", inputs.PLAIN)
-    page.until(lambda: page.all("#merged-no"), "the preview")
-    page.click("#merged-no")
+    page.until(lambda: page.all("#table-take"), "the preview")
     take(page, "council")
     page.click("#recount-open")
     page.click("#recount-run")

@@ -9,9 +9,9 @@ from test_studies import sweep
 
 EDITS = 100
 SLIDE = """
-  const [votes, done] = arguments, box = document.querySelector("#changes input[type=number]");
+  const [votes, done] = arguments, box = document.querySelector("#changes .slider [id^=number-]");
   box.value = votes;
-  box.dispatchEvent(new Event("input", { bubbles: true }));
+  box.dispatchEvent(new Event("change", { bubbles: true }));
   const count = () => performance.getEntriesByName("edit to numbers").length, before = count();
   (function settle() { if (count() > before) done(); else setTimeout(settle, 1); })();
 """

@@ -55,16 +55,4 @@ declare module "d3-selection" {
     node(): Element | null;
   }
   export function select(node: Element): Selection;
-  export const event: { sourceEvent: MouseEvent };
-}
-declare module "d3-drag" {
-  import type { Selection } from "d3-selection";
-  export interface Drag {
-    (selection: Selection): void;
-    container(node: () => Element): Drag;
-    clickDistance(distance: number): Drag;
-    touchable(isTouchable: () => boolean): Drag;
-    on(name: string, listener: (this: HTMLElement) => void): Drag;
-  }
-  export function drag(): Drag;
 }

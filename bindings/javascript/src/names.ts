@@ -1,7 +1,7 @@
 /** The names, limits and sentences of the library. Made by tools/names from the sources: do not edit. */
 
 /** The version of the package and of its module. */
-export const VERSION = "0.9.0";
+export const VERSION = "0.10.0";
 export const CHAIRS = 32;
 export const MEMBERS = 256;
 export const COMMANDS = 1_000_000;
@@ -100,5 +100,5 @@ export const ALLOWED = Object.freeze({
   readers: "a whole number from 1 to 4",
   journal: "a whole number from 1 to 1000000",
   length: "a whole number from 0 to the number of accepted commands",
-  columns: "the columns are code, votes, chair, chair_name and suspended",
+  columns: "the columns are code, name, votes, chair, chair_name and suspended",
 });

@@ -73,12 +73,25 @@ class Run {
       return { kind: "published", record, number: this.handle.publish() };
     }
     const struct = this.#records.command(at);
-    const number = this.handle.apply(struct);
+    const number = this.#apply(struct);
     if (number === 0) return { kind: "accepted", record, number: this.handle.accepted };
-    if (number === OUT_OF_MEMORY) throw new Refused(number);
     const [name, reason] = REFUSALS[number]!;
     const command = recordOf(commandIn(new DataView(struct.buffer, struct.byteOffset), 0));
     return { kind: "refused", record, number, name, reason, command };
+  }
+
+  /** Carries out a record, and leaves a reading out. */
+  take(at: number): void {
+    const kind = this.#records.kind(at);
+    if (kind === PUBLISH) this.handle.publish();
+    else if (kind !== READ) this.#apply(this.#records.command(at));
+  }
+
+  /** Applies a command; the number of the refusal, or 0. */
+  #apply(struct: Uint8Array): number {
+    const number = this.handle.apply(struct);
+    if (number === OUT_OF_MEMORY) throw new Refused(number);
+    return number;
   }
 
   #reading(at: number): Reading {
@@ -141,8 +154,7 @@ export class Replay implements Iterable<Outcome> {
       throw new Refused(fault.number, sentenceOf(fault.number), { record: fault.record });
     }
     const run = new Run(this.script, this.#journal);
-    const records = recordsOf(this.script);
-    for (let at = 0; at < length; at++) if (records.kind(at) !== READ) run.step(at);
+    for (let at = 0; at < length; at++) run.take(at);
     return registerOf(run.handle);
   }
 }

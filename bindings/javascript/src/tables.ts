@@ -8,6 +8,8 @@ import { isList, isWhole, shown, text, whole, wrongType, type Whole } from "./va
 export interface MemberRow {
   /** Three ASCII capitals. */
   readonly code?: string;
+  /** Its name, which isn't used. */
+  readonly name?: string | null;
   /** Its votes, a whole number from 0. */
   readonly votes: Whole;
   /** The number of its chair, from 1 to 32, or null for a member in no chair. */
@@ -35,7 +37,7 @@ export interface Row {
   readonly suspended: boolean;
 }
 
-const COLUMNS = ["code", "votes", "chair", "chair_name", "suspended"];
+const COLUMNS = ["code", "name", "votes", "chair", "chair_name", "suspended"];
 /** The columns that a table must have, and the numbers by which its values are refused. */
 const WANTED = {
   board: { columns: ["votes", "chair"], votes: BAD_SHEET, votesAllowed: ALLOWED.weight, chair: BAD_SHEET },
@@ -90,6 +92,7 @@ function rowOf(cells: Cells, row: number, use: Use): Row {
   if (isWhole(cells.votes) && cells.votes > LARGEST && use === "board") {
     throw new Refused(votes, `${place}the votes are ${cells.votes}: ${ALLOWED.total_most}`);
   }
+  if (!isNone(cells.name)) text(cells.name, `${place}the name is`, ALLOWED.name);
   if (typeof suspended !== "boolean") throw wrongType(`${place}suspended is`, suspended, ALLOWED.suspended);
   return {
     row,

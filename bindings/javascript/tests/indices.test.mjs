@@ -5,7 +5,7 @@ import { refused, wrongType } from "./misuse.mjs";
 
 const WEIGHT = "votes are whole numbers from 0";
 const CHAIR = "a chair is a whole number from 1 to 32";
-const COLUMNS = "the columns are code, votes, chair, chair_name and suspended";
+const COLUMNS = "the columns are code, name, votes, chair, chair_name and suspended";
 const MOST = "at most 281474976710656";
 const swingsOf = ({ chairs }) => chairs.map(({ swings }) => swings);
 const badSheet = (call) => {

@@ -5,7 +5,7 @@ import { refused, thrown, wrongType } from "./misuse.mjs";
 
 const CODE = "a code is three ASCII capitals";
 const VOTES = "votes are whole numbers from 0 to 1099511627776";
-const COLUMNS = "the columns are code, votes, chair, chair_name and suspended";
+const COLUMNS = "the columns are code, name, votes, chair, chair_name and suspended";
 const CHAIR = "a chair is a whole number from 1 to 32";
 const BAD = "BadRecord (17), a record is not well formed";
 /** The answers of commands, by number: 0 for accepted, else the refusal. */
@@ -192,8 +192,10 @@ test("rows that no register has", () => {
   );
   equal(
     wrongType(by({ code: "BBB", Votes: 1 })),
-    "unknown column 'Votes': the columns are code, votes, chair, chair_name and suspended",
+    "unknown column 'Votes': the columns are code, name, votes, chair, chair_name and suspended",
   );
+  equal(new Register([{ code: "AAA", name: "Alland", votes: 1 }, { code: "BBB", name: null, votes: 2 }]).accepted, 0);
+  equal(wrongType(by({ code: "BBB", name: 5, votes: 1 })), "row 2: the name is 5 (number): a name is text");
   equal(wrongType(by({ code: 5, votes: 1 })), `row 2: the code is 5 (number): ${CODE}`);
   equal(wrongType(by({ code: "BBB", votes: 1, suspended: 1 })), "row 2: suspended is 1 (number): true or false");
   equal(

@@ -84,7 +84,7 @@ def test_tables(frame: Any) -> None:
 
 def test_wrong_tables() -> None:
     for name in ("Suspended", "suspended_before", "open"):
-        with pytest.raises(ValueError, match=f"unknown column '{name}': the columns are code, votes, chair, "):
+        with pytest.raises(ValueError, match=f"unknown column '{name}': the columns are code, name, votes, chair, "):
             Register(FRAME.assign(**{name: True}))
     with pytest.raises(ValueError, match="the column 'votes' is there 2 times"):
         Register(pandas.concat([FRAME, FRAME[["votes"]]], axis=1))
@@ -107,9 +107,7 @@ def test_wrong_tables() -> None:
 def test_example() -> None:
     file = Path(__file__).resolve().parents[3] / "examples" / "members.csv"
     frame = pandas.read_csv(file)
-    with pytest.raises(ValueError, match="unknown column 'name'"):
-        Register(frame)
-    register = Register(frame.drop(columns="name"))
+    register = Register(frame)
     assert register.indices("85").chairs[0].name == frame[frame["chair"] == 1]["chair_name"].iloc[0]
     assert register.indices("85").total == frame["votes"].sum()
 

@@ -119,7 +119,7 @@ def test_a_handler_that_uses_the_register() -> None:
 def test_a_second_thread() -> None:
     # Catches: two threads that tear a register.
     register = Register({"AAA": 1})
-    text = "open,1\nclose,1\n" * 150_000
+    text = "open,1\nclose,1\n" * 450_000
     with ThreadPoolExecutor(1) as pool:
         running = pool.submit(register.submit, text)
         while repr(register) != "Register(another thread is using it)" and not running.done():
@@ -131,8 +131,8 @@ def test_a_second_thread() -> None:
         for call in calls:
             with pytest.raises(RuntimeError, match="^another thread is using this register$"):
                 call()
-        assert running.result() == 300_000
-    assert register.open(2) == 300_001
+        assert running.result() == 900_000
+    assert register.open(2) == 900_001
 
 
 def test_many_threads_on_a_register() -> None:

@@ -221,14 +221,16 @@ def test_names() -> None:
 
 def test_columns() -> None:
     # Catches: a misspelled column that is ignored, and a table without one that it needs.
-    columns = "the columns are code, votes, chair, chair_name and suspended"
+    columns = "the columns are code, name, votes, chair, chair_name and suspended"
     table: dict[str, Any] = {"code": ["AAA", "BBB"], "votes": [1, 2], "chair": [1, None]}
-    for name in ("Suspended", "suspended_before", "suspend", "Chair", "open", "name", "", 5):
+    for name in ("Suspended", "suspended_before", "suspend", "Chair", "open", "Name", "", 5):
         bad = table | {name: [False, False]}
         wrong(lambda: Register(bad), f"unknown column {name!r}: {columns}", ValueError)
         wrong(lambda: indices_of_members(bad, "half"), f"unknown column {name!r}: {columns}", ValueError)
         rows = [dict(zip(bad, row)) for row in zip(*bad.values())]
         wrong(lambda: Register(rows), f"unknown column {name!r}: {columns}", ValueError)
+    assert Register(table | {"name": ["Alland", None]}).members == Register(table).members
+    wrong(lambda: Register(table | {"name": ["Alland", 5]}), "row 2: the name is 5 (int): a name is text")
     wrong(lambda: Register({"votes": [1]}), f"no column 'code': a register needs code and votes, and {columns}",
           ValueError)
     wrong(lambda: indices_of_members({"votes": [1]}, "half"),

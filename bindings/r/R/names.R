@@ -1,6 +1,6 @@
 # The names, limits and sentences of the library. Made by tools/names from the sources: do not edit.
 
-VERSION <- "0.9.0"
+VERSION <- "0.10.0"
 CHAIRS <- 32
 MEMBERS <- 256
 COMMANDS <- 1000000
@@ -30,7 +30,7 @@ KINDS <- list(
 )
 
 # The columns of a table of members.
-COLUMNS <- c("code", "votes", "chair", "chair_name", "suspended")
+COLUMNS <- c("code", "name", "votes", "chair", "chair_name", "suspended")
 
 # The reason of each refusal and each fault, by its name; their numbers count from 1.
 REFUSALS <- c(
@@ -88,5 +88,5 @@ ALLOWED <- c(
   readers = "a whole number from 1 to 4",
   journal = "a whole number from 1 to 1000000",
   length = "a whole number from 0 to the number of accepted commands",
-  columns = "the columns are code, votes, chair, chair_name and suspended"
+  columns = "the columns are code, name, votes, chair, chair_name and suspended"
 )

@@ -52,6 +52,12 @@ seats_of <- function(chairs, name) {
   ifelse(is.na(seats), 0, seats)
 }
 
+# Checks the names of members, which aren't used: they are text, or missing.
+check_member_names <- function(names) {
+  if (is.null(names) || is.factor(names) || is.character(names) || all(is.na(names))) return(invisible())
+  wrong_type(in_row(1, "the name is"), names[1], ALLOWED[["name"]])
+}
+
 # The names of all chairs by number, or NULL if none has one. A chair has one name.
 chair_names_of <- function(names, seats, refused) {
   if (is.null(names) || (is.logical(names) && all(is.na(names)))) return()
@@ -88,6 +94,7 @@ members_of <- function(table, in_register) {
   votes <- numbers_of(columns[["votes"]], of_votes, ALLOWED[[if (in_register) "votes" else "weight"]])
   members <- list(votes = check_votes(votes, of_votes, in_register))
   if (!is.null(columns[["code"]])) members$codes <- codes_of(columns[["code"]])
+  check_member_names(columns[["name"]])
   none <- rep(NA, length(votes))
   members$seats <- seats_of(if (is.null(columns[["chair"]])) none else columns[["chair"]], bad(chair = TRUE))
   members$chair_names <- chair_names_of(columns[["chair_name"]], members$seats, bad(chair = FALSE))

@@ -39,8 +39,8 @@ board_indices_of_all(x, ...)
 \details{
 A table is a data frame, or a list of vectors of one length, with a row for each member. Its columns are \code{votes};
 \code{chair}, a number from 1 to 32, or \code{NA} for a member in no chair; and if need be \code{code}, three capitals;
-\code{chair_name}; and \code{suspended}, \code{TRUE} for a member whose votes don't count. Other columns, and parts of
-these names, are refused.
+\code{name}, the member's name, which isn't used; \code{chair_name}; and \code{suspended}, \code{TRUE} for a member
+whose votes don't count. Other columns, and parts of these names, are refused.
 
 A swing of a chair is a set of other open chairs that loses, and wins once the chair is added.
 }

@@ -12,7 +12,7 @@ board_register(members, journal = 1000000)
 }
 \arguments{
 \item{members}{The votes of the members, a vector of numbers named by the members' codes. Or a table of members as of
-  \code{\link{board_indices}} with the columns \code{code} and \code{votes} and, if need be, \code{chair},
+  \code{\link{board_indices}} with the columns \code{code} and \code{votes} and, if need be, \code{name}, \code{chair},
   \code{chair_name} and \code{suspended}. At most 256 members, each with at most 2^40 votes. A code is three ASCII
   capitals, and is there once.}
 \item{journal}{The most commands that the register accepts, from 1 to 1,000,000.}

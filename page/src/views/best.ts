@@ -1,16 +1,22 @@
 /** The dialog of the best single move for a chair. */
 import type { App, Shown } from "../app";
-import { bestMoves, type Tried } from "../best";
 import { gainText, valueText } from "../compare";
 import { openDialog } from "../dialogs";
 import { button, choice, h, paint, type Child } from "../dom";
 import { fractionText, grouped } from "../fractions";
 import { chairWords, memberWords } from "../commandWords";
+import { isolated } from "../names";
 import { moveTo } from "../moves";
-import { chairName } from "../standing";
+import type { Tried } from "../orders";
+import type { Place } from "../standing";
 import { MAJORITY, MEASURE } from "../words";
 
-function rowOf(app: App, chair: number, tried: Tried, at: number, close: () => void): HTMLElement {
+/** A tried move, and its member. */
+interface Row extends Tried {
+  readonly member: Place;
+}
+
+function rowOf(app: App, chair: number, tried: Row, at: number, close: () => void): HTMLElement {
   const { member, value, gain } = tried;
   const { measure, digits } = app.view;
   const act = () => {
@@ -29,7 +35,7 @@ function rowOf(app: App, chair: number, tried: Tried, at: number, close: () => v
   );
 }
 
-function tableOf(app: App, chair: number, tried: readonly Tried[], close: () => void): HTMLElement {
+function tableOf(app: App, chair: number, tried: readonly Row[], close: () => void): HTMLElement {
   const heads = ["", "Member", "From", "Votes", MEASURE[app.view.measure].label, "Added", ""];
   const words = `Moves to chair ${chair}`;
   return h("div", { class: "scroll preview", tabindex: 0, role: "region", "aria-label": words },
@@ -50,12 +56,19 @@ function form(app: App, { study, counted }: Shown, close: () => void): Child {
   const run = async () => {
     said.textContent = "Counting…";
     const begun = performance.now();
-    const tried = await bestMoves(app.replay, study.base, counted, chair, majority, app.view.measure);
+    const ask = { chair, majority, measure: app.view.measure };
+    const tried = await app.wait("All moves are being counted.", (report) =>
+      app.counter.best(study.base, study.changes, ask, report),
+    );
     said.textContent = `${tried.length} moves were counted in ${(performance.now() - begun).toFixed(0)} ms.`;
-    paint(place, tableOf(app, chair, tried, close));
+    const rows = tried.flatMap((it): Row[] => {
+      const member = counted.standing.place(it.code);
+      return member ? [{ ...it, member }] : [];
+    });
+    paint(place, tableOf(app, chair, rows, close));
   };
   const act = () => void run().catch((why: unknown) => (said.textContent = String(why)));
-  const chairs = open.map((it) => [String(it), `${it} ${chairName(study.base, counted.standing, it)}`] as const);
+  const chairs = open.map((it) => [String(it), `${it} ${isolated(counted.standing.name(it))}`] as const);
   const majorities = app.view.majorities.map((it) => [it, MAJORITY[it].label] as const);
   const setMajority = (text: string) => (majority = app.view.majorities.find((it) => it === text) ?? majority);
   return [

@@ -2,8 +2,10 @@
 import type { App } from "../app";
 import { gainText, valueText, type ChairRow } from "../compare";
 import { button, h, type Child } from "../dom";
+import { plainCell } from "../csv";
 import { difference, fractionText, grouped, percent, signed, type Ratio } from "../fractions";
-import { measureOf, type ChairLine } from "../lines";
+import { isolated } from "../names";
+import { measureOf, type ChairReading } from "../reading";
 import type { View } from "../study";
 import { MAJORITY, MEASURE, type Measure } from "../words";
 
@@ -16,14 +18,14 @@ interface Cell {
 
 const EMPTY: Cell = { decimal: "", fraction: "-", source: "the chair isn't open here" };
 
-function lineCell(line: ChairLine | undefined, measure: Measure, digits: number): Cell {
-  if (!line) return EMPTY;
-  const ratio = measureOf(line, measure);
-  const fraction = measure === "swings" ? String(line.swings) : fractionText(ratio);
+function countedCell(chair: ChairReading | undefined, measure: Measure, digits: number): Cell {
+  if (!chair) return EMPTY;
+  const ratio = measureOf(chair, measure);
+  const fraction = measure === "swings" ? String(chair.swings) : fractionText(ratio);
   return {
     decimal: valueText(ratio, measure, digits),
     fraction,
-    source: `counted: line ${line.line}, ${MEASURE[measure].column}`,
+    source: `counted: ${MEASURE[measure].column}`,
   };
 }
 
@@ -31,15 +33,11 @@ function madeCell(ratio: Ratio | null, decimal: string, source: string): Cell {
   return ratio ? { decimal, fraction: fractionText(ratio), source: `made here: ${source}` } : EMPTY;
 }
 
-/** The lines of a row, base and changed, at the first majority: votes are the same at each. */
+/** The votes of a row, base and changed, at the first majority: they are the same at each. */
 function votesCells(row: ChairRow, digits: number): Cell[] {
   const [first] = row.at.values();
-  const weight = (line: ChairLine | undefined): Cell =>
-    line ? {
-      decimal: grouped(line.weight),
-      fraction: String(line.weight),
-      source: `counted: line ${line.line}, WEIGHT`,
-    } : EMPTY;
+  const weight = (chair: ChairReading | undefined): Cell =>
+    chair ? { decimal: grouped(chair.weight), fraction: String(chair.weight), source: "counted: WEIGHT" } : EMPTY;
   const share = (ratio: Ratio | null) => madeCell(ratio, ratio ? `${percent(ratio, digits)} %` : "", "WEIGHT/CAST");
   const added = difference(row.votesAfter, row.votesBefore);
   return [
@@ -54,8 +52,8 @@ function votesCells(row: ChairRow, digits: number): Cell[] {
 /** All cells of a row after its number and name. */
 function cellsOf(row: ChairRow, { measure, digits }: View): Cell[] {
   const powers = [...row.at.values()].flatMap(({ before, after, gain }) => [
-    lineCell(before, measure, digits),
-    lineCell(after, measure, digits),
+    countedCell(before, measure, digits),
+    countedCell(after, measure, digits),
     madeCell(gain, gainText(gain, measure, digits), "changed less base"),
   ]);
   return [...votesCells(row, digits), ...powers];
@@ -93,7 +91,7 @@ function headsOf({ majorities, measure }: View): Head[] {
 export function tableText(rows: readonly ChairRow[], view: View): string {
   const cells = rows.map((row) => {
     const own = cellsOf(row, view).map((it) => (view.fractions ? it.fraction : it.decimal.replace(/,| %$/g, "")));
-    return [String(row.chair), row.name.replace(/\s+/g, " "), ...own];
+    return [String(row.chair), plainCell(row.name.replace(/\s+/g, " ")), ...own];
   });
   const heads = headsOf(view).map((it) => it.words);
   return [heads, ...cells].map((line) => `${line.join("\t")}\n`).join("");
@@ -109,17 +107,19 @@ export function rowWords(row: ChairRow, view: View): Child[] {
       `${heads[at]}: ${cell.decimal} = ${cell.fraction} (${cell.source})`,
     ) : null;
   });
-  return [h("strong", {}, `${row.chair} ${row.name}`), h("ul", {}, items)];
+  return [h("strong", {}, `${row.chair} ${isolated(row.name)}`), h("ul", {}, items)];
 }
+
+const KIND_WORDS: Readonly<Record<ChairRow["kind"], string>> = { kept: "", opened: " (new)", closed: " (closed)" };
 
 /** The table's element. */
 export function chairTable(app: App, rows: readonly ChairRow[]): HTMLElement {
   const { view } = app;
   const words = `${MEASURE[view.measure].label} and votes of each chair`;
   const body = rows.map((row) =>
-    h("tr", { "data-chair": row.chair },
+    h("tr", { "data-chair": row.chair, "data-kind": row.kind },
       h("th", { scope: "row" }, String(row.chair)),
-      h("td", { class: "text" }, row.name),
+      h("td", { class: "text" }, h("bdi", {}, row.name), KIND_WORDS[row.kind]),
       cellsOf(row, view).map(
         (cell) => h(
           "td",
@@ -136,6 +136,7 @@ export function chairTable(app: App, rows: readonly ChairRow[]): HTMLElement {
   });
   return h("div", { class: "table" },
     h("div", { class: "buttons" }, toggle),
+    h("p", { class: "note" }, "Numbers may not add up: each is rounded alone."),
     h("div", { class: "scroll", tabindex: 0, role: "region", "aria-label": words },
       h("table", { id: "chair-table" },
         h("caption", {}, words),

@@ -1,27 +1,16 @@
 /** The chairs as cards, closed; open, they show their members as chips that can be dragged. */
 import type { App, Shown } from "../app";
-import { byId, h, paint, type Child } from "../dom";
-import { fractionText, grouped, percent } from "../fractions";
-import { chairIn, voteShare } from "../lines";
+import { button, byId, h, paint, type Child } from "../dom";
+import { keepFocus } from "../focus";
+import { counted, fractionText, grouped, percent } from "../fractions";
+import { chairIn, voteShare } from "../reading";
 import { memberWords } from "../commandWords";
-import { chairName, type Place } from "../standing";
-import { draggable } from "../drag";
-import { CHAIRS } from "../words";
-import { openMember } from "./member";
+import { chairKey, type Place } from "../standing";
+import { namesChair, namesMember } from "../filter";
+import { closedChair, type CardPlace } from "../moves";
 import { withAdded } from "../study";
-
-/** The place of a card: a chair's number, `none` or `new`. */
-export type CardPlace = string;
-
-/** The lowest number of a closed chair, or null where all are open. */
-export function closedChair(open: readonly number[]): number | null {
-  return CHAIRS.find((it) => !open.includes(it)) ?? null;
-}
-
-function matches(place: Place, filter: string): boolean {
-  const text = `${place.code} ${place.name}`.toLowerCase();
-  return text.includes(filter.trim().toLowerCase());
-}
+import { openChairName } from "./chairName";
+import { openMember } from "./member";
 
 function chip(app: App, place: Place): HTMLElement {
   const words = memberWords(place.code, place.name);
@@ -39,83 +28,134 @@ function chip(app: App, place: Place): HTMLElement {
       "aria-describedby": "chip-help",
       onclick: () => openMember(app, place.code),
     },
-    h("span", {}, words),
+    h("span", {}, place.name ? [`${place.code} `, h("bdi", {}, place.name)] : place.code),
     h("span", { class: "number" }, place.suspended ? `(${votes})` : votes),
   );
 }
 
+/** A chair, the members in none, or a chair that could be opened. */
 interface Card {
   readonly place: CardPlace;
-  readonly title: string;
+  /** The number of its chair and a name; or other words. */
+  readonly title: Child;
   readonly votes: string;
   readonly source: string;
   readonly members: readonly Place[];
   readonly tail: Child;
+  /** Whether the filter names the chair itself. */
+  readonly isNamed: boolean;
 }
 
-function cardElement(app: App, card: Card): HTMLElement {
-  const found = card.members.filter((it) => matches(it, app.filter));
-  const isFound = app.filter.trim() !== "" && found.length > 0;
-  const isOpen = card.members.length > 0 && (app.openCards.has(card.place) || isFound);
-  const toggle = () => {
-    if (isOpen) app.openCards.delete(card.place);
-    else app.openCards.add(card.place);
-    paintChairs(app);
-  };
-  const head = h(
-    "button",
-    { type: "button", id: `card-${card.place}`, class: "card-head", "aria-expanded": String(isOpen), onclick: toggle },
+/** A card and the members in it that the filter finds. */
+interface Found extends Card {
+  readonly found: readonly Place[];
+}
+
+function isFiltered(app: App): boolean {
+  return app.open.filter.trim() !== "";
+}
+
+/** Whether the filter names a chair, by its number or its given name. */
+function isNamed(app: App, chair: number): boolean {
+  const key = chairKey(chair, app.shown?.counted.standing.isNew(chair) ?? false);
+  return isFiltered(app) && namesChair(app.open.filter, chair, app.shown?.study.base.chairNames[key]);
+}
+
+/** The card with the members that the filter finds: all of a chair that it names. */
+function withFound(app: App, card: Card): Found {
+  const isAll = !isFiltered(app) || card.isNamed;
+  return { ...card, found: card.members.filter((it) => isAll || namesMember(app.open.filter, it.code, it.name)) };
+}
+
+/** Whether the filter finds the card or a member in it. */
+function isHit({ found, isNamed }: Found): boolean {
+  return isNamed || found.length > 0;
+}
+
+/** The head of a card: a button that opens it, or a line while a filter decides what is open. */
+function headOf(app: App, card: Card, isOpen: boolean): HTMLElement {
+  const parts = [
     h("span", { class: "card-title" }, card.title),
     h("span", { class: "number", title: card.source }, card.votes),
-  );
-  const members = h("ul", { class: "chips" }, found.map((it) => h("li", {}, chip(app, it))));
-  return h("li", { class: "card", "data-place": card.place }, head, isOpen && members, card.tail);
+  ];
+  const attributes = { id: `card-${card.place}`, class: "card-head" };
+  if (isFiltered(app)) return h("div", attributes, parts);
+  const toggle = () => {
+    if (isOpen) app.open.cards.delete(card.place);
+    else app.open.cards.add(card.place);
+    paintChairs(app);
+  };
+  return h("button", { type: "button", ...attributes, "aria-expanded": String(isOpen), onclick: toggle }, parts);
 }
 
-function chairCard(app: App, { study, counted }: Shown, chair: number): Card {
+function cardElement(app: App, card: Found): HTMLElement {
+  const isLine = isFiltered(app) && !isHit(card);
+  const isOpen = card.found.length > 0 && (app.open.cards.has(card.place) || isFiltered(app));
+  const hasTail = card.tail !== null && (isOpen || (card.members.length === 0 && !isLine));
+  return h(
+    "li",
+    { class: isLine ? "card line" : "card", "data-place": card.place },
+    headOf(app, card, isOpen),
+    isOpen && h("ul", { class: "chips" }, card.found.map((it) => h("li", {}, chip(app, it)))),
+    hasTail && h("div", { class: "buttons" }, card.tail),
+  );
+}
+
+/** The buttons of a chair's card: its name, and closing it if it's empty. */
+function chairButtons(app: App, chair: number, isEmpty: boolean): Child {
+  const close = () => app.take(withAdded(app.study, [{ kind: "close", chair }]));
+  return [
+    button("Name this chair…", () => openChairName(app, chair), { id: `name-${chair}` }),
+    isEmpty && button("Close this chair", close, { id: `close-${chair}` }),
+  ];
+}
+
+function chairCard(app: App, { counted }: Shown, chair: number): Card {
   const [reading] = counted.after.values();
   const line = chairIn(reading, chair);
   const share = reading && line ? voteShare(reading, line) : null;
   const members = counted.standing.in(chair);
-  const close = () => app.take(withAdded(app.study, [{ word: "close", chair }]));
-  const tail = members.length ? null : h(
-    "button",
-    { type: "button", id: `close-${chair}`, onclick: close },
-    "Close this chair",
-  );
+  const name = (members.length || counted.standing.isNew(chair) ? counted.standing : counted.opening).name(chair);
   return {
     place: String(chair),
-    title: `${chair} ${chairName(study.base, members.length ? counted.standing : counted.opening, chair)}`,
-    source: line ? `${line.weight}, counted: line ${line.line}; share, made here: ${fractionText(share)}` : "",
+    title: [`${chair} `, h("bdi", {}, name)],
+    source: line ? `${line.weight}, counted; share, made here: ${fractionText(share)}` : "",
     votes: `${grouped(line?.weight ?? 0)}${share ? ` · ${percent(share, 2)} %` : ""}`,
     members,
-    tail,
+    tail: chairButtons(app, chair, members.length === 0),
+    isNamed: isNamed(app, chair),
   };
+}
+
+/** The card of the members in no chair. */
+function noneCard(members: readonly Place[]): Card {
+  const votes = counted(members.length, "member");
+  return { place: "none", title: "In no chair", votes, source: "", members, tail: null, isNamed: false };
+}
+
+/** The card of a chair that could be opened. */
+function newCard(app: App, chair: number): Card {
+  const act = () => app.take(withAdded(app.study, [{ kind: "open", chair }]));
+  const tail = button(`Open chair ${chair}`, act, { id: "open-new" });
+  return { place: "new", title: `New chair ${chair}`, votes: "", source: "", members: [], tail, isNamed: false };
 }
 
 function cardsOf(app: App, shown: Shown): Card[] {
   const { standing } = shown.counted;
   const open = standing.open();
-  const none = standing.in(null);
   const next = closedChair(open);
-  const cards = open.map((chair) => chairCard(app, shown, chair));
-  const members = `${none.length} ${none.length === 1 ? "member" : "members"}`;
-  cards.push({ place: "none", title: "In no chair", votes: members, source: "", members: none, tail: null });
-  if (next !== null) {
-    const act = () => app.take(withAdded(app.study, [{ word: "open", chair: next }]));
-    const tail = h("button", { type: "button", id: "open-new", onclick: act }, `Open chair ${next}`);
-    cards.push({ place: "new", title: `New chair ${next}`, votes: "", source: "", members: [], tail });
-  }
-  return cards;
+  const cards = [...open.map((chair) => chairCard(app, shown, chair)), noneCard(standing.in(null))];
+  return next === null ? cards : [...cards, newCard(app, next)];
 }
 
+/** Paints the cards. A filter brings the cards in which it finds members to the top; the others are still targets. */
 export function paintChairs(app: App): void {
   if (!app.shown) return;
+  const cards = cardsOf(app, app.shown).map((it) => withFound(app, it));
+  const hits = cards.filter(isHit);
+  const inOrder = isFiltered(app) ? [...hits, ...cards.filter((it) => !isHit(it))] : cards;
   const list = byId("cards");
-  const cards = cardsOf(app, app.shown);
-  const isFiltered = app.filter.trim() !== "";
-  const visible = isFiltered ? cards.filter((it) => it.members.some((member) => matches(member, app.filter))) : cards;
-  paint(list, visible.map((it) => cardElement(app, it)));
-  byId("filter-words").textContent = isFiltered && !visible.length ? "No member has this code or name." : "";
-  draggable(app, list);
+  keepFocus(list, () => byId("filter"), () => paint(list, inOrder.map((it) => cardElement(app, it))));
+  const isNone = isFiltered(app) && hits.length === 0;
+  byId("filter-words").textContent = isNone ? "No member and no open chair has this code, name or number." : "";
 }

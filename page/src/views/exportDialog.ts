@@ -1,21 +1,23 @@
-/** Exports: script, CSV, figures, the table, the page with its data. */
-import type { App } from "../app";
-import { LIGHT } from "../charts";
+/** Saves and exports: the study, its script, CSV, figures, the table, the page with its data. */
+import type { App, Shown } from "../app";
+import { LIGHT, type Look } from "../charts";
 import { chairRows } from "../compare";
+import { csvOf, type Labelled } from "../csv";
 import { drawCurve } from "../curveChart";
+import { curveModel, sweepRegisters, sweepTitle } from "../curveModel";
 import { openDialog } from "../dialogs";
 import { button, h, save } from "../dom";
+import { grouped } from "../fractions";
 import { drawGains } from "../gainChart";
+import { powerModel } from "../look";
+import { isolated } from "../names";
 import { pageText } from "../pageText";
 import { drawPower } from "../powerChart";
-import { provenance } from "../provenance";
-import { csvOf, type Labelled } from "../csv";
-import { chairName } from "../standing";
-import { dataText } from "../studyData";
-import { MAJORITY, MEASURE } from "../words";
+import { firstLines, provenanceOf, studySource, type Source } from "../provenance";
+import { dataText, readData } from "../studyData";
+import type { Tab } from "../study";
+import { INPUT_BYTES, MAJORITY, MEASURE } from "../words";
 import { tableText } from "./chairTable";
-import { curveModel, sweepRegisters } from "./curve";
-import { powerModel } from "./figures";
 
 const WIDTH = 900;
 
@@ -28,58 +30,113 @@ function text(content: string, kind: string): Blob {
   return new Blob([content], { type: `${kind};charset=utf-8` });
 }
 
-async function saveScript(app: App): Promise<void> {
-  if (app.shown) save(`${fileName(app)}.csv`, text(app.shown.counted.script, "text/csv"));
+/** Saves the study's script. One that is longer than `board replay` reads is saved, and that is said. */
+async function saveScript(app: App): Promise<string> {
+  const { counted } = await app.whole();
+  const content = text(counted.script, "text/csv");
+  save(`${fileName(app)}.csv`, content);
+  if (content.size <= INPUT_BYTES) return "";
+  return `The script has ${grouped(content.size)} bytes. board replay reads at most ${grouped(INPUT_BYTES)}.`;
 }
 
-async function saveBeside(app: App): Promise<void> {
-  if (!app.shown) return;
-  const data = dataText({ study: app.shown.study, view: app.view }, await provenance(app.shown));
-  save(`${fileName(app)}.provenance.json`, text(`${data}\n`, "application/json"));
+/** The study as data, which is read again before it is handed over. */
+async function studyText(app: App, shown: Shown): Promise<string> {
+  const data = { study: shown.study, view: app.view };
+  const content = dataText(data, firstLines(await provenanceOf(app, shown, [studySource(shown)])));
+  try {
+    readData(content);
+  } catch (why) {
+    throw new Error(`The study can't be read again, so it wasn't saved: ${why instanceof Error ? why.message : why}`);
+  }
+  return content;
 }
 
-/** The registers of the study: the base, the changed one, and the scenarios. */
-function registers(app: App): Labelled[] {
-  if (!app.shown) return [];
-  const { study, counted } = app.shown;
-  const changed = counted.commands.length ? [{ label: "changed", readings: counted.after }] : [];
-  const scenarios = study.scenarios.map((it) => {
-    const found = app.scenarios.of(study.base, it, app.view.majorities);
-    if (!found) throw new Error(`the scenario ${it.name} can't be counted`);
-    return { label: it.name, readings: found.after };
+/** Saves the study in one file. */
+export async function saveStudy(app: App): Promise<void> {
+  const shown = await app.whole();
+  save(`${fileName(app)}.study.json`, text(`${await studyText(app, shown)}\n`, "application/json"));
+  app.savedStudy = shown.study;
+}
+
+/** Saves the page with the study in it. */
+async function savePage(app: App): Promise<void> {
+  const shown = await app.whole();
+  save(`${fileName(app)}.html`, text(pageText(await studyText(app, shown)), "text/html"));
+  app.savedStudy = shown.study;
+}
+
+/** The registers of the study, and the scripts that give their readings. */
+function registers(app: App, { study, counted }: Shown): { all: Labelled[]; sources: Source[] } {
+  const { opening, standing, before, after, commands } = counted;
+  const changed = commands.length ? [{ label: "changed", readings: after, standing }] : [];
+  const scenarios = study.scenarios.map(({ name }, at) => {
+    const scenario = study.scenarios[at];
+    const found = scenario && app.results.scenario(study.base, scenario, counted.majorities);
+    if (!found) throw new Error(`the scenario ${name} can't be counted`);
+    return { label: name, found };
   });
-  return [{ label: "base", readings: counted.before }, ...changed, ...scenarios, ...sweepRegisters(app)];
+  const { curve } = app;
+  return {
+    all: [
+      { label: "base", readings: before, standing: opening },
+      ...changed,
+      ...scenarios.map(({ label, found }) => ({ label, readings: found.after, standing: found.standing })),
+      ...sweepRegisters(app),
+    ],
+    sources: [
+      { of: "", script: counted.script },
+      ...scenarios.map(({ label, found }) => ({ of: `scenario ${label}`, script: found.script })),
+      ...(curve ? [{ of: `sweep ${sweepTitle(curve.asked)}`, script: curve.script }] : []),
+    ],
+  };
 }
 
 async function saveCsv(app: App): Promise<void> {
-  if (!app.shown) return;
-  const { study, counted } = app.shown;
-  const head = (await provenance(app.shown)).map((it) => `# ${it}\n`).join("");
-  const table = csvOf(registers(app), (chair) => chairName(study.base, counted.opening, chair));
-  save(`${fileName(app)}-table.csv`, text(head + table, "text/csv"));
+  const shown = await app.whole();
+  const { all, sources } = registers(app, shown);
+  const head = firstLines(await provenanceOf(app, shown, sources)).map((it) => `# ${it}\n`).join("");
+  save(`${fileName(app)}-table.csv`, text(head + csvOf(all), "text/csv"));
 }
 
-/** The title of the figure on the screen. */
-function titleOf(app: App): string {
-  const { measure, majorities } = app.view;
-  return `${app.study.name}: ${MEASURE[measure].label}, ${majorities.map((it) => MAJORITY[it].label).join(", ")}`;
+/** A figure for an export: its title, the script that gives its numbers, and how it is drawn. */
+interface Figure {
+  readonly title: string;
+  readonly source: Source;
+  draw(place: Element, look: Look): void;
 }
+
+function chairFigure(app: App, shown: Shown, draw: typeof drawPower): Figure {
+  const { measure, majorities } = app.view;
+  const model = powerModel(app, chairRows(shown.counted, app.view));
+  const title = `${MEASURE[measure].label}, ${majorities.map((it) => MAJORITY[it].label).join(", ")}`;
+  return { title, source: studySource(shown), draw: (place, look) => draw(place, model, look) };
+}
+
+/** The figures of the tabs, or null where there is none. */
+const FIGURE: Readonly<Record<Tab, (app: App, shown: Shown) => Figure | null>> = {
+  power: (app, shown) => chairFigure(app, shown, drawPower),
+  change: (app, shown) => (shown.counted.isChanged ? chairFigure(app, shown, drawGains) : null),
+  curve: (app) => {
+    const [model, { curve }] = [curveModel(app), app];
+    if (!model || !curve) return null;
+    const source = { of: `sweep ${sweepTitle(curve.asked)}`, script: curve.script };
+    return { title: model.name, source, draw: (place, look) => drawCurve(place, model, look) };
+  },
+  table: () => null,
+};
 
 /** The figure of the tab as SVG, light, with a source line. */
 async function figure(app: App, hasTitle: boolean): Promise<string> {
-  const { shown, view } = app;
-  if (!shown) return "";
-  const lines = await provenance(shown);
+  const shown = await app.whole();
+  const found = FIGURE[app.view.tab](app, shown);
+  if (!found) throw new Error("this tab has no figure now");
+  const lines = await provenanceOf(app, shown, [found.source]);
   const place = document.createElement("div");
-  const source = [`Source: ${lines[0]}; ${lines[5]}`, `${lines[3]}`, `${lines[1]}`];
-  const look = { width: WIDTH, palette: LIGHT, title: hasTitle ? titleOf(app) : "", source };
-  const model = powerModel(app, chairRows(shown.study.base, shown.counted, view));
-  const curve = view.tab === "curve" ? curveModel(app) : null;
-  if (curve) drawCurve(place, curve, { ...look, title: hasTitle ? curve.name : "" });
-  else if (view.tab === "change") drawGains(place, model, look);
-  else drawPower(place, model, look);
+  const source = [`Source: ${lines.counted}; ${lines.date}`, ...lines.scripts.slice(0, 1), lines.module];
+  const title = hasTitle ? `${isolated(app.study.name)}: ${found.title}` : "";
+  found.draw(place, { width: WIDTH, palette: LIGHT, title, source });
   const svg = new XMLSerializer().serializeToString(place.firstElementChild as Element);
-  const comment = lines.map((it) => it.replace(/--+/g, "-")).join("\n");
+  const comment = firstLines(lines).map((it) => it.replace(/--+/g, "-")).join("\n");
   return `<!--\n${comment}\n-->\n${svg}\n`;
 }
 
@@ -100,8 +157,8 @@ async function pngOf(svg: string): Promise<Blob> {
 }
 
 async function copyTable(app: App): Promise<string> {
-  if (!app.shown) return "";
-  const content = tableText(chairRows(app.shown.study.base, app.shown.counted, app.view), app.view);
+  const { counted } = await app.whole();
+  const content = tableText(chairRows(counted, app.view), app.view);
   try {
     await navigator.clipboard.writeText(content);
   } catch {
@@ -114,44 +171,46 @@ async function copyTable(app: App): Promise<string> {
   return "The table is on the clipboard.";
 }
 
-async function savePage(app: App): Promise<void> {
-  if (!app.shown) return;
-  const data = dataText({ study: app.shown.study, view: app.view }, await provenance(app.shown));
-  save(`${fileName(app)}.html`, text(pageText(data), "text/html"));
-}
+type Exported = () => Promise<string | void>;
 
-/** A button that makes an export once all its contents are counted. */
-function exporter(app: App, said: HTMLElement) {
-  return (words: string, id: string, act: () => Promise<string | void>, disabled = false): HTMLElement => {
+/** A button that makes an export. */
+function exporter(said: HTMLElement) {
+  return (words: string, id: string, act: Exported, disabled = false): HTMLElement => {
     const run = () => {
-      const done = app.counting.then(act);
-      done.then((text) => (said.textContent = text ?? ""), (why: unknown) => (said.textContent = String(why)));
+      act().then(
+        (done) => (said.textContent = done ?? ""),
+        (why: unknown) => (said.textContent = why instanceof Error ? why.message : String(why)),
+      );
     };
     return button(words, run, { id, disabled });
   };
 }
 
 const SCRIPT_WORDS =
-  "The script gives board replay the base, the changes and the readings; what it prints is, byte for byte, what this " +
-  "page shows. A script has no comments, so its version, commit and hashes, and the names, are in a file next to it.";
+  "The script gives board replay the base, the changes and the readings; what it prints has the numbers that this " +
+  "page shows. A script has no names: the saved study has them, with version, commit and hashes.";
 
 /** Opens the list of exports. */
 export function openExports(app: App): void {
+  const { shown } = app;
+  if (!shown) return;
   const said = h("p", { id: "export-words", role: "status" });
-  const make = exporter(app, said);
+  const make = exporter(said);
   const title = h("input", { type: "checkbox", id: "with-title", checked: true });
-  const noFigure = app.view.tab === "curve" ? curveModel(app) === null : app.view.tab === "table";
+  const noFigure = FIGURE[app.view.tab](app, shown) === null;
   const name = `${fileName(app)}-${app.view.tab}`;
   const svg = async () => save(`${name}.svg`, text(await figure(app, title.checked), "image/svg+xml"));
   const png = async () => save(`${name}.png`, await pngOf(await figure(app, title.checked)));
   const row = (...children: HTMLElement[]) => h("div", { class: "buttons" }, children);
   openDialog("export-dialog", "Export", () => [
+    h("h3", {}, "Study"),
+    row(
+      make("Study, to open here again", "export-beside", () => saveStudy(app)),
+      make("This page with the study in it", "export-page", () => savePage(app)),
+    ),
     h("h3", {}, "Script"),
     h("p", { class: "note" }, SCRIPT_WORDS),
-    row(
-      make("Script", "export-script", () => saveScript(app)),
-      make("File next to the script", "export-beside", () => saveBeside(app)),
-    ),
+    row(make("Script", "export-script", () => saveScript(app))),
     h("h3", {}, "Table"),
     row(
       make("CSV with the columns of board_study", "export-csv", () => saveCsv(app)),
@@ -160,8 +219,6 @@ export function openExports(app: App): void {
     h("h3", {}, "Figure of the tab"),
     h("label", {}, title, "with its title"),
     row(make("SVG", "export-svg", svg, noFigure), make("PNG", "export-png", png, noFigure)),
-    h("h3", {}, "Page"),
-    row(make("This page with the study in it", "export-page", () => savePage(app))),
     said,
   ]);
 }

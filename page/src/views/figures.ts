@@ -1,8 +1,9 @@
 /** The figures in the middle: the choices above them, the sentences, and the chart or table of the tab. */
 import type { App } from "../app";
-import { DARK, LIGHT, type Look } from "../charts";
+import type { Look } from "../charts";
 import { chairRows, sentences, type ChairRow } from "../compare";
 import { byId, choice, h, paint } from "../dom";
+import { powerModel, screenLook } from "../look";
 import { drawGains } from "../gainChart";
 import { drawPower, type PowerModel } from "../powerChart";
 import { chairTable, rowWords } from "./chairTable";
@@ -10,7 +11,6 @@ import { paintCurve } from "./curve";
 import { ORDERS, TABS, type Order, type Tab } from "../study";
 import { MAJORITIES, MAJORITY, MEASURE, MEASURES, type Majority, type Measure } from "../words";
 
-const TAB_WORDS: Readonly<Record<Tab, string>> = { power: "Power", change: "Change", curve: "Curve", table: "Table" };
 const ORDER_WORDS: Readonly<Record<Order, string>> = {
   number: "number",
   votes: "votes",
@@ -18,27 +18,10 @@ const ORDER_WORDS: Readonly<Record<Order, string>> = {
   gain: "gain",
 };
 
-/** The width of charts in a window of some width: measuring it lays out the whole page. */
-const measured = { window: 0, chart: 0 };
-
-function chartWidth(place: HTMLElement): number {
-  if (measured.window !== innerWidth) Object.assign(measured, { window: innerWidth, chart: place.clientWidth });
-  return Math.max(280, measured.chart);
-}
-
-/** Whether the page is being printed, which is light. */
-let isPrinting = false;
-
 /** Paints figures for paper, or for the screen again. */
 export function paintForPaper(app: App, isPaper: boolean): void {
-  isPrinting = isPaper;
+  app.open.isPrinting = isPaper;
   paintFigures(app);
-}
-
-/** The look of charts on the page. */
-export function screenLook(place: HTMLElement): Look {
-  const isDark = matchMedia("(prefers-color-scheme: dark)").matches && !isPrinting;
-  return { width: chartWidth(place), palette: isDark ? DARK : LIGHT, title: "", source: [] };
 }
 
 function tickMajority(app: App, majority: Majority, isOn: boolean): void {
@@ -89,18 +72,10 @@ function paintTabs(app: App): void {
     return h("button", {
       type: "button", role: "tab", id: `tab-${tab}`, "aria-selected": String(isOn), "aria-controls": "panel",
       tabindex: isOn ? 0 : -1, onclick: () => app.look({ tab }), onkeydown: keys,
-    }, TAB_WORDS[tab]);
+    }, TAB[tab].words);
   });
   paint(byId("tabs"), tabs);
   byId("panel").setAttribute("aria-labelledby", `tab-${app.view.tab}`);
-}
-
-/** The data of the charts of chairs. */
-export function powerModel(app: App, rows: readonly ChairRow[]): PowerModel {
-  const outcomes = [...(app.shown?.counted.outcomes.values() ?? [])];
-  const { majorities, measure } = app.view;
-  const winning = majorities.filter((it) => (app.shown?.counted.after.get(it)?.winning ?? 0) > 0);
-  return { rows, majorities: winning, measure, isChanged: outcomes.some((it) => it.kind === "accepted") };
 }
 
 /** Shows all fractions of a row under the chart, at hover, tap and by arrow keys. */
@@ -135,42 +110,48 @@ function readout(app: App, chart: HTMLElement, rows: readonly ChairRow[]): HTMLE
   return box;
 }
 
-/** Whether the table of a chart is open; it is made only then. */
-let isTableOpen = false;
+type Draw = (place: Element, model: PowerModel, look: Look) => void;
 
-/** Paints a chart of the chairs, the readout, and the table of the chart. */
-function paintChart(app: App, rows: readonly ChairRow[], draw: typeof drawPower): void {
+/** Paints a chart of the chairs, the readout, and the table of the chart, which is made once it is opened. */
+function paintChart(app: App, rows: readonly ChairRow[], draw: Draw): void {
   const model = powerModel(app, rows);
   const chart = h(
     "div",
     { class: "chart", tabindex: 0, role: "group", "aria-label": "Chart of the chairs; arrow keys go through its rows" },
   );
   const box = readout(app, chart, rows);
-  const tableBox = h("details", { id: "behind", open: isTableOpen }, h("summary", {}, "The table of this chart"));
+  const summary = h("summary", {}, "The table of this chart");
+  const tableBox = h("details", { id: "behind", open: app.open.isTableOpen }, summary);
   const fill = () => {
-    isTableOpen = tableBox.open;
+    app.open.isTableOpen = tableBox.open;
     if (tableBox.open && tableBox.childElementCount === 1) tableBox.append(chairTable(app, rows));
   };
   fill();
   tableBox.addEventListener("toggle", fill);
   paint(byId("panel"), box, chart, tableBox);
-  if (model.majorities.length) draw(chart, model, screenLook(chart));
+  if (model.majorities.length) draw(chart, model, screenLook(app, chart));
   else chart.remove();
 }
+
+function paintGains(app: App, rows: readonly ChairRow[]): void {
+  if (app.shown?.counted.isChanged) paintChart(app, rows, drawGains);
+  else paint(byId("panel"), h("p", {}, "No change was carried out yet: changed and base are the same."));
+}
+
+/** The tabs: their words, and what they show. */
+const TAB: Readonly<Record<Tab, { words: string; draw(app: App, rows: readonly ChairRow[]): void }>> = {
+  power: { words: "Power", draw: (app, rows) => paintChart(app, rows, drawPower) },
+  change: { words: "Change", draw: paintGains },
+  curve: { words: "Curve", draw: paintCurve },
+  table: { words: "Table", draw: (app, rows) => paint(byId("panel"), chairTable(app, rows)) },
+};
 
 export function paintFigures(app: App): void {
   const { shown, view } = app;
   if (!shown) return;
   paintChoices(app);
   paintTabs(app);
-  const rows = chairRows(shown.study.base, shown.counted, view);
+  const rows = chairRows(shown.counted, view);
   paint(byId("sentences"), sentences(rows, shown.counted, view).map((it) => h("p", { title: it.source }, it.words)));
-  if (view.tab === "power") paintChart(app, rows, drawPower);
-  else if (view.tab === "change" && !powerModel(app, rows).isChanged) paint(
-    byId("panel"),
-    h("p", {}, "No change was carried out yet: changed and base are the same."),
-  );
-  else if (view.tab === "change") paintChart(app, rows, drawGains);
-  else if (view.tab === "curve") paintCurve(app);
-  else paint(byId("panel"), chairTable(app, rows));
+  TAB[view.tab].draw(app, rows);
 }

@@ -3,7 +3,7 @@ import type { App } from "../app";
 import { openDialog } from "../dialogs";
 import { byId, button, h, paint, type Child } from "../dom";
 import licences from "../licences.txt";
-import { citation, provenance } from "../provenance";
+import { citation, firstLines, provenanceOf, studySource } from "../provenance";
 import { MAJORITY, MEASURE } from "../words";
 
 function definitions({ view }: App): HTMLElement {
@@ -13,7 +13,7 @@ function definitions({ view }: App): HTMLElement {
     h("dd", {}, `${MAJORITY[it].rule}. Articles of Agreement, ${MAJORITY[it].article}.`),
   ]);
   return h("dl", {},
-    h("dt", {}, label), h("dd", {}, `${definition} (${source}; ${column} of the line).`),
+    h("dt", {}, label), h("dd", {}, `${definition} (${source}; ${column} in the lines).`),
     h("dt", {}, "Votes"), h(
       "dd",
       {},
@@ -27,16 +27,15 @@ function definitions({ view }: App): HTMLElement {
 const MARKS: readonly (readonly [string, string])[] = [
   [
     "counted",
-    "from a line of the proved program. The source says which line and which fraction. What is proved: each line " +
-      "that the program prints is what the definitions say of the script, over all coalitions. The module is the " +
-      "program's code compiled for another machine, and is tested against the program. Not proved: that " +
-      "compilation, the drawing, the reading of tables, this browser.",
+    "by the proved register: a note on the number has its exact fraction, in lowest terms, and its column in the " +
+      "lines that board replay prints for the script. What is proved: each count is what the definitions say of the " +
+      "script, over all coalitions. The module is the register's code compiled for another machine, and is tested " +
+      "against the program. Not proved: that compilation, the drawing, the reading of tables, this browser.",
   ],
   [
     "made here",
-    "by this page: per cent, differences, rounding, order, and which member or chair a name means. Each decimal " +
-      "is its exact fraction, rounded once, half to even, in whole-number arithmetic. An exact difference is a " +
-      "fraction, too.",
+    "by this page: per cent, differences, rounding and order. Each decimal is its exact fraction, rounded once, half " +
+      "to even, in whole-number arithmetic, so rounded shares may not add up. An exact difference is a fraction, too.",
   ],
   ["given", "from the table, with its row and column."],
 ];
@@ -73,14 +72,14 @@ function source(app: App): HTMLElement {
     h("h3", {}, "Lines of board replay"),
     lines,
   );
-  const fill = () => {
-    if (!details.open) return;
-    script.textContent = app.shown?.counted.script ?? "";
-    lines.textContent = app.shown?.counted.lines ?? "";
+  const fill = async () => {
+    if (!details.open || !app.shown) return;
+    const text = app.shown.counted.script;
+    script.textContent = text;
+    lines.textContent = await app.counter.lines(text).catch(String);
   };
-  details.addEventListener("toggle", fill);
+  details.addEventListener("toggle", () => void fill());
   details.open = wasOpen;
-  fill();
   return details;
 }
 
@@ -89,7 +88,7 @@ function openCitation(app: App): void {
   if (!shown) return;
   openDialog("cite", "How to cite", () => {
     const place = h("div", {});
-    void citation(shown).then(({ text, bibtex }) => {
+    void citation(app, shown).then(({ text, bibtex }) => {
       place.append(
         h("h3", {}, "Text"),
         h("pre", { id: "cite-text" }, text),
@@ -101,33 +100,40 @@ function openCitation(app: App): void {
   });
 }
 
+const MODULE_WORDS = [
+  "The module has the hash that the build recorded.",
+  "The module isn't the one that this page was built with.",
+] as const;
+const SCRIPT_WORDS = [
+  "The script was replayed as a whole just now, and gives the numbers shown.",
+  "The script was replayed as a whole just now, and gives other numbers than those shown.",
+] as const;
+
+function checkItem(isPassed: boolean, [passed, failed]: readonly [string, string]): HTMLElement {
+  return h("li", { class: isPassed ? "" : "wrong" }, isPassed ? passed : failed);
+}
+
 /** The text of the seal: the source of the numbers, and the checks that were made. */
 export function openSeal(app: App): void {
   const { shown } = app;
   if (!shown) return;
   openDialog("seal-dialog", "Where the numbers come from", () => {
     const list = h("ul", { id: "provenance" });
-    void provenance(shown).then((lines) => list.append(...lines.map((it) => h("li", {}, it))));
-    const other = app.isOwnModule ? [] : ["The module isn't the one that this page was built with."];
-    const wrong = [...other, ...shown.counted.misfits];
-    const checks = wrong.length ? wrong.map((it) => h("li", { class: "wrong" }, it)) : [
-      h(
-        "li",
-        {},
-        "All passed: the module has the hash that the build wrote down; in each reading fractions, votes and " +
-          "coalitions fit together, and each chair's votes are those of the members shown in it.",
-      ),
-    ];
+    void provenanceOf(app, shown, [studySource(shown)]).then((found) => {
+      list.append(...firstLines(found).map((it) => h("li", {}, it)));
+    });
+    const checks = h("ul", { id: "checks" }, checkItem(app.isOwnModule, MODULE_WORDS));
+    void app.counter.isGiven(shown.counted).then((isGiven) => checks.append(checkItem(isGiven, SCRIPT_WORDS)));
     return [
       list,
       h("h3", {}, "Checks that this page made of these numbers"),
-      h("ul", {}, checks),
+      checks,
       h("h3", {}, "Three marks"),
       h("dl", {}, MARKS.map(([mark, words]) => [h("dt", {}, mark), h("dd", {}, words)])),
       h(
         "p",
         {},
-        `The module runs in ${app.replays.place === "worker" ? "a worker" : "the page itself"}.`,
+        `The module runs in ${app.counter.boards.place === "worker" ? "a worker" : "the page itself"}.`,
       ),
       h(
         "p",

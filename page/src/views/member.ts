@@ -1,33 +1,17 @@
 /** The menu of a member: move it, give it other votes, suspend, restore or withdraw it. */
 import type { App } from "../app";
+import { percentage, wholeNumber, type PercentKind, type Typed } from "../amounts";
+import { memberWords } from "../commandWords";
 import { openDialog } from "../dialogs";
 import { button, h } from "../dom";
 import { fractionText, grouped, over, percent } from "../fractions";
-import { memberWords } from "../commandWords";
-import { moveTo } from "../moves";
-import { chairName, type Place } from "../standing";
+import { closedChair, moveTo } from "../moves";
+import { isolated } from "../names";
+import { nameOf, withMemberName } from "../naming";
+import type { Place } from "../standing";
 import { withAdded, type Command, type Percentage } from "../study";
-import { MOST_VOTES, reasonOf } from "../words";
-import { closedChair } from "./chairs";
-
-const DECIMAL = "[0-9]{1,9}(\\.[0-9]{1,9})?";
-
-/** A field with a button that takes its text. */
-function field(
-  id: string,
-  label: string,
-  act: string,
-  attributes: Record<string, string>,
-  take: (text: string) => void,
-): HTMLFormElement {
-  const input = h("input", { id, inputmode: "decimal", autocomplete: "off", required: true, ...attributes });
-  const submit = (event: Event) => {
-    event.preventDefault();
-    take(input.value.trim());
-  };
-  const words = h("label", { for: id }, label);
-  return h("form", { class: "field", onsubmit: submit }, words, input, h("button", { id: `${id}-take` }, act));
-}
+import { MOST_VOTES } from "../words";
+import { fieldForm, readField } from "./field";
 
 /** The places where a member can go: the chairs, none, and a new chair. */
 function places(app: App): [string, string][] {
@@ -36,7 +20,8 @@ function places(app: App): [string, string][] {
   const { standing } = shown.counted;
   const open = standing.open();
   const next = closedChair(open);
-  const chairs = open.map((it): [string, string] => [String(it), `${it} ${chairName(shown.study.base, standing, it)}`]);
+  const name = (chair: number) => isolated(standing.name(chair));
+  const chairs = open.map((it): [string, string] => [String(it), `${it} ${name(it)}`]);
   return [...chairs, ["none", "in no chair"], ...(next ? [["new", `a new chair, ${next}`] as [string, string]] : [])];
 }
 
@@ -47,7 +32,7 @@ function moveForm(app: App, place: Place, close: () => void): HTMLFormElement {
   const submit = (event: Event) => {
     event.preventDefault();
     close();
-    moveTo(app, place.code, list.value);
+    void moveTo(app, place.code, list.value);
   };
   return h(
     "form",
@@ -58,28 +43,31 @@ function moveForm(app: App, place: Place, close: () => void): HTMLFormElement {
   );
 }
 
-const WHOLE = { pattern: "[0-9]{1,13}", title: "a whole number, digits alone" };
-const SIGNED = {
-  pattern: `[+\\-]${DECIMAL}`,
-  title: "a plus or a minus and a number, such as +40 or -12.5",
-  placeholder: "+40",
-};
-const PLAIN = { pattern: DECIMAL, title: "a number without a sign, such as 15 or 12.5", placeholder: "15" };
+function readVotes(text: string): Typed<number> {
+  return wholeNumber(text, MOST_VOTES);
+}
 
 /** Three fields for votes: a number, plus or minus per cent, and per cent of the total. */
 function votesForms(code: string, add: (what: Command | Percentage) => void): HTMLElement[] {
-  const error = h("p", { class: "wrong", role: "alert" });
-  const setVotes = (text: string) => {
-    if (Number(text) <= MOST_VOTES) add({ word: "votes", code, votes: Number(text) });
-    else error.textContent = `VotesTooLarge: ${reasonOf("VotesTooLarge")}`;
-  };
-  const setPercent = (of: "own" | "total") => (percent: string) => add({ word: "percent", of, code, percent });
+  const read = (kind: PercentKind) => (text: string) => percentage(text, kind);
+  const votes = readField("votes-number", "Votes, as a number", readVotes, { inputmode: "numeric" });
+  const own = readField("votes-own", "Plus or minus per cent of its own votes", read("change"), { placeholder: "+40" });
+  const share = { placeholder: "15", inputmode: "decimal" };
+  const total = readField("votes-total", "Per cent of the total voting power", read("share"), share);
   return [
-    field("votes-number", "Votes, as a number", "Set votes", WHOLE, setVotes),
-    field("votes-own", "Plus or minus per cent of its own votes", "Change votes", SIGNED, setPercent("own")),
-    field("votes-total", "Per cent of the total voting power", "Set share", PLAIN, setPercent("total")),
-    error,
+    fieldForm(votes, "Set votes", (number) => add({ kind: "votes", code, votes: number })),
+    fieldForm(own, "Change votes", (text) => add({ kind: "percent", of: "own", code, percent: text })),
+    fieldForm(total, "Set share", (text) => add({ kind: "percent", of: "total", code, percent: text })),
   ];
+}
+
+/** A field for the member's name. */
+function nameForm(app: App, place: Place, close: () => void): HTMLFormElement {
+  const field = readField("member-name", "Name", nameOf, { value: place.name, dir: "auto" });
+  return fieldForm(field, "Rename", (name) => {
+    close();
+    app.take(withMemberName(app.study, place.code, name));
+  });
 }
 
 /** The place of a member, in words. */
@@ -106,53 +94,50 @@ export function openMember(app: App, code: string): void {
       placeWords(app, place),
       moveForm(app, place, close),
       votesForms(code, add),
+      nameForm(app, place, close),
       h("div", { class: "buttons" },
-        button("Suspend", () => add({ word: "suspend", code }), { id: "suspend" }),
-        button("Restore", () => add({ word: "restore", code }), { id: "restore" }),
-        button("Withdraw", () => add({ word: "withdraw", code }), { id: "withdraw" }),
+        button("Suspend", () => add({ kind: "suspend", code }), { id: "suspend" }),
+        button("Restore", () => add({ kind: "restore", code }), { id: "restore" }),
+        button("Withdraw", () => add({ kind: "withdraw", code }), { id: "withdraw" }),
       ),
       h("p", { class: "note" }, "The register answers each command: one that it refuses stays in the list, in red."),
     ];
   });
 }
 
+function readCode(text: string): Typed<string> {
+  const value = text.trim();
+  if (/^[A-Z]{3}$/.test(value)) return { value };
+  const words = value ? `“${isolated(value)}” isn't a code` : "There is no code yet";
+  return { wrong: `${words}: write three capitals, A to Z.` };
+}
+
+/** A list of the chairs for a member that is admitted. */
+function chairList(app: App): HTMLSelectElement {
+  const chairs = [["", "in no chair"], ...places(app).filter(([key]) => /\d/.test(key))];
+  const options = chairs.map(([key, words]) => h("option", { value: key ?? "" }, words ?? ""));
+  return h("select", { id: "admit-chair" }, options);
+}
+
 /** Asks for a member to admit. */
 export function openAdmit(app: App): void {
   openDialog("admit", "Admit a member", (close) => {
-    const code = h(
-      "input",
-      { id: "admit-code", required: true, pattern: "[A-Z]{3}", title: "three capitals, A to Z", autocomplete: "off" },
-    );
-    const name = h("input", { id: "admit-name", autocomplete: "off" });
-    const votes = h(
-      "input",
-      {
-        id: "admit-votes",
-        required: true,
-        pattern: "[0-9]{1,13}",
-        title: "a whole number, digits alone",
-        inputmode: "numeric",
-      },
-    );
-    const list = h(
-      "select",
-      { id: "admit-chair" },
-      ...[
-        ["", "in no chair"],
-        ...places(app).filter(([key]) => /\d/.test(key)),
-      ].map(([key, words]) => h("option", { value: key ?? "" }, words ?? "")),
-    );
+    const code = readField("admit-code", "Code, three capitals", readCode);
+    const name = readField("admit-name", "Name", nameOf, { dir: "auto" });
+    const votes = readField("admit-votes", "Votes", readVotes, { inputmode: "numeric" });
+    const list = chairList(app);
     const submit = (event: Event) => {
       event.preventDefault();
-      const admit: Command = { word: "admit", code: code.value, votes: Number(votes.value) };
-      const move: Command[] = list.value ? [{ word: "move", code: code.value, chair: Number(list.value) }] : [];
+      // Read from the last to the first, so that the first wrong one has the focus.
+      const [number, called, letters] = [votes.read(), name.read(), code.read()];
+      if (number === null || called === null || letters === null) return;
+      const admit: Command = { kind: "admit", code: letters, votes: number };
+      const move: Command[] = list.value ? [{ kind: "move", code: letters, chair: Number(list.value) }] : [];
       close();
-      app.take(withAdded(app.study, [admit, ...move], name.value.trim()));
+      app.take(withAdded(app.study, [admit, ...move], called));
     };
     return h("form", { class: "stack", onsubmit: submit },
-      h("label", { for: "admit-code" }, "Code, three capitals"), code,
-      h("label", { for: "admit-name" }, "Name"), name,
-      h("label", { for: "admit-votes" }, "Votes"), votes,
+      [code, name, votes].map((it) => [it.label, it.input, it.wrong]),
       h("label", { for: "admit-chair" }, "Chair"), list,
       h("button", { id: "admit-take" }, "Admit"),
     );

@@ -3,26 +3,28 @@ import type { App } from "../app";
 import { openDialog } from "../dialogs";
 import { button, h, paint } from "../dom";
 import { grouped } from "../fractions";
-import type { Reading } from "../lines";
+import type { Reading } from "../reading";
 import { MOST_PLAIN } from "../plain";
-import type { Standing } from "../standing";
 import { MAJORITY } from "../words";
 
-/** The number of differences between the plain count and a reading. */
-async function differing(app: App, standing: Standing, reading: Reading): Promise<number> {
-  const chairs = standing.open();
-  const votes = chairs.map((it) => standing.weight(it));
-  const [winning, ...swings] = await app.replays.plain({ votes, total: standing.total(), majority: reading.majority });
-  const wrong = reading.chairs.filter((it, at) => it.chair !== chairs[at] || it.swings !== swings[at]).length;
+/** Counts a reading once more, and returns how many numbers differ from it. */
+async function differing(app: App, reading: Reading): Promise<number> {
+  const { chairs, total, majority } = reading;
+  const weights = { votes: chairs.map((it) => it.weight), total, majority };
+  const label = MAJORITY[majority].label;
+  const [winning, ...swings] = await app.wait(`Counting all coalitions again, ${label}.`, async (report) =>
+    app.counter.boards.ask("plain", weights, report),
+  );
+  const wrong = chairs.filter((it, at) => it.swings !== swings[at]).length;
   return wrong + (winning === reading.winning ? 0 : 1);
 }
 
 /** Recounts a reading, and writes the result into an item. */
-async function compare(app: App, standing: Standing, reading: Reading, item: HTMLElement): Promise<void> {
+async function compare(app: App, reading: Reading, item: HTMLElement): Promise<void> {
   const { label } = MAJORITY[reading.majority];
   item.textContent = `${label}: counting…`;
   const begun = performance.now();
-  const wrong = await differing(app, standing, reading);
+  const wrong = await differing(app, reading);
   const seconds = ((performance.now() - begun) / 1000).toFixed(1);
   const numbers = `${1 + reading.chairs.length} numbers`;
   const found = wrong ? `${wrong} of ${numbers} DIFFER` : `all ${numbers} are the same`;
@@ -32,8 +34,8 @@ async function compare(app: App, standing: Standing, reading: Reading, item: HTM
 
 const WORDS =
   "This counts the changed board's swings and winning coalitions once more, one coalition after the other, straight " +
-  "from the definitions and from the members shown. It is an independent check in this page's own code, and the " +
-  "source of no number.";
+  "from the definitions and from the votes of the chairs shown. It is an independent check in this page's own code, " +
+  "and the source of no number.";
 
 /** Opens the dialog. */
 export function openRecount(app: App): void {
@@ -48,7 +50,7 @@ export function openRecount(app: App): void {
     for (const reading of after.values()) {
       const item = h("li", { "data-majority": reading.majority });
       list.append(item);
-      await compare(app, standing, reading, item);
+      await compare(app, reading, item);
     }
   };
   const act = () => void run().catch((why: unknown) => list.append(h("li", { class: "wrong" }, String(why))));

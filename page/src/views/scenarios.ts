@@ -1,7 +1,8 @@
 /** Named scenarios side by side: the greatest gain and the greatest loss at each majority. */
 import type { App } from "../app";
-import { chairRows, emptySentence, extremeCell, type Said } from "../compare";
+import { chairRows, emptySentence, extremeCell, measureWords, type Said } from "../compare";
 import { button, byId, h, paint, type Child } from "../dom";
+import { isolated } from "../names";
 import { freshId, withChanges, type Scenario, type Study } from "../study";
 import { MAJORITY } from "../words";
 
@@ -21,22 +22,19 @@ function shownAgain(study: Study, scenario: Scenario): Study {
 
 function rows(app: App, scenario: Scenario): Child {
   const { shown, view, study } = app;
-  const counted = shown && app.scenarios.of(study.base, scenario, view.majorities);
+  const counted = shown && app.results.scenario(study.base, scenario, view.majorities);
   const buttons = h("td", { class: "text", rowspan: view.majorities.length },
     h("span", { class: "buttons" },
-      button("Show", () => app.take(shownAgain(study, scenario)), { "aria-label": `Show ${scenario.name}` }),
+      button("Show", () => app.take(shownAgain(study, scenario)), { "aria-label": `Show ${isolated(scenario.name)}` }),
       button(
         "Remove",
         () => app.take({ ...study, scenarios: study.scenarios.filter((it) => it !== scenario) }),
-        { "aria-label": `Remove ${scenario.name}` },
+        { "aria-label": `Remove ${isolated(scenario.name)}` },
       ),
     ),
   );
-  const list = counted ? chairRows(study.base, counted, view) : [];
-  const refused = counted ? [...counted.outcomes.values()].filter(
-    (it) => it.kind === "refused" || it.kind === "impossible",
-  ).length : 0;
-  const note = refused ? ` (${refused} refused)` : "";
+  const list = counted ? chairRows(counted, view) : [];
+  const note = counted?.refused ? ` (${counted.refused} refused)` : "";
   return view.majorities.map((majority, at) => {
     const cells = ([1, -1] as const).map((it) => (counted ? extremeCell(list, view, majority, it) : COUNTING));
     const empty = counted ? emptySentence(counted, majority) : null;
@@ -44,7 +42,8 @@ function rows(app: App, scenario: Scenario): Child {
       at === 0 ? h(
         "th",
         { scope: "rowgroup", class: "text", rowspan: view.majorities.length },
-        scenario.name + note,
+        h("bdi", {}, scenario.name),
+        note,
       ) : null,
       h("td", { class: "text" }, MAJORITY[majority].label),
       empty ? h("td", { class: "text", colspan: 2 }, empty) : cells.map(cellOf),
@@ -66,7 +65,7 @@ function form(app: App): HTMLElement {
     event.preventDefault();
     const words = name.value.trim().replace(/\s+/g, " ");
     const isTaken = TAKEN.includes(words) || app.study.scenarios.some((it) => it.name === words);
-    if (isTaken) said.textContent = `The name ${words} is taken.`;
+    if (isTaken) said.textContent = `The name ${isolated(words)} is taken.`;
     else if (words) app.take(kept(app.study, words));
   };
   return h("form", { class: "field", onsubmit: submit },
@@ -79,7 +78,8 @@ function form(app: App): HTMLElement {
 
 export function paintScenarios(app: App): void {
   const { scenarios } = app.study;
-  const heads = ["Scenario", "Majority", "Gains most", "Loses most", ""];
+  const measure = measureWords(app.view.measure);
+  const heads = ["Scenario", "Majority", `Gains most ${measure}`, `Loses most ${measure}`, ""];
   const table = h("div", { class: "scroll", tabindex: 0, role: "region", "aria-label": "Scenarios side by side" },
     h("table", { id: "scenarios" },
       h("thead", {}, h("tr", {}, heads.map((it) => (it ? h("th", { scope: "col", class: "text" }, it) : h("td", {}))))),

@@ -1,73 +1,121 @@
 /** The preview of a table: its header and columns, the questions about it, and all its faults. */
 import type { App } from "../app";
 import { openDialog } from "../dialogs";
-import { button, choice, h, paint, type Child } from "../dom";
+import { button, choice, h, paint, save, type Child } from "../dom";
 import { counted, grouped } from "../fractions";
 import { hashOf } from "../made";
+import { orRefuse } from "./refusal";
+import { studyOf } from "../study";
+import { baseOf } from "../tables/base";
+import { columnName, guessedLayout, layoutWith } from "../tables/columns";
+import type { Thousands } from "../tables/numbers";
+import { faultWords, readTable } from "../tables/read";
+import type { Source } from "../tables/sources";
+import { strictTable } from "../tables/strict";
+import { DELIMITER_WORDS, DELIMITERS, sheetOf, sheetOfCells } from "../tables/text";
 import {
-  columnName, guessedLayout, marksWith, MEANING_WORDS, MEANINGS, NO_ANSWERS, readTable, sheetOf, totalWords,
-  type Answers, type CellFault, type Layout, type Meaning, type ReadTable, type Sheet,
-} from "../table";
+  MEANING_WORDS, MEANINGS, NO_ANSWERS, type Answers, type Layout, type Meaning, type Question, type ReadTable,
+  type Sheet,
+} from "../tables/types";
 
 /** More faults than this are counted and not listed. */
 const MOST_FAULTS = 100;
 /** More members in no chair than this are counted and not named. */
 const MOST_NAMED = 12;
+/** More rows than this are not in the preview. */
+const MOST_ROWS = 400;
+const EMPTY = sheetOfCells([]);
 
 /** A table in the preview, and the choices so far. */
 class Preview {
-  layout: Layout;
+  /** The sheet's place in the source; null until one of several is chosen. */
+  place: number | null;
+  sheet: Sheet = EMPTY;
+  layout: Layout = guessedLayout(EMPTY);
   answers: Answers = NO_ANSWERS;
   name: string;
-  constructor(readonly app: App, public sheet: Sheet, readonly text: string, name: string) {
-    this.layout = guessedLayout(sheet);
-    this.name = name;
+
+  constructor(readonly app: App, readonly source: Source) {
+    this.name = source.name;
+    this.place = null;
+    if (source.sheets.length === 1) this.choose(0);
+  }
+
+  /** Shows a sheet of the source from scratch. */
+  choose(place: number): void {
+    this.place = place;
+    this.show(this.source.sheets[place]?.sheet ?? EMPTY);
+  }
+
+  /** Cuts the text into cells at another delimiter. */
+  cut(delimiter: string): void {
+    this.show(sheetOf(this.source.text ?? "", this.source.notices, delimiter));
   }
 
   read(): ReadTable {
     return readTable(this.sheet, this.layout, this.answers);
   }
+
+  answer(id: string, key: string): void {
+    this.answers = { ...this.answers, chosen: new Map([...this.answers.chosen, [id, key]]) };
+    if (id !== "which-votes") return;
+    this.layout = { ...this.layout, columns: { ...this.layout.columns, votes: Number(key) } };
+  }
+
+  leaveOut(row: number, isOut: boolean): void {
+    const rows = new Set(this.answers.leftOut);
+    if (isOut) rows.add(row);
+    else rows.delete(row);
+    this.answers = { ...this.answers, leftOut: rows };
+  }
+
+  private show(sheet: Sheet): void {
+    this.sheet = sheet;
+    this.layout = guessedLayout(sheet);
+    this.answers = NO_ANSWERS;
+  }
 }
 
-function leftOut(preview: Preview, row: number, isOut: boolean): void {
-  const rows = new Set(preview.answers.leftOut);
-  if (isOut) rows.add(row);
-  else rows.delete(row);
-  preview.answers = { ...preview.answers, leftOut: rows };
-}
-
-function question(
-  id: string,
-  legend: string,
-  yes: string,
-  no: string,
-  value: boolean | null,
-  take: (answer: boolean) => void,
-): HTMLElement {
-  const radio = (key: string, words: string, answer: boolean) =>
-    h(
+/** A question with its options. It has a thick border while it is open. */
+function questionField(question: Omit<Question, "kind" | "row" | "choice">, take: (key: string) => void): HTMLElement {
+  const { id, words, options, answer } = question;
+  const radio = (key: string, text: string) => {
+    const own = `${id}-${key}`;
+    return h(
       "label",
       {},
-      h(
-        "input",
-        { type: "radio", name: id, id: `${id}-${key}`, checked: value === answer, onchange: () => take(answer) },
-      ),
-      words,
+      h("input", { type: "radio", name: id, id: own, checked: answer === key, onchange: () => take(key) }),
+      text,
     );
+  };
   return h(
     "fieldset",
-    { id, class: value === null ? "question open" : "question" },
-    h("legend", {}, legend),
-    radio("yes", yes, true),
-    radio("no", no, false),
+    { id, class: answer === null ? "question open" : "question" },
+    h("legend", {}, words),
+    options.map(({ key, words: text }) => radio(key, text)),
   );
 }
 
-/** The place of a cell in words. */
-function cellWords(preview: Preview, { row, meaning }: CellFault): string {
-  const column = preview.layout.columns[meaning];
-  const cell = row && column >= 0 ? ` '${preview.sheet.rows[row - 1]?.[column] ?? ""}'` : "";
-  return row ? `row ${row}, ${MEANING_WORDS[meaning]}${cell}` : MEANING_WORDS[meaning];
+/** The question which of several sheets has the table. */
+function sheetQuestion(preview: Preview, again: () => void): Child {
+  const { sheets } = preview.source;
+  if (sheets.length < 2) return null;
+  const options = sheets.map(({ name, sheet }, at) => {
+    const size = `${counted(sheet.rows.length, "row")}, ${counted(sheet.width, "column")}`;
+    return { key: String(at), words: `${name}: ${size}` };
+  });
+  const answer = preview.place === null ? null : String(preview.place);
+  return questionField({ id: "which-sheet", words: "Which sheet has the members?", options, answer }, (key) => {
+    preview.choose(Number(key));
+    again();
+  });
+}
+
+function questions(preview: Preview, read: ReadTable, again: () => void): Child {
+  return read.questions.map((question) => questionField(question, (key) => {
+    preview.answer(question.id, key);
+    again();
+  }));
 }
 
 function faultList(preview: Preview, read: ReadTable, again: () => void): Child {
@@ -81,145 +129,109 @@ function faultList(preview: Preview, read: ReadTable, again: () => void): Child 
       id: `leave-${row}`,
       checked: preview.answers.leftOut.has(row),
       onchange: () => {
-        leftOut(preview, row, tick.checked);
+        preview.leaveOut(row, tick.checked);
         again();
       },
     });
     return h("label", {}, tick, `leave row ${row} out`);
   };
   const more = read.faults.length - MOST_FAULTS;
-  const faults = read.faults.slice(0, MOST_FAULTS).map(
-    (it) => h(
-      "li",
-      { "data-row": it.row },
-      h("span", { class: "wrong" }, `${cellWords(preview, it)}: ${it.reason}. `),
-      box(it.row),
-    ),
-  );
+  const faults = read.faults.slice(0, MOST_FAULTS).map((it) => {
+    const words = `${faultWords(preview.sheet, preview.layout, it)}. `;
+    return h("li", { "data-row": it.row }, h("span", { class: "wrong" }, words), box(it.row));
+  });
+  const heading = `Faults: ${grouped(read.faults.length)}. Nothing is counted until the table is whole.`;
   return [
-    read.faults.length ? h(
-      "h3",
-      {},
-      `Faults: ${grouped(read.faults.length)}. Nothing is counted until the table is whole.`,
-    ) : null,
+    read.faults.length ? h("h3", {}, heading) : null,
     h(
       "ul",
       { id: "table-faults" },
       faults,
-      more > 0 ? h("li", {}, `and ${more} more`) : null,
+      more > 0 ? h("li", {}, `and ${grouped(more)} more`) : null,
       out.map((row) => h("li", { "data-row": row }, `Row ${row} is left out. `, box(row))),
     ),
   ];
 }
 
-function questions(preview: Preview, read: ReadTable, again: () => void): Child {
-  const { answers } = preview;
-  const merged = (answer: boolean) => {
-    preview.answers = { ...preview.answers, merged: answer };
-    again();
-  };
-  const total = (row: number, answer: boolean) => {
-    preview.answers = { ...preview.answers, totals: new Map([...preview.answers.totals, [row, answer]]) };
-    again();
-  };
-  const rows = read.blanks.length === 1 ? `Row ${read.blanks[0]} has` : `${read.blanks.length} rows have`;
-  return [
-    read.blanks.length
-      ? question(
-        "merged",
-        `Merged cells? ${rows} a blank chair under a filled one.`,
-        "Yes: fill the chair down",
-        "No: these members are in no chair",
-        answers.merged,
-        merged,
-      )
-      : null,
-    read.totals.map((it) =>
-      question(
-        `total-${it.row}`,
-        `A total? ${totalWords(it)} equals the sum of the others.`,
-        "Yes: leave this row out",
-        "No: it is a member",
-        answers.totals.get(it.row) ?? null,
-        (answer) => total(it.row, answer),
-      )
-    ),
-  ];
-}
-
-function columnChoices(preview: Preview, again: () => void): Child {
+/** The lists that choose a column for each meaning. */
+function columnLists(preview: Preview, again: () => void): Child {
   const { sheet, layout } = preview;
   const columns = Array.from(
     { length: sheet.width },
     (_, at): [string, string] => [String(at), columnName(sheet, layout, at)],
   );
   const set = (meaning: Meaning, value: string) => {
-    preview.layout = { ...layout, columns: { ...layout.columns, [meaning]: Number(value) } };
+    const votesMaybe = meaning === "votes" ? [] : layout.votesMaybe;
+    preview.layout = { ...layout, votesMaybe, columns: { ...layout.columns, [meaning]: Number(value) } };
     again();
   };
+  const none: [string, string] = ["-1", "none"];
+  return MEANINGS.map((it) =>
+    choice(`column-${it}`, MEANING_WORDS[it], [none, ...columns], String(layout.columns[it]), (at) => set(it, at))
+  );
+}
+
+/** The choices of header, columns and marks. */
+function columnChoices(preview: Preview, again: () => void): Child {
+  const { sheet, layout } = preview;
   const header: HTMLInputElement = h("input", {
     id: "header-row", type: "number", min: 0, max: sheet.rows.length, value: layout.header, class: "short",
     onchange: () => {
-      preview.layout = { ...layout, header: Math.max(0, Math.floor(Number(header.value)) || 0) };
+      const row = Math.min(Math.max(0, Math.floor(Number(header.value)) || 0), sheet.rows.length);
+      preview.layout = layoutWith(sheet, row, layout.thousands);
       again();
     },
   });
-  const none: [string, string] = ["-1", "none"];
-  const lists = MEANINGS.map(
-    (it) => choice(
-      `column-${it}`,
-      MEANING_WORDS[it],
-      [none, ...columns],
-      String(layout.columns[it]),
-      (value) => set(it, value),
-    ),
-  );
   const thousands = (mark: string) => {
-    preview.sheet = { ...sheet, marks: marksWith(mark) };
+    const given = mark as Thousands;
+    preview.layout = layout.columns.votes < 0
+      ? layoutWith(sheet, layout.header, given)
+      : { ...layout, thousands: given };
     again();
   };
+  const cut = (delimiter: string) => {
+    preview.cut(delimiter);
+    again();
+  };
+  const delimiters = DELIMITERS.map((it): [string, string] => [it, DELIMITER_WORDS[it] ?? it]);
   return h(
     "div",
     { class: "choices" },
     h("label", { class: "choice", for: "header-row" }, h("span", {}, "Row of the header (0: none)"), header),
-    lists,
-    choice("thousands", "Thousands", [[",", "1,000"], [".", "1.000"]], sheet.marks.charAt(0), thousands),
+    columnLists(preview, again),
+    choice("thousands", "Thousands", [[",", "1,000"], [".", "1.000"]], layout.thousands, thousands),
+    preview.source.text === null ? null : choice("delimiter", "Between cells", delimiters, sheet.delimiter, cut),
   );
+}
+
+/** What was taken of a row: its code if it is made, and its chair; or what it is, if it isn't a member. */
+function takenWords(preview: Preview, read: ReadTable): Map<number, string> {
+  const isMade = preview.layout.columns.code < 0;
+  const members = (read.base?.members ?? []).map(({ row, code, chair, suspended }): [number, string] => {
+    const seat = chair === null ? "none" : `chair ${chair}`;
+    return [row, `${isMade ? `${code}, ` : ""}${seat}${suspended ? ", suspended" : ""}`];
+  });
+  return new Map([...members, ...read.roles]);
 }
 
 function previewTable(preview: Preview, read: ReadTable): HTMLElement {
   const { sheet, layout, answers } = preview;
   const bad = new Map(read.faults.map((it) => [`${it.row}:${layout.columns[it.meaning]}`, it.reason]));
-  const codes = new Map((read.base?.members ?? []).map((it) => [it.row, it.code]));
-  const isMade = layout.columns.code < 0;
-  const chairs = new Map(
-    (read.base?.commands ?? []).flatMap((it) => (it.word === "move" ? [[it.code, it.chair] as const] : [])),
-  );
-  const out = new Set(read.totals.flatMap(({ row }) => (answers.totals.get(row) ? [row] : [])));
-  const body = sheet.rows.slice(0, 400).map((cells, at) => {
+  const taken = takenWords(preview, read);
+  const body = sheet.rows.slice(0, MOST_ROWS).map((cells, at) => {
     const row = at + 1;
-    const isOut = answers.leftOut.has(row) || out.has(row);
+    const isOut = answers.leftOut.has(row) || (read.roles.has(row) && read.roles.get(row) !== "heading");
     const look = row === layout.header ? "header" : row < layout.header || isOut ? "out" : "";
     const given = Array.from({ length: sheet.width }, (_, column) => {
       const reason = bad.get(`${row}:${column}`);
       return h("td", { class: reason ? "text bad" : "text", title: reason ?? "" }, cells[column] ?? "");
     });
-    const code = codes.get(row);
-    const own = isMade ? `${code}, ` : "";
-    const taken = code === undefined ? "" : own + (chairs.get(code) ? `chair ${chairs.get(code)}` : "none");
-    return h(
-      "tr",
-      { class: look, "data-row": row },
-      h("th", { scope: "row" }, String(row)),
-      given,
-      h("td", { class: "text" }, taken),
-    );
+    const words = h("td", { class: "text" }, taken.get(row) ?? "");
+    return h("tr", { class: look, "data-row": row }, h("th", { scope: "row" }, String(row)), given, words);
   });
-  const heads = [
-    "Row",
-    ...Array.from({ length: sheet.width }, (_, at) => columnName(sheet, { ...layout, header: 0 }, at)),
-    isMade ? "Code and chair taken" : "Chair taken",
-  ];
+  const letters = Array.from({ length: sheet.width }, (_, at) => columnName(sheet, { header: 0 }, at));
+  const heads = ["Row", ...letters, layout.columns.code < 0 ? "Code and chair taken" : "Chair taken"];
+  const more = sheet.rows.length - MOST_ROWS;
   return h("div", { class: "scroll preview", tabindex: 0, role: "region", "aria-label": "The table's rows" },
     h(
       "table",
@@ -227,6 +239,7 @@ function previewTable(preview: Preview, read: ReadTable): HTMLElement {
       h("thead", {}, h("tr", {}, heads.map((it) => h("th", { scope: "col", class: "text" }, it)))),
       h("tbody", {}, body),
     ),
+    more > 0 ? h("p", {}, `and ${counted(more, "row")} more`) : null,
   );
 }
 
@@ -234,9 +247,8 @@ function previewTable(preview: Preview, read: ReadTable): HTMLElement {
 function wholeWords({ base }: ReadTable): string {
   if (!base) return "Not whole yet.";
   const votes = base.members.reduce((sum, it) => sum + it.votes, 0);
-  const chairs = base.commands.filter((it) => it.word === "open").length;
-  const seated = new Set(base.commands.flatMap((it) => (it.word === "move" ? [it.code] : [])));
-  const none = base.members.filter((it) => !seated.has(it.code));
+  const chairs = new Set(base.members.flatMap(({ chair }) => chair ?? [])).size;
+  const none = base.members.filter(({ chair }) => chair === null);
   const named = none.slice(0, MOST_NAMED).map((it) => `${it.code} (${counted(it.votes, "vote")})`).join(", ");
   const more = none.length > MOST_NAMED ? ` and ${none.length - MOST_NAMED} more` : "";
   const seats = none.length
@@ -247,53 +259,61 @@ function wholeWords({ base }: ReadTable): string {
 
 async function take(preview: Preview, read: ReadTable, close: () => void): Promise<void> {
   if (!read.base) return;
-  const hash = await hashOf(preview.text);
+  const { app, name, source } = preview;
+  const base = await baseOf(app.counter, read.base, await hashOf(source.content));
   close();
-  const { app } = preview;
-  app.openCards.clear();
-  app.take({ name: preview.name, base: { ...read.base, hash }, changes: [], scenarios: [], published: null });
+  app.openStudy(studyOf(name, base));
+}
+
+function saveStrict(preview: Preview, read: ReadTable): void {
+  if (read.base) save(`${preview.name}-members.csv`, new Blob([strictTable(read.base)], { type: "text/csv" }));
+}
+
+function buttons(preview: Preview, read: ReadTable, close: () => void): HTMLElement {
+  const disabled = read.base === null;
+  return h(
+    "div",
+    { class: "buttons" },
+    button("Take this table", () => orRefuse(take(preview, read, close)), { id: "table-take", disabled }),
+    button("Save it cleaned, as CSV", () => saveStrict(preview, read), { id: "table-save", disabled }),
+  );
+}
+
+/** All of the preview for the sheet that is chosen. */
+function content(preview: Preview, close: () => void, again: () => void): Child {
+  const name: HTMLInputElement = h(
+    "input",
+    { id: "table-name", value: preview.name, oninput: () => (preview.name = name.value) },
+  );
+  const head = h("label", { class: "choice", for: "table-name" }, h("span", {}, "Name of the study"), name);
+  const which = sheetQuestion(preview, again);
+  if (preview.place === null) return [head, which];
+  const read = preview.read();
+  return [
+    head,
+    which,
+    columnChoices(preview, again),
+    h("ul", { id: "table-notices", class: "note" }, read.notices.map((it) => h("li", {}, it))),
+    questions(preview, read, again),
+    faultList(preview, read, again),
+    h("p", { id: "table-words", role: "status" }, wholeWords(read)),
+    buttons(preview, read, close),
+    previewTable(preview, read),
+  ];
 }
 
 /** Opens the preview of a table. */
-export function openTable(app: App, text: string, name: string, notices: readonly string[] = []): void {
-  const preview = new Preview(app, sheetOf(text, notices), text, name);
+export function openTable(app: App, source: Source): void {
+  const preview = new Preview(app, source);
   const body = h("div", {});
-  const grey = (isGrey: boolean) => byMain()?.classList.toggle("waiting", isGrey);
+  const grey = (isGrey: boolean) => document.getElementById("main")?.classList.toggle("waiting", isGrey);
   const dialog = openDialog("table-dialog", "A table of members", (close) => {
-    const again = () => {
-      const read = preview.read();
-      grey(true);
-      const nameField: HTMLInputElement = h(
-        "input",
-        { id: "table-name", value: preview.name, oninput: () => (preview.name = nameField.value) },
-      );
-      paint(body,
-        h("label", { class: "choice", for: "table-name" }, h("span", {}, "Name of the study"), nameField),
-        columnChoices(preview, again),
-        h("ul", { id: "table-notices", class: "note" }, read.notices.map((it) => h("li", {}, it))),
-        questions(preview, read, again),
-        faultList(preview, read, again),
-        h("p", { id: "table-words", role: "status" }, wholeWords(read)),
-        h(
-          "div",
-          { class: "buttons" },
-          button(
-            "Take this table",
-            () => void take(preview, read, close),
-            { id: "table-take", disabled: read.base === null },
-          ),
-        ),
-        previewTable(preview, read),
-      );
-    };
+    const again = () => paint(body, content(preview, close, again));
     again();
     return body;
   }, () => grey(false));
+  grey(true);
   dialog.classList.add("wide");
-}
-
-function byMain(): HTMLElement | null {
-  return document.getElementById("main");
 }
 
 /** Asks for a table that is pasted as text. */
@@ -313,7 +333,7 @@ export function openPaste(read: (text: string, name: string) => void): void {
         "p",
         {},
         "Copy the cells in a spreadsheet, with their header, and paste them here. A row is a member: its code, " +
-          "its name, its votes, its chair by number or by name.",
+          "its name, its votes, its chair by number or by name. Tables as the Fund prints them are read, too.",
       ),
       area,
       h("div", { class: "buttons" }, button("Read the table", act, { id: "paste-take" })),

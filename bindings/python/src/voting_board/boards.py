@@ -75,7 +75,7 @@ def indices_of_members(table: Table, majority: Majority, *, open_chairs: Iterabl
         (50, 49)
 
     table: a data frame, a mapping from columns to lists, or rows such as `Member`, dicts, dataclasses and named
-        tuples. The columns are votes and chair, and if wanted code, chair_name and suspended
+        tuples. The columns are votes and chair, and if wanted code, name (not used), chair_name and suspended
     majority: "half", "70", "85" or "quorum"
     open_chairs: chairs that are open even if no member sits in them
 

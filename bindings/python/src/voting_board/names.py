@@ -2,7 +2,7 @@
 
 from typing import Literal
 
-VERSION = "0.9.0"
+VERSION = "0.10.0"
 CHAIRS = 32
 MEMBERS = 256
 COMMANDS = 1_000_000
@@ -105,5 +105,5 @@ ALLOWED: dict[str, str] = {
     "readers": "a whole number from 1 to 4",
     "journal": "a whole number from 1 to 1000000",
     "length": "a whole number from 0 to the number of accepted commands",
-    "columns": "the columns are code, votes, chair, chair_name and suspended",
+    "columns": "the columns are code, name, votes, chair, chair_name and suspended",
 }

@@ -9,9 +9,9 @@ from .names import ALLOWED
 from .refusals import BAD_CHAIR, BAD_SHEET, DUPLICATE_MEMBER, Refused
 from .values import board_votes_of, chair_of, code_of, is_bool, items_of, votes_of, wrong_type
 
-COLUMNS = ("code", "votes", "chair", "chair_name", "suspended")
+COLUMNS = ("code", "name", "votes", "chair", "chair_name", "suspended")
 #: What a row has in a column that it leaves out.
-LEFT_OUT = {"code": None, "chair": None, "chair_name": None, "suspended": False}
+LEFT_OUT = {"code": None, "name": None, "chair": None, "chair_name": None, "suspended": False}
 LIST = "a list or an array"
 ROWS = "a data frame, a mapping from columns to lists, or rows with named parts"
 
@@ -38,7 +38,7 @@ class NamedRow(Protocol):
 
 
 Row = Union[Mapping[str, object], DataclassRow, NamedRow]
-#: A table whose columns are named code, votes, chair, chair_name and suspended.
+#: A table whose columns are named code, name, votes, chair, chair_name and suspended.
 Table = Union[Frame, Mapping[str, object], Iterable[Row]]
 
 
@@ -160,6 +160,9 @@ def seated_of(cells: dict[str, Any], where: str, is_register: bool) -> Seated:
     code = cells.get("code")
     if is_register or code is not None:
         code = code_of(code, f"{where}the code is")
+    name = cells.get("name")
+    if not is_missing(name) and not isinstance(name, str):
+        raise wrong_type(name, f"{where}the name is", ALLOWED["name"])
     votes = (votes_of if is_register else board_votes_of)(cells["votes"], f"{where}the votes are")
     chair = cells.get("chair")
     if is_missing(chair):

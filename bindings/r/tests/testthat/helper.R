@@ -19,7 +19,7 @@ chairs_are <- ": a chair is a whole number from 1 to 32"
 seats_are <- paste0(chairs_are, ", or NA for no chair")
 codes_are <- ": a code is three ASCII capitals"
 majorities_are <- ": half, 70, 85 or quorum"
-columns_are <- ": the columns are code, votes, chair, chair_name and suspended"
+columns_are <- ": the columns are code, name, votes, chair, chair_name and suspended"
 
 three <- function() {
   data.frame(code = c("AAA", "BBB", "CCC"), votes = c(50, 49, 1), chair = 1:3)

@@ -123,11 +123,14 @@ test_that("cells of tables are refused with their rows", {
 })
 
 test_that("columns are found by their whole names", {
+  named <- transform(three(), name = "A")
+  expect_identical(board_indices(named, "half")$total, board_indices(three(), "half")$total)
   both <- list(function(it) board_indices(it, "half"), board_register)
   for (call in both) {
     wrong(call(cbind(three(), Suspended = TRUE)), paste0("unknown column 'Suspended'", columns_are))
     wrong(call(cbind(three(), suspended_before = TRUE)), paste0("unknown column 'suspended_before'", columns_are))
     wrong(call(cbind(three(), suspend = TRUE)), paste0("unknown column 'suspend'", columns_are))
+    wrong(call(cbind(three(), name = 5)), "row 1: the name is 5 (numeric): a name is text")
     wrong(call(data.frame(code = "AAA", chair = 1)), paste0("no column 'votes'", columns_are))
     wrong(call(three()[0, ]), "the table has no rows")
     expect_error(call(data.frame()), "no column", class = "board_type_error")

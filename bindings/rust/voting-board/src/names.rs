@@ -1,7 +1,7 @@
 //! The names, limits and sentences of the library. Made by tools/names from the sources: do not edit.
 
 /// The version of the library.
-pub const VERSION: &str = "0.9.0";
+pub const VERSION: &str = "0.10.0";
 /// The most chairs of a board.
 pub const CHAIRS: usize = 32;
 /// The most members of a register at any moment.
@@ -170,5 +170,5 @@ pub(crate) mod allowed {
     pub(crate) const READERS: &str = "a whole number from 1 to 4";
     pub(crate) const JOURNAL: &str = "a whole number from 1 to 1000000";
     pub(crate) const LENGTH: &str = "a whole number from 0 to the number of accepted commands";
-    pub(crate) const COLUMNS: &str = "the columns are code, votes, chair, chair_name and suspended";
+    pub(crate) const COLUMNS: &str = "the columns are code, name, votes, chair, chair_name and suspended";
 }

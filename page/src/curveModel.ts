@@ -1,0 +1,74 @@
+/** The data of the chart of a sweep, and the rows that it has in exports. */
+import type { App } from "./app";
+import type { Labelled } from "./csv";
+import type { CurveModel } from "./curveChart";
+import { decimalRatio, drawn, grouped, rounded } from "./fractions";
+import { isolated } from "./names";
+import type { Threshold } from "./orders";
+import { readings } from "./reading";
+import type { SweepAsked } from "./study";
+import { shareText, STATEMENT_WORDS, sweepText } from "./sweep";
+import { MAJORITY, MEASURE } from "./words";
+
+export const FIRST_SWEEP: SweepAsked = {
+  who: { kind: "chair", chair: 1 }, on: "base", unit: "percent", from: "10", to: "20", by: "0.5",
+};
+
+/** A threshold in words, such as "At 85 per cent it prevents everything from 847,524 votes (not at 847,523)". */
+export function thresholdWords(threshold: Threshold, digits: number): string {
+  const { majority, what, isFrom, votes, share } = threshold;
+  const from = isFrom ? `${STATEMENT_WORDS[what]} from` : `${STATEMENT_WORDS[what]} up to`;
+  const own = isFrom ? votes : votes - 1;
+  const other = isFrom ? `not at ${grouped(votes - 1)}` : `not at ${grouped(votes)}`;
+  const part = isFrom && share ? `, ${shareText(share, digits)}` : "";
+  return `${MAJORITY[majority].at} it ${from} ${grouped(own)} votes${part} (${other}).`;
+}
+
+/** A sweep in words, with its board. */
+export function sweepTitle(asked: SweepAsked): string {
+  return sweepText(asked) + (asked.on === "changed" ? " on the changed board" : "");
+}
+
+/** The chart's model, also for exports. Null if no sweep is counted. */
+export function curveModel(app: App): CurveModel | null {
+  const { curve, view } = app;
+  if (!curve) return null;
+  const { asked, majorities, points, standing, thresholds } = curve;
+  const isPercent = asked.unit === "percent";
+  const isThere = points[0]?.readings[0]?.chairs.some((it) => it.chair === view.curveChair);
+  const chair = isThere ? view.curveChair ?? curve.chair : curve.chair;
+  const shareOf = (threshold: Threshold) => (threshold.share ? 100 * drawn(threshold.share) : 0);
+  const marks = chair === curve.chair ? thresholds : [];
+  return {
+    points: points.map((it) => ({ x: Number(it.value), readings: readings(it.readings) })),
+    marks: marks.map((it) => ({
+      x: isPercent ? shareOf(it) : it.votes, majority: it.majority, words: thresholdWords(it, view.digits),
+    })),
+    chair,
+    majorities,
+    measure: view.measure,
+    hasVotes: view.curveVotes,
+    xWords: isPercent ? "votes of what is swept, per cent of the total voting power" : "votes of what is swept",
+    name: `${MEASURE[view.measure].label} of chair ${chair} ${isolated(standing.name(chair))}: ${sweepTitle(asked)}`,
+  };
+}
+
+/** A value of a sweep, with the decimal places of its first value and its step, as board_study writes it. */
+function padded(value: string, { from, by }: SweepAsked): string {
+  const places = Math.max(...[from, by].map((it) => it.split(".")[1]?.length ?? 0));
+  return places ? rounded(decimalRatio(value), places) : value;
+}
+
+/** The points of the study's sweep as registers of a table; none if it has no sweep. */
+export function sweepRegisters({ curve }: App): Labelled[] {
+  if (!curve) return [];
+  const { asked, points, standing } = curve;
+  const name = asked.who.kind === "member" ? asked.who.code : `chair ${asked.who.chair}`;
+  return points.map(({ value, readings: list }) => ({
+    label: `${name} ${value} ${asked.unit === "percent" ? "%" : "votes"}`,
+    sweep: sweepTitle(asked),
+    percent: padded(value, asked),
+    readings: readings(list),
+    standing,
+  }));
+}

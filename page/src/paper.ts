@@ -1,0 +1,33 @@
+/** The size of letters that fits wide tables to a sheet of paper. */
+
+/** The smallest and the largest size, in points. */
+const [SMALLEST, LARGEST] = [4.5, 7];
+/** The characters that fill a line of A4 or Letter paper at a size of one point. */
+const LINE = 880;
+
+/** The characters of a cell that stay on one line: those of a number, or of the longest word. */
+function widthOf(cell: HTMLTableCellElement): number {
+  const text = cell.textContent ?? "";
+  const words = cell.classList.contains("text") ? text.split(/\s+/) : [text];
+  return 1 + Math.max(...words.map((it) => it.length));
+}
+
+/** The characters of a table's widest line. */
+function lineOf(table: HTMLTableElement): number {
+  const widest: number[] = [];
+  for (const body of table.tBodies) {
+    for (const row of body.rows) {
+      [...row.cells].forEach((cell, at) => (widest[at] = Math.max(widest[at] ?? 0, widthOf(cell))));
+    }
+  }
+  return widest.reduce((sum, it) => sum + it, 0);
+}
+
+/** Gives each table the size that fits. If that is too small to read, its numbers go over several lines instead. */
+export function fitTables(): void {
+  for (const table of document.querySelectorAll<HTMLTableElement>("#panel table, #scenarios")) {
+    const size = LINE / Math.max(1, lineOf(table));
+    table.classList.toggle("broken", size < SMALLEST);
+    table.style.setProperty("--print-size", `${Math.min(LARGEST, Math.max(SMALLEST, size)).toFixed(2)}pt`);
+  }
+}

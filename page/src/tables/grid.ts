@@ -1,0 +1,43 @@
+/** Cells that span several rows or columns, laid out as a grid. */
+
+/** A cell of a row, and how many rows and columns it spans. */
+export interface SpanningCell {
+  readonly text: string;
+  readonly rows: number;
+  readonly columns: number;
+}
+
+/** A grid, and the number of cells into which a cell above was filled down. */
+export interface Grid {
+  readonly cells: readonly (readonly string[])[];
+  readonly filled: number;
+}
+
+/** More rows or columns than this are no table of members. */
+export const MOST_ROWS = 5000;
+const MOST_COLUMNS = 200;
+
+/** Lays out rows of cells as a web page does. A cell over several rows is in each of them, at its first column. */
+export function gridOf(rows: readonly (readonly SpanningCell[])[]): Grid {
+  const grid: string[][] = rows.map(() => []);
+  let filled = 0;
+  rows.forEach((cells, top) => {
+    let left = 0;
+    for (const { text, rows: high, columns: wide } of cells) {
+      while (grid[top]?.[left] !== undefined) left += 1;
+      for (let row = top; row < Math.min(top + high, grid.length); row += 1) {
+        for (let column = left; column < Math.min(left + wide, MOST_COLUMNS); column += 1) {
+          const line = grid[row];
+          if (line) line[column] = column === left ? text : "";
+        }
+        if (row > top && text !== "") filled += 1;
+      }
+    }
+  });
+  return { cells: grid.map((row) => Array.from(row, (cell) => cell ?? "")), filled };
+}
+
+/** The notice on cells that were filled down. */
+export function filledNotice(filled: number): string[] {
+  return filled > 0 ? [`Merged cells were filled down into ${filled === 1 ? "1 cell" : `${filled} cells`}`] : [];
+}

@@ -1,0 +1,104 @@
+/** Whole numbers as people print them, and the footnote marks behind numbers and names. */
+
+/** The mark between thousands: a comma or a point. Apostrophes and blanks always may be one. */
+export type Thousands = "," | ".";
+
+const ALWAYS = " \u00a0\u2009\u202f'\u2019";
+/** A decimal number, such as a per cent. */
+const DECIMAL = /^[+-]?[0-9]+[.,][0-9]+$/;
+const PERCENT = /^[+-]?[0-9]+([.,][0-9]+)?\s*%$/;
+/** Any digit of Unicode other than 0 to 9, except raised ones. */
+const OTHER_DIGIT = /(?![0-9])\p{Nd}/u;
+
+const MARKS_BEFORE = /^[*†‡§]+\s*/;
+/** Marks such as `*`, a raised 1, ` 1/`, ` a/`, ` 1)`, `(1)` and `[1]`. A `1/` needs a blank before it, or a letter. */
+const MARKS_AFTER = [
+  /\s*[*†‡§]+$/,
+  /\s*[\u00b9\u00b2\u00b3\u2070\u2074-\u2079]+[/⁄)]?$/,
+  /\s+[0-9]{1,2}(,\s?[0-9]{1,2})*\/$/,
+  /\s+[a-z]\/$/i,
+  /\s*\([0-9]{1,2}\)$/,
+  /\s*\[([0-9]{1,2}|[a-z])\]$/i,
+];
+const MARK_AT_LETTER = /(\p{L})[0-9]{1,2}\/$/u;
+const MARK_IN_HALF = /^([^()]*\S)\s+[0-9]{1,2}\)$/;
+
+/** A number that was read: its value, and what was passed over. */
+export interface Whole {
+  readonly value: number;
+  readonly hasMarks: boolean;
+  readonly hasZeros: boolean;
+}
+
+/** A cell without the footnote marks around it. A cell that is nothing else stays as it is. */
+export function withoutMarks(cell: string): string {
+  let rest = cell;
+  for (let before = ""; before !== rest;) {
+    before = rest;
+    for (const mark of [MARKS_BEFORE, ...MARKS_AFTER]) rest = rest.replace(mark, "") || rest;
+    rest = rest.replace(MARK_AT_LETTER, "$1").replace(MARK_IN_HALF, "$1");
+  }
+  return rest;
+}
+
+function patternOf(thousands: Thousands): RegExp {
+  const point = thousands === "." ? "\\." : ",";
+  const grouped = `[0-9]{1,3}(?:([${ALWAYS}])[0-9]{3}(?:\\1[0-9]{3})*|(${point})[0-9]{3}(?:${point}[0-9]{3})*)`;
+  return new RegExp(`^(?:[0-9]{1,20}|${grouped})([.,]00?)?$`);
+}
+const PATTERNS = { ",": patternOf(","), ".": patternOf(".") };
+
+/** A whole number without footnote marks, or null: its thousands may be separated, and .0 or .00 may follow. */
+export function wholeOf(cell: string, thousands: Thousands): Whole | null {
+  const found = PATTERNS[thousands].exec(cell);
+  if (!found) return null;
+  const [, blank, mark, zeros] = found;
+  // Behind thousands with points the decimal mark is a comma; else it is a point.
+  if (zeros && (zeros[0] === ",") !== (mark === ".")) return null;
+  const digits = (zeros ? cell.slice(0, -zeros.length) : cell).replace(/[^0-9]/g, "");
+  return { value: Number(digits), hasMarks: Boolean(blank ?? mark), hasZeros: Boolean(zeros) };
+}
+
+/** Whether a cell is a number, even one that is refused. */
+export function isNumber(cell: string): boolean {
+  const bare = withoutMarks(cell);
+  return wholeOf(bare, ",") !== null || wholeOf(bare, ".") !== null || DECIMAL.test(bare) || PERCENT.test(bare);
+}
+
+/** The value of a decimal or a per cent, or null. */
+export function decimalOf(cell: string): number | null {
+  const bare = withoutMarks(cell).replace(/\s*%$/, "");
+  return /^[0-9]+([.,][0-9]+)?$/.test(bare) ? Number(bare.replace(",", ".")) : null;
+}
+
+/** Whether a cell is in per cent, or a decimal number. */
+export function isPercent(cell: string): boolean {
+  return PERCENT.test(withoutMarks(cell));
+}
+
+/** The mark between thousands that some cell proves, by two marks of a kind or by a decimal behind one; else null. */
+export function provenThousands(cells: readonly string[]): Thousands | null {
+  const proves = (mark: string, other: string) =>
+    cells.some((cell) => new RegExp(`^[0-9]{1,3}(\\${mark}[0-9]{3})+(\\${mark}[0-9]{3}|\\${other}00?)$`).test(cell));
+  const [comma, point] = [proves(",", "."), proves(".", ",")];
+  return comma === point ? null : comma ? "," : ".";
+}
+
+/** Why a cell isn't a number of votes, in words. */
+export function votesReason(cell: string): string {
+  if (cell === "") return "an empty cell";
+  if (/^[+\-\u2212\u2013]/.test(cell)) return "a sign";
+  if (/^\(.*\)$/.test(cell)) return "a number in parentheses, which may mean a negative one";
+  if (OTHER_DIGIT.test(cell)) return "digits other than 0 to 9";
+  if (/^[0-9.,]+e[+-]?[0-9]+$/i.test(cell)) return "a spreadsheet's scientific format";
+  if (PERCENT.test(cell)) return "a per cent";
+  if (/^[0-9]{1,3}\.[0-9]{3}$/.test(cell)) {
+    return "a decimal point; if it separates thousands, choose 1.000 under Thousands";
+  }
+  if (/^[0-9]{1,3},[0-9]{3}$/.test(cell)) {
+    return "a decimal comma; if it separates thousands, choose 1,000 under Thousands";
+  }
+  if (DECIMAL.test(cell)) return cell.includes(".") ? "a decimal point" : "a decimal comma";
+  if (/^[0-9]+\/$/.test(cell)) return "a footnote's number that can't be told from the votes";
+  return "no whole number";
+}

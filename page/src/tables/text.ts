@@ -1,0 +1,89 @@
+/** Texts with tabs, semicolons or commas between cells, as sheets. */
+import { dsvFormat } from "d3-dsv";
+import { counted } from "../fractions";
+import { splitLines } from "./lines";
+import { Unreadable, type Sheet } from "./types";
+
+/** What may separate the cells of a text. */
+export const DELIMITERS = ["\t", ";", ","] as const;
+export const DELIMITER_WORDS: Readonly<Record<string, string>> = { "\t": "tab", ";": "semicolon", ",": "comma" };
+
+/** More rows than this are no table of members, even with totals, notes and empty rows. */
+const MOST_ROWS = 2000;
+
+/** A text with its quoted cells emptied. */
+function emptied(text: string, delimiters: string): string {
+  const quoted = new RegExp(`(^|[${delimiters}])"[^"]*(?:""[^"]*)*"(?=[${delimiters}]|$)`, "gm");
+  return text.replace(quoted, "$1");
+}
+
+/** The delimiter of cells: a tab if most rows have one; else the semicolon or comma that more rows have. */
+function delimiterOf(text: string): string {
+  const lines = emptied(text, "\t;,").split(/\r\n|\r|\n/).filter((line) => line.trim() !== "");
+  const rows = (delimiter: string) => lines.filter((line) => line.includes(delimiter)).length;
+  const cells = (delimiter: string) => lines.join("\n").split(delimiter).length;
+  if (2 * rows("\t") > lines.length) return "\t";
+  const [semicolons, commas] = [rows(";"), rows(",")];
+  if (rows("\t") > Math.max(semicolons, commas)) return "\t";
+  if (semicolons === commas) return cells(";") >= cells(",") && semicolons > 0 ? ";" : ",";
+  return semicolons > commas ? ";" : ",";
+}
+
+/** Checks that each quoted cell is closed, and that no text follows its quotes. */
+function checkQuotes(text: string, delimiter: string): void {
+  const bare = emptied(text, delimiter);
+  const at = bare.search(new RegExp(`(^|${delimiter})"`, "m"));
+  if (at < 0) return;
+  const row = bare.slice(0, at).split(/\r\n|\r|\n/).length;
+  throw new Unreadable(`row ${row}: a quoted cell isn't closed, or something follows its quotes`);
+}
+
+/** Cells without blanks around them, and without empty rows at the end, as a sheet. */
+export function sheetOfCells(
+  cells: readonly (readonly string[])[],
+  delimiter = "",
+  notices: readonly string[] = [],
+): Sheet {
+  const trimmed = cells.map((row) => row.map((cell) => cell.trim()));
+  const { rows: split, from, to } = splitLines(trimmed);
+  const became = `${counted(from, "row")} became ${counted(to, "row")}, one for each line`;
+  const said = from ? [`Cells of several lines: ${became}`] : [];
+  const rows = [...split];
+  while (rows.length > 0 && rows[rows.length - 1]?.every((cell) => cell === "")) rows.pop();
+  if (rows.length > MOST_ROWS) {
+    throw new Unreadable(`This table has ${counted(rows.length, "row")}, and a board has at most 256 members.`);
+  }
+  const width = rows.reduce((most, row) => Math.max(most, row.length), 0);
+  return { rows, width, delimiter, notices: [...notices, ...said] };
+}
+
+/** Refuses what this page itself exports and what has no columns. */
+function checkKind(text: string): void {
+  const lines = text.split(/\r\n|\r|\n/).filter((line) => line !== "" && !line.startsWith("#"));
+  if (/^\ufeff?# /.test(text) && /^"?scenario"?,.*majority.*,"?chair"?,/.test(lines[0] ?? "")) {
+    throw new Unreadable(
+      "This is the table of results that this page exports: it has chairs and their power, and no members. " +
+        "Open the exported script or page, or a table of members.",
+    );
+  }
+  if (text.trim() === "") throw new Unreadable("There is nothing in it.");
+}
+
+/** Refuses a text that is no table. */
+function checkCells({ rows, width }: Sheet): void {
+  if (width < 2) throw new Unreadable("This text has no columns: no tabs, semicolons or commas separate cells in it.");
+  if (!rows.some((row) => row.some((cell) => /\p{Nd}/u.test(cell)))) {
+    throw new Unreadable("There are no numbers in this text, and a table of members has votes.");
+  }
+}
+
+/** The cells of a text, separated as it seems or by the delimiter that is given. */
+export function sheetOf(text: string, notices: readonly string[] = [], given?: string): Sheet {
+  const plain = text.replace(/^\ufeff/, "");
+  checkKind(plain);
+  const delimiter = given ?? delimiterOf(plain);
+  checkQuotes(plain, delimiter);
+  const sheet = sheetOfCells(dsvFormat(delimiter).parseRows(plain), delimiter, notices);
+  if (given === undefined) checkCells(sheet);
+  return sheet;
+}

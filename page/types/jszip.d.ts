@@ -1,0 +1,15 @@
+/** What the page uses of jszip: Debian's own types need those of other packages. */
+declare module "jszip" {
+  interface Stream {
+    on(name: "data", listener: (piece: string) => void): Stream;
+    on(name: "error" | "end", listener: () => void): Stream;
+    pause(): Stream;
+    resume(): Stream;
+  }
+  class JSZip {
+    readonly files: Readonly<Record<string, unknown>>;
+    static loadAsync(bytes: ArrayBuffer): Promise<JSZip>;
+    file(name: string): { internalStream(type: "string"): Stream } | null;
+  }
+  export default JSZip;
+}

@@ -1,0 +1,38 @@
+/** Tests of how the page's modules import one another, from what esbuild says of a bundle of them. */
+import assert from "node:assert/strict";
+import { readFileSync } from "node:fs";
+import { test } from "node:test";
+
+interface Bundle {
+  readonly inputs: Readonly<Record<string, { readonly imports: readonly { readonly path: string }[] }>>;
+}
+
+const { inputs }: Bundle = JSON.parse(readFileSync(process.env["BUNDLE"] ?? "", "utf8"));
+
+/** The modules from which a way of imports leads back to themselves. */
+function inCycles(): string[] {
+  const reached = (from: string): Set<string> => {
+    const found = new Set<string>();
+    const next = [from];
+    for (let at = next.pop(); at !== undefined; at = next.pop()) {
+      for (const { path } of inputs[at]?.imports ?? []) if (!found.has(path)) next.push(path), found.add(path);
+    }
+    return found;
+  };
+  return Object.keys(inputs).filter((it) => it.includes("src/") && !it.includes("nodejs") && reached(it).has(it));
+}
+
+test("no module imports itself, directly or through others", () => {
+  // Catches: two modules that can't be read or tested one without the other.
+  assert.ok(Object.keys(inputs).length > 60);
+  assert.deepEqual(inCycles(), []);
+});
+
+test("the reader of tables, and what counts, need no page", () => {
+  // Catches: a module for Node and for the worker that asks for elements of the page.
+  const names = /src\/tables\/|src\/(engine|sweep|best|amount|amounts|csv)\.ts/;
+  const pure = Object.keys(inputs).filter((it) => names.test(it));
+  const ofPage = /src\/(dom|app|dialogs)\.ts|src\/views\//;
+  assert.ok(pure.length > 15);
+  for (const it of pure) assert.deepEqual(inputs[it]?.imports.filter(({ path }) => ofPage.test(path)), [], it);
+});
