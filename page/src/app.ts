@@ -3,6 +3,7 @@ import type { Counted, Counter, Curve } from "./count";
 import { History } from "./history";
 import { Cancelled } from "./pausing";
 import { Results, type Sweep } from "./results";
+import { stepsOf } from "./steps";
 import type { Study, SweepAsked, View } from "./study";
 
 export type State = "counting" | "ready" | "fault";
@@ -88,7 +89,7 @@ export class App {
   /** Changes the view of the study. Readings of other majorities, and a curve that is shown, are counted first. */
   look(part: Partial<View>): void {
     this.view = { ...this.view, ...part };
-    if (part.majorities !== undefined || part.tab === "curve") void this.count();
+    if (part.majorities !== undefined || part.columns !== undefined || part.tab === "curve") void this.count();
     if (part.majorities === undefined) this.repaint();
   }
 
@@ -134,7 +135,7 @@ export class App {
     return this.#counting;
   }
 
-  /** Counts the study, then its scenarios and its sweep. A run is dropped if another one overtakes it. */
+  /** Counts the study, then its scenarios, steps and sweep. A run is dropped if another one overtakes it. */
   count(): Promise<void> {
     this.waiting?.cancel();
     const run = (this.#run += 1);
@@ -151,6 +152,8 @@ export class App {
       const counted = await this.counter.count(study.base, study.changes, majorities);
       if (run !== this.#run) return;
       this.shown = { study, counted };
+      // The last step is the whole list.
+      if (this.view.columns === "steps") this.results.keepStep(study.changes, counted);
       this.fault = null;
       this.#set("ready");
     } catch (why) {
@@ -168,14 +171,30 @@ export class App {
   async #countRest(run: number): Promise<void> {
     const { shown, fault } = this;
     if (!shown || fault || run !== this.#run) return;
-    const { base, scenarios } = shown.study;
-    const { majorities } = shown.counted;
+    const isNew = [await this.#countScenarios(shown), await this.#countSteps(run, shown)];
+    if (isNew.includes(true) && run === this.#run) this.repaint();
+    if (this.view.tab === "curve") await this.#countSweep(run, shown);
+  }
+
+  /** Counts the scenarios that aren't counted yet, and says whether there were any. */
+  async #countScenarios({ study: { base, scenarios }, counted: { majorities } }: Shown): Promise<boolean> {
     const missing = scenarios.filter((it) => !this.results.scenario(base, it, majorities));
     for (const it of missing) {
       this.results.keepScenario(it, await this.counter.count(base, it.changes, majorities));
     }
-    if (missing.length && run === this.#run) this.repaint();
-    if (this.view.tab === "curve") await this.#countSweep(run, shown);
+    return missing.length > 0;
+  }
+
+  /** Counts the steps that aren't counted yet, if they are shown, and says whether there were any. */
+  async #countSteps(run: number, { study, counted }: Shown): Promise<boolean> {
+    if (this.view.columns !== "steps") return false;
+    const { majorities } = counted;
+    const missing = stepsOf(study).filter((it) => !this.results.step(study.base, it, majorities));
+    for (const it of missing) {
+      if (run !== this.#run) return false;
+      this.results.keepStep(it, await this.counter.count(study.base, it, majorities));
+    }
+    return missing.length > 0;
   }
 
   async #countSweep(run: number, { study: { changes, sweep: asked }, counted }: Shown): Promise<void> {

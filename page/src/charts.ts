@@ -143,6 +143,50 @@ export function ended({ root }: Frame, look: Look, bottom: number): void {
   root.attr("height", height).attr("viewBox", `0 0 ${look.width} ${height}`);
 }
 
+/** The panels of a chart, from left to right: where each begins and ends. */
+export interface Panels {
+  readonly places: readonly (readonly [number, number])[];
+  /** The width of the whole chart: more than was asked for if its panels would be too narrow. */
+  readonly width: number;
+  readonly isWide: boolean;
+}
+
+const [LEAST_PANEL, BETWEEN, EDGE] = [96, 14, 18] as const;
+
+/** Panels beside each other to the right of the names. */
+export function panelsOf(count: number, left: number, width: number): Panels {
+  const room = (width - left - EDGE - BETWEEN * (count - 1)) / count;
+  const each = count > 1 ? Math.max(LEAST_PANEL, room) : room;
+  const places = Array.from({ length: count }, (_, at) => {
+    const start = left + at * (each + BETWEEN);
+    return [start, start + each] as const;
+  });
+  const whole = (places[count - 1]?.[1] ?? 0) + EDGE;
+  return { places, width: Math.max(width, whole), isWide: whole > width + 1 };
+}
+
+/** The ticks of an axis that fit into a panel. */
+export function ticksOf({ places: [first] }: Panels): number {
+  const width = first ? first[1] - first[0] : 0;
+  return width < 160 ? 2 : width < 400 ? 4 : 7;
+}
+
+/** Writes what is drawn, and a panel's name above each; returns where the axes are. */
+export function headed(frame: Frame, names: readonly string[], panels: Panels, look: Look, words: string): number {
+  const { root, top } = frame;
+  const [[left, right] = [0, 0]] = panels.places;
+  if (panels.isWide) root.attr("class", "wide");
+  const room = names.length > 1 ? panels.width - left : right - left + 20;
+  caption(root, fitted(words, room), left, top + 10, look.palette);
+  if (!names.some((it) => it)) return top + 32;
+  names.forEach((name, at) => {
+    const [start, end] = panels.places[at] ?? [0, 0];
+    const text = root.append("text").attr("x", start).attr("y", top + 28).attr("fill", look.palette.ink);
+    text.text(isolated(fitted(name, end - start + BETWEEN - 4))).append("title").text(isolated(name));
+  });
+  return top + 52;
+}
+
 /** Where rows begin: names are to the left of them, or above them if there is little room. */
 export function labelRoom(rows: readonly Named[], { width }: Look): { left: number; head: number } {
   const longest = Math.max(0, ...rows.map((row) => nameOf(row).length)) * LETTER + 18;

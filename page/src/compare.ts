@@ -3,6 +3,7 @@ import type { Counted } from "./count";
 import { compared, difference, fractionText, grouped, percent, rounded, signed, type Ratio } from "./fractions";
 import { isolated } from "./names";
 import { chairIn, measureOf, voteShare, type ChairReading, type Readings } from "./reading";
+import { chairKey, type Standing } from "./standing";
 import type { View } from "./study";
 import { MAJORITY, MEASURE, type Majority, type Measure } from "./words";
 
@@ -13,11 +14,19 @@ export interface AtMajority {
   readonly gain: Ratio | null;
 }
 
-/** A chair, in base and changed. */
+/** A register at one moment: its readings, its members and its chairs. */
+export interface Side {
+  readonly readings: Readings;
+  readonly standing: Standing;
+}
+
+/** A chair before and after. */
 export interface ChairRow {
+  /** Its key among chairs: one that was closed and opened again is another chair of the same number. */
+  readonly key: string;
   readonly chair: number;
   readonly name: string;
-  /** Its place in the changed board: also in the base, opened by a change, or closed there. */
+  /** Whether it is open both before and after, was opened, or was closed. */
   readonly kind: "kept" | "opened" | "closed";
   readonly votesBefore: Ratio | null;
   readonly votesAfter: Ratio | null;
@@ -34,19 +43,30 @@ function shareOfVotes(readings: Readings, chair: number): Ratio | null {
   return reading && found ? voteShare(reading, found) : null;
 }
 
-/** The row of a chair. One that was closed and opened again is two chairs, with a row each. */
-function rowOf(counted: Counted, { majorities, measure }: View, chair: number, kind: ChairRow["kind"]): ChairRow {
-  const before: Readings = kind === "opened" ? new Map() : counted.before;
-  const after: Readings = kind === "closed" ? new Map() : counted.after;
+/** The open chairs of a register by their keys. */
+function chairsOf({ standing }: Side): Map<string, number> {
+  return new Map(standing.open().map((it) => [chairKey(it, standing.isNew(it)), it]));
+}
+
+interface Kept {
+  readonly key: string;
+  readonly chair: number;
+  readonly kind: ChairRow["kind"];
+}
+
+function rowOf(left: Side, right: Side, { majorities, measure }: View, { key, chair, kind }: Kept): ChairRow {
+  const before: Readings = kind === "opened" ? new Map() : left.readings;
+  const after: Readings = kind === "closed" ? new Map() : right.readings;
   const at = majorities.map((it): [Majority, AtMajority] => {
     const [earlier, later] = [chairIn(before.get(it), chair), chairIn(after.get(it), chair)];
     const gain = difference(ratioOf(later, measure), ratioOf(earlier, measure));
     return [it, { before: earlier, after: later, gain }];
   });
-  const standing = kind === "closed" || !counted.standing.in(chair).length ? counted.opening : counted.standing;
+  const isNamedBefore = kind === "closed" || (kind === "kept" && !right.standing.in(chair).length);
   return {
+    key,
     chair,
-    name: (kind === "opened" ? counted.standing : standing).name(chair),
+    name: (isNamedBefore ? left : right).standing.name(chair),
     kind,
     votesBefore: shareOfVotes(before, chair),
     votesAfter: shareOfVotes(after, chair),
@@ -54,28 +74,40 @@ function rowOf(counted: Counted, { majorities, measure }: View, chair: number, k
   };
 }
 
+/** The rows of all chairs that are open before or after, by number. */
+export function pairRows(before: Side, after: Side, view: View): ChairRow[] {
+  const [earlier, later] = [chairsOf(before), chairsOf(after)];
+  const kindOf = (key: string) => (!earlier.has(key) ? "opened" : later.has(key) ? "kept" : "closed");
+  const all = [...new Map([...earlier, ...later])].map(([key, chair]) => ({ key, chair, kind: kindOf(key) }) as const);
+  return all.sort((left, right) => left.chair - right.chair).map((it) => rowOf(before, after, view, it));
+}
+
+/** A count's base, and its board after the changes. */
+export function sidesOf({ before, after, opening, standing }: Counted): { base: Side; changed: Side } {
+  return { base: { readings: before, standing: opening }, changed: { readings: after, standing } };
+}
+
 /** The rows of all chairs in the order of a view. */
 export function chairRows(counted: Counted, view: View): ChairRow[] {
-  const { opening, standing } = counted;
-  const stays = (chair: number) => standing.open().includes(chair) && !standing.isNew(chair);
-  const old = opening.open().map((it) => rowOf(counted, view, it, stays(it) ? "kept" : "closed"));
-  const opened = standing.open().filter((it) => standing.isNew(it)).map((it) => rowOf(counted, view, it, "opened"));
-  const rows = [...old, ...opened].sort((left, right) => left.chair - right.chair);
-  return inOrder(rows, view);
+  const { base, changed } = sidesOf(counted);
+  return inOrder(pairRows(base, changed, view), (it) => it, view);
 }
 
 /** Greater numbers first, missing ones last, and equal ones by the chair's number. */
-function inOrder(rows: ChairRow[], { order, orderAt, measure }: View): ChairRow[] {
-  if (order === "number") return rows;
-  const key = (row: ChairRow): Ratio | null => {
-    const at = row.at.get(orderAt);
-    if (order === "votes") return row.votesAfter ?? row.votesBefore;
+export function inOrder<Item>(items: readonly Item[], rowOf: (item: Item) => ChairRow | undefined, view: View): Item[] {
+  const { order, orderAt, measure } = view;
+  const numbered = (item: Item) => rowOf(item)?.chair ?? 0;
+  const key = (item: Item): Ratio | null => {
+    const row = rowOf(item);
+    const at = row?.at.get(orderAt);
+    if (order === "votes") return row?.votesAfter ?? row?.votesBefore ?? null;
     return order === "gain" ? at?.gain ?? null : ratioOf(at?.after ?? at?.before, measure);
   };
-  return [...rows].sort((left, right) => {
+  return [...items].sort((left, right) => {
+    if (order === "number") return numbered(left) - numbered(right);
     const [here, there] = [key(left), key(right)];
     if (here === null || there === null) return Number(here === null) - Number(there === null);
-    return compared(there, here) || left.chair - right.chair;
+    return compared(there, here) || numbered(left) - numbered(right);
   });
 }
 

@@ -136,6 +136,17 @@ export class Counter {
   }
 }
 
+/** The script of steps, each with all commands up to it: the base and its readings, then what each step adds. */
+export function stepsScript(
+  { script }: Base,
+  steps: readonly (readonly Command[])[],
+  majorities: readonly Majority[],
+): string {
+  const reads = readRecords(majorities);
+  const added = steps.map((it, at) => it.slice(steps[at - 1]?.length ?? 0));
+  return scriptWith(script, [...reads, ...added.flatMap((it) => [...it.map(recordOf), ...reads])]);
+}
+
 /** The script of a sweep: the base, the commands before it, and for each point its commands and readings. */
 function sweepScript(
   base: Base,

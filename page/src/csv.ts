@@ -2,7 +2,7 @@
 import { difference, rounded, type Ratio } from "./fractions";
 import { chairIn, measureOf, voteShare, type ChairReading, type Reading, type Readings } from "./reading";
 import type { Standing } from "./standing";
-import type { Measure } from "./words";
+import type { Majority, Measure } from "./words";
 
 const PLACES = 10;
 const FRACTIONS = ["vote_share", "banzhaf", "power_share", "prevent", "initiate"] as const;
@@ -13,14 +13,21 @@ const ALL = [
   ...COLUMNS,
   ...FRACTIONS.flatMap((it) => [`${it}_numerator`, `${it}_denominator`, it, `${it}_difference`]),
 ];
+const PREVIOUS = ["previous", ...FRACTIONS.map((it) => `${it}_difference_from_previous`)];
 
-/** A register that was read: its label and its chairs; and the sweep and its value if it is a step of one. */
-export interface Labelled {
+/** A register that others are compared with. */
+export interface Compared {
   readonly label: string;
-  readonly sweep?: string;
-  readonly percent?: string;
   readonly readings: Readings;
   readonly standing: Standing;
+}
+
+/** A register that was read: its label and its chairs; and the sweep and its value if it is a step of one. */
+export interface Labelled extends Compared {
+  readonly sweep?: string;
+  readonly percent?: string;
+  /** The register before it, if it is compared with that one, too. */
+  readonly previous?: Compared;
 }
 
 /** A cell that no spreadsheet takes for a formula. */
@@ -38,27 +45,45 @@ function fractionsOf(reading: Reading, chair: ChairReading): (Ratio | null)[] {
 }
 
 function fractionCells(ratio: Ratio | null, before: Ratio | null): string[] {
-  const added = difference(ratio, before);
   const own = ratio ? [String(ratio.numerator), String(ratio.denominator), rounded(ratio, PLACES)] : ["", "", ""];
-  return [...own, added ? rounded(added, PLACES) : ""];
+  return [...own, differenceCell(ratio, before)];
 }
 
-function rowOf(of: Labelled, reading: Reading, chair: ChairReading, base: Readings): string[] {
-  const earlier = base.get(reading.majority);
-  const line = of.standing.isNew(chair.chair) ? undefined : chairIn(earlier, chair.chair);
-  const before = earlier && line ? fractionsOf(earlier, line) : [];
+function differenceCell(ratio: Ratio | null, before: Ratio | null): string {
+  const added = difference(ratio, before);
+  return added ? rounded(added, PLACES) : "";
+}
+
+/** The fractions of a chair in another register; there are none if it isn't open there. */
+function fractionsIn(other: Compared, of: Labelled, majority: Majority, chair: number): (Ratio | null)[] {
+  const reading = other.readings.get(majority);
+  const line = other.standing.isNew(chair) === of.standing.isNew(chair) ? chairIn(reading, chair) : undefined;
+  return reading && line ? fractionsOf(reading, line) : [];
+}
+
+function rowOf(of: Labelled, reading: Reading, chair: ChairReading, base: Compared, hasPrevious: boolean): string[] {
+  const values = fractionsOf(reading, chair);
+  const earlier = fractionsIn(base, of, reading.majority, chair.chair);
   const { chairs, quota, cast, total, winning, coalitions } = reading;
   const board = [chairs.length, quota, cast, total, winning, coalitions];
-  const fractions = fractionsOf(reading, chair).flatMap((it, at) => fractionCells(it, before[at] ?? null));
+  const fractions = values.flatMap((it, at) => fractionCells(it, earlier[at] ?? null));
   const own = [String(chair.chair), of.standing.name(chair.chair), String(chair.weight), String(chair.swings)];
-  return [of.label, of.sweep ?? "", of.percent ?? "", reading.majority, ...board.map(String), ...own, ...fractions];
+  const first = [of.label, of.sweep ?? "", of.percent ?? "", reading.majority, ...board.map(String), ...own];
+  if (!hasPrevious) return [...first, ...fractions];
+  const before = of.previous ? fractionsIn(of.previous, of, reading.majority, chair.chair) : [];
+  const added = values.map((it, at) => differenceCell(it, before[at] ?? null));
+  return [...first, ...fractions, of.previous?.label ?? "", ...added];
 }
 
 /** The table of registers, of which the first is the base. */
 export function csvOf(all: readonly Labelled[]): string {
-  const base: Readings = all[0]?.readings ?? new Map();
-  const rows = all.flatMap((it) =>
-    [...it.readings.values()].flatMap((reading) => reading.chairs.map((chair) => rowOf(it, reading, chair, base))),
-  );
-  return [ALL, ...rows].map((row) => `${row.map(quoted).join(",")}\n`).join("");
+  const [base] = all;
+  const hasPrevious = all.some((it) => it.previous);
+  const rows = base ? all.flatMap((it) =>
+    [...it.readings.values()].flatMap((reading) =>
+      reading.chairs.map((chair) => rowOf(it, reading, chair, base, hasPrevious)),
+    ),
+  ) : [];
+  const heads = hasPrevious ? [...ALL, ...PREVIOUS] : ALL;
+  return [heads, ...rows].map((row) => `${row.map(quoted).join(",")}\n`).join("");
 }

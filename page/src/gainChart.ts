@@ -3,11 +3,12 @@ import { axisTop } from "d3-axis";
 import { scaleLinear, type Linear } from "d3-scale";
 import type { Selection } from "d3-selection";
 import {
-  caption, dot, ended, framed, labelled, labelRoom, legendBar, majorityItems, onAxis, rowGroup, tinted,
-  type Frame, type Look,
+  caption, dot, ended, framed, headed, labelled, labelRoom, legendBar, majorityItems, onAxis, panelsOf, rowGroup,
+  ticksOf, tinted, type Frame, type Look, type Panels,
 } from "./charts";
-import { difference } from "./fractions";
+import type { Line } from "./columns";
 import type { ChairRow } from "./compare";
+import { difference } from "./fractions";
 import type { PowerModel } from "./powerChart";
 import { MEASURE, type Majority } from "./words";
 
@@ -31,26 +32,31 @@ function hatches(root: Selection, majorities: readonly Majority[], look: Look): 
   }
 }
 
+type Lane = readonly [Majority | "votes", number | null];
+
 /** The gains of a chair: a value for each lane, the votes first if the measure is a share. */
-function lanesOf(row: ChairRow, model: PowerModel): (readonly [Majority | "votes", number | null])[] {
-  const votes = difference(row.votesAfter, row.votesBefore);
+function lanesOf(row: ChairRow | undefined, model: PowerModel): Lane[] {
+  const votes = difference(row?.votesAfter ?? null, row?.votesBefore ?? null);
   const first = model.measure === "share" ? [["votes", votes && onAxis(votes, "share")] as const] : [];
   const rest = model.majorities.map((majority) => {
-    const gain = row.at.get(majority)?.gain ?? null;
+    const gain = row?.at.get(majority)?.gain ?? null;
     return [majority, gain && onAxis(gain, model.measure)] as const;
   });
   return [...first, ...rest];
 }
 
-interface GainRow {
-  readonly row: ChairRow;
-  readonly lanes: ReturnType<typeof lanesOf>;
+/** A line of the chart: the lanes of each panel. */
+interface GainLine {
+  readonly line: Line;
+  readonly panels: readonly (readonly Lane[])[];
 }
 
-function gainScale(rows: readonly GainRow[], left: number, right: number): Linear {
-  const values = rows.flatMap(({ lanes }) => lanes.map(([, gain]) => gain ?? 0));
+/** The scales of the panels, which show the same range. */
+function gainScales(lines: readonly GainLine[], { places }: Panels): Linear[] {
+  const values = lines.flatMap(({ panels }) => panels.flatMap((lanes) => lanes.map(([, gain]) => gain ?? 0)));
   const [low, high] = [Math.min(0, ...values), Math.max(0, ...values)];
-  return scaleLinear().domain(low === high ? [-1, 1] : [low, high]).range([left, right]).nice(5);
+  const [from, to] = low === high ? [-1, 1] : [low, high];
+  return places.map(([left, right]) => scaleLinear().domain([from, to]).range([left, right]).nice(5));
 }
 
 /** Begins the drawing, with its legend and hatches. */
@@ -58,51 +64,67 @@ function begun(target: Element, model: PowerModel, look: Look): Frame {
   const votes = { words: "votes", draw: (at: Selection) => void legendBar(at).attr("fill", look.palette.bar) };
   const items = [...(model.measure === "share" ? [votes] : []), ...majorityItems(model.majorities)];
   const { label } = MEASURE[model.measure];
-  const name = `What is added to ${label} of ${model.rows.length} chairs; the table of this chart has its numbers`;
+  const name = `What is added to ${label} of ${model.lines.length} chairs; the table of this chart has its numbers`;
   const frame = framed(target, look, items, name);
   hatches(frame.root, model.majorities, look);
   return frame;
 }
 
-/** Draws the axis and the line of no gain. */
-function drawAxis({ root, top }: Frame, model: PowerModel, look: Look, scale: Linear, bottom: number): void {
-  const words = model.measure === "share" ? "percentage points" : MEASURE[model.measure].label;
-  caption(root, `changed less base, ${words}`, scale(scale.domain()[0]), top + 10, look.palette);
-  const axis = root.append("g").attr("transform", `translate(0,${top + 32})`);
-  axis.call(axisTop(scale).ticks(look.width < 480 ? 4 : 7).tickSizeInner(-(bottom - top - 32)).tickSizeOuter(0));
+/** Draws the axis of a panel and its line of no gain. */
+function drawAxis({ root }: Frame, look: Look, scale: Linear, top: number, bottom: number, ticks: number): void {
+  const axis = root.append("g").attr("transform", `translate(0,${top})`);
+  axis.call(axisTop(scale).ticks(ticks).tickSizeInner(-(bottom - top)).tickSizeOuter(0));
   tinted(axis, look.palette);
-  const zero = root.append("line").attr("x1", scale(0)).attr("x2", scale(0)).attr("y1", top + 32).attr("y2", bottom);
+  const zero = root.append("line").attr("x1", scale(0)).attr("x2", scale(0)).attr("y1", top).attr("y2", bottom);
   zero.attr("stroke", look.palette.ink);
 }
 
+/** What is drawn, in words. */
+function wordsOf({ panels, compared, measure }: PowerModel): string {
+  const column = panels.length > 1 ? "each" : panels[0] || "changed";
+  return `${column} less ${compared}, ${measure === "share" ? "percentage points" : MEASURE[measure].label}`;
+}
+
 /** Draws the chart into a place. Each row has a group with the chair's number in `data-chair`. */
-export function drawGains(target: Element, model: PowerModel, look: Look): void {
-  const { left, head } = labelRoom(model.rows, look);
-  const rows = model.rows.map((row) => ({ row, lanes: lanesOf(row, model) }));
-  const height = head + LANE * (rows[0]?.lanes.length ?? 0) + SPACE;
+export function drawGains(target: Element, model: PowerModel, asked: Look): void {
+  const { left, head } = labelRoom(model.lines, asked);
+  const panels = panelsOf(model.panels.length, left, asked.width);
+  const look = { ...asked, width: panels.width };
+  const lines = model.lines.map((line) => ({ line, panels: line.cells.map((it) => lanesOf(it, model)) }));
+  const height = head + LANE * (lines[0]?.panels[0]?.length ?? 0) + SPACE;
   const frame = begun(target, model, look);
-  const scale = gainScale(rows, left, look.width - 18);
-  const start = frame.top + 36;
-  const bottom = start + height * rows.length;
-  drawAxis(frame, model, look, scale, bottom);
-  rows.forEach(({ row, lanes }, at) => {
-    const group = rowGroup(frame, row, look, start + height * at, height, at % 2 === 1);
-    labelled(group, row, look, head, left, height);
+  const scales = gainScales(lines, panels);
+  const top = headed(frame, model.panels, panels, look, wordsOf(model));
+  const bottom = top + 4 + height * lines.length;
+  for (const it of scales) drawAxis(frame, look, it, top, bottom, ticksOf(panels));
+  lines.forEach((it, at) => {
+    const group = rowGroup(frame, it.line, look, top + 4 + height * at, height, at % 2 === 1);
+    labelled(group, it.line, look, head, left, height);
     const inside = group.append("g").attr("transform", `translate(0,${head + SPACE / 2})`);
-    drawLanes(inside, lanes, scale, look);
-    if (lanes.some(([, gain]) => gain !== null)) return;
-    const where = row.kind === "closed" ? "not open in the changed board" : "not open in the base";
-    caption(inside, where, scale(0) + 6, LANE, look.palette);
+    it.panels.forEach((lanes, panel) => {
+      const scale = scales[panel];
+      if (scale) drawPanel(inside, it.line, lanes, scale, model, look);
+    });
   });
   ended(frame, look, bottom);
 }
 
-function drawLanes(
+/** Draws the lanes of a chair in a panel, or says where the chair isn't open. */
+function drawPanel(
   place: Selection,
-  lanes: readonly (readonly [Majority | "votes", number | null])[],
-  scale: (value: number) => number,
+  line: Line,
+  lanes: readonly Lane[],
+  scale: Linear,
+  model: PowerModel,
   look: Look,
 ): void {
+  drawLanes(place, lanes, scale, look);
+  if (lanes.some(([, gain]) => gain !== null)) return;
+  const where = line.kind === "closed" ? "not open in the changed board" : "not open in the base";
+  caption(place, model.panels.length > 1 ? "not in both" : where, scale(0) + 6, LANE, look.palette);
+}
+
+function drawLanes(place: Selection, lanes: readonly Lane[], scale: Linear, look: Look): void {
   lanes.forEach(([lane, gain], at) => {
     if (gain === null) return;
     const [from, to] = [Math.min(scale(0), scale(gain)), Math.max(scale(0), scale(gain))];

@@ -1,7 +1,7 @@
 /** How charts look on the page, and the data of the charts of chairs. */
 import type { App } from "./app";
 import { DARK, LIGHT, type Look } from "./charts";
-import type { ChairRow } from "./compare";
+import type { Columns } from "./columns";
 import type { PowerModel } from "./powerChart";
 
 const LEAST_WIDTH = 280;
@@ -20,8 +20,15 @@ export function screenLook(app: App, place: HTMLElement): Look {
 }
 
 /** The data of the charts of chairs. */
-export function powerModel(app: App, rows: readonly ChairRow[]): PowerModel {
-  const { majorities, measure } = app.view;
-  const winning = majorities.filter((it) => (app.shown?.counted.after.get(it)?.winning ?? 0) > 0);
-  return { rows, majorities: winning, measure, isChanged: app.shown?.counted.isChanged ?? false };
+export function powerModel(app: App, { list, lines, isOne }: Columns): PowerModel {
+  const { majorities, measure, against } = app.view;
+  const winning = majorities.filter((it) => list.some(({ readings }) => (readings.get(it)?.winning ?? 0) > 0));
+  return {
+    lines,
+    panels: list.map((it) => (isOne ? "" : it.short)),
+    majorities: winning,
+    measure,
+    isChanged: !isOne || (app.shown?.counted.isChanged ?? false),
+    compared: isOne || against === "base" ? "base" : "the one before",
+  };
 }

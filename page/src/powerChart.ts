@@ -3,31 +3,24 @@ import { axisBottom, axisTop } from "d3-axis";
 import { scaleLinear, type Linear } from "d3-scale";
 import type { Selection } from "d3-selection";
 import {
-  dot,
-  ended,
-  fitted,
-  framed,
-  labelled,
-  labelRoom,
-  legendBar,
-  majorityItems,
-  onAxis,
-  rowGroup,
-  tinted,
-  type Frame,
-  type LegendItem,
-  type Look,
+  caption, dot, ended, framed, headed, labelled, labelRoom, legendBar, majorityItems, onAxis, panelsOf, rowGroup,
+  ticksOf, tinted, type Frame, type LegendItem, type Look, type Panels,
 } from "./charts";
+import type { Line } from "./columns";
 import type { ChairRow } from "./compare";
 import type { Ratio } from "./fractions";
 import { measureOf, type ChairReading } from "./reading";
 import { MEASURE, type Majority, type Measure } from "./words";
 
 export interface PowerModel {
-  readonly rows: readonly ChairRow[];
+  readonly lines: readonly Line[];
+  /** The names of the columns, of which each has a panel; the name of an only one is empty. */
+  readonly panels: readonly string[];
   readonly majorities: readonly Majority[];
   readonly measure: Measure;
   readonly isChanged: boolean;
+  /** What each panel is compared with, in words. */
+  readonly compared: string;
 }
 
 const [VOTES, LANE, SPACE] = [12, 11, 9] as const;
@@ -45,50 +38,57 @@ interface Scales {
   readonly power: Linear;
 }
 
-function scales({ rows, measure }: PowerModel, left: number, right: number): Scales {
+/** The scales of each panel; all panels show the same ranges. */
+function scalesOf({ lines, measure }: PowerModel, { places }: Panels): Scales[] {
+  const rows = lines.flatMap(({ cells }) => cells.flatMap((it) => it ?? []));
   const votes = rows.flatMap((row) => [row.votesBefore, row.votesAfter]).map((it) => place(it, "share") ?? 0);
-  const lines = rows.flatMap((row) => [...row.at.values()].flatMap((at) => [at.before, at.after]));
-  const powers = lines.map((line) => value(line, measure) ?? 0);
-  const scale = (most: number) => scaleLinear().domain([0, most || 1]).range([left, right]).nice(5);
-  if (measure !== "share") return { votes: scale(Math.max(0, ...votes)), power: scale(Math.max(0, ...powers)) };
-  const both = scale(Math.max(0, ...votes, ...powers));
-  return { votes: both, power: both };
+  const powers = rows.flatMap((row) => [...row.at.values()].flatMap((at) => [at.before, at.after]))
+    .map((it) => value(it, measure) ?? 0);
+  const [mostVotes, mostPower] = [votes, powers].map((list) => list.reduce((most, it) => Math.max(most, it), 0));
+  const both = Math.max(mostVotes ?? 0, mostPower ?? 0);
+  return places.map(([left, right]) => {
+    const scale = (most = 0) => scaleLinear().domain([0, most || 1]).range([left, right]).nice(5);
+    return measure === "share" ? { votes: scale(both), power: scale(both) } : {
+      votes: scale(mostVotes),
+      power: scale(mostPower),
+    };
+  });
 }
 
-function legend({ majorities, isChanged }: PowerModel): LegendItem[] {
+function legend({ majorities, isChanged, compared }: PowerModel): LegendItem[] {
   const bar = (words: string, isHollow: boolean): LegendItem => ({
     words,
     draw: (at, { bar: fill, paper }) => void legendBar(at).attr("fill", isHollow ? paper : fill).attr("stroke", fill),
   });
   const dots = majorityItems(majorities);
   const hollow: LegendItem = {
-    words: "hollow: base",
+    words: `hollow: ${compared}`,
     draw: (at, palette) => void dot(at, majorities[0] ?? "half", true, palette),
   };
   if (!isChanged) return [bar("share of votes", true), ...dots];
-  return [bar("votes, base", true), bar("votes, changed", false), ...dots, hollow];
+  return [bar(`votes, ${compared}`, true), bar("votes, changed", false), ...dots, hollow];
 }
 
-function axes(frame: Frame, look: Look, model: PowerModel, { votes, power }: Scales, bottom: number): number {
-  const { root, top } = frame;
-  const count = look.width < 480 ? 4 : 7;
-  const [left, right] = [votes(votes.domain()[0]), votes(votes.domain()[1])];
-  const shares = "per cent: votes of the votes cast, power of all swings";
-  const words = model.measure === "share" ? shares : MEASURE[model.measure].label;
-  const title = (text: string, y: number) =>
-    root.append("text").attr("x", left).attr("y", y).attr("fill", look.palette.faint).attr("font-size", 11)
-      .text(fitted(text, right - left + 20));
-  title(words, top + 10);
-  const above = root.append("g").attr("transform", `translate(0,${top + 32})`);
-  above.call(axisTop(power).ticks(count).tickSizeInner(-(bottom - top - 32)).tickSizeOuter(0));
-  tinted(above, look.palette);
-  if (model.measure === "share") return bottom;
-  const below = root.append("g").attr("transform", `translate(0,${bottom})`);
-  below.call(axisBottom(votes).ticks(count).tickSizeOuter(0));
-  tinted(below, look.palette);
-  title("share of the votes cast, per cent", bottom + 32);
-  return bottom + 36;
+/** Where the rows of a chart begin and end. */
+interface Ends {
+  readonly top: number;
+  readonly bottom: number;
 }
+
+/** Draws the axes of a panel: of power above it, and of votes below it if that is another one. */
+function axes({ root }: Frame, look: Look, measure: Measure, at: Scales, ends: Ends, ticks: number): void {
+  const { top, bottom } = ends;
+  const above = root.append("g").attr("transform", `translate(0,${top})`);
+  above.call(axisTop(at.power).ticks(ticks).tickSizeInner(-(bottom - top)).tickSizeOuter(0));
+  tinted(above, look.palette);
+  if (measure === "share") return;
+  const below = root.append("g").attr("transform", `translate(0,${bottom})`);
+  below.call(axisBottom(at.votes).ticks(ticks).tickSizeOuter(0));
+  tinted(below, look.palette);
+}
+
+const SHARES = "per cent: votes of the votes cast, power of all swings";
+const VOTES_WORDS = "share of the votes cast, per cent";
 
 function drawVotes(at: Selection, row: ChairRow, { votes }: Scales, look: Look, isChanged: boolean): void {
   const { bar, paper } = look.palette;
@@ -121,21 +121,30 @@ function drawDots(at: Selection, row: ChairRow, { power }: Scales, look: Look, m
 }
 
 /** Draws the chart into a place. Each row has a group with the chair's number in `data-chair`. */
-export function drawPower(place: Element, model: PowerModel, look: Look): void {
-  const { left, head } = labelRoom(model.rows, look);
-  const height = head + VOTES + LANE * model.majorities.length + SPACE;
-  const { label } = MEASURE[model.measure];
-  const name = `${label} of ${model.rows.length} chairs; the table of this chart has its numbers`;
-  const frame = framed(place, look, legend(model), name);
-  const scale = scales(model, left, look.width - 18);
-  const start = frame.top + 36;
-  const bottom = axes(frame, look, model, scale, start + height * model.rows.length);
-  model.rows.forEach((row, at) => {
-    const group = rowGroup(frame, row, look, start + height * at, height, at % 2 === 1);
-    labelled(group, row, look, head, left, height);
+export function drawPower(target: Element, model: PowerModel, asked: Look): void {
+  const { lines, majorities, measure } = model;
+  const { left, head } = labelRoom(lines, asked);
+  const panels = panelsOf(model.panels.length, left, asked.width);
+  const look = { ...asked, width: panels.width };
+  const height = head + VOTES + LANE * majorities.length + SPACE;
+  const { label } = MEASURE[measure];
+  const name = `${label} of ${lines.length} chairs; the table of this chart has its numbers`;
+  const frame = framed(target, look, legend(model), name);
+  const scales = scalesOf(model, panels);
+  const top = headed(frame, model.panels, panels, look, measure === "share" ? SHARES : label);
+  const bottom = top + 4 + height * lines.length;
+  for (const it of scales) axes(frame, look, measure, it, { top, bottom }, ticksOf(panels));
+  if (measure !== "share") caption(frame.root, VOTES_WORDS, left, bottom + 32, look.palette);
+  lines.forEach((line, at) => {
+    const group = rowGroup(frame, line, look, top + 4 + height * at, height, at % 2 === 1);
+    labelled(group, line, look, head, left, height);
     const inside = group.append("g").attr("transform", `translate(0,${head + SPACE / 2})`);
-    drawVotes(inside, row, scale, look, model.isChanged);
-    drawDots(inside, row, scale, look, model);
+    line.cells.forEach((row, panel) => {
+      const scale = scales[panel];
+      if (!row || !scale) return;
+      drawVotes(inside, row, scale, look, model.isChanged);
+      drawDots(inside, row, scale, look, model);
+    });
   });
-  ended(frame, look, bottom);
+  ended(frame, look, measure === "share" ? bottom : bottom + 36);
 }

@@ -12,8 +12,8 @@ interface Kept<Value> {
   readonly value: Value;
 }
 
-/** The sweeps that are kept at most. */
-const MOST_SWEEPS = 12;
+/** The sweeps and the steps that are kept at most. */
+const [MOST_SWEEPS, MOST_STEPS] = [12, 240] as const;
 
 function keyOf(majorities: readonly Majority[], changes: readonly Change[], asked?: SweepAsked): string {
   return JSON.stringify([majorities, asked, changes.map(({ on, what }) => (on ? what : null))]);
@@ -23,8 +23,13 @@ function sweepKey(counted: Counted, changes: readonly Change[], asked: SweepAske
   return keyOf(counted.majorities, asked.on === "base" ? [] : changes, asked);
 }
 
+function stepKey(changes: readonly Change[], majorities: readonly Majority[]): string {
+  return keyOf(majorities, changes.filter((it) => it.on));
+}
+
 export class Results {
   readonly #scenarios = new WeakMap<Scenario, Kept<Counted>>();
+  readonly #steps = new Map<string, Kept<Counted>>();
   #sweeps: readonly Kept<Sweep>[] = [];
 
   /** The count of a scenario, or undefined if it isn't made yet. */
@@ -35,6 +40,20 @@ export class Results {
 
   keepScenario(scenario: Scenario, value: Counted): void {
     this.#scenarios.set(scenario, { base: value.base, key: keyOf(value.majorities, []), value });
+  }
+
+  /** The count of the board after some changes, or undefined if it isn't made yet. */
+  step(base: Base, changes: readonly Change[], majorities: readonly Majority[]): Counted | undefined {
+    const kept = this.#steps.get(stepKey(changes, majorities));
+    return kept?.base === base ? kept.value : undefined;
+  }
+
+  keepStep(changes: readonly Change[], value: Counted): void {
+    const key = stepKey(changes, value.majorities);
+    this.#steps.delete(key);
+    this.#steps.set(key, { base: value.base, key, value });
+    const [oldest] = this.#steps.keys();
+    if (this.#steps.size > MOST_STEPS && oldest !== undefined) this.#steps.delete(oldest);
   }
 
   /** A sweep of a count, or undefined if it isn't made yet. */

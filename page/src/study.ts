@@ -78,6 +78,13 @@ export type Tab = typeof TABS[number];
 export const ORDERS = ["number", "votes", "power", "gain"] as const;
 export type Order = typeof ORDERS[number];
 
+/** What stands beside the base: the list of changes as a whole, the board after each change, or each scenario. */
+export const COLUMNS = ["changed", "steps", "scenarios"] as const;
+export type ColumnsShown = typeof COLUMNS[number];
+/** What each column is compared with: the base, or the column before it. */
+export const AGAINST = ["base", "before"] as const;
+export type Against = typeof AGAINST[number];
+
 /** The view of a study. It changes no number. */
 export interface View {
   readonly majorities: readonly Majority[];
@@ -87,6 +94,8 @@ export interface View {
   readonly digits: number;
   readonly fractions: boolean;
   readonly tab: Tab;
+  readonly columns: ColumnsShown;
+  readonly against: Against;
   /** The chair whose curve is shown, or null for that of the sweep; and whether its votes are drawn, too. */
   readonly curveChair: number | null;
   readonly curveVotes: boolean;
@@ -100,6 +109,8 @@ export const FIRST_VIEW: View = {
   digits: 3,
   fractions: false,
   tab: "power",
+  columns: "changed",
+  against: "base",
   curveChair: null,
   curveVotes: false,
 };

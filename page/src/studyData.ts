@@ -2,8 +2,8 @@
 import { Command } from "../../bindings/javascript/src/commands";
 import { scriptWith } from "./script";
 import {
-  FIRST_VIEW, ORDERS, TABS, type Base, type Change, type Percentage, type Scenario, type Study, type SweepAsked,
-  type View,
+  AGAINST, COLUMNS, FIRST_VIEW, ORDERS, TABS, type Base, type Change, type Percentage, type Scenario, type Study,
+  type SweepAsked, type View,
 } from "./study";
 import { CHAIRS, MAJORITIES, MEASURES } from "./words";
 
@@ -152,6 +152,8 @@ function view(value: unknown): View {
     digits: Math.min(MOST_DIGITS, whole(found["digits"], "digits")),
     fractions: found["fractions"] === true,
     tab: oneOf(TABS, found["tab"], "a tab"),
+    columns: oneOf(COLUMNS, found["columns"] ?? FIRST_VIEW.columns, "columns"),
+    against: oneOf(AGAINST, found["against"] ?? FIRST_VIEW.against, "a comparison"),
     curveChair: CHAIRS.find((it) => it === found["curveChair"]) ?? null,
     curveVotes: found["curveVotes"] === true,
   };

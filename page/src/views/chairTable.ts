@@ -1,5 +1,6 @@
 /** The table of chairs: votes and measures, base and changed, as decimals or as fractions. */
 import type { App } from "../app";
+import { comparedLabel, type Columns, type Line } from "../columns";
 import { gainText, valueText, type ChairRow } from "../compare";
 import { button, h, type Child } from "../dom";
 import { plainCell } from "../csv";
@@ -7,7 +8,7 @@ import { difference, fractionText, grouped, percent, signed, type Ratio } from "
 import { isolated } from "../names";
 import { measureOf, type ChairReading } from "../reading";
 import type { View } from "../study";
-import { MAJORITY, MEASURE, type Measure } from "../words";
+import { MAJORITY, MEASURE, type Majority, type Measure } from "../words";
 
 /** A cell: its decimal, its fraction, and its source. */
 interface Cell {
@@ -33,30 +34,49 @@ function madeCell(ratio: Ratio | null, decimal: string, source: string): Cell {
   return ratio ? { decimal, fraction: fractionText(ratio), source: `made here: ${source}` } : EMPTY;
 }
 
-/** The votes of a row, base and changed, at the first majority: they are the same at each. */
-function votesCells(row: ChairRow, digits: number): Cell[] {
-  const [first] = row.at.values();
-  const weight = (chair: ChairReading | undefined): Cell =>
-    chair ? { decimal: grouped(chair.weight), fraction: String(chair.weight), source: "counted: WEIGHT" } : EMPTY;
-  const share = (ratio: Ratio | null) => madeCell(ratio, ratio ? `${percent(ratio, digits)} %` : "", "WEIGHT/CAST");
-  const added = difference(row.votesAfter, row.votesBefore);
-  return [
-    weight(first?.before),
-    weight(first?.after),
-    share(row.votesBefore),
-    share(row.votesAfter),
-    madeCell(added, added ? signed(percent(added, digits)) : "", "changed less base, in points"),
-  ];
+/** The cells of votes: in the base and in each column. All majorities have the same. */
+function weightCells({ cells }: Line): Cell[] {
+  const weight = (row: ChairRow | undefined, side: "before" | "after"): Cell => {
+    const [first] = row?.at.values() ?? [];
+    const chair = first?.[side];
+    if (!chair) return EMPTY;
+    return { decimal: grouped(chair.weight), fraction: String(chair.weight), source: "counted: WEIGHT" };
+  };
+  return [weight(cells[0], "before"), ...cells.map((it) => weight(it, "after"))];
 }
 
-/** All cells of a row after its number and name. */
-function cellsOf(row: ChairRow, { measure, digits }: View): Cell[] {
-  const powers = [...row.at.values()].flatMap(({ before, after, gain }) => [
-    countedCell(before, measure, digits),
-    countedCell(after, measure, digits),
-    madeCell(gain, gainText(gain, measure, digits), "changed less base"),
-  ]);
-  return [...votesCells(row, digits), ...powers];
+/** What is added in a column, in words: `changed less base`. */
+function lessWords({ list }: Columns, at: number, view: View): string {
+  return `${list[at]?.label ?? ""} less ${comparedLabel(list, at, view)}`;
+}
+
+/** The cells of shares of votes: in the base, then in each column with what is added. */
+function shareCells({ cells }: Line, columns: Columns, view: View): Cell[] {
+  const share = (ratio: Ratio | null | undefined) =>
+    madeCell(ratio ?? null, ratio ? `${percent(ratio, view.digits)} %` : "", "WEIGHT/CAST");
+  const rest = cells.flatMap((it, at) => {
+    const added = difference(it?.votesAfter ?? null, it?.votesBefore ?? null);
+    const words = added ? signed(percent(added, view.digits)) : "";
+    return [share(it?.votesAfter), madeCell(added, words, `${lessWords(columns, at, view)}, in points`)];
+  });
+  return [share(cells[0]?.votesBefore), ...rest];
+}
+
+/** The cells of the measure at a majority: in the base, then in each column with what is added. */
+function powerCells({ cells }: Line, columns: Columns, view: View, majority: Majority): Cell[] {
+  const { measure, digits } = view;
+  const rest = cells.flatMap((it, at) => {
+    const { after, gain } = it?.at.get(majority) ?? {};
+    const added = madeCell(gain ?? null, gainText(gain ?? null, measure, digits), lessWords(columns, at, view));
+    return [countedCell(after, measure, digits), added];
+  });
+  return [countedCell(cells[0]?.at.get(majority)?.before, measure, digits), ...rest];
+}
+
+/** All cells of a line after its number and name. */
+function cellsOf(line: Line, columns: Columns, view: View): Cell[] {
+  const powers = view.majorities.flatMap((it) => powerCells(line, columns, view, it));
+  return [...weightCells(line), ...shareCells(line, columns, view), ...powers];
 }
 
 /** A heading of a column, and the mark of its numbers. */
@@ -68,59 +88,68 @@ interface Head {
 const counted = (words: string): Head => ({ words, mark: "counted" });
 const madeHere = (words: string): Head => ({ words, mark: "made here" });
 
-function headsOf({ majorities, measure }: View): Head[] {
+/** The headings of what is counted in the base, then counted or made here in each column with what is added. */
+function groupHeads(words: string, added: string, columns: Columns, view: View, mark: typeof counted): Head[] {
+  const rest = columns.list.flatMap((it, at) => {
+    const less = columns.isOne ? "" : `, ${isolated(it.label)} less ${isolated(comparedLabel(columns.list, at, view))}`;
+    return [mark(`${words}, ${isolated(it.label)}`), madeHere(`${added}${less}`)];
+  });
+  return [mark(`${words}, base`), ...rest];
+}
+
+function headsOf(columns: Columns, view: View): Head[] {
+  const { majorities, measure } = view;
   const unit = measure === "share" ? ", points" : "";
   const powers = majorities.flatMap((it) => {
     const words = `${MEASURE[measure].label}, ${MAJORITY[it].label}`;
-    const added = madeHere(`Added${unit}, ${MAJORITY[it].label}`);
-    return [counted(`${words}, base`), counted(`${words}, changed`), added];
+    return groupHeads(words, `Added${unit}, ${MAJORITY[it].label}`, columns, view, counted);
   });
   return [
     counted("Chair"),
     { words: "Name", mark: "given" },
     counted("Votes, base"),
-    counted("Votes, changed"),
-    madeHere("Share of votes, base"),
-    madeHere("Share of votes, changed"),
-    madeHere("Added, points"),
+    ...columns.list.map((it) => counted(`Votes, ${isolated(it.label)}`)),
+    ...groupHeads("Share of votes", "Added, points", columns, view, madeHere),
     ...powers,
   ];
 }
 
 /** The table as text with tabs, as a spreadsheet takes it. */
-export function tableText(rows: readonly ChairRow[], view: View): string {
-  const cells = rows.map((row) => {
-    const own = cellsOf(row, view).map((it) => (view.fractions ? it.fraction : it.decimal.replace(/,| %$/g, "")));
-    return [String(row.chair), plainCell(row.name.replace(/\s+/g, " ")), ...own];
+export function tableText(columns: Columns, view: View): string {
+  const plain = (text: string) => plainCell(text.replace(/\s+/g, " "));
+  const value = (it: Cell) => (view.fractions ? it.fraction : it.decimal.replace(/,| %$/g, ""));
+  const cells = columns.lines.map((line) => {
+    const own = cellsOf(line, columns, view).map(value);
+    return [String(line.chair), plain(line.name), ...own];
   });
-  const heads = headsOf(view).map((it) => it.words);
+  const heads = headsOf(columns, view).map((it) => plain(it.words));
   return [heads, ...cells].map((line) => `${line.join("\t")}\n`).join("");
 }
 
 /** The exact fractions of a row in words. */
-export function rowWords(row: ChairRow, view: View): Child[] {
-  const heads = headsOf(view).slice(2).map((it) => it.words);
-  const items = cellsOf(row, view).map((cell, at) => {
+export function rowWords(line: Line, columns: Columns, view: View): Child[] {
+  const heads = headsOf(columns, view).slice(2).map((it) => it.words);
+  const items = cellsOf(line, columns, view).map((cell, at) => {
     return cell.decimal ? h(
       "li",
       { title: cell.source },
       `${heads[at]}: ${cell.decimal} = ${cell.fraction} (${cell.source})`,
     ) : null;
   });
-  return [h("strong", {}, `${row.chair} ${isolated(row.name)}`), h("ul", {}, items)];
+  return [h("strong", {}, `${line.chair} ${isolated(line.name)}`), h("ul", {}, items)];
 }
 
 const KIND_WORDS: Readonly<Record<ChairRow["kind"], string>> = { kept: "", opened: " (new)", closed: " (closed)" };
 
 /** The table's element. */
-export function chairTable(app: App, rows: readonly ChairRow[]): HTMLElement {
+export function chairTable(app: App, columns: Columns): HTMLElement {
   const { view } = app;
   const words = `${MEASURE[view.measure].label} and votes of each chair`;
-  const body = rows.map((row) =>
-    h("tr", { "data-chair": row.chair, "data-kind": row.kind },
-      h("th", { scope: "row" }, String(row.chair)),
-      h("td", { class: "text" }, h("bdi", {}, row.name), KIND_WORDS[row.kind]),
-      cellsOf(row, view).map(
+  const body = columns.lines.map((line) =>
+    h("tr", { "data-chair": line.chair, "data-kind": line.kind },
+      h("th", { scope: "row" }, String(line.chair)),
+      h("td", { class: "text" }, h("bdi", {}, line.name), KIND_WORDS[line.kind]),
+      cellsOf(line, columns, view).map(
         (cell) => h(
           "td",
           { title: `${cell.fraction} (${cell.source})` },
@@ -143,7 +172,7 @@ export function chairTable(app: App, rows: readonly ChairRow[]): HTMLElement {
         h(
           "thead",
           {},
-          h("tr", {}, headsOf(view).map((it) => h("th", { scope: "col", "data-mark": it.mark }, it.words))),
+          h("tr", {}, headsOf(columns, view).map((it) => h("th", { scope: "col", "data-mark": it.mark }, it.words))),
         ),
         h("tbody", {}, body),
       ),

@@ -1,7 +1,10 @@
 /** Saves and exports: the study, its script, CSV, figures, the table, the page with its data. */
 import type { App, Shown } from "../app";
 import { LIGHT, type Look } from "../charts";
-import { chairRows } from "../compare";
+import {
+  changedColumn, columnsOf, hasGains, scenarioColumns, stepColumns, type Column, type Columns,
+} from "../columns";
+import { stepsScript } from "../count";
 import { csvOf, type Labelled } from "../csv";
 import { drawCurve } from "../curveChart";
 import { curveModel, sweepRegisters, sweepTitle } from "../curveModel";
@@ -65,30 +68,51 @@ async function savePage(app: App): Promise<void> {
   app.savedStudy = shown.study;
 }
 
+/** Columns as registers of a table; with `isChained` each is compared with the one before it, too. */
+function labelled(columns: readonly Column[], base: Labelled, isChained: boolean): Labelled[] {
+  const all = columns.map(({ label, readings, standing }): Labelled => ({ label, readings, standing }));
+  return isChained ? all.map((it, at) => ({ ...it, previous: all[at - 1] ?? base })) : all;
+}
+
 /** The registers of the study, and the scripts that give their readings. */
-function registers(app: App, { study, counted }: Shown): { all: Labelled[]; sources: Source[] } {
-  const { opening, standing, before, after, commands } = counted;
-  const changed = commands.length ? [{ label: "changed", readings: after, standing }] : [];
-  const scenarios = study.scenarios.map(({ name }, at) => {
-    const scenario = study.scenarios[at];
-    const found = scenario && app.results.scenario(study.base, scenario, counted.majorities);
-    if (!found) throw new Error(`the scenario ${name} can't be counted`);
-    return { label: name, found };
-  });
+function registers(app: App, shown: Shown): { all: Labelled[]; sources: Source[] } {
+  const { counted } = shown;
+  const base: Labelled = { label: "base", readings: counted.before, standing: counted.opening };
+  const scenarios = scenarioColumns(shown, app.results).list;
+  const changed = counted.commands.length ? [changedColumn(shown)] : [];
+  const steps = app.view.columns === "steps" ? stepColumns(shown, app.results).list : [];
+  const isChained = app.view.columns !== "changed" && app.view.against === "before";
   const { curve } = app;
   return {
     all: [
-      { label: "base", readings: before, standing: opening },
-      ...changed,
-      ...scenarios.map(({ label, found }) => ({ label, readings: found.after, standing: found.standing })),
+      base,
+      ...labelled([...scenarios, ...changed], base, isChained),
+      ...labelled(steps, base, isChained),
       ...sweepRegisters(app),
     ],
     sources: [
-      { of: "", script: counted.script },
-      ...scenarios.map(({ label, found }) => ({ of: `scenario ${label}`, script: found.script })),
+      studySource(shown),
+      ...scenarios.map(scenarioSource),
+      ...(steps.length ? [stepsSource(shown, steps)] : []),
       ...(curve ? [{ of: `sweep ${sweepTitle(curve.asked)}`, script: curve.script }] : []),
     ],
   };
+}
+
+function scenarioSource({ label, counted: { script } }: Column): Source {
+  return { of: `scenario ${label}`, script };
+}
+
+/** The script that gives the readings of the base and of each step. */
+function stepsSource({ counted: { base, majorities } }: Shown, steps: readonly Column[]): Source {
+  return { of: "steps", script: stepsScript(base, steps.map((it) => it.counted.commands), majorities) };
+}
+
+/** The scripts that give the numbers of columns. */
+function columnSources(app: App, shown: Shown, { list, isOne }: Columns): Source[] {
+  if (isOne) return [studySource(shown)];
+  if (app.view.columns === "steps") return [stepsSource(shown, list)];
+  return list.map((it) => (it.counted === shown.counted ? studySource(shown) : scenarioSource(it)));
 }
 
 async function saveCsv(app: App): Promise<void> {
@@ -101,26 +125,27 @@ async function saveCsv(app: App): Promise<void> {
 /** A figure for an export: its title, the script that gives its numbers, and how it is drawn. */
 interface Figure {
   readonly title: string;
-  readonly source: Source;
+  readonly sources: readonly Source[];
   draw(place: Element, look: Look): void;
 }
 
 function chairFigure(app: App, shown: Shown, draw: typeof drawPower): Figure {
   const { measure, majorities } = app.view;
-  const model = powerModel(app, chairRows(shown.counted, app.view));
+  const columns = columnsOf(app, shown);
+  const model = powerModel(app, columns);
   const title = `${MEASURE[measure].label}, ${majorities.map((it) => MAJORITY[it].label).join(", ")}`;
-  return { title, source: studySource(shown), draw: (place, look) => draw(place, model, look) };
+  return { title, sources: columnSources(app, shown, columns), draw: (place, look) => draw(place, model, look) };
 }
 
 /** The figures of the tabs, or null where there is none. */
 const FIGURE: Readonly<Record<Tab, (app: App, shown: Shown) => Figure | null>> = {
   power: (app, shown) => chairFigure(app, shown, drawPower),
-  change: (app, shown) => (shown.counted.isChanged ? chairFigure(app, shown, drawGains) : null),
+  change: (app, shown) => (hasGains(app, shown) ? chairFigure(app, shown, drawGains) : null),
   curve: (app) => {
     const [model, { curve }] = [curveModel(app), app];
     if (!model || !curve) return null;
     const source = { of: `sweep ${sweepTitle(curve.asked)}`, script: curve.script };
-    return { title: model.name, source, draw: (place, look) => drawCurve(place, model, look) };
+    return { title: model.name, sources: [source], draw: (place, look) => drawCurve(place, model, look) };
   },
   table: () => null,
 };
@@ -130,9 +155,10 @@ async function figure(app: App, hasTitle: boolean): Promise<string> {
   const shown = await app.whole();
   const found = FIGURE[app.view.tab](app, shown);
   if (!found) throw new Error("this tab has no figure now");
-  const lines = await provenanceOf(app, shown, [found.source]);
+  const lines = await provenanceOf(app, shown, found.sources);
   const place = document.createElement("div");
-  const source = [`Source: ${lines.counted}; ${lines.date}`, ...lines.scripts.slice(0, 1), lines.module];
+  const scripts = lines.scripts.filter((it) => it.startsWith("script"));
+  const source = [`Source: ${lines.counted}; ${lines.date}`, ...scripts, lines.module];
   const title = hasTitle ? `${isolated(app.study.name)}: ${found.title}` : "";
   found.draw(place, { width: WIDTH, palette: LIGHT, title, source });
   const svg = new XMLSerializer().serializeToString(place.firstElementChild as Element);
@@ -157,8 +183,7 @@ async function pngOf(svg: string): Promise<Blob> {
 }
 
 async function copyTable(app: App): Promise<string> {
-  const { counted } = await app.whole();
-  const content = tableText(chairRows(counted, app.view), app.view);
+  const content = tableText(columnsOf(app, await app.whole()), app.view);
   try {
     await navigator.clipboard.writeText(content);
   } catch {

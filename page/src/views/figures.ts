@@ -1,14 +1,19 @@
 /** The figures in the middle: the choices above them, the sentences, and the chart or table of the tab. */
 import type { App } from "../app";
 import type { Look } from "../charts";
-import { chairRows, sentences, type ChairRow } from "../compare";
+import { columnsOf, hasGains, type Columns } from "../columns";
+import { chairRows, sentences } from "../compare";
 import { byId, choice, h, paint } from "../dom";
+import { grouped } from "../fractions";
 import { powerModel, screenLook } from "../look";
 import { drawGains } from "../gainChart";
 import { drawPower, type PowerModel } from "../powerChart";
 import { chairTable, rowWords } from "./chairTable";
 import { paintCurve } from "./curve";
-import { ORDERS, TABS, type Order, type Tab } from "../study";
+import { MOST_STEPS } from "../steps";
+import {
+  AGAINST, COLUMNS, ORDERS, TABS, type Against, type ColumnsShown, type Order, type Tab,
+} from "../study";
 import { MAJORITIES, MAJORITY, MEASURE, MEASURES, type Majority, type Measure } from "../words";
 
 const ORDER_WORDS: Readonly<Record<Order, string>> = {
@@ -17,6 +22,13 @@ const ORDER_WORDS: Readonly<Record<Order, string>> = {
   power: "power",
   gain: "gain",
 };
+
+const COLUMN_WORDS: Readonly<Record<ColumnsShown, string>> = {
+  changed: "base and changed",
+  steps: "each change",
+  scenarios: "each scenario",
+};
+const AGAINST_WORDS: Readonly<Record<Against, string>> = { base: "the base", before: "the column before" };
 
 /** Paints figures for paper, or for the screen again. */
 export function paintForPaper(app: App, isPaper: boolean): void {
@@ -55,7 +67,31 @@ function paintChoices(app: App): void {
       choice("order-at", "at", ats, view.orderAt, (it) => app.look({ orderAt: it as Majority })),
     ),
     choice("digits", "Digits", digits, String(view.digits), (it) => app.look({ digits: Number(it) })),
+    columnChoices(app),
   );
+}
+
+/** The choices of columns. */
+function columnChoices(app: App): HTMLElement {
+  const { view } = app;
+  const columns = COLUMNS.map((it): [string, string] => [it, COLUMN_WORDS[it]]);
+  const against = AGAINST.map((it): [string, string] => [it, AGAINST_WORDS[it]]);
+  const isOne = view.columns === "changed";
+  return h("span", { class: "pair" },
+    choice("columns", "Columns", columns, view.columns, (it) => app.look({ columns: it as ColumnsShown })),
+    isOne ? null : choice("against", "less", against, view.against, (it) => app.look({ against: it as Against })),
+  );
+}
+
+/** Why a view has no columns of its own now, or which are missing. */
+function columnsNote({ view, study }: App, { isOne, waiting }: Columns): string {
+  if (waiting) return `${waiting} of the columns are being counted.`;
+  if (!isOne || view.columns === "changed") return "";
+  if (view.columns === "scenarios") return "No scenario is kept yet: give the list of changes a name under Scenarios.";
+  const many = study.changes.filter((it) => it.on).length;
+  if (many <= MOST_STEPS) return "No change is in the list yet.";
+  return `The list has ${grouped(many)} changes, and at most ${MOST_STEPS} are shown one by one: keep parts of it as ` +
+    "scenarios instead.";
 }
 
 function paintTabs(app: App): void {
@@ -79,7 +115,8 @@ function paintTabs(app: App): void {
 }
 
 /** Shows all fractions of a row under the chart, at hover, tap and by arrow keys. */
-function readout(app: App, chart: HTMLElement, rows: readonly ChairRow[]): HTMLElement {
+function readout(app: App, chart: HTMLElement, columns: Columns): HTMLElement {
+  const { lines } = columns;
   const box = h(
     "div",
     { id: "readout", class: "readout", role: "status" },
@@ -87,25 +124,25 @@ function readout(app: App, chart: HTMLElement, rows: readonly ChairRow[]): HTMLE
   );
   let at = -1;
   const show = (next: number) => {
-    const row = rows[next];
-    if (!row) return;
+    const line = lines[next];
+    if (!line) return;
     at = next;
     for (const group of chart.querySelectorAll("[data-chair]")) group.classList.toggle(
       "pointed",
-      group.getAttribute("data-chair") === String(row.chair),
+      group.getAttribute("data-chair") === String(line.chair),
     );
-    paint(box, rowWords(row, app.view));
+    paint(box, rowWords(line, columns, app.view));
   };
   const point = (event: Event) => {
     const group = (event.target as Element).closest("[data-chair]");
-    if (group) show(rows.findIndex((it) => String(it.chair) === group.getAttribute("data-chair")));
+    if (group) show(lines.findIndex((it) => String(it.chair) === group.getAttribute("data-chair")));
   };
   chart.addEventListener("pointerover", point);
   chart.addEventListener("click", point);
   chart.addEventListener("keydown", (event) => {
     if (event.key !== "ArrowDown" && event.key !== "ArrowUp") return;
     event.preventDefault();
-    show(Math.min(rows.length - 1, Math.max(0, at + (event.key === "ArrowDown" ? 1 : -1))));
+    show(Math.min(lines.length - 1, Math.max(0, at + (event.key === "ArrowDown" ? 1 : -1))));
   });
   return box;
 }
@@ -113,18 +150,18 @@ function readout(app: App, chart: HTMLElement, rows: readonly ChairRow[]): HTMLE
 type Draw = (place: Element, model: PowerModel, look: Look) => void;
 
 /** Paints a chart of the chairs, the readout, and the table of the chart, which is made once it is opened. */
-function paintChart(app: App, rows: readonly ChairRow[], draw: Draw): void {
-  const model = powerModel(app, rows);
+function paintChart(app: App, columns: Columns, draw: Draw): void {
+  const model = powerModel(app, columns);
   const chart = h(
     "div",
     { class: "chart", tabindex: 0, role: "group", "aria-label": "Chart of the chairs; arrow keys go through its rows" },
   );
-  const box = readout(app, chart, rows);
+  const box = readout(app, chart, columns);
   const summary = h("summary", {}, "The table of this chart");
   const tableBox = h("details", { id: "behind", open: app.open.isTableOpen }, summary);
   const fill = () => {
     app.open.isTableOpen = tableBox.open;
-    if (tableBox.open && tableBox.childElementCount === 1) tableBox.append(chairTable(app, rows));
+    if (tableBox.open && tableBox.childElementCount === 1) tableBox.append(chairTable(app, columns));
   };
   fill();
   tableBox.addEventListener("toggle", fill);
@@ -133,17 +170,17 @@ function paintChart(app: App, rows: readonly ChairRow[], draw: Draw): void {
   else chart.remove();
 }
 
-function paintGains(app: App, rows: readonly ChairRow[]): void {
-  if (app.shown?.counted.isChanged) paintChart(app, rows, drawGains);
+function paintGains(app: App, columns: Columns): void {
+  if (app.shown && hasGains(app, app.shown)) paintChart(app, columns, drawGains);
   else paint(byId("panel"), h("p", {}, "No change was carried out yet: changed and base are the same."));
 }
 
 /** The tabs: their words, and what they show. */
-const TAB: Readonly<Record<Tab, { words: string; draw(app: App, rows: readonly ChairRow[]): void }>> = {
-  power: { words: "Power", draw: (app, rows) => paintChart(app, rows, drawPower) },
+const TAB: Readonly<Record<Tab, { words: string; draw(app: App, columns: Columns): void }>> = {
+  power: { words: "Power", draw: (app, columns) => paintChart(app, columns, drawPower) },
   change: { words: "Change", draw: paintGains },
   curve: { words: "Curve", draw: paintCurve },
-  table: { words: "Table", draw: (app, rows) => paint(byId("panel"), chairTable(app, rows)) },
+  table: { words: "Table", draw: (app, columns) => paint(byId("panel"), chairTable(app, columns)) },
 };
 
 export function paintFigures(app: App): void {
@@ -153,5 +190,7 @@ export function paintFigures(app: App): void {
   paintTabs(app);
   const rows = chairRows(shown.counted, view);
   paint(byId("sentences"), sentences(rows, shown.counted, view).map((it) => h("p", { title: it.source }, it.words)));
-  TAB[view.tab].draw(app, rows);
+  const columns = columnsOf(app, shown);
+  paint(byId("columns-words"), columnsNote(app, columns));
+  TAB[view.tab].draw(app, columns);
 }

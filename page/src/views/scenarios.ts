@@ -1,4 +1,4 @@
-/** Named scenarios side by side: the greatest gain and the greatest loss at each majority. */
+/** Named scenarios in their order: the greatest gain and the greatest loss of each at each majority. */
 import type { App } from "../app";
 import { chairRows, emptySentence, extremeCell, measureWords, type Said } from "../compare";
 import { button, byId, h, paint, type Child } from "../dom";
@@ -20,11 +20,23 @@ function shownAgain(study: Study, scenario: Scenario): Study {
   return withChanges(study, scenario.changes.map((it, at) => ({ ...it, id: first + at })));
 }
 
+/** The study with a scenario one place earlier. */
+function earlier(study: Study, scenario: Scenario): Study {
+  const at = study.scenarios.indexOf(scenario);
+  const before = study.scenarios[at - 1];
+  if (!before) return study;
+  const scenarios = study.scenarios.map((it) => (it === scenario ? before : it === before ? scenario : it));
+  return { ...study, scenarios };
+}
+
 function rows(app: App, scenario: Scenario): Child {
   const { shown, view, study } = app;
   const counted = shown && app.results.scenario(study.base, scenario, view.majorities);
   const buttons = h("td", { class: "text", rowspan: view.majorities.length },
     h("span", { class: "buttons" },
+      button("↑", () => app.take(earlier(study, scenario)), {
+        "aria-label": `Move ${isolated(scenario.name)} up`, disabled: study.scenarios[0] === scenario,
+      }),
       button("Show", () => app.take(shownAgain(study, scenario)), { "aria-label": `Show ${isolated(scenario.name)}` }),
       button(
         "Remove",
