@@ -7,6 +7,8 @@ import { powerModel, screenLook } from "../look";
 import { drawGains } from "../gainChart";
 import { drawPower, type PowerModel } from "../powerChart";
 import { chairTable, rowWords } from "./chairTable";
+import { chartPlace, readout, tableBehind } from "./chartParts";
+import { paintCoalition } from "./coalition";
 import { paintCurve } from "./curve";
 import { ORDERS, TABS, type Order, type Tab } from "../study";
 import { MAJORITIES, MAJORITY, MEASURE, MEASURES, type Majority, type Measure } from "../words";
@@ -78,57 +80,19 @@ function paintTabs(app: App): void {
   byId("panel").setAttribute("aria-labelledby", `tab-${app.view.tab}`);
 }
 
-/** Shows all fractions of a row under the chart, at hover, tap and by arrow keys. */
-function readout(app: App, chart: HTMLElement, rows: readonly ChairRow[]): HTMLElement {
-  const box = h(
-    "div",
-    { id: "readout", class: "readout", role: "status" },
-    "Point at a row, or use the arrow keys: its exact fractions appear here.",
-  );
-  let at = -1;
-  const show = (next: number) => {
-    const row = rows[next];
-    if (!row) return;
-    at = next;
-    for (const group of chart.querySelectorAll("[data-chair]")) group.classList.toggle(
-      "pointed",
-      group.getAttribute("data-chair") === String(row.chair),
-    );
-    paint(box, rowWords(row, app.view));
-  };
-  const point = (event: Event) => {
-    const group = (event.target as Element).closest("[data-chair]");
-    if (group) show(rows.findIndex((it) => String(it.chair) === group.getAttribute("data-chair")));
-  };
-  chart.addEventListener("pointerover", point);
-  chart.addEventListener("click", point);
-  chart.addEventListener("keydown", (event) => {
-    if (event.key !== "ArrowDown" && event.key !== "ArrowUp") return;
-    event.preventDefault();
-    show(Math.min(rows.length - 1, Math.max(0, at + (event.key === "ArrowDown" ? 1 : -1))));
-  });
-  return box;
-}
-
 type Draw = (place: Element, model: PowerModel, look: Look) => void;
 
 /** Paints a chart of the chairs, the readout, and the table of the chart, which is made once it is opened. */
 function paintChart(app: App, rows: readonly ChairRow[], draw: Draw): void {
   const model = powerModel(app, rows);
-  const chart = h(
-    "div",
-    { class: "chart", tabindex: 0, role: "group", "aria-label": "Chart of the chairs; arrow keys go through its rows" },
-  );
-  const box = readout(app, chart, rows);
-  const summary = h("summary", {}, "The table of this chart");
-  const tableBox = h("details", { id: "behind", open: app.open.isTableOpen }, summary);
-  const fill = () => {
-    app.open.isTableOpen = tableBox.open;
-    if (tableBox.open && tableBox.childElementCount === 1) tableBox.append(chairTable(app, rows));
-  };
-  fill();
-  tableBox.addEventListener("toggle", fill);
-  paint(byId("panel"), box, chart, tableBox);
+  const chart = chartPlace("Chart of the chairs; arrow keys go through its rows");
+  const box = readout(chart, {
+    attribute: "data-chair",
+    keys: rows.map((it) => String(it.chair)),
+    first: "Point at a row, or use the arrow keys: its exact fractions appear here.",
+    words: (at) => rows.slice(at, at + 1).map((it) => rowWords(it, app.view)),
+  });
+  paint(byId("panel"), box, chart, tableBehind(app, () => chairTable(app, rows)));
   if (model.majorities.length) draw(chart, model, screenLook(app, chart));
   else chart.remove();
 }
@@ -144,6 +108,7 @@ const TAB: Readonly<Record<Tab, { words: string; draw(app: App, rows: readonly C
   change: { words: "Change", draw: paintGains },
   curve: { words: "Curve", draw: paintCurve },
   table: { words: "Table", draw: (app, rows) => paint(byId("panel"), chairTable(app, rows)) },
+  coalition: { words: "Coalition", draw: paintCoalition },
 };
 
 export function paintFigures(app: App): void {
