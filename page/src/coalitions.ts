@@ -125,15 +125,23 @@ function firstOf<Value>(values: Iterator<Value>, most: number): Value[] {
   return found;
 }
 
-/** The winning coalitions with a chair that have the least number of chairs, the first of them up to some number. */
-export function smallestWith(rule: Rule, chair: number, most: number): Smallest | null {
+/** The subsets of the chairs other than one, by their votes. */
+export function subsetsWithout(voters: readonly Voter[], chair: number): Subsets {
+  return new Subsets(voters.filter((it) => it.chair !== chair).map((it) => it.weight));
+}
+
+/**
+ * The winning coalitions with a chair that have the least number of chairs, the first of them up to some number, and
+ * null if there are none. `subsets` are those of the other chairs.
+ */
+export function smallestWith(rule: Rule, chair: number, subsets: Subsets, most: number): Smallest | null {
   const own = rule.chairs.find((it) => it.chair === chair);
   if (!own) return null;
   const others = without(rule.chairs, own);
   const needed = rule.quota - own.weight;
   const size = mostVotes(others).findIndex((it, at) => it >= needed && at + 1 >= rule.leastSize);
   if (size < 0) return null;
-  const many = new Subsets(others.map((it) => it.weight)).atLeast(size, needed);
+  const many = subsets.atLeast(size, needed);
   const first = firstOf(inOrder(others, size, needed), most);
   return { size: size + 1, many, first: first.map((it) => [...it, chair].sort((left, right) => left - right)) };
 }

@@ -13,10 +13,11 @@ function merged(left: Float64Array, right: Float64Array, votes: number): Float64
   const all = new Float64Array(left.length + right.length);
   let [one, other] = [0, 0];
   for (let at = 0; at < all.length; at += 1) {
-    const [first, second] = [left[one] ?? Infinity, (right[other] ?? Infinity) + votes];
-    if (first <= second) one += 1;
+    const added = other < right.length ? (right[other] as number) + votes : Infinity;
+    const isLeft = one < left.length && (left[one] as number) <= added;
+    all[at] = isLeft ? (left[one] as number) : added;
+    if (isLeft) one += 1;
     else other += 1;
-    all[at] = Math.min(first, second);
   }
   return all;
 }
@@ -31,11 +32,19 @@ function sumsOf(votes: readonly number[]): Sums {
   return votes.reduce(withMember, [new Float64Array(1)]);
 }
 
+/** The first number of a list and the last one; no number is between them if it is empty. */
+function ends(sums: Float64Array): readonly [number, number] {
+  return [sums[0] ?? Infinity, sums[sums.length - 1] ?? -Infinity];
+}
+
 /** How many pairs, one number from each of two ascending lists, have at least a sum. */
 function pairs(left: Float64Array, right: Float64Array, least: number): number {
+  const [[leftLow, leftHigh], [rightLow, rightHigh]] = [ends(left), ends(right)];
+  if (leftHigh + rightHigh < least) return 0;
+  if (leftLow + rightLow >= least) return left.length * right.length;
   let [found, at, from] = [0, 0, right.length];
   while (at < left.length) {
-    if (from > 0 && (left[at] ?? 0) + (right[from - 1] ?? 0) >= least) from -= 1;
+    if (from > 0 && (left[at] as number) + (right[from - 1] as number) >= least) from -= 1;
     else {
       found += right.length - from;
       at += 1;

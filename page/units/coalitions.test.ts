@@ -5,7 +5,7 @@ import { test } from "node:test";
 import { indices } from "../../bindings/javascript/src/indices";
 import { loadSync } from "../../bindings/javascript/src/load";
 import {
-  checkOf, coalitionsBySize, smallestWith, verdictOf, vetoChairs, winningBySize, type Rule,
+  checkOf, coalitionsBySize, smallestWith, subsetsWithout, verdictOf, vetoChairs, winningBySize, type Rule,
 } from "../src/coalitions";
 import { Subsets } from "../src/subsets";
 import { MAJORITIES, type Majority } from "../src/words";
@@ -168,12 +168,14 @@ test("the smallest winning coalitions with a chair", () => {
       const word = (it: readonly number[]) => String.fromCharCode(...it);
       const first = [...smallest].sort((left, right) => (word(left) < word(right) ? -1 : 1)).slice(0, 20);
       const wanted = smallest.length ? { size, many: smallest.length, first } : null;
-      assert.deepEqual(smallestWith(ruleOf(board, majority), chair, 20), wanted, JSON.stringify([board, majority]));
+      const rule = ruleOf(board, majority);
+      const others = subsetsWithout(rule.chairs, chair);
+      assert.deepEqual(smallestWith(rule, chair, others, 20), wanted, JSON.stringify([board, majority]));
       found += 1;
     }
   }
   assert.ok(found > 3500);
-  assert.equal(smallestWith(ruleOf(boardOf(1, 3), "half"), 99, 20), null);
+  assert.equal(smallestWith(ruleOf(boardOf(1, 3), "half"), 99, new Subsets([]), 20), null);
 });
 
 test("32 chairs with the most votes", () => {
@@ -187,7 +189,7 @@ test("32 chairs with the most votes", () => {
   for (const majority of MAJORITIES) {
     const rule = ruleOf(board, majority);
     assert.equal(checkOf(rule.winning, winningBySize(rule, subsets)).holds, true);
-    const least = smallestWith(rule, 32, 20);
+    const least = smallestWith(rule, 32, subsetsWithout(rule.chairs, 32), 20);
     const wins = least?.first.map((it) => verdictOf(rule, new Set(it)).wins);
     assert.deepEqual(wins, Array.from({ length: 20 }, () => true));
   }

@@ -1,5 +1,5 @@
 /** The smallest winning coalitions with a chair, and the chairs that every winning coalition has. */
-import { smallestWith, vetoChairs, votesOf, type Smallest } from "../coalitions";
+import { smallestWith, subsetsWithout, vetoChairs, votesOf, type Smallest } from "../coalitions";
 import { button, byId, choice, h, paint, type Child } from "../dom";
 import { counted, grouped } from "../fractions";
 import { isolated } from "../names";
@@ -111,7 +111,8 @@ function choices(looked: Looked, chair: number, tickThem: TickThem): HTMLElement
 export function smallestPart(looked: Looked, tickThem: TickThem): Child {
   const { app: { open: { ticks } }, chairs, readings } = looked;
   const { chair = 0 } = chairs.find((it) => it.chair === ticks.chair) ?? chairs[0] ?? {};
-  const found = readings.map((reading) => ({ reading, smallest: smallestWith(reading, chair, MOST_LISTED) }));
+  const others = subsetsWithout(chairs, chair);
+  const found = readings.map((reading) => ({ reading, smallest: smallestWith(reading, chair, others, MOST_LISTED) }));
   const listed = found.find((it) => it.reading === readingAt(looked, ticks.at));
   return [
     h("h3", {}, "Smallest winning coalitions"),
