@@ -5,6 +5,7 @@ import { Cancelled } from "./pausing";
 import { Results, type Sweep } from "./results";
 import { stepsOf } from "./steps";
 import type { Study, SweepAsked, View } from "./study";
+import { NO_TICKS, type Ticks } from "./ticks";
 
 export type State = "counting" | "ready" | "fault";
 
@@ -29,6 +30,8 @@ export interface Open {
   filter: string;
   /** The fields of a sweep that isn't asked for yet. */
   sweep: SweepAsked | null;
+  /** The chairs that are ticked as a coalition. */
+  ticks: Ticks;
   /** Whether the table of a chart is open, and whether the page is being printed. */
   isTableOpen: boolean;
   isPrinting: boolean;
@@ -38,7 +41,9 @@ export class App {
   readonly history: History<Study>;
   readonly counter: Counter;
   readonly results = new Results();
-  readonly open: Open = { cards: new Set(), filter: "", sweep: null, isTableOpen: false, isPrinting: false };
+  readonly open: Open = {
+    cards: new Set(), filter: "", sweep: null, ticks: NO_TICKS, isTableOpen: false, isPrinting: false,
+  };
   /** Whether the module's bytes have the hash that the build recorded. */
   readonly isOwnModule: boolean;
   view: View;

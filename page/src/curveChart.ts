@@ -58,7 +58,7 @@ function pathOf(points: readonly (readonly [number, number | null])[]): string {
     .join("");
 }
 
-const DASHES: Readonly<Record<Majority, string>> = { half: "", "70": "7 3", "85": "2 3", quorum: "9 3 2 3" };
+export const DASHES: Readonly<Record<Majority, string>> = { half: "", "70": "7 3", "85": "2 3", quorum: "9 3 2 3" };
 
 /** A chart that is being drawn: the place of its plot, and the scales. */
 interface Plot {

@@ -19,6 +19,8 @@ export interface ChairReading {
 export interface Reading {
   readonly majority: Majority;
   readonly quota: number;
+  /** The least number of chairs that wins; 0 if the majority asks for none. */
+  readonly leastSize: number;
   readonly cast: number;
   readonly total: number;
   readonly winning: number;
@@ -37,10 +39,12 @@ export function readings(list: readonly Reading[]): Readings {
 }
 
 /** The counts of the package, with fractions of any size. */
-export function readingOf({ majority, quota, cast, total, omega, coalitions, act, chairs }: Indices): Reading {
+export function readingOf(indices: Indices): Reading {
+  const { majority, quota, leastSize, cast, total, omega, coalitions, act, chairs } = indices;
   return {
     majority,
     quota,
+    leastSize,
     cast,
     total,
     winning: omega,

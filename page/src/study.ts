@@ -73,7 +73,7 @@ export interface Study {
   readonly sweep: SweepAsked | null;
 }
 
-export const TABS = ["power", "change", "curve", "table"] as const;
+export const TABS = ["power", "change", "curve", "table", "coalition"] as const;
 export type Tab = typeof TABS[number];
 export const ORDERS = ["number", "votes", "power", "gain"] as const;
 export type Order = typeof ORDERS[number];

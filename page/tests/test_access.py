@@ -18,7 +18,7 @@ MOST_STOPS = 400
 # Higher than the page, so that nothing is scrolled away.
 TALL = 12_000
 OPENERS = ["#name-1", "#export", "#paste", "#seal", "#admit-open", "#best-open", "#recount-open", "#cite-open"]
-TABS = ["#tab-power", "#tab-change", "#tab-curve", "#tab-table"]
+TABS = ["#tab-power", "#tab-change", "#tab-curve", "#tab-table", "#tab-coalition"]
 
 
 def controls(page: Page) -> list[dict[str, Any]]:

@@ -628,7 +628,7 @@ def test_paper_of_every_tab(page: Page, digits: str) -> None:
     page.choose("#digits", digits)
     # The width of A4 within the page's own margins.
     width = round((210 - 24) / 25.4 * 96)
-    for tab in ["power", "change", "curve", "table"]:
+    for tab in ["power", "change", "curve", "table", "coalition"]:
         page.click(f"#tab-{tab}")
         if tab == "curve":
             page.choose("#sweep-who", "XAD")

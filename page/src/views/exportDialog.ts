@@ -17,10 +17,13 @@ import { isolated } from "../names";
 import { pageText } from "../pageText";
 import { drawPower } from "../powerChart";
 import { firstLines, provenanceOf, studySource, type Source } from "../provenance";
+import { sizesModel } from "../sizes";
+import { drawSizes } from "../sizesChart";
 import { dataText, readData } from "../studyData";
 import type { Tab } from "../study";
 import { INPUT_BYTES, MAJORITY, MEASURE } from "../words";
 import { tableText } from "./chairTable";
+import { boardWords } from "./coalitionParts";
 
 const WIDTH = 900;
 
@@ -137,6 +140,15 @@ function chairFigure(app: App, shown: Shown, draw: typeof drawPower): Figure {
   return { title, sources: columnSources(app, shown, columns), draw: (place, look) => draw(place, model, look) };
 }
 
+/** The figure of the winning coalitions by number of chairs; null if no chair is open. */
+function sizesFigure(shown: Shown): Figure | null {
+  const model = sizesModel(shown.counted.after);
+  const majorities = [...model.winning.keys()].map((it) => MAJORITY[it].label).join(", ");
+  const title = `Winning coalitions by number of chairs, ${boardWords(shown)}, ${majorities}`;
+  if (model.all.length === 1) return null;
+  return { title, sources: [studySource(shown)], draw: (place, look) => drawSizes(place, model, look) };
+}
+
 /** The figures of the tabs, or null where there is none. */
 const FIGURE: Readonly<Record<Tab, (app: App, shown: Shown) => Figure | null>> = {
   power: (app, shown) => chairFigure(app, shown, drawPower),
@@ -148,6 +160,7 @@ const FIGURE: Readonly<Record<Tab, (app: App, shown: Shown) => Figure | null>> =
     return { title: model.name, sources: [source], draw: (place, look) => drawCurve(place, model, look) };
   },
   table: () => null,
+  coalition: (_, shown) => sizesFigure(shown),
 };
 
 /** The figure of the tab as SVG, light, with a source line. */

@@ -9,6 +9,8 @@ import { powerModel, screenLook } from "../look";
 import { drawGains } from "../gainChart";
 import { drawPower, type PowerModel } from "../powerChart";
 import { chairTable, rowWords } from "./chairTable";
+import { chartPlace, readout, tableBehind } from "./chartParts";
+import { paintCoalition } from "./coalition";
 import { paintCurve } from "./curve";
 import { MOST_STEPS } from "../steps";
 import {
@@ -114,58 +116,19 @@ function paintTabs(app: App): void {
   byId("panel").setAttribute("aria-labelledby", `tab-${app.view.tab}`);
 }
 
-/** Shows all fractions of a row under the chart, at hover, tap and by arrow keys. */
-function readout(app: App, chart: HTMLElement, columns: Columns): HTMLElement {
-  const { lines } = columns;
-  const box = h(
-    "div",
-    { id: "readout", class: "readout", role: "status" },
-    "Point at a row, or use the arrow keys: its exact fractions appear here.",
-  );
-  let at = -1;
-  const show = (next: number) => {
-    const line = lines[next];
-    if (!line) return;
-    at = next;
-    for (const group of chart.querySelectorAll("[data-chair]")) group.classList.toggle(
-      "pointed",
-      group.getAttribute("data-chair") === String(line.chair),
-    );
-    paint(box, rowWords(line, columns, app.view));
-  };
-  const point = (event: Event) => {
-    const group = (event.target as Element).closest("[data-chair]");
-    if (group) show(lines.findIndex((it) => String(it.chair) === group.getAttribute("data-chair")));
-  };
-  chart.addEventListener("pointerover", point);
-  chart.addEventListener("click", point);
-  chart.addEventListener("keydown", (event) => {
-    if (event.key !== "ArrowDown" && event.key !== "ArrowUp") return;
-    event.preventDefault();
-    show(Math.min(lines.length - 1, Math.max(0, at + (event.key === "ArrowDown" ? 1 : -1))));
-  });
-  return box;
-}
-
 type Draw = (place: Element, model: PowerModel, look: Look) => void;
 
 /** Paints a chart of the chairs, the readout, and the table of the chart, which is made once it is opened. */
 function paintChart(app: App, columns: Columns, draw: Draw): void {
   const model = powerModel(app, columns);
-  const chart = h(
-    "div",
-    { class: "chart", tabindex: 0, role: "group", "aria-label": "Chart of the chairs; arrow keys go through its rows" },
-  );
-  const box = readout(app, chart, columns);
-  const summary = h("summary", {}, "The table of this chart");
-  const tableBox = h("details", { id: "behind", open: app.open.isTableOpen }, summary);
-  const fill = () => {
-    app.open.isTableOpen = tableBox.open;
-    if (tableBox.open && tableBox.childElementCount === 1) tableBox.append(chairTable(app, columns));
-  };
-  fill();
-  tableBox.addEventListener("toggle", fill);
-  paint(byId("panel"), box, chart, tableBox);
+  const chart = chartPlace("Chart of the chairs; arrow keys go through its rows");
+  const box = readout(chart, {
+    attribute: "data-chair",
+    keys: columns.lines.map((it) => String(it.chair)),
+    first: "Point at a row, or use the arrow keys: its exact fractions appear here.",
+    words: (at) => columns.lines.slice(at, at + 1).map((it) => rowWords(it, columns, app.view)),
+  });
+  paint(byId("panel"), box, chart, tableBehind(app, () => chairTable(app, columns)));
   if (model.majorities.length) draw(chart, model, screenLook(app, chart));
   else chart.remove();
 }
@@ -181,6 +144,7 @@ const TAB: Readonly<Record<Tab, { words: string; draw(app: App, columns: Columns
   change: { words: "Change", draw: paintGains },
   curve: { words: "Curve", draw: paintCurve },
   table: { words: "Table", draw: (app, columns) => paint(byId("panel"), chairTable(app, columns)) },
+  coalition: { words: "Coalition", draw: paintCoalition },
 };
 
 export function paintFigures(app: App): void {

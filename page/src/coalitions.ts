@@ -1,0 +1,153 @@
+/**
+ * Coalitions of chairs, by the chairs' votes and a majority's inequality alone. The quota and the least number of
+ * chairs are the register's; what follows from them is made here, in whole numbers below 2^53.
+ */
+import { Subsets } from "./subsets";
+
+/** An open chair and its votes. */
+export interface Voter {
+  readonly chair: number;
+  readonly weight: number;
+}
+
+/** A majority on a board: a coalition wins if its votes reach the quota and its chairs the least number of chairs. */
+export interface Rule {
+  readonly quota: number;
+  /** 0 if the majority asks for no number of chairs. */
+  readonly leastSize: number;
+  /** The open chairs, by number. */
+  readonly chairs: readonly Voter[];
+}
+
+/** The votes and the number of chairs of a coalition, and whether it wins. */
+export interface Side {
+  readonly votes: number;
+  readonly size: number;
+  readonly wins: boolean;
+}
+
+/** A coalition under a majority, and the other chairs. */
+export interface Verdict extends Side {
+  /** Its chairs without each of which it loses; none if it loses anyway. */
+  readonly critical: readonly number[];
+  /** The votes and the chairs that it lacks. */
+  readonly missingVotes: number;
+  readonly missingChairs: number;
+  /** The other chairs each of which makes it win; none if it wins anyway. */
+  readonly helpers: readonly number[];
+  readonly others: Side;
+}
+
+/** The winning coalitions with a chair that have the least number of chairs. */
+export interface Smallest {
+  readonly size: number;
+  /** How many there are. */
+  readonly many: number;
+  /** The first of them, in order of their chairs' numbers. */
+  readonly first: readonly (readonly number[])[];
+}
+
+export function votesOf(voters: readonly Voter[]): number {
+  return voters.reduce((sum, it) => sum + it.weight, 0);
+}
+
+function sideOf({ quota, leastSize }: Rule, voters: readonly Voter[]): Side {
+  const [votes, size] = [votesOf(voters), voters.length];
+  return { votes, size, wins: votes >= quota && size >= leastSize };
+}
+
+const isWinning = (rule: Rule, voters: readonly Voter[]): boolean => sideOf(rule, voters).wins;
+
+const numbers = (voters: readonly Voter[]): number[] => voters.map((it) => it.chair);
+
+const without = (voters: readonly Voter[], one: Voter): Voter[] => voters.filter((it) => it !== one);
+
+/** What holds of a coalition. */
+export function verdictOf(rule: Rule, coalition: ReadonlySet<number>): Verdict {
+  const own = rule.chairs.filter((it) => coalition.has(it.chair));
+  const others = rule.chairs.filter((it) => !coalition.has(it.chair));
+  const side = sideOf(rule, own);
+  const critical = side.wins ? own.filter((it) => !isWinning(rule, without(own, it))) : [];
+  const helpers = side.wins ? [] : others.filter((it) => isWinning(rule, [...own, it]));
+  return {
+    ...side,
+    critical: numbers(critical),
+    missingVotes: Math.max(0, rule.quota - side.votes),
+    missingChairs: Math.max(0, rule.leastSize - side.size),
+    helpers: numbers(helpers),
+    others: sideOf(rule, others),
+  };
+}
+
+/** The chairs that every winning coalition has; null if no coalition wins. */
+export function vetoChairs(rule: Rule): number[] | null {
+  const { chairs } = rule;
+  return isWinning(rule, chairs) ? numbers(chairs.filter((it) => !isWinning(rule, without(chairs, it)))) : null;
+}
+
+/** How many coalitions of each size win, from 0 chairs to all. */
+export function winningBySize({ quota, leastSize, chairs }: Rule, subsets: Subsets): number[] {
+  const sizes = Array.from({ length: chairs.length + 1 }, (_, size) => size);
+  return sizes.map((size) => (size < leastSize ? 0 : subsets.atLeast(size, quota)));
+}
+
+/** How many coalitions there are of each size, from 0 chairs to all. */
+export function coalitionsBySize(chairs: number): number[] {
+  const row = (before: readonly number[]) => [1, ...before.map((it, at) => it + (before[at + 1] ?? 0))];
+  return Array.from({ length: chairs }).reduce<number[]>(row, [1]);
+}
+
+/** The sums of the most votes that 0, 1, 2 and more of some chairs have. */
+function mostVotes(voters: readonly Voter[]): number[] {
+  let sum = 0;
+  const falling = voters.map((it) => it.weight).sort((left, right) => right - left);
+  return [0, ...falling.map((it) => (sum += it))];
+}
+
+/** The subsets of some size with at least some votes, in order of their chairs' numbers. */
+function* inOrder(voters: readonly Voter[], size: number, votes: number): Generator<number[]> {
+  // The chairs from a place on can only have the votes if those of them with the most do.
+  const most = voters.map((_, at) => mostVotes(voters.slice(at)));
+  function* from(start: number, chairs: number, least: number): Generator<number[]> {
+    if (chairs === 0 && least <= 0) yield [];
+    for (let at = start; chairs > 0 && (most[at]?.[chairs] ?? -Infinity) >= least; at += 1) {
+      const { chair, weight } = voters[at] as Voter;
+      for (const others of from(at + 1, chairs - 1, least - weight)) yield [chair, ...others];
+    }
+  }
+  yield* from(0, size, votes);
+}
+
+/** The first values of a generator. */
+function firstOf<Value>(values: Iterator<Value>, most: number): Value[] {
+  const found: Value[] = [];
+  for (let next = values.next(); !next.done && found.length < most; next = values.next()) found.push(next.value);
+  return found;
+}
+
+/** The subsets of the chairs other than one, by their votes. */
+export function subsetsWithout(voters: readonly Voter[], chair: number): Subsets {
+  return new Subsets(voters.filter((it) => it.chair !== chair).map((it) => it.weight));
+}
+
+/**
+ * The winning coalitions with a chair that have the least number of chairs, the first of them up to some number, and
+ * null if there are none. `subsets` are those of the other chairs.
+ */
+export function smallestWith(rule: Rule, chair: number, subsets: Subsets, most: number): Smallest | null {
+  const own = rule.chairs.find((it) => it.chair === chair);
+  if (!own) return null;
+  const others = without(rule.chairs, own);
+  const needed = rule.quota - own.weight;
+  const size = mostVotes(others).findIndex((it, at) => it >= needed && at + 1 >= rule.leastSize);
+  if (size < 0) return null;
+  const many = subsets.atLeast(size, needed);
+  const first = firstOf(inOrder(others, size, needed), most);
+  return { size: size + 1, many, first: first.map((it) => [...it, chair].sort((left, right) => left - right)) };
+}
+
+/** Whether the winning coalitions of all sizes are as many as the register counts: it counts in another way. */
+export function checkOf(counted: number, bySize: readonly number[]): { readonly sum: number; readonly holds: boolean } {
+  const sum = bySize.reduce((all, it) => all + it, 0);
+  return { sum, holds: sum === counted };
+}

@@ -1,0 +1,152 @@
+/** The tab Coalition: chairs are ticked, and what holds of them as a coalition is shown for each majority. */
+import type { App } from "../app";
+import { verdictOf, votesOf } from "../coalitions";
+import { button, byId, h, paint, type Child } from "../dom";
+import { setDisabled } from "../focus";
+import { counted, grouped } from "../fractions";
+import { screenLook } from "../look";
+import type { Reading } from "../reading";
+import { drawSizes } from "../sizesChart";
+import { setTicked, ticked } from "../ticks";
+import { MAJORITY } from "../words";
+import { chairList, lookedAt, type Looked } from "./coalitionParts";
+import { failures, sizesPart } from "./sizes";
+import { smallestPart } from "./smallest";
+
+const DEFINITIONS = [
+  "A coalition is a set of open chairs. It wins if its votes reach the quota, which is the least number of votes " +
+    "that wins, and for the quorum also its chairs the least number of chairs; otherwise it loses.",
+  "A chair is critical in a winning coalition if the coalition loses once this chair alone leaves it (Banzhaf 1965).",
+  "A coalition can block if the other chairs together lose: nothing passes against all of its chairs.",
+  "All of this is made here from the chairs' votes, the quota and the least number of chairs, which are counted.",
+];
+
+function tickBox(looked: Looked, chair: number, weight: number, isOn: boolean): HTMLElement {
+  const { app, shown, names } = looked;
+  const box: HTMLInputElement = h("input", {
+    type: "checkbox",
+    id: `tick-${chair}`,
+    checked: isOn,
+    onchange: () => {
+      const chairs = ticked(app, shown);
+      if (box.checked) chairs.add(chair);
+      else chairs.delete(chair);
+      tick(looked, chairs);
+    },
+  });
+  return h("label", { "data-chair": chair },
+    box,
+    h("span", { class: "card-title" }, `${chair} `, h("bdi", {}, names.get(chair) ?? "")),
+    h("span", { class: "number", title: "counted: WEIGHT" }, grouped(weight)),
+  );
+}
+
+/** The chair with the most votes that isn't ticked, and of equal ones the first; none if all are ticked. */
+function largestMissing({ chairs }: Looked, coalition: ReadonlySet<number>): number[] {
+  const missing = chairs.filter((it) => !coalition.has(it.chair)).sort((left, right) => right.weight - left.weight);
+  return missing.slice(0, 1).map((it) => it.chair);
+}
+
+/** Ticks chairs, and shows what holds of them. */
+function tick(looked: Looked, coalition: ReadonlySet<number>): void {
+  setTicked(looked.app, looked.shown, coalition);
+  for (const { chair } of looked.chairs) byId<HTMLInputElement>(`tick-${chair}`).checked = coalition.has(chair);
+  setDisabled(byId<HTMLButtonElement>("tick-largest"), coalition.size === looked.chairs.length, byId("tick-none"));
+  byId("coalition-words").textContent = words(looked, coalition);
+  paint(byId("verdicts"), verdicts(looked, coalition));
+}
+
+function buttons(looked: Looked, coalition: ReadonlySet<number>): HTMLElement {
+  const { app, shown } = looked;
+  const all = looked.chairs.map((it) => it.chair);
+  const now = () => ticked(app, shown);
+  const add = () => tick(looked, new Set([...now(), ...largestMissing(looked, now())]));
+  return h("div", { class: "buttons", role: "group", "aria-label": "Ticks" },
+    button("All", () => tick(looked, new Set(all)), { id: "tick-all" }),
+    button("None", () => tick(looked, new Set()), { id: "tick-none" }),
+    button("The others", () => tick(looked, new Set(all.filter((it) => !now().has(it)))), { id: "tick-others" }),
+    button("Add the largest missing", add, { id: "tick-largest", disabled: coalition.size === all.length }),
+  );
+}
+
+/** The coalition and its outcomes in words. */
+function words({ chairs, readings }: Looked, coalition: ReadonlySet<number>): string {
+  const votes = votesOf(chairs.filter((it) => coalition.has(it.chair)));
+  const have = `${grouped(votes)} of ${grouped(votesOf(chairs))} votes cast`;
+  const outcomes = readings.map((it) => {
+    return ` ${MAJORITY[it.majority].at} the coalition ${verdictOf(it, coalition).wins ? "wins" : "loses"}.`;
+  });
+  return `${coalition.size} of ${counted(chairs.length, "chair")} ticked, with ${have}.${outcomes.join("")}`;
+}
+
+/** A row of the table of verdicts: its part, its words, the mark of what it says, and that. */
+type Line = readonly [string, string, "counted" | "made here", Child];
+
+const yes = (holds: boolean): string => (holds ? "yes" : "no");
+
+function linesOf(looked: Looked, reading: Reading, coalition: ReadonlySet<number>): Line[] {
+  const verdict = verdictOf(reading, coalition);
+  const { votes, size, wins, critical, missingVotes, missingChairs, helpers, others } = verdict;
+  const list = (chairs: readonly number[], none: string): Child =>
+    chairs.length ? [`${chairs.length}: `, chairList(looked, chairs)] : none;
+  return [
+    ["outcome", "The coalition", "made here", h("strong", {}, wins ? "wins" : "loses")],
+    ["votes", "Its votes", "made here", grouped(votes)],
+    ["quota", "Quota", "counted", grouped(reading.quota)],
+    ["missing-votes", "Missing votes", "made here", grouped(missingVotes)],
+    ["chairs", "Its chairs", "made here", String(size)],
+    ["least", "Least number of chairs", "counted", reading.leastSize ? String(reading.leastSize) : "none"],
+    ["missing-chairs", "Missing chairs", "made here", String(missingChairs)],
+    ["critical", "Critical chairs", "made here", list(critical, wins ? "none" : "none: it loses")],
+    ["helpers", "Would win with one of", "made here", list(helpers, wins ? "it wins already" : "no single chair")],
+    ["blocks", "It can block", "made here", yes(!others.wins)],
+    ["others", "The others", "made here", `${counted(others.size, "chair")}, ${counted(others.votes, "vote")}`],
+    ["others-win", "The others win", "made here", yes(others.wins)],
+    ["others-block", "The others can block", "made here", yes(!wins)],
+  ];
+}
+
+/** The table of what holds at each majority. */
+function verdicts(looked: Looked, coalition: ReadonlySet<number>): Child {
+  const columns = looked.readings.map((it) => linesOf(looked, it, coalition));
+  const heads = looked.readings.map(({ majority }) => h("th", { scope: "col" }, MAJORITY[majority].label));
+  const rows = (columns[0] ?? []).map(([part, line, mark], at) => {
+    const cells = looked.readings.map(({ majority }, column) =>
+      h("td", { class: "text", "data-majority": majority }, columns[column]?.[at]?.[3] ?? null),
+    );
+    return h("tr", { "data-part": part }, h("th", { scope: "row", class: "text", "data-mark": mark }, line), cells);
+  });
+  return h("div", { class: "scroll", tabindex: 0, role: "region", "aria-label": "The coalition at each majority" },
+    h("table", { id: "verdict-table" },
+      h("thead", {}, h("tr", {}, h("td", {}), heads)),
+      h("tbody", {}, rows),
+    ),
+  );
+}
+
+/** Paints the tab. */
+export function paintCoalition(app: App): void {
+  const looked = lookedAt(app);
+  const panel = byId("panel");
+  if (!looked) return paint(panel, h("p", {}, "No chair is open, so there is no coalition to look at."));
+  const coalition = ticked(app, looked.shown);
+  const sizes = sizesPart(looked);
+  const tickThem = (chairs: readonly number[]) => {
+    tick(looked, new Set(chairs));
+    byId("coalition-words").scrollIntoView({ block: "nearest" });
+  };
+  paint(panel,
+    failures(looked),
+    h("fieldset", { id: "ticks", class: "ticks" },
+      h("legend", {}, `A coalition of chairs of ${looked.board}`),
+      looked.chairs.map((it) => tickBox(looked, it.chair, it.weight, coalition.has(it.chair))),
+    ),
+    buttons(looked, coalition),
+    h("p", { id: "coalition-words", role: "status" }, words(looked, coalition)),
+    h("div", { id: "verdicts" }, verdicts(looked, coalition)),
+    DEFINITIONS.map((it) => h("p", { class: "note" }, it)),
+    h("div", { id: "smallest" }, smallestPart(looked, tickThem)),
+    sizes.parts,
+  );
+  drawSizes(sizes.chart, sizes.model, screenLook(app, sizes.chart));
+}

@@ -1,0 +1,43 @@
+/** What the parts of the tab Coalition share: the board that they look at, and its chairs in words. */
+import type { App, Shown } from "../app";
+import { chairRows } from "../compare";
+import { h, type Child } from "../dom";
+import type { Reading } from "../reading";
+import type { Majority } from "../words";
+
+/** The board that the tab looks at: the changed one if there is one, else the base. */
+export interface Looked {
+  readonly app: App;
+  readonly shown: Shown;
+  readonly board: string;
+  /** Its readings; the chairs and their votes are the same in each. */
+  readonly readings: readonly Reading[];
+  readonly chairs: Reading["chairs"];
+  readonly names: ReadonlyMap<number, string>;
+}
+
+/** The board, or null if no chair is open. */
+export function lookedAt(app: App): Looked | null {
+  const { shown } = app;
+  const readings = [...(shown?.counted.after.values() ?? [])];
+  const { chairs = [] } = readings[0] ?? {};
+  if (!shown || !chairs.length) return null;
+  const rows = chairRows(shown.counted, app.view);
+  const names = rows.flatMap(({ kind, chair, name }) => (kind === "closed" ? [] : [[chair, name] as const]));
+  return { app, shown, board: boardWords(shown), readings, chairs, names: new Map(names) };
+}
+
+/** The board that the tab looks at, in words. */
+export function boardWords({ counted }: Shown): string {
+  return counted.isChanged ? "the changed board" : "the base";
+}
+
+/** Chairs by number and name. */
+export function chairList({ names }: Looked, chairs: readonly number[]): Child {
+  return chairs.map((it, at) => [at ? ", " : "", `${it} `, h("bdi", {}, names.get(it) ?? "")]);
+}
+
+/** The reading of a majority, else the first one. */
+export function readingAt({ readings }: Looked, majority: Majority | null): Reading | undefined {
+  return readings.find((it) => it.majority === majority) ?? readings[0];
+}

@@ -1,0 +1,109 @@
+/** The winning coalitions by their number of chairs: the chart's place, readout and table, and the check of sums. */
+import { h, type Child } from "../dom";
+import { counted, fractionText, grouped, percent } from "../fractions";
+import { checkWords, shareOfSize, sizesModel, type SizesModel } from "../sizes";
+import { MAJORITY, type Majority } from "../words";
+import { chartPlace, readout, tableBehind } from "./chartParts";
+import type { Looked } from "./coalitionParts";
+
+/** The chart's place and its model, and all parts around it. */
+export interface SizesPart {
+  readonly chart: HTMLElement;
+  readonly model: SizesModel;
+  readonly parts: Child;
+}
+
+function modelOf({ shown }: Looked): SizesModel {
+  return sizesModel(shown.counted.after);
+}
+
+function checks(looked: Looked): ReturnType<typeof checkWords>[] {
+  const { winning } = modelOf(looked);
+  return looked.readings.map((it) => checkWords(it, winning.get(it.majority) ?? []));
+}
+
+/** The sums that aren't what the register counts. */
+export function failures(looked: Looked): Child {
+  const failed = checks(looked).filter((it) => !it.holds);
+  return failed.map((it) => h("p", { class: "alarm", role: "alert" }, it.words));
+}
+
+function shareText(model: SizesModel, majority: Majority, size: number, digits: number): string {
+  const share = shareOfSize(model, majority, size);
+  return share ? `${percent(share, digits)} %` : "-";
+}
+
+/** A size in words. */
+function sizeWords({ app: { view }, readings }: Looked, model: SizesModel, size: number): Child {
+  const items = readings.map(({ majority }) => {
+    const share = shareOfSize(model, majority, size);
+    const text = `${shareText(model, majority, size, view.digits)} = ${fractionText(share)}`;
+    return h("li", {}, `${MAJORITY[majority].label}: ${text} (made here)`);
+  });
+  const many = counted(model.all[size] ?? 0, "coalition");
+  return [h("strong", {}, `${counted(size, "chair")}: ${many}, of which win`), h("ul", {}, items)];
+}
+
+function sizeRow({ app: { view }, readings }: Looked, model: SizesModel, size: number): HTMLElement {
+  const cells = readings.flatMap(({ majority }) => {
+    const title = `${fractionText(shareOfSize(model, majority, size))} (made here)`;
+    return [
+      h("td", {}, grouped(model.winning.get(majority)?.[size] ?? 0)),
+      h("td", { title }, shareText(model, majority, size, view.digits)),
+    ];
+  });
+  return h("tr", { "data-size": size }, h("th", { scope: "row" }, String(size)),
+    h("td", {}, grouped(model.all[size] ?? 0)), cells);
+}
+
+/** The last rows: the sums over all sizes, and what the register counts. */
+function footOf({ readings }: Looked, { all, winning }: SizesModel): HTMLElement[] {
+  const row = (words: string, mark: string, coalitions: number, of: (majority: Majority, at: number) => number) =>
+    h("tr", { "data-mark": mark },
+      h("th", { scope: "row" }, words),
+      h("td", {}, grouped(coalitions)),
+      readings.map(({ majority }, at) => [h("td", {}, grouped(of(majority, at))), h("td", {})]),
+    );
+  const sum = (some: readonly number[]) => some.reduce((total, it) => total + it, 0);
+  return [
+    row("Sum, made here", "made here", sum(all), (it) => sum(winning.get(it) ?? [])),
+    row("Counted", "counted", readings[0]?.coalitions ?? 0, (_, at) => readings[at]?.winning ?? 0),
+  ];
+}
+
+function tableOf(looked: Looked, model: SizesModel): HTMLElement {
+  const words = `Winning coalitions by number of chairs, ${looked.board}`;
+  const heads = looked.readings.flatMap(({ majority }) => [
+    `Winning, ${MAJORITY[majority].label}`, `Share, ${MAJORITY[majority].label}`,
+  ]);
+  const columns = ["Coalitions", ...heads].map((it) => h("th", { scope: "col", "data-mark": "made here" }, it));
+  return h("div", { class: "scroll", tabindex: 0, role: "region", "aria-label": words },
+    h("table", { id: "size-table" },
+      h("caption", {}, words),
+      h("thead", {}, h("tr", {}, h("th", { scope: "col" }, "Chairs"), columns)),
+      h("tbody", {}, model.all.map((_, size) => sizeRow(looked, model, size))),
+      h("tfoot", {}, footOf(looked, model)),
+    ),
+  );
+}
+
+/** The part of the tab with the winning coalitions by size. */
+export function sizesPart(looked: Looked): SizesPart {
+  const model = modelOf(looked);
+  const chart = chartPlace("Chart of the numbers of chairs; arrow keys go through them");
+  const box = readout(chart, {
+    attribute: "data-size",
+    keys: model.all.map((_, size) => String(size)),
+    first: "Point at a number of chairs, or use the arrow keys: its exact numbers appear here.",
+    words: (size) => sizeWords(looked, model, size),
+  });
+  const said = checks(looked).map((it) => h("li", { class: it.holds ? "" : "alarm" }, it.words));
+  const parts = [
+    h("h3", {}, "Winning coalitions by number of chairs"),
+    h("ul", { id: "size-checks" }, said),
+    box,
+    chart,
+    tableBehind(looked.app, () => tableOf(looked, model)),
+  ];
+  return { chart, model, parts };
+}

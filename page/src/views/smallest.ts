@@ -1,0 +1,125 @@
+/** The smallest winning coalitions with a chair, and the chairs that every winning coalition has. */
+import { smallestWith, subsetsWithout, vetoChairs, votesOf, type Smallest } from "../coalitions";
+import { button, byId, choice, h, paint, type Child } from "../dom";
+import { counted, grouped } from "../fractions";
+import { isolated } from "../names";
+import type { Reading } from "../reading";
+import { MAJORITIES, MAJORITY } from "../words";
+import { chairList, readingAt, type Looked } from "./coalitionParts";
+
+/** The coalitions that are listed at most. */
+const MOST_LISTED = 20;
+
+type TickThem = (chairs: readonly number[]) => void;
+
+/** A reading, and its smallest winning coalitions with the chosen chair. */
+interface Found {
+  readonly reading: Reading;
+  readonly smallest: Smallest | null;
+}
+
+function tableOf(found: readonly Found[]): HTMLElement {
+  const heads = ["Least number of chairs", "Winning coalitions with this number"];
+  const rows = found.map(({ reading: { majority }, smallest }) =>
+    h("tr", { "data-majority": majority },
+      h("th", { scope: "row", class: "text" }, MAJORITY[majority].label),
+      h("td", {}, smallest ? String(smallest.size) : "none wins"),
+      h("td", {}, smallest ? grouped(smallest.many) : "0"),
+    ),
+  );
+  return h("div", { class: "scroll" },
+    h("table", { id: "smallest-table" },
+      h("thead", {},
+        h("tr", {}, h("td", {}), heads.map((it) => h("th", { scope: "col", "data-mark": "made here" }, it)))),
+      h("tbody", {}, rows),
+    ),
+  );
+}
+
+function rowOf(looked: Looked, coalition: readonly number[], at: number, tickThem: TickThem): HTMLElement {
+  const votes = votesOf(looked.chairs.filter((it) => coalition.includes(it.chair)));
+  const label = { "aria-label": `Tick chairs ${coalition.join(", ")}`, id: `tick-these-${at}` };
+  return h("tr", { "data-chairs": coalition.join(" ") },
+    h("th", { scope: "row" }, String(at + 1)),
+    h("td", { class: "text" }, chairList(looked, coalition)),
+    h("td", {}, grouped(votes)),
+    h("td", {}, button("Tick", () => tickThem(coalition), label)),
+  );
+}
+
+/** Which of the coalitions are listed. */
+function listWords({ reading: { majority }, smallest }: Found): string {
+  const { at } = MAJORITY[majority];
+  if (!smallest) return `${at} no coalition wins.`;
+  const { many, size } = smallest;
+  const all = many === 1 ? "the one" : `all ${many}`;
+  const which = many > MOST_LISTED ? `the first ${MOST_LISTED} of ${grouped(many)}` : all;
+  return `${at}: ${which} with ${counted(size, "chair")}, in order of their chairs' numbers.`;
+}
+
+function listOf(looked: Looked, found: Found, tickThem: TickThem): Child {
+  const words = listWords(found);
+  const first = found.smallest?.first ?? [];
+  const marked = { scope: "col", "data-mark": "made here" };
+  const heads = [h("th", { class: "text", ...marked }, "Chairs"), h("th", marked, "Votes")];
+  return [
+    h("p", { id: "smallest-words" }, words),
+    first.length > 0 && h("div", { class: "scroll preview", tabindex: 0, role: "region", "aria-label": words },
+      h("table", { id: "smallest-list" },
+        h("thead", {}, h("tr", {}, h("td", {}), heads, h("td", {}))),
+        h("tbody", {}, first.map((it, at) => rowOf(looked, it, at, tickThem))),
+      ),
+    ),
+  ];
+}
+
+function vetoWords(looked: Looked, reading: Reading): Child {
+  const { at } = MAJORITY[reading.majority];
+  const chairs = vetoChairs(reading);
+  if (!chairs) return `${at} no coalition wins.`;
+  return [`${at}: `, chairs.length ? chairList(looked, chairs) : "none", "."];
+}
+
+function vetoes(looked: Looked): Child {
+  const items = looked.readings.map((it) => h("li", { "data-majority": it.majority }, vetoWords(looked, it)));
+  return [
+    h("h3", {}, "Veto chairs"),
+    h("p", { class: "note" }, "A veto chair is in every winning coalition: nothing passes without it. Made here."),
+    h("ul", { id: "vetoes" }, items),
+  ];
+}
+
+/** The choice of a chair and a majority. */
+function choices(looked: Looked, chair: number, tickThem: TickThem): HTMLElement {
+  const { app, chairs, names, readings } = looked;
+  const { at } = app.open.ticks;
+  const options = chairs.map((it) => [String(it.chair), `${it.chair} ${isolated(names.get(it.chair) ?? "")}`] as const);
+  const ats = readings.map((it) => [it.majority, MAJORITY[it.majority].label] as const);
+  const again = (part: Partial<typeof app.open.ticks>) => {
+    app.open.ticks = { ...app.open.ticks, ...part };
+    paint(byId("smallest"), smallestPart(looked, tickThem));
+  };
+  return h("div", { class: "choices" },
+    choice("smallest-chair", "With chair", options, String(chair), (it) => again({ chair: Number(it) })),
+    choice("smallest-at", "list at", ats, readingAt(looked, at)?.majority ?? "", (text) => {
+      again({ at: MAJORITIES.find((it) => it === text) ?? null });
+    }),
+  );
+}
+
+/** The part of the tab with the smallest winning coalitions and the veto chairs. */
+export function smallestPart(looked: Looked, tickThem: TickThem): Child {
+  const { app: { open: { ticks } }, chairs, readings } = looked;
+  const { chair = 0 } = chairs.find((it) => it.chair === ticks.chair) ?? chairs[0] ?? {};
+  const others = subsetsWithout(chairs, chair);
+  const found = readings.map((reading) => ({ reading, smallest: smallestWith(reading, chair, others, MOST_LISTED) }));
+  const listed = found.find((it) => it.reading === readingAt(looked, ticks.at));
+  return [
+    h("h3", {}, "Smallest winning coalitions"),
+    h("p", { class: "note" }, "Of all winning coalitions with the chosen chair, those with the fewest chairs."),
+    choices(looked, chair, tickThem),
+    tableOf(found),
+    listed ? listOf(looked, listed, tickThem) : null,
+    vetoes(looked),
+  ];
+}
