@@ -293,6 +293,10 @@ test("operations in a saved study", () => {
     { kind: "scale", of: ["AAA", "BBB"], percent: "-3" },
   ];
   for (const it of whole) assert.deepEqual(readData(saved(it))?.study.changes, [change(it)]);
+  // As earlier versions saved it.
+  const old = saved({ kind: "percent", of: "own", code: "AAA", percent: "+40" });
+  assert.match(old, /"format": "board study 2"/);
+  assert.deepEqual(readData(old)?.study.changes.map((it) => it.what.kind), ["percent"]);
   const bad: unknown[] = [
     { kind: "merge", chair: 1, to: null },
     { kind: "merge", chair: 33, to: 2 },
