@@ -16,25 +16,32 @@ export function shareVotes(percent: Ratio, rest: number): Ratio | null {
   return { numerator: percent.numerator * BigInt(rest), denominator: left };
 }
 
+/** A member's votes, plus or minus per cent of them. */
+export function steppedVotes(votes: number, percent: string): Ratio {
+  const size = decimalRatio(percent.replace(/^[+-]/, ""));
+  const all = 100n * size.denominator + (percent.startsWith("-") ? -size.numerator : size.numerator);
+  return { numerator: all * BigInt(votes), denominator: 100n * size.denominator };
+}
+
+/** A command that gives a member votes, rounded once to whole ones, half to even; or why it can't be one. */
+export function votesCommand(code: string, exact: Ratio): Command | string {
+  const votes = nearest(exact);
+  if (votes < 0n || votes > BigInt(MEMBER_VOTES)) return `${votes} votes, which is not from 0 to 2^40`;
+  return { kind: "votes", code, votes: Number(votes) };
+}
+
 /** The exact votes that a percentage asks for, or why there are none. */
 function asked(register: Register, { of, code, percent }: Percentage): Ratio | string {
   const member = register.members[code];
   if (!member) return `no member has the code ${code}`;
-  const size = decimalRatio(percent.replace(/^[+-]/, ""));
-  if (of === "own") {
-    const all = 100n * size.denominator + (percent.startsWith("-") ? -size.numerator : size.numerator);
-    return { numerator: all * BigInt(member.votes), denominator: 100n * size.denominator };
-  }
+  if (of === "own") return steppedVotes(member.votes, percent);
   if (member.suspended) return `${code} is suspended, so it has no share of the total voting power`;
-  const votes = shareVotes(size, totalOf(register) - member.votes);
+  const votes = shareVotes(decimalRatio(percent), totalOf(register) - member.votes);
   return votes ?? `no number of votes is ${percent} per cent of the total voting power`;
 }
 
-/** A percentage as a command: rounded once to whole votes, half to even; or why it can't be one. */
+/** A percentage as a command, or why it can't be one. */
 export function votesAsked(register: Register, what: Percentage): Command | string {
   const exact = asked(register, what);
-  if (typeof exact === "string") return exact;
-  const votes = nearest(exact);
-  if (votes < 0n || votes > BigInt(MEMBER_VOTES)) return `${votes} votes, which is not from 0 to 2^40`;
-  return { kind: "votes", code: what.code, votes: Number(votes) };
+  return typeof exact === "string" ? exact : votesCommand(what.code, exact);
 }

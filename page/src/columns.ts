@@ -2,6 +2,7 @@
 import type { App, Shown } from "./app";
 import { inOrder, pairRows, sidesOf, type ChairRow, type Side } from "./compare";
 import type { Counted } from "./count";
+import { counted } from "./fractions";
 import type { Outcome } from "./orders";
 import type { Results } from "./results";
 import { recordOf } from "./script";
@@ -35,10 +36,12 @@ export interface Columns {
   readonly isOne: boolean;
 }
 
-/** What a step does: its record, and whether it was carried out. */
+/** What a step does: its record, or the first of them and how many others there are; or what was refused. */
 function stepWords(outcome: Outcome | undefined): string {
-  const record = outcome && "command" in outcome ? recordOf(outcome.command) : "";
-  return `${record}${outcome?.kind === "accepted" ? "" : " (refused)"}`.trim();
+  if (outcome?.kind === "refused") return `${recordOf(outcome.refused)} (refused)`;
+  const [first, ...others] = outcome?.kind === "accepted" ? outcome.commands : [];
+  if (!first) return "(refused)";
+  return recordOf(first) + (others.length ? ` and ${counted(others.length, "more command")}` : "");
 }
 
 /** The board after all changes, as a column. */

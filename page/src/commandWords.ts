@@ -1,21 +1,14 @@
 /** Changes in words: the effect of each one, with old and new values. */
 import type { Outcome } from "./orders";
 import { grouped } from "./fractions";
-import { isolated } from "./names";
+import { chairWords, memberWords } from "./names";
+import { operationWords } from "./operationWords";
 import { recordOf } from "./script";
 import type { Seat, Standing } from "./standing";
-import type { Change, Command } from "./study";
+import { isOperation, type Change, type Command } from "./study";
 import { reasonOf } from "./words";
 
-/** A chair in words. */
-export function chairWords(chair: number | null | undefined): string {
-  return chair === null || chair === undefined ? "none" : `chair ${chair}`;
-}
-
-/** A member's code and name. */
-export function memberWords(code: string, name: string | undefined): string {
-  return name ? `${code} ${isolated(name)}` : code;
-}
+export { chairWords, memberWords };
 
 /** The requested percentage, in words. */
 function askedWords({ what }: Change): string {
@@ -51,18 +44,23 @@ function commandWords(
 /** A change in words, with its old and new values if it was accepted. */
 export function changeWords(change: Change, outcome: Outcome | undefined, names: Standing): string {
   const { what } = change;
+  if (isOperation(what)) return operationWords(what, outcome, names);
   const code = what.code ?? "";
   const name = change.name ?? names.memberName(code);
   const who = memberWords(code, name);
-  const command = outcome && "command" in outcome ? outcome.command : what;
+  const [command = what] = outcome && "commands" in outcome ? outcome.commands : [];
   if (command.kind === "percent") return `${who}: votes${askedWords(change)}`;
-  const before = outcome?.kind === "accepted" ? outcome.before : null;
+  const before = outcome?.kind === "accepted" ? outcome.before[0] ?? null : null;
   return commandWords(command, who, before) + askedWords(change);
 }
 
-/** Why a change wasn't carried out; empty if it was. */
-export function refusalWords(outcome: Outcome | undefined): string {
+/** Why a change wasn't carried out; empty if it was. Of an operation, it names the member or the chair. */
+export function refusalWords(outcome: Outcome | undefined, names?: Standing): string {
   if (outcome?.kind === "impossible") return outcome.why;
   if (outcome?.kind !== "refused") return "";
-  return `refused ${outcome.number} ${outcome.name}: ${reasonOf(outcome.name)} (${recordOf(outcome.command)})`;
+  const { commands, refused, number, name } = outcome;
+  const words = `refused ${number} ${name}: ${reasonOf(name)} (${recordOf(refused)})`;
+  if (commands.length > 0) return words;
+  const whose = refused.code ? memberWords(refused.code, names?.memberName(refused.code)) : chairWords(refused.chair);
+  return `${whose}: ${words}; nothing of the operation was carried out`;
 }

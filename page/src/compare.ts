@@ -1,7 +1,7 @@
 /** Base against changed: rows of chairs, their order, and the sentence on gains. All of it is made here. */
 import type { Counted } from "./count";
 import { compared, difference, fractionText, grouped, percent, rounded, signed, type Ratio } from "./fractions";
-import { isolated } from "./names";
+import { isolated, listed } from "./names";
 import { chairIn, measureOf, voteShare, type ChairReading, type Readings } from "./reading";
 import { chairKey, type Standing } from "./standing";
 import type { View } from "./study";
@@ -154,15 +154,9 @@ function gainSource({ chair, name, at }: ChairRow, majority: Majority, measure: 
   return `${chair} ${isolated(name)}, made here: ${values.join(" less ")}`;
 }
 
-/** The chairs that a sentence names at most; it counts the others. */
-const MOST_NAMED = 3;
-
 /** Chairs by number and name. */
 function chairsWords(rows: readonly ChairRow[]): string {
-  const names = rows.slice(0, MOST_NAMED).map(({ chair, name }) => `${chair} ${isolated(name)}`);
-  const others = rows.length - names.length;
-  const last = others ? `${grouped(others)} more` : names.length > 1 ? names.pop() : undefined;
-  return names.join(", ") + (last === undefined ? "" : ` and ${last}`);
+  return listed(rows.map(({ chair, name }) => `${chair} ${isolated(name)}`));
 }
 
 /** The chairs that gain most, or lose most: their names and the gain of each. Null if there are none. */

@@ -51,9 +51,11 @@ export interface Curve extends Swept {
 
 /** The names of members that accepted changes admit. */
 function admitted(changes: readonly Change[], outcomes: ReadonlyMap<number, Outcome>): Record<string, string> {
-  const isAdmitted = ({ what, id }: Change) => what.kind === "admit" && outcomes.get(id)?.kind === "accepted";
-  const named = changes.filter((it) => it.name !== undefined && isAdmitted(it));
-  return Object.fromEntries(named.map(({ what, name }) => [what.code ?? "", name ?? ""]));
+  const named = changes.flatMap(({ what, id, name }) => {
+    const isAdmitted = what.kind === "admit" && outcomes.get(id)?.kind === "accepted";
+    return isAdmitted && name !== undefined ? [[what.code ?? "", name]] : [];
+  });
+  return Object.fromEntries(named);
 }
 
 /** The registers, to which each base is sent once. */

@@ -4,14 +4,14 @@ import { Register } from "../../bindings/javascript/src/register";
 import { replay, type Replay } from "../../bindings/javascript/src/replay";
 import type { Script } from "../../bindings/javascript/src/script";
 import { replayText } from "../../bindings/javascript/src/text";
-import { votesAsked } from "./amount";
 import { bestMoves } from "./best";
+import { outcomeOf, OFF } from "./operations";
 import type { Board, Counts, Kind, Opened, Orders, Outcome, Progress } from "./orders";
 import { loadSync } from "../../bindings/javascript/src/load";
 import { plainCount } from "./plain";
 import { readingOf, readingsOf, type Reading } from "./reading";
 import type { Seat, Snapshot } from "./standing";
-import type { Change, Command } from "./study";
+import type { Command } from "./study";
 import { swept } from "./sweep";
 import { MAJORITIES, type Majority } from "./words";
 
@@ -45,19 +45,6 @@ function snapshotOf(register: Register, opened: ReadonlySet<number> = new Set())
   const seats = Object.entries(register.members).map(([code, it]): Seat => ({ code, ...it }));
   const open = Object.keys(register.chairs).map(Number);
   return { seats, open, opened: open.filter((it) => opened.has(it)) };
-}
-
-const OFF: Outcome = { kind: "off" };
-
-/** The outcome of a change on a register, which then has it. */
-function outcomeOf(register: Register, { on, what }: Change): Outcome {
-  if (!on) return OFF;
-  const command = what.kind === "percent" ? votesAsked(register, what) : what;
-  if (typeof command === "string") return { kind: "impossible", why: command };
-  const member = command.code ? register.members[command.code] : undefined;
-  const refused = register.attempt(command);
-  if (refused) return { kind: "refused", command, number: refused.number, name: refused.code };
-  return { kind: "accepted", command, before: member ? { code: command.code ?? "", ...member } : null };
 }
 
 /** The replay of a script that ends in no fault. */
@@ -150,7 +137,7 @@ export class Engine {
       opening: snapshotOf(register),
       standing: snapshotOf(changed, openedBy(outcomes)),
       outcomes: new Map(board.changes.map((it, at) => [it.id, outcomes[at] ?? OFF])),
-      commands: outcomes.flatMap((it) => ("command" in it ? [it.command] : [])),
+      commands: outcomes.flatMap((it) => ("commands" in it ? it.commands : [])),
     };
   }
 
@@ -190,9 +177,8 @@ function isGivenBy(script: string, readings: readonly Reading[]): boolean {
 
 /** The chairs that accepted commands opened. */
 function openedBy(outcomes: readonly Outcome[]): Set<number> {
-  return new Set(
-    outcomes.flatMap((it) => (it.kind === "accepted" && it.command.kind === "open" ? [Number(it.command.chair)] : [])),
-  );
+  const commands = outcomes.flatMap((it) => (it.kind === "accepted" ? it.commands : []));
+  return new Set(commands.filter((it) => it.kind === "open").map((it) => Number(it.chair)));
 }
 
 /** What a function gives of a register, which is freed after it. */

@@ -15,6 +15,7 @@ import { openExports, saveStudy } from "./views/exportDialog";
 import { paintForPaper } from "./views/figures";
 import { openSeal } from "./views/foot";
 import { openAdmit } from "./views/member";
+import { openGroup } from "./views/operations";
 import { paintChairs } from "./views/chairs";
 import { openRecount } from "./views/recount";
 import { orRefuse } from "./views/refusal";
@@ -93,6 +94,7 @@ function buttons(app: App): void {
   onClick("undo", () => app.undo());
   onClick("redo", () => app.redo());
   onClick("admit-open", () => openAdmit(app));
+  onClick("group-open", () => openGroup(app));
   onClick("clear-changes", () => app.take(withChanges(app.study, [])));
 }
 

@@ -3,17 +3,12 @@ import type { App } from "./app";
 import { memberWords, refusalWords } from "./commandWords";
 import { byId } from "./dom";
 import { isolated } from "./names";
-import type { Place } from "./standing";
+import type { Outcome } from "./orders";
+import { closedChair, type Place } from "./standing";
 import { withAdded, type Command, type Study } from "./study";
-import { CHAIRS } from "./words";
 
 /** The place of a card: a chair's number, `none` or `new`. */
 export type CardPlace = string;
-
-/** The lowest number of a closed chair, or null where all are open. */
-export function closedChair(open: readonly number[]): number | null {
-  return CHAIRS.find((it) => !open.includes(it)) ?? null;
-}
 
 /** Tells screen readers a sentence. */
 export function say(words: string): void {
@@ -26,12 +21,18 @@ function where(app: App, chair: number | null): string {
   return `chair ${chair} ${isolated(app.shown.counted.standing.name(chair))}`;
 }
 
-/** What the register made of a move, the last change of a study, once it is counted. */
-async function sayOutcome(app: App, study: Study, place: Place, chair: number | null): Promise<void> {
+/** The outcome of the last change of a study, once it is counted; null if the page has another study by then. */
+export async function lastOutcome(app: App, study: Study): Promise<Outcome | null | undefined> {
   await app.counting;
-  if (app.study !== study) return;
+  if (app.study !== study) return null;
   const change = study.changes[study.changes.length - 1];
-  const outcome = app.shown?.study === study && change ? app.shown.counted.outcomes.get(change.id) : undefined;
+  return app.shown?.study === study && change ? app.shown.counted.outcomes.get(change.id) : undefined;
+}
+
+/** Says what the register made of a move, the last change of a study. */
+async function sayOutcome(app: App, study: Study, place: Place, chair: number | null): Promise<void> {
+  const outcome = await lastOutcome(app, study);
+  if (outcome === null) return;
   const who = memberWords(place.code, place.name);
   if (outcome?.kind === "accepted") say(`${who} is moved to ${where(app, chair)}.`);
   else say(`${who} isn't moved: ${refusalWords(outcome) || "the count ended in a fault"}.`);

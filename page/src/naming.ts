@@ -15,7 +15,7 @@ export function nameOf(text: string): Typed<string> {
 /** A change without the name of a member, which the base has from now on. */
 function unnamed(change: Change, code: string): Change {
   const { name, ...rest } = change;
-  return name !== undefined && change.what.code === code ? rest : change;
+  return name !== undefined && "code" in change.what && change.what.code === code ? rest : change;
 }
 
 /** Names by keys, with another name at a key, or none. */

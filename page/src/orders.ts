@@ -7,12 +7,23 @@ import type { Weights } from "./plain";
 import type { Ratio } from "./fractions";
 import type { Majority, Measure } from "./words";
 
-/** The outcome of a change: `command` is its record in the script, and `before` the member before the change. */
+/**
+ * The outcome of a change: its commands in the script, and `before` their members before the change. A refused
+ * operation has no commands there, since none of them is carried out; `refused` is the one that the register refused.
+ */
 export type Outcome =
   | { readonly kind: "off" }
   | { readonly kind: "impossible"; readonly why: string }
-  | { readonly kind: "accepted"; readonly command: Command; readonly before: Seat | null }
-  | { readonly kind: "refused"; readonly command: Command; readonly number: number; readonly name: string };
+  | { readonly kind: "accepted"; readonly commands: readonly Command[]; readonly before: readonly Seat[] }
+  | Refusal;
+
+export interface Refusal {
+  readonly kind: "refused";
+  readonly commands: readonly Command[];
+  readonly refused: Command;
+  readonly number: number;
+  readonly name: string;
+}
 
 /** A script that was read. */
 export interface Opened {
@@ -31,7 +42,7 @@ export interface Counts {
   readonly after: readonly Reading[];
   readonly opening: Snapshot;
   readonly standing: Snapshot;
-  /** The outcomes by the changes' numbers, and the commands of the changes that are on and have one. */
+  /** The outcomes by the changes' numbers, and the commands of the changes that are on and have any. */
   readonly outcomes: ReadonlyMap<number, Outcome>;
   readonly commands: readonly Command[];
 }

@@ -1,5 +1,7 @@
 /** The members and the open chairs of a register at one moment, with their names. */
+import { isolated } from "./names";
 import type { Base } from "./study";
+import { CHAIRS } from "./words";
 
 /** A member as the register has it. */
 export interface Seat {
@@ -80,6 +82,16 @@ export class Standing {
     if (!first) return `chair ${chair}`;
     return (first.name || first.code) + (seated.length > 1 ? ` and ${seated.length - 1} more` : "");
   }
+}
+
+/** The lowest number of a closed chair, or null where all are open. */
+export function closedChair(open: readonly number[]): number | null {
+  return CHAIRS.find((it) => !open.includes(it)) ?? null;
+}
+
+/** The open chairs as choices of a list: their numbers, with their names. */
+export function chairChoices(standing: Standing): [string, string][] {
+  return standing.open().map((it) => [String(it), `${it} ${isolated(standing.name(it))}`]);
 }
 
 /** The key of a chair's name in a base: that of the base's chair, or that of one that was opened by a change. */

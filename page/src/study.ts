@@ -18,11 +18,52 @@ export interface Percentage {
   readonly percent: string;
 }
 
+/** All members of a chair move to another one, and the chair is closed. */
+export interface Merge {
+  readonly kind: "merge";
+  readonly chair: number;
+  readonly to: number;
+}
+
+/** All members of a chair move to another one, or with null to none, and the chair is closed. */
+export interface Dissolve {
+  readonly kind: "dissolve";
+  readonly chair: number;
+  readonly to: number | null;
+}
+
+/** A chair is opened, the lowest one that isn't open or a chosen one, and members move there. */
+export interface Split {
+  readonly kind: "split";
+  readonly codes: readonly string[];
+  readonly to: number | "lowest";
+}
+
+/** The votes of each member of a chair, or of each member with one of these codes, plus or minus per cent of them. */
+export interface Scale {
+  readonly kind: "scale";
+  readonly of: number | readonly string[];
+  readonly percent: string;
+}
+
+/** An operation is carried out as several commands: all of them or none. */
+export type Operation = Merge | Dissolve | Split | Scale;
+
+/** What a change does. */
+export type What = Command | Percentage | Operation;
+
+/** The kinds of operations. */
+export const OPERATIONS = ["merge", "dissolve", "split", "scale"] as const;
+
+export function isOperation(what: What): what is Operation {
+  return OPERATIONS.some((it) => it === what.kind);
+}
+
 /** A change in the list. One that is switched off stays in the list and isn't carried out. */
 export interface Change {
   readonly id: number;
   readonly on: boolean;
-  readonly what: Command | Percentage;
+  readonly what: What;
   /** The name of a member that is admitted. */
   readonly name?: string;
 }
@@ -132,7 +173,7 @@ export function freshId(study: Study): number {
 }
 
 /** The study with changes added at the end. */
-export function withAdded(study: Study, whats: readonly (Command | Percentage)[], name?: string): Study {
+export function withAdded(study: Study, whats: readonly What[], name?: string): Study {
   const first = freshId(study);
   const added = whats.map((what, at) => ({ id: first + at, on: true, what, ...(name ? { name } : {}) }));
   return withChanges(study, [...study.changes, ...added]);

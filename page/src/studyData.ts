@@ -2,8 +2,8 @@
 import { Command } from "../../bindings/javascript/src/commands";
 import { scriptWith } from "./script";
 import {
-  AGAINST, COLUMNS, FIRST_VIEW, ORDERS, TABS, type Base, type Change, type Percentage, type Scenario, type Study,
-  type SweepAsked, type View,
+  AGAINST, COLUMNS, FIRST_VIEW, OPERATIONS, ORDERS, TABS, type Base, type Change, type Operation, type Percentage,
+  type Scenario, type Study, type SweepAsked, type View, type What,
 } from "./study";
 import { CHAIRS, MAJORITIES, MEASURES } from "./words";
 
@@ -74,13 +74,47 @@ function decimal(value: unknown, what: string): string {
   return found;
 }
 
-function what(value: unknown): Command | Percentage {
-  const found = fields(value, "a change");
-  if (found["kind"] !== "percent") return command(value);
+/** A percentage with a sign, or without one. */
+function percentOf(value: unknown, isSigned: boolean): string {
+  const percent = decimal(value, "a percentage");
+  must(/^[+-]/.test(percent) === isSigned, "the sign of a percentage");
+  return percent;
+}
+
+function percentage(found: Fields): Percentage {
   const of = oneOf(["own", "total"] as const, found["of"], "a percentage");
-  const percent = decimal(found["percent"], "a percentage");
-  must(/^[+-]/.test(percent) === (of === "own"), "the sign of a percentage");
+  const percent = percentOf(found["percent"], of === "own");
   return { kind: "percent", of, code: text(found["code"], "a code"), percent };
+}
+
+/** The codes of an operation's members, each once. */
+function codes(value: unknown): string[] {
+  const found = list(value, "the codes of an operation").map((it) => text(it, "a code"));
+  must(found.length > 0 && new Set(found).size === found.length, "the codes of an operation");
+  return found;
+}
+
+const chair = (value: unknown): number => oneOf(CHAIRS, value, "a chair");
+
+function operation(kind: Operation["kind"], found: Fields): Operation {
+  const { to, of } = found;
+  switch (kind) {
+    case "merge":
+      return { kind, chair: chair(found["chair"]), to: chair(to) };
+    case "dissolve":
+      return { kind, chair: chair(found["chair"]), to: to === null ? null : chair(to) };
+    case "split":
+      return { kind, codes: codes(found["codes"]), to: to === "lowest" ? to : chair(to) };
+    case "scale":
+      return { kind, of: typeof of === "number" ? chair(of) : codes(of), percent: percentOf(found["percent"], true) };
+  }
+}
+
+function what(value: unknown): What {
+  const found = fields(value, "a change");
+  if (found["kind"] === "percent") return percentage(found);
+  const kind = OPERATIONS.find((it) => it === found["kind"]);
+  return kind ? operation(kind, found) : command(value);
 }
 
 function change(value: unknown): Change {

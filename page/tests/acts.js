@@ -32,6 +32,23 @@ function taken(field, text, button) {
   return press(isOffered ? at(button) : document.querySelector("dialog .close")) && isOffered;
 }
 
+/** Opens the dialog of an operation on a chair: the filter finds the chair. */
+function operated(kind, chair) {
+  fill(at("filter"), `chair ${chair}`);
+  const isThere = press(at(`${kind}-${chair}`));
+  fill(at("filter"), "");
+  return isThere;
+}
+
+/** Ticks several members, given as codes joined by `+`; if one isn't there, the dialog is closed. */
+function ticked(codes) {
+  press(at("group-open"));
+  const boxes = codes.split("+").map((code) => at(`group-tick-${code}`));
+  if (boxes.every((it) => it)) return boxes.every(press);
+  press(document.querySelector("dialog .close"));
+  return false;
+}
+
 /** The change in the list at a place, from 0. */
 const change = (place) => document.querySelectorAll("#changes > li")[place].dataset.id;
 
@@ -64,6 +81,13 @@ const acts = {
     press(at("admit-open"));
     fill(at("admit-code"), code);
     return taken("admit-votes", votes, "admit-take");
+  },
+  merge: (chair, to) => operated("merge", chair) && taken("merge-to", to, "merge-take"),
+  dissolve: (chair, to) => operated("dissolve", chair) && taken("dissolve-to", to, "dissolve-take"),
+  split: (to, codes) => ticked(codes) && taken("group-to", to, "group-take"),
+  scale: (who, percent) => {
+    const [isOpen, id] = /[A-Z]/.test(who) ? [ticked(who), "group"] : [operated("scale", who), "scale"];
+    return isOpen && taken(`${id}-percent`, percent.replace("%", ""), `${id}-percent-take`);
   },
   open: () => press(at("open-new")),
   close: (chair) => press(at(`close-${chair}`)),

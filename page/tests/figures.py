@@ -56,9 +56,9 @@ def fraction_text(ratio: Ratio | None, measure: str) -> str:
     return str(ratio.numerator) if ratio and measure == "swings" else lowest(ratio)
 
 
-def check_figures(page: Page, oracle: Oracle, commands: list[str], measure: str = "share") -> None:
-    """The fractions of base and changed, and the votes, are those that the program prints."""
-    majorities, cells = shown_majorities(page), rows(page)
+def check_figures(page: Page, oracle: Oracle, commands: list[str], measure: str = "share") -> int:
+    """The fractions of base and changed, and the votes, are those that the program prints: how many were compared."""
+    majorities, cells, many = shown_majorities(page), rows(page), 0
     for which, some in enumerate((list[str](), commands)):
         for at, reading in enumerate(oracle.output(some, majorities).readings):
             found = {chair: of[BEFORE + EACH * at + which][1] for chair, of in cells.items()}
@@ -66,6 +66,8 @@ def check_figures(page: Page, oracle: Oracle, commands: list[str], measure: str 
             assert {chair: it for chair, it in found.items() if it} == wanted, (reading.majority, some)
             votes = {chair: of[1 + which][1] for chair, of in cells.items() if of[1 + which][1]}
             assert votes == {it.chair: str(it.weight) for it in reading.chairs}
+            many += len(wanted) + len(votes)
+    return many
 
 
 def gains(oracle: Oracle, commands: list[str], majority: str) -> dict[int, Fraction]:

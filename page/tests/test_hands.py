@@ -251,7 +251,7 @@ def test_a_phone(page: Page, finger: Finger) -> None:
       const target = (it) => (/checkbox|radio/.test(it.type) ? it.closest("label") : it);
       const seen = all.filter((it) => it.checkVisibility()).map(target);
       return seen.filter((it) => it.getBoundingClientRect().height < 40).map((it) => it.outerHTML);"""
-    for place in ["#chip-XAA", "#name-2", "#admit-open"]:
+    for place in ["#chip-XAA", "#name-2", "#admit-open", "#merge-2", "#split-2", "#scale-2", "#group-open"]:
         page.click(place)
         assert not page.run(small) and not page.look("wide", NARROW), place
         page.click(".close")

@@ -86,7 +86,8 @@ test("what the register says of changes", async () => {
   assert.deepEqual(commands.map((it) => it.votes ?? it.chair ?? it.code), [30, 3, 180, "BBB"]);
   assert.equal(after[0]?.total, 210);
   const [first, second] = outcomes.values();
-  assert.deepEqual(first?.kind === "accepted" && first.before, { code: "CCC", votes: 20, chair: 3, suspended: false });
+  const before = [{ code: "CCC", votes: 20, chair: 3, suspended: false }];
+  assert.deepEqual(first?.kind === "accepted" && first.before, before);
   assert.deepEqual(second?.kind === "refused" && [second.number, second.name], [1, "ChairOpen"]);
 });
 

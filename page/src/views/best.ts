@@ -5,10 +5,9 @@ import { openDialog } from "../dialogs";
 import { button, choice, h, paint, type Child } from "../dom";
 import { fractionText, grouped } from "../fractions";
 import { chairWords, memberWords } from "../commandWords";
-import { isolated } from "../names";
 import { moveTo } from "../moves";
 import type { Tried } from "../orders";
-import type { Place } from "../standing";
+import { chairChoices, type Place } from "../standing";
 import { MAJORITY, MEASURE } from "../words";
 
 /** A tried move, and its member. */
@@ -68,7 +67,7 @@ function form(app: App, { study, counted }: Shown, close: () => void): Child {
     paint(place, tableOf(app, chair, rows, close));
   };
   const act = () => void run().catch((why: unknown) => (said.textContent = String(why)));
-  const chairs = open.map((it) => [String(it), `${it} ${isolated(counted.standing.name(it))}`] as const);
+  const chairs = chairChoices(counted.standing);
   const majorities = app.view.majorities.map((it) => [it, MAJORITY[it].label] as const);
   const setMajority = (text: string) => (majority = app.view.majorities.find((it) => it === text) ?? majority);
   return [

@@ -5,12 +5,13 @@ import { keepFocus } from "../focus";
 import { counted, fractionText, grouped, percent } from "../fractions";
 import { chairIn, voteShare } from "../reading";
 import { memberWords } from "../commandWords";
-import { chairKey, type Place } from "../standing";
+import { chairKey, closedChair, type Place } from "../standing";
 import { namesChair, namesMember } from "../filter";
-import { closedChair, type CardPlace } from "../moves";
+import type { CardPlace } from "../moves";
 import { withAdded } from "../study";
 import { openChairName } from "./chairName";
 import { openMember } from "./member";
+import { operationButtons } from "./operations";
 
 function chip(app: App, place: Place): HTMLElement {
   const words = memberWords(place.code, place.name);
@@ -101,12 +102,12 @@ function cardElement(app: App, card: Found): HTMLElement {
   );
 }
 
-/** The buttons of a chair's card: its name, and closing it if it's empty. */
+/** The buttons of a chair's card: its name, and closing it if it's empty, else operations. */
 function chairButtons(app: App, chair: number, isEmpty: boolean): Child {
   const close = () => app.take(withAdded(app.study, [{ kind: "close", chair }]));
   return [
     button("Name this chair…", () => openChairName(app, chair), { id: `name-${chair}` }),
-    isEmpty && button("Close this chair", close, { id: `close-${chair}` }),
+    isEmpty ? button("Close this chair", close, { id: `close-${chair}` }) : operationButtons(app, chair),
   ];
 }
 

@@ -4,7 +4,8 @@ import type { App } from "../app";
 import { changeWords, refusalWords } from "../commandWords";
 import { button, byId, h, paint } from "../dom";
 import { keepFocus, setDisabled } from "../focus";
-import { withChanges, type Change, type Percentage } from "../study";
+import { operationDetails } from "../operationWords";
+import { isOperation, withChanges, type Change, type Percentage, type Scale } from "../study";
 import { MOST_VOTES } from "../words";
 import { mark, readField, type Field } from "./field";
 
@@ -33,19 +34,24 @@ function replaced(app: App, id: number, part: Partial<Change>, gesture = ""): vo
   set(app, app.study.changes.map((it) => (it.id === id ? { ...it, ...part } : it)), gesture);
 }
 
-/** A change of votes. */
-type Votes = Percentage | { readonly kind: "votes"; readonly code: string; readonly votes: number };
+/** A change of votes, of one member or of several in per cent. */
+type Votes = Percentage | Scale | { readonly kind: "votes"; readonly code: string; readonly votes: number };
 
 /** The number of a change of votes, as its box shows it. */
 function numberText(what: Votes): string {
   return what.kind === "votes" ? String(what.votes) : what.percent;
 }
 
+/** Whether a percentage is added or taken away. */
+function isStep(what: Percentage | Scale): boolean {
+  return what.kind === "scale" || what.of === "own";
+}
+
 /** The change with the number of its slider. */
 function slid(what: Votes, value: number): Votes {
   if (what.kind === "votes") return { ...what, votes: value };
   const plain = value.toFixed(9).replace(/\.?0+$/, "");
-  return { ...what, percent: what.of === "own" && value >= 0 ? `+${plain.replace("-", "")}` : plain };
+  return { ...what, percent: isStep(what) && value >= 0 ? `+${plain.replace("-", "")}` : plain };
 }
 
 /** The change with the number typed into its box, or why it has none. */
@@ -54,14 +60,14 @@ function typed(what: Votes, text: string): Typed<Votes> {
     const found = wholeNumber(text, MOST_VOTES);
     return "wrong" in found ? found : { value: { ...what, votes: found.value } };
   }
-  const found = percentage(text, what.of === "own" ? "step" : "share");
+  const found = percentage(text, isStep(what) ? "step" : "share");
   return "wrong" in found ? found : { value: { ...what, percent: found.value } };
 }
 
 /** The change of votes with a number, or null if there is none now. */
 function votesOf(app: App, id: number): Votes | null {
   const what = app.study.changes.find((it) => it.id === id)?.what;
-  if (what?.kind === "percent") return what;
+  if (what?.kind === "percent" || what?.kind === "scale") return what;
   return what?.kind === "votes" ? { kind: "votes", code: what.code ?? "", votes: what.votes ?? 0 } : null;
 }
 
@@ -79,13 +85,13 @@ function rangeOf(app: App, id: number): Range | null {
   if (!what) return null;
   const text = numberText(what);
   const value = String(Number(text));
-  if (what.kind === "percent") {
+  if (what.kind !== "votes") {
     const size = Math.ceil(Math.abs(Number(text)));
-    const isOwn = what.of === "own";
-    return { min: isOwn ? -100 : 0, max: Math.max(isOwn ? 100 : 50, size), step: 0.1, value, text };
+    const [min, most] = isStep(what) ? [-100, 100] : [0, 50];
+    return { min, max: Math.max(most, size), step: 0.1, value, text };
   }
   const outcome = app.shown?.counted.outcomes.get(id);
-  const before = outcome?.kind === "accepted" ? outcome.before?.votes ?? 0 : 0;
+  const before = outcome?.kind === "accepted" ? outcome.before[0]?.votes ?? 0 : 0;
   return { min: 0, max: Math.min(MOST_VOTES, 2 * Math.max(before, what.votes, 50)), step: 1, value, text };
 }
 
@@ -166,7 +172,8 @@ function itemOf(app: App, change: Change, at: number, many: number): Item {
     const outcome = shown?.counted.outcomes.get(id);
     element.dataset["state"] = outcome?.kind ?? "off";
     words.textContent = shown ? changeWords(one, outcome, shown.counted.opening) : "";
-    refusal.textContent = refusalWords(outcome);
+    words.title = shown && isOperation(one.what) ? operationDetails(one.what, outcome, shown.counted.opening) : "";
+    refusal.textContent = refusalWords(outcome, shown?.counted.opening);
     refusal.hidden = refusal.textContent === "";
     for (const [act, it] of acts) it.setAttribute("aria-label", `${act}: ${words.textContent}`);
     moving?.update();

@@ -58,3 +58,20 @@ export function fieldForm<Value>(field: Field<Value>, act: string, take: (value:
   const button = h("button", { id: `${field.input.id}-take` }, act);
   return h("form", { class: "field", onsubmit: submit }, field.label, field.input, button, field.wrong);
 }
+
+/** A form of a list, whose id ends in `-to`, with a button, whose id ends in `-take`, which takes the choice. */
+export function choiceForm(
+  id: string,
+  label: string,
+  options: readonly (readonly [string, string])[],
+  act: string,
+  take: (value: string) => void,
+): HTMLFormElement {
+  const list = h("select", { id: `${id}-to` }, options.map(([key, words]) => h("option", { value: key }, words)));
+  const submit = (event: Event) => {
+    event.preventDefault();
+    take(list.value);
+  };
+  const button = h("button", { id: `${id}-take` }, act);
+  return h("form", { class: "field", onsubmit: submit }, h("label", { for: list.id }, label), list, button);
+}

@@ -5,42 +5,31 @@ import { memberWords } from "../commandWords";
 import { openDialog } from "../dialogs";
 import { button, h } from "../dom";
 import { fractionText, grouped, over, percent } from "../fractions";
-import { closedChair, moveTo } from "../moves";
+import { moveTo } from "../moves";
 import { isolated } from "../names";
 import { nameOf, withMemberName } from "../naming";
-import type { Place } from "../standing";
+import { chairChoices, closedChair, type Place } from "../standing";
 import { withAdded, type Command, type Percentage } from "../study";
 import { MOST_VOTES } from "../words";
-import { fieldForm, readField } from "./field";
+import { choiceForm, fieldForm, readField } from "./field";
 
 /** The places where a member can go: the chairs, none, and a new chair. */
 function places(app: App): [string, string][] {
   const { shown } = app;
   if (!shown) return [];
   const { standing } = shown.counted;
-  const open = standing.open();
-  const next = closedChair(open);
-  const name = (chair: number) => isolated(standing.name(chair));
-  const chairs = open.map((it): [string, string] => [String(it), `${it} ${name(it)}`]);
-  return [...chairs, ["none", "in no chair"], ...(next ? [["new", `a new chair, ${next}`] as [string, string]] : [])];
+  const next = closedChair(standing.open());
+  const fresh: [string, string][] = next ? [["new", `a new chair, ${next}`]] : [];
+  return [...chairChoices(standing), ["none", "in no chair"], ...fresh];
 }
 
 function moveForm(app: App, place: Place, close: () => void): HTMLFormElement {
   const own = String(place.chair ?? "none");
-  const options = places(app).filter(([key]) => key !== own).map(([key, words]) => h("option", { value: key }, words));
-  const list = h("select", { id: "move-to" }, ...options);
-  const submit = (event: Event) => {
-    event.preventDefault();
+  const others = places(app).filter(([key]) => key !== own);
+  return choiceForm("move", "Move to", others, "Move", (target) => {
     close();
-    void moveTo(app, place.code, list.value);
-  };
-  return h(
-    "form",
-    { class: "field", onsubmit: submit },
-    h("label", { for: "move-to" }, "Move to"),
-    list,
-    h("button", { id: "move-take" }, "Move"),
-  );
+    void moveTo(app, place.code, target);
+  });
 }
 
 function readVotes(text: string): Typed<number> {
