@@ -1,9 +1,10 @@
 /** Studies and their counts: the page's side of the registers. */
-import type { Boards, Report, Task } from "./boards";
-import type { Board, Orders, Outcome, Point, Swept } from "./orders";
+import type { Board, Orders, Outcome, Point, Swept, Tried } from "./orders";
+import type { Boards, Report, Task } from "./pool";
 import type { MemberRow } from "../../bindings/javascript/src/tables";
 import { readings, type Readings } from "./reading";
 import { readRecords, recordOf, scriptOf, scriptWith } from "./script";
+import { movesOver, sweepOver, type Place } from "./split";
 import { Standing } from "./standing";
 import type { Base, Change, Command, SweepAsked } from "./study";
 import type { Majority } from "./words";
@@ -79,6 +80,12 @@ export class Counter {
     return { base: await this.#number(script), changes };
   }
 
+  /** A board with its base, as workers that don't have it are sent it. */
+  async #place(base: Base, changes: readonly Change[]): Promise<Place> {
+    const board = await this.#board(base, changes);
+    return { base: { number: board.base, script: base.script }, board };
+  }
+
   /** The script of a table's members. */
   tableScript(rows: readonly MemberRow[]): Promise<string> {
     return this.boards.ask("table", rows).answer;
@@ -105,8 +112,8 @@ export class Counter {
   async sweep(of: Counted, changes: readonly Change[], asked: SweepAsked, report: Report): Promise<Task<Curve>> {
     const isBase = asked.on === "base";
     const { base, majorities } = of;
-    const board = await this.#board(base, isBase ? [] : changes);
-    const { answer, cancel } = this.boards.ask("sweep", { ...board, majorities, asked }, report);
+    const place = await this.#place(base, isBase ? [] : changes);
+    const { answer, cancel } = sweepOver(this.boards, place, majorities, asked, report);
     const commands = isBase ? [] : of.commands;
     const curve = answer.then((it): Curve => {
       const script = sweepScript(base, commands, it.points, majorities);
@@ -115,14 +122,14 @@ export class Counter {
     return { answer: curve, cancel };
   }
 
-  /** Tries all single moves to a chair on a changed board. */
+  /** Tries single moves on a changed board. */
   async best(
     base: Base,
     changes: readonly Change[],
     ask: Omit<Orders["best"]["ask"], keyof Board>,
     report: Report,
-  ): Promise<Task<Orders["best"]["answer"]>> {
-    return this.boards.ask("best", { ...(await this.#board(base, changes)), ...ask }, report);
+  ): Promise<Task<readonly Tried[]>> {
+    return movesOver(this.boards, await this.#place(base, changes), ask, report);
   }
 
   /** Whether the script of a count gives the count's readings. */

@@ -154,7 +154,8 @@ function sweepWords(app: App): string {
   if (!sweep) return shown?.study.sweep ? "The sweep is being counted." : "";
   if ("problem" in sweep) return `This can't be swept: ${sweep.problem}.`;
   const points = `${sweep.points.length} points at ${sweep.majorities.length} majorities`;
-  return `${points} were counted in ${sweep.milliseconds.toFixed(0)} ms.`;
+  const workers = sweep.desks > 1 ? ` by ${sweep.desks} workers` : "";
+  return `${points} were counted in ${sweep.milliseconds.toFixed(0)} ms${workers}.`;
 }
 
 export function paintCurve(app: App): void {
