@@ -1,12 +1,12 @@
 /** Studies and their counts: the page's side of the registers. */
-import type { Board, Orders, Outcome, Point, Swept, Tried } from "./orders";
+import type { Board, Orders, Outcome, Point, Question, Swept, Tried, Turns } from "./orders";
 import type { Boards, Report, Task } from "./pool";
 import type { MemberRow } from "../../bindings/javascript/src/tables";
 import { readings, type Readings } from "./reading";
 import { readRecords, recordOf, scriptOf, scriptWith } from "./script";
-import { movesOver, sweepOver, type Place } from "./split";
+import { movesOver, sweepOver, thresholdsOver, type Place } from "./split";
 import { Standing } from "./standing";
-import type { Base, Change, Command, SweepAsked } from "./study";
+import type { Base, Change, Command, SweepAsked, Who } from "./study";
 import type { Majority } from "./words";
 
 export type { Outcome };
@@ -46,6 +46,22 @@ export interface Curve extends Swept {
   readonly asked: SweepAsked;
   readonly majorities: readonly Majority[];
   /** The members and the chairs of the board that was swept. */
+  readonly standing: Standing;
+  readonly script: string;
+}
+
+/** A member or a chair whose thresholds are wanted on a board, and another chair to have more swings than, or null. */
+export interface ThresholdsAsked {
+  readonly who: Who;
+  readonly on: SweepAsked["on"];
+  readonly other: number | null;
+}
+
+/** Thresholds without a range, and the script that gives the readings on both sides of each. */
+export interface Thresholds {
+  readonly asked: ThresholdsAsked;
+  readonly questions: readonly Question[];
+  readonly found: Turns;
   readonly standing: Standing;
   readonly script: string;
 }
@@ -122,6 +138,25 @@ export class Counter {
     return { answer: curve, cancel };
   }
 
+  /** Finds the thresholds of a member or a chair over the base of a count, or over its changed board. */
+  async thresholds(
+    of: Counted,
+    changes: readonly Change[],
+    asked: ThresholdsAsked,
+    report: Report,
+  ): Promise<Task<Thresholds>> {
+    const isBase = asked.on === "base";
+    const { base, majorities } = of;
+    const place = await this.#place(base, isBase ? [] : changes);
+    const { answer, cancel } = thresholdsOver(this.boards, place, majorities, asked.who, asked.other, report);
+    const thresholds = answer.then(({ questions, found }): Thresholds => {
+      const sides = found.turns.flatMap((it) => it.commands).map((commands) => ({ commands }));
+      const script = sweepScript(base, isBase ? [] : of.commands, sides, majorities);
+      return { asked, questions, found, standing: isBase ? of.opening : of.standing, script };
+    });
+    return { answer: thresholds, cancel };
+  }
+
   /** Tries single moves on a changed board. */
   async best(
     base: Base,
@@ -147,7 +182,7 @@ export class Counter {
 function sweepScript(
   base: Base,
   commands: readonly Command[],
-  points: readonly Point[],
+  points: readonly Pick<Point, "commands">[],
   majorities: readonly Majority[],
 ): string {
   const reads = readRecords(majorities);

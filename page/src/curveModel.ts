@@ -2,7 +2,7 @@
 import type { App } from "./app";
 import type { Labelled } from "./csv";
 import type { CurveModel } from "./curveChart";
-import { decimalRatio, drawn, grouped, percent, rounded, type Ratio } from "./fractions";
+import { counted, decimalRatio, drawn, grouped, percent, rounded, type Ratio } from "./fractions";
 import { isolated } from "./names";
 import type { Statement, Threshold } from "./orders";
 import { readings } from "./reading";
@@ -27,13 +27,14 @@ export function shareText(share: Ratio | null, digits: number): string {
 }
 
 /** A threshold in words, such as "At 85 per cent it prevents everything from 847,524 votes (not at 847,523)". */
-export function thresholdWords(threshold: Threshold, digits: number): string {
+export function thresholdWords(threshold: Threshold, digits: number, words = STATEMENT_WORDS[threshold.what]): string {
   const { majority, what, isFrom, votes, share } = threshold;
-  const from = isFrom ? `${STATEMENT_WORDS[what]} from` : `${STATEMENT_WORDS[what]} up to`;
+  const from = isFrom ? `${words} from` : `${words} up to`;
   const own = isFrom ? votes : votes - 1;
-  const other = isFrom ? `not at ${grouped(votes - 1)}` : `not at ${grouped(votes)}`;
+  const not = what === "counts" && isFrom ? "a dummy up to" : "not at";
+  const other = `${not} ${grouped(isFrom ? votes - 1 : votes)}`;
   const part = isFrom && share ? `, ${shareText(share, digits)}` : "";
-  return `${MAJORITY[majority].at} it ${from} ${grouped(own)} votes${part} (${other}).`;
+  return `${MAJORITY[majority].at} it ${from} ${counted(own, "vote")}${part} (${other}).`;
 }
 
 /** A sweep in words, with its board. */

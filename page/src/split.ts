@@ -75,9 +75,13 @@ export function sweepOver(
   });
 }
 
-/** The statements on a chair, with the one on another chair if there is one. */
-function statementsOn(other: number | null): Statement[] {
-  return other === null ? [...OF_SWEEPS] : [...OF_SWEEPS, "leads"];
+/** All votes that a member may have. */
+const ANY_VOTES = { low: 0, high: MEMBER_VOTES };
+
+/** What is asked of a chair at a majority, with the statement on another chair if there is one. */
+function questionsAt(majority: Majority, other: number | null): Question[] {
+  const alone = OF_SWEEPS.map((what): Question => ({ majority, what, other: null, ...ANY_VOTES }));
+  return other === null ? alone : [...alone, { majority, what: "leads", other, ...ANY_VOTES }];
 }
 
 /** Finds where each statement begins to hold, from no votes to the most of a member, for each majority. */
@@ -89,9 +93,7 @@ export function thresholdsOver(
   other: number | null,
   report: Report,
 ): Task<{ readonly questions: readonly Question[]; readonly found: Turns }> {
-  const asked = majorities.map((majority) =>
-    statementsOn(other).map((what): Question => ({ majority, what, other, low: 0, high: MEMBER_VOTES })),
-  );
+  const asked = majorities.map((it) => questionsAt(it, other));
   return inSteps(async (step) => {
     const orders = asked.map((questions) => ({ ...board, who, questions }));
     const all = await step(boards.spread("turns", base, orders, report));

@@ -11,8 +11,8 @@ from test_studies import CELLS, sweep
 from test_tables import take
 
 SEED = 20_261_128
-# The part of one worker's time that four workers take at most, on a machine with nothing else to do: it is tried in some
-# rounds, and the least times count. The bound is wide, since the machine may be busy with something else.
+# The part of one worker's time that four workers take at most, on a machine with nothing else to do. It is tried in
+# some rounds, and the least times count. The bound is wide, since the machine may be busy with something else.
 AIM, BOUND, ROUNDS, EACH = 0.4, 0.9, 3, 2
 FIRST = 'return document.querySelector("#sweep-table tbody th")?.textContent;'
 PROCESSORS = "Object.defineProperty(Navigator.prototype, 'hardwareConcurrency', {{ get: () => {} }});"

@@ -135,7 +135,8 @@ test("where statements turn", async () => {
   const found = await ask("turns", { ...board, questions: whats.map((what) => ({ ...ends, what })) });
   // The others have 30 and 20. At 10 votes the 30 are no more than half of 60; at 50 the two have half, and at 51 less.
   // From 10 to 49 votes any two of the three win, so all have the same number of swings.
-  assert.deepEqual(found.turns.map(({ isAtLow, votes }) => [isAtLow, votes]), [10, 50, 51, 50].map((it) => [false, it]));
+  assert.deepEqual(found.turns.map(({ votes }) => votes), [10, 50, 51, 50]);
+  assert.ok(found.turns.every(({ isAtLow }) => !isAtLow));
   assert.deepEqual([found.chair, found.rest, found.votes], [1, 50, 50]);
   const given = found.turns[2]?.commands.map(([first]) => first?.votes);
   assert.deepEqual(given, [50, 51]);

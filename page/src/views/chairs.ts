@@ -11,6 +11,7 @@ import { closedChair, type CardPlace } from "../moves";
 import { withAdded } from "../study";
 import { openChairName } from "./chairName";
 import { openMember } from "./member";
+import { openThresholds } from "./thresholds";
 
 function chip(app: App, place: Place): HTMLElement {
   const words = memberWords(place.code, place.name);
@@ -101,11 +102,13 @@ function cardElement(app: App, card: Found): HTMLElement {
   );
 }
 
-/** The buttons of a chair's card: its name, and closing it if it's empty. */
+/** The buttons of a chair's card: its name, its thresholds, and closing it if it's empty. */
 function chairButtons(app: App, chair: number, isEmpty: boolean): Child {
   const close = () => app.take(withAdded(app.study, [{ kind: "close", chair }]));
+  const find = () => openThresholds(app, { kind: "chair", chair });
   return [
     button("Name this chair…", () => openChairName(app, chair), { id: `name-${chair}` }),
+    !isEmpty && button("Find thresholds…", find, { id: `find-${chair}` }),
     isEmpty && button("Close this chair", close, { id: `close-${chair}` }),
   ];
 }

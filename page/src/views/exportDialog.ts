@@ -1,6 +1,7 @@
 /** Saves and exports: the study, its script, CSV, figures, the table, the page with its data. */
 import type { App, Shown } from "../app";
 import { LIGHT, type Look } from "../charts";
+import { copyText } from "../clipboard";
 import { chairRows } from "../compare";
 import { csvOf, type Labelled } from "../csv";
 import { drawCurve } from "../curveChart";
@@ -158,16 +159,7 @@ async function pngOf(svg: string): Promise<Blob> {
 
 async function copyTable(app: App): Promise<string> {
   const { counted } = await app.whole();
-  const content = tableText(chairRows(counted, app.view), app.view);
-  try {
-    await navigator.clipboard.writeText(content);
-  } catch {
-    const area = h("textarea", { "aria-hidden": "true" }, content);
-    (document.querySelector("dialog[open]") ?? document.body).append(area);
-    area.select();
-    document.execCommand("copy");
-    area.remove();
-  }
+  await copyText(tableText(chairRows(counted, app.view), app.view));
   return "The table is on the clipboard.";
 }
 
