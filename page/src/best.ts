@@ -1,29 +1,75 @@
-/** The best single move for a chair: each member that is not in it is moved to it, and moved back. */
+/** Single moves: each member is moved to each of some chairs where it isn't, and moved back. */
 import type { Register } from "../../bindings/javascript/src/register";
-import { compared, difference } from "./fractions";
-import type { Orders, Progress, Tried } from "./orders";
-import { chairIn, measureOf, readingsOf } from "./reading";
+import { compared, difference, type Ratio } from "./fractions";
+import type { Extreme, Orders, Progress, Tried } from "./orders";
+import { measureOf, readingsOf } from "./reading";
 
-/** All moves to a chair on a register, which it changes; the best first. Suspended members can't be moved. */
-export async function bestMoves(
+type Values = ReadonlyMap<number, Ratio | null>;
+
+/** The greatest gain of any chair, or with -1 the greatest loss, and all chairs that have it. */
+function extreme(gains: ReadonlyMap<number, Ratio>, sign: 1 | -1): Extreme | null {
+  let found: { chairs: number[]; gain: Ratio } | null = null;
+  for (const [chair, gain] of gains) {
+    if (gain.numerator === 0n || gain.numerator > 0n !== sign > 0) continue;
+    const order = found ? sign * compared(gain, found.gain) : 1;
+    if (order > 0) found = { chairs: [chair], gain };
+    else if (order === 0) found?.chairs.push(chair);
+  }
+  return found;
+}
+
+/** What a move gave; null where it or the board before it has no value, since no coalition wins. */
+function triedOf(code: string, chair: number, before: Values, after: Values): Tried | null {
+  const gains = new Map<number, Ratio>();
+  for (const [at, value] of after) {
+    const gain = difference(value, before.get(at) ?? null);
+    if (gain) gains.set(at, gain);
+  }
+  const [value, gain] = [after.get(chair), gains.get(chair)];
+  return value && gain ? { code, chair, value, gain, most: extreme(gains, 1), least: extreme(gains, -1) } : null;
+}
+
+/** The moves of an order on a register, which it changes: each member, in each chair in order. */
+export async function triedMoves(
   register: Register,
-  { chair, majority, measure }: Orders["best"]["ask"],
+  { codes, chairs, majority, measure }: Orders["best"]["ask"],
   progress: Progress,
 ): Promise<Tried[]> {
-  const valueNow = () => {
-    const found = chairIn(readingsOf(register, [majority])[0], chair);
-    return found ? measureOf(found, measure) : null;
+  const values = (): Values => {
+    const found = readingsOf(register, [majority]).flatMap((it) => it.chairs);
+    return new Map(found.map((it) => [it.chair, measureOf(it, measure)]));
   };
-  const before = valueNow();
-  const members = Object.entries(register.members).filter(([, it]) => it.chair !== chair && !it.suspended);
+  const { members } = register;
+  const before = values();
+  const own = (code: string) => members[code]?.chair ?? null;
+  const moves = codes.flatMap((code) => chairs.filter((it) => it !== own(code)).map((to) => [code, to] as const));
   const tried: Tried[] = [];
-  for (const [at, [code, member]] of members.entries()) {
-    await progress(at / members.length);
+  for (const [at, [code, chair]] of moves.entries()) {
+    await progress(at / moves.length);
     register.move(code, chair);
-    const value = valueNow();
-    register.move(code, member.chair);
-    const gain = difference(value, before);
-    if (value && gain) tried.push({ code, value, gain });
+    const found = triedOf(code, chair, before, values());
+    register.move(code, own(code));
+    if (found) tried.push(found);
   }
-  return tried.sort((left, right) => compared(right.gain, left.gain));
+  return tried;
+}
+
+function absolute({ numerator, denominator }: Ratio): Ratio {
+  return { numerator: numerator < 0n ? -numerator : numerator, denominator };
+}
+
+/** The greatest change of any chair by a move. */
+export function changeOf({ most, least }: Tried): Ratio {
+  const [gain, loss] = [most, least].map((it) => absolute(it?.gain ?? ZERO));
+  return gain && loss && compared(gain, loss) < 0 ? loss : gain ?? ZERO;
+}
+
+const ZERO: Ratio = { numerator: 0n, denominator: 1n };
+
+/** Moves with the greatest gain of the chair that they go to first, or the greatest change of any chair. */
+export function ranked(tried: readonly Tried[], of: (it: Tried) => Ratio): Tried[] {
+  return tried
+    .map((it) => ({ it, key: of(it) }))
+    .sort((left, right) => compared(right.key, left.key))
+    .map(({ it }) => it);
 }

@@ -1,27 +1,14 @@
 /** The place of the registers: a worker made from a blob if the browser allows that for a file, else the page. */
 import workerText from "../out/worker.txt";
 import { Engine } from "./engine";
-import type { Kind, Orders } from "./orders";
+import type { Kind } from "./orders";
 import { Cancelled, pausing } from "./pausing";
+import { Pool, type Answer, type Ask, type Boards, type Desk, type Report, type Task } from "./pool";
 import { problemOf, Refusal } from "./problem";
 import type { Message, Reply } from "./worker";
 
-/** An order that is being carried out. */
-export interface Task<Value> {
-  readonly answer: Promise<Value>;
-  cancel(): void;
-}
-
-/** Reports how much of an order is done, from 0 to 1. */
-export type Report = (done: number) => void;
-
-type Ask<Some extends Kind> = Orders[Some]["ask"];
-type Answer<Some extends Kind> = Orders[Some]["answer"];
-
-export interface Boards {
-  readonly place: "worker" | "page";
-  ask<Some extends Kind>(kind: Some, ask: Ask<Some>, report?: Report): Task<Answer<Some>>;
-}
+/** The most workers that a long order is split among, however many processors there are. */
+const MOST_WORKERS = 8;
 
 interface Waiting {
   take(value: never): void;
@@ -30,8 +17,7 @@ interface Waiting {
 }
 
 /** A worker that answers orders. */
-class Desk implements Boards {
-  readonly place = "worker";
+class WorkerDesk implements Desk {
   readonly #worker: Worker;
   readonly #waiting = new Map<number, Waiting>();
   #last = 0;
@@ -77,25 +63,27 @@ class Desk implements Boards {
 }
 
 /** A worker, and for the count over all coalitions, which gives way to nothing, one of its own. */
-class Workers implements Boards {
-  readonly place = "worker";
-  readonly #desk: Desk;
+class First implements Desk {
+  readonly #desk: WorkerDesk;
 
-  constructor(desk: Desk) {
+  constructor(desk: WorkerDesk) {
     this.#desk = desk;
   }
 
   ask<Some extends Kind>(kind: Some, ask: Ask<Some>, report?: Report): Task<Answer<Some>> {
     if (kind !== "plain") return this.#desk.ask(kind, ask, report);
-    const own = new Desk();
+    const own = new WorkerDesk();
     const { answer } = own.ask(kind, ask, report);
     return { answer: answer.finally(() => own.end()), cancel: () => own.end() };
+  }
+
+  end(): void {
+    this.#desk.end();
   }
 }
 
 /** The registers in the page itself. */
-class InPage implements Boards {
-  readonly place = "page";
+class InPage implements Desk {
   readonly #engine = new Engine();
 
   ask<Some extends Kind>(kind: Some, ask: Ask<Some>, report: Report = () => {}): Task<Answer<Some>> {
@@ -105,17 +93,26 @@ class InPage implements Boards {
     });
     return { answer, cancel: () => (isCancelled = true) };
   }
+
+  end(): void {}
+}
+
+/** A worker that has loaded the module. */
+async function started(bytes: Uint8Array): Promise<WorkerDesk> {
+  const desk = new WorkerDesk();
+  await desk.ask("module", bytes).answer;
+  return desk;
 }
 
 /** Makes the place of the registers. It fails if the browser can't run the module. */
 export async function boardsOver(bytes: Uint8Array): Promise<Boards> {
+  const start = () => started(bytes);
   try {
-    const desk = new Desk();
-    await desk.ask("module", bytes).answer;
-    return new Workers(desk);
+    const most = Math.min(MOST_WORKERS, navigator.hardwareConcurrency || 1);
+    return new Pool("worker", new First(await start()), start, most);
   } catch {
     const page = new InPage();
     await page.ask("module", bytes).answer;
-    return page;
+    return new Pool("page", page, start, 1);
   }
 }

@@ -1,11 +1,12 @@
 /** Studies and their counts: the page's side of the registers. */
-import type { Boards, Report, Task } from "./boards";
-import type { Board, Orders, Outcome, Point, Swept } from "./orders";
+import type { Board, Orders, Outcome, Point, Question, Swept, Tried, Turns } from "./orders";
+import type { Boards, Report, Task } from "./pool";
 import type { MemberRow } from "../../bindings/javascript/src/tables";
 import { readings, type Readings } from "./reading";
 import { readRecords, recordOf, scriptOf, scriptWith } from "./script";
+import { movesOver, sweepOver, thresholdsOver, type Place } from "./split";
 import { Standing } from "./standing";
-import type { Base, Change, Command, SweepAsked } from "./study";
+import type { Base, Change, Command, SweepAsked, Who } from "./study";
 import type { Majority } from "./words";
 
 export type { Outcome };
@@ -49,6 +50,22 @@ export interface Curve extends Swept {
   readonly script: string;
 }
 
+/** A member or a chair whose thresholds are wanted on a board, and another chair to have more swings than, or null. */
+export interface ThresholdsAsked {
+  readonly who: Who;
+  readonly on: SweepAsked["on"];
+  readonly other: number | null;
+}
+
+/** Thresholds without a range, and the script that gives the readings on both sides of each. */
+export interface Thresholds {
+  readonly asked: ThresholdsAsked;
+  readonly questions: readonly Question[];
+  readonly found: Turns;
+  readonly standing: Standing;
+  readonly script: string;
+}
+
 /** The names of members that accepted changes admit. */
 function admitted(changes: readonly Change[], outcomes: ReadonlyMap<number, Outcome>): Record<string, string> {
   const named = changes.flatMap(({ what, id, name }) => {
@@ -81,6 +98,12 @@ export class Counter {
     return { base: await this.#number(script), changes };
   }
 
+  /** A board with its base, as workers that don't have it are sent it. */
+  async #place(base: Base, changes: readonly Change[]): Promise<Place> {
+    const board = await this.#board(base, changes);
+    return { base: { number: board.base, script: base.script }, board };
+  }
+
   /** The script of a table's members. */
   tableScript(rows: readonly MemberRow[]): Promise<string> {
     return this.boards.ask("table", rows).answer;
@@ -107,8 +130,8 @@ export class Counter {
   async sweep(of: Counted, changes: readonly Change[], asked: SweepAsked, report: Report): Promise<Task<Curve>> {
     const isBase = asked.on === "base";
     const { base, majorities } = of;
-    const board = await this.#board(base, isBase ? [] : changes);
-    const { answer, cancel } = this.boards.ask("sweep", { ...board, majorities, asked }, report);
+    const place = await this.#place(base, isBase ? [] : changes);
+    const { answer, cancel } = sweepOver(this.boards, place, majorities, asked, report);
     const commands = isBase ? [] : of.commands;
     const curve = answer.then((it): Curve => {
       const script = sweepScript(base, commands, it.points, majorities);
@@ -117,14 +140,33 @@ export class Counter {
     return { answer: curve, cancel };
   }
 
-  /** Tries all single moves to a chair on a changed board. */
+  /** Finds the thresholds of a member or a chair over the base of a count, or over its changed board. */
+  async thresholds(
+    of: Counted,
+    changes: readonly Change[],
+    asked: ThresholdsAsked,
+    report: Report,
+  ): Promise<Task<Thresholds>> {
+    const isBase = asked.on === "base";
+    const { base, majorities } = of;
+    const place = await this.#place(base, isBase ? [] : changes);
+    const { answer, cancel } = thresholdsOver(this.boards, place, majorities, asked.who, asked.other, report);
+    const thresholds = answer.then(({ questions, found }): Thresholds => {
+      const sides = found.turns.flatMap((it) => it.commands).map((commands) => ({ commands }));
+      const script = sweepScript(base, isBase ? [] : of.commands, sides, majorities);
+      return { asked, questions, found, standing: isBase ? of.opening : of.standing, script };
+    });
+    return { answer: thresholds, cancel };
+  }
+
+  /** Tries single moves on a changed board. */
   async best(
     base: Base,
     changes: readonly Change[],
     ask: Omit<Orders["best"]["ask"], keyof Board>,
     report: Report,
-  ): Promise<Task<Orders["best"]["answer"]>> {
-    return this.boards.ask("best", { ...(await this.#board(base, changes)), ...ask }, report);
+  ): Promise<Task<readonly Tried[]>> {
+    return movesOver(this.boards, await this.#place(base, changes), ask, report);
   }
 
   /** Whether the script of a count gives the count's readings. */
@@ -153,7 +195,7 @@ export function stepsScript(
 function sweepScript(
   base: Base,
   commands: readonly Command[],
-  points: readonly Point[],
+  points: readonly Pick<Point, "commands">[],
   majorities: readonly Majority[],
 ): string {
   const reads = readRecords(majorities);

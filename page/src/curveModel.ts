@@ -2,26 +2,39 @@
 import type { App } from "./app";
 import type { Labelled } from "./csv";
 import type { CurveModel } from "./curveChart";
-import { decimalRatio, drawn, grouped, rounded } from "./fractions";
+import { counted, decimalRatio, drawn, grouped, percent, rounded, type Ratio } from "./fractions";
 import { isolated } from "./names";
-import type { Threshold } from "./orders";
+import type { Statement, Threshold } from "./orders";
 import { readings } from "./reading";
 import type { SweepAsked } from "./study";
-import { shareText, STATEMENT_WORDS, sweepText } from "./sweep";
+import { sweepText } from "./sweep";
 import { MAJORITY, MEASURE } from "./words";
 
 export const FIRST_SWEEP: SweepAsked = {
   who: { kind: "chair", chair: 1 }, on: "base", unit: "percent", from: "10", to: "20", by: "0.5",
 };
 
+export const STATEMENT_WORDS: Readonly<Record<Statement, string>> = {
+  prevents: "prevents everything",
+  carries: "carries everything alone",
+  counts: "has any power",
+  leads: "has more swings",
+};
+
+/** A share of the total in words. */
+export function shareText(share: Ratio | null, digits: number): string {
+  return share ? `${percent(share, digits)} % of the total` : "";
+}
+
 /** A threshold in words, such as "At 85 per cent it prevents everything from 847,524 votes (not at 847,523)". */
-export function thresholdWords(threshold: Threshold, digits: number): string {
+export function thresholdWords(threshold: Threshold, digits: number, words = STATEMENT_WORDS[threshold.what]): string {
   const { majority, what, isFrom, votes, share } = threshold;
-  const from = isFrom ? `${STATEMENT_WORDS[what]} from` : `${STATEMENT_WORDS[what]} up to`;
+  const from = isFrom ? `${words} from` : `${words} up to`;
   const own = isFrom ? votes : votes - 1;
-  const other = isFrom ? `not at ${grouped(votes - 1)}` : `not at ${grouped(votes)}`;
+  const not = what === "counts" && isFrom ? "a dummy up to" : "not at";
+  const other = `${not} ${grouped(isFrom ? votes - 1 : votes)}`;
   const part = isFrom && share ? `, ${shareText(share, digits)}` : "";
-  return `${MAJORITY[majority].at} it ${from} ${grouped(own)} votes${part} (${other}).`;
+  return `${MAJORITY[majority].at} it ${from} ${counted(own, "vote")}${part} (${other}).`;
 }
 
 /** A sweep in words, with its board. */

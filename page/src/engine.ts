@@ -4,21 +4,22 @@ import { Register } from "../../bindings/javascript/src/register";
 import { replay, type Replay } from "../../bindings/javascript/src/replay";
 import type { Script } from "../../bindings/javascript/src/script";
 import { replayText } from "../../bindings/javascript/src/text";
-import { bestMoves } from "./best";
+import { triedMoves } from "./best";
 import { outcomeOf, OFF } from "./operations";
-import type { Board, Counts, Kind, Opened, Orders, Outcome, Progress } from "./orders";
+import {
+  MOST_BASES, type Board, type Counts, type Kind, type Opened, type Orders, type Outcome, type Progress,
+} from "./orders";
 import { loadSync } from "../../bindings/javascript/src/load";
 import { plainCount } from "./plain";
 import { readingOf, readingsOf, type Reading } from "./reading";
 import type { Seat, Snapshot } from "./standing";
 import type { Command } from "./study";
-import { swept } from "./sweep";
+import { sweptPart } from "./sweep";
+import { turnsOf } from "./turns";
 import { MAJORITIES, type Majority } from "./words";
 
 /** A script with more records than this after its first publication is taken as a base as a whole. */
 const MOST_LISTED = 1000;
-/** The bases that are kept at most. */
-const MOST_BASES = 8;
 
 /** A change that was carried out: its text, its outcome, and the number of accepted commands after it. */
 interface Done {
@@ -158,8 +159,9 @@ export class Engine {
       script: (text) => this.#open(text),
       base: ({ number, script }) => (this.#keep(number, script), null),
       count: (it) => this.#count(it, it.majorities),
-      sweep: (it) => withRegister(this.#copy(it), (board) => swept(board, it.majorities, it.asked, progress)),
-      best: (it) => withRegister(this.#copy(it), (board) => bestMoves(board, it, progress)),
+      sweep: (it) => withRegister(this.#copy(it), (board) => sweptPart(board, it, progress)),
+      turns: (it) => withRegister(this.#copy(it), (board) => turnsOf(board, it, progress)),
+      best: (it) => withRegister(this.#copy(it), (board) => triedMoves(board, it, progress)),
       lines: (script) => replayText(script).text,
       check: ({ script, readings }) => isGivenBy(script, readings),
       plain: (weights) => plainCount(weights),

@@ -2,7 +2,7 @@
 import type { MemberRow } from "../../bindings/javascript/src/tables";
 import type { Reading } from "./reading";
 import type { Seat, Snapshot } from "./standing";
-import type { Change, Command, SweepAsked } from "./study";
+import type { Change, Command, SweepAsked, Who } from "./study";
 import type { Weights } from "./plain";
 import type { Ratio } from "./fractions";
 import type { Majority, Measure } from "./words";
@@ -55,7 +55,34 @@ export interface Point {
   readonly readings: readonly Reading[];
 }
 
-export type Statement = "prevents" | "carries" | "counts";
+/** What is asked of a chair; "leads" is that it has more swings than another chair. */
+export type Statement = "prevents" | "carries" | "counts" | "leads";
+
+/** Where a statement turns between two numbers of votes. `other` is the other chair of "leads". */
+export interface Question {
+  readonly majority: Majority;
+  readonly what: Statement;
+  readonly other: number | null;
+  readonly low: number;
+  readonly high: number;
+}
+
+/** Whether a statement holds at the lower number, and the least votes from which it is otherwise; null for none. */
+export interface Turn {
+  readonly isAtLow: boolean;
+  readonly votes: number | null;
+  /** The commands for one vote less, and for these votes. */
+  readonly commands: readonly (readonly Command[])[];
+}
+
+/** The turns of what was asked of a chair. */
+export interface Turns {
+  readonly chair: number;
+  /** The votes of all others in the total, and the votes now of what was varied. */
+  readonly rest: number;
+  readonly votes: number;
+  readonly turns: readonly Turn[];
+}
 
 /** The least votes from which a statement holds, or with `isFrom` false, from which it doesn't hold any more. */
 export interface Threshold {
@@ -67,18 +94,34 @@ export interface Threshold {
   readonly share: Ratio | null;
 }
 
-export interface Swept {
+/** Some points of a sweep, the chair that is swept, and the votes of all others in the total. */
+export interface SweptPart {
   readonly chair: number;
+  readonly rest: number;
   readonly points: readonly Point[];
-  readonly thresholds: readonly Threshold[];
-  readonly milliseconds: number;
 }
 
-/** A move that was tried: the chair's measure after it, and its gain. */
+export interface Swept extends SweptPart {
+  readonly thresholds: readonly Threshold[];
+  readonly milliseconds: number;
+  /** The number of workers at its end. */
+  readonly desks: number;
+}
+
+/** The greatest gain or loss, and the chairs that have it. */
+export interface Extreme {
+  readonly chairs: readonly number[];
+  readonly gain: Ratio;
+}
+
+/** A move that was tried: the measure of the chair that the member was moved to, its gain, and who gains and loses. */
 export interface Tried {
   readonly code: string;
+  readonly chair: number;
   readonly value: Ratio;
   readonly gain: Ratio;
+  readonly most: Extreme | null;
+  readonly least: Extreme | null;
 }
 
 /** A base with changes: the base by its number, under which it was sent. */
@@ -86,6 +129,15 @@ export interface Board {
   readonly base: number;
   readonly changes: readonly Change[];
 }
+
+/** Places in a list, from one up to another that isn't among them. */
+export interface Interval {
+  readonly from: number;
+  readonly to: number;
+}
+
+/** The bases that are kept at most. */
+export const MOST_BASES = 8;
 
 /** The orders by their kinds: what they pass, and what answers them. */
 export interface Orders {
@@ -98,9 +150,19 @@ export interface Orders {
   /** Keeps a base under a number. */
   base: { ask: { readonly number: number; readonly script: string }; answer: null };
   count: { ask: Board & { readonly majorities: readonly Majority[] }; answer: Counts };
-  sweep: { ask: Board & { readonly majorities: readonly Majority[]; readonly asked: SweepAsked }; answer: Swept };
+  /** Counts points of a sweep: those from one place among its values up to another. */
+  sweep: { ask: Board & Interval & { readonly majorities: readonly Majority[]; readonly asked: SweepAsked };
+    answer: SweptPart };
+  /** Varies the votes of a member or a chair, and finds where statements turn. */
+  turns: { ask: Board & { readonly who: Who; readonly questions: readonly Question[] }; answer: Turns };
+  /** Moves each of some members to each of some chairs, and back. */
   best: {
-    ask: Board & { readonly chair: number; readonly majority: Majority; readonly measure: Measure };
+    ask: Board & {
+      readonly codes: readonly string[];
+      readonly chairs: readonly number[];
+      readonly majority: Majority;
+      readonly measure: Measure;
+    };
     answer: readonly Tried[];
   };
   /** Replays a script: the text that `board replay` prints. */

@@ -17,8 +17,8 @@ LEAST_CONTRAST = 4.5
 MOST_STOPS = 400
 # Higher than the page, so that nothing is scrolled away.
 TALL = 12_000
-OPENERS = ["#name-1", "#export", "#paste", "#seal", "#admit-open", "#best-open", "#recount-open", "#cite-open"]
-OPENERS += ["#merge-1", "#split-1", "#scale-1", "#dissolve-1", "#group-open"]
+OPENERS = ["#name-1", "#find-1", "#export", "#paste", "#seal", "#admit-open", "#best-open", "#recount-open"]
+OPENERS += ["#cite-open", "#merge-1", "#split-1", "#scale-1", "#dissolve-1", "#group-open"]
 TABS = ["#tab-power", "#tab-change", "#tab-curve", "#tab-table", "#tab-coalition"]
 
 

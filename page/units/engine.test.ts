@@ -119,24 +119,44 @@ test("a chair that is closed and opened again is a new one", async () => {
   assert.deepEqual([standing.open, standing.opened], [[1, 2, 3, 9], [3, 9]]);
 });
 
-test("a sweep and its thresholds", async () => {
-  // Catches: a threshold that is one vote off, votes that aren't shared out in proportion, points of another value.
-  const asked = { who: { kind: "chair", chair: 1 }, ...VOTES, to: "200", by: "100" } as const;
-  const board = { base: await based(), changes: [] };
-  const { points, thresholds, chair } = await ask("sweep", { ...board, majorities: ["half"], asked });
-  assert.deepEqual(points.map(({ value, votes }) => [value, votes]), [["0", 0], ["100", 100], ["200", 200]]);
-  // The others have 30 and 20. At 10 votes the 30 are no more than half of 60; at 50 the two have half, and at 51 less.
-  assert.equal(chair, 1);
-  const found = thresholds.map(({ what, isFrom, votes }) => [what, isFrom, votes]);
-  assert.deepEqual(found, [["counts", true, 10], ["prevents", true, 50], ["carries", true, 51]]);
+test("points of a sweep", async () => {
+  // Catches: votes that aren't shared out in proportion, points of another value, a part that begins at a wrong place.
+  const asked = { who: { kind: "chair", chair: 1 }, ...VOTES, to: "300", by: "100" } as const;
+  const order = { base: await based(), changes: [], majorities: ["half"], asked } as const;
+  const { points, chair, rest } = await ask("sweep", { ...order, from: 1, to: 3 });
+  assert.deepEqual(points.map(({ value, votes }) => [value, votes]), [["100", 100], ["200", 200]]);
+  assert.deepEqual([chair, rest], [1, 50]);
 });
 
-test("the best moves", async () => {
-  // Catches: a member that is tried where it sits, or numbers after a move that wasn't taken back.
-  const order = { base: await based(), changes: [], chair: 3, majority: "half", measure: "swings" } as const;
-  const tried = await ask("best", order);
+test("where statements turn", async () => {
+  // Catches: a threshold that is one vote off, commands for other votes, another chair than the one that is asked of.
+  const board = { base: await based(), changes: [], who: { kind: "chair", chair: 1 } } as const;
+  const ends = { majority: "half", other: 2, low: 0, high: 200 } as const;
+  const whats = ["counts", "prevents", "carries", "leads"] as const;
+  const found = await ask("turns", { ...board, questions: whats.map((what) => ({ ...ends, what })) });
+  // The others have 30 and 20. At 10 votes the 30 are no more than half of 60; at 50 the two have half, and at 51 less.
+  // From 10 to 49 votes any two of the three win, so all have the same number of swings.
+  assert.deepEqual(found.turns.map(({ votes }) => votes), [10, 50, 51, 50]);
+  assert.ok(found.turns.every(({ isAtLow }) => !isAtLow));
+  assert.deepEqual([found.chair, found.rest, found.votes], [1, 50, 50]);
+  const given = found.turns[2]?.commands.map(([first]) => first?.votes);
+  assert.deepEqual(given, [50, 51]);
+  const above = await ask("turns", { ...board, questions: [{ ...ends, what: "counts", low: 10 }] });
+  assert.deepEqual(above.turns, [{ isAtLow: true, votes: null, commands: [] }]);
+});
+
+test("single moves", async () => {
+  // Catches: a member that is tried where it sits, numbers after a move that wasn't taken back, a tie with one winner.
+  const codes = ["AAA", "BBB", "CCC"];
+  const order = { base: await based(), changes: [], codes, majority: "half", measure: "swings" } as const;
+  const tried = await ask("best", { ...order, chairs: [3] });
   // AAA in chair 3 gives it 70 of 100: 4 swings. BBB gives it 50 against 50: it can prevent, and wins with AAA's chair.
   assert.deepEqual(tried.map(({ code, value }) => [code, String(value.numerator)]), [["AAA", "4"], ["BBB", "2"]]);
+  // Before, chair 1 has 3 swings, and the others 1 each.
+  assert.deepEqual(tried.map(({ most, least }) => [most?.chairs, least?.chairs]), [[[3], [1]], [[3], [1, 2]]]);
+  const all = await ask("best", { ...order, chairs: [1, 2, 3] });
+  const moves = all.map(({ code, chair }) => `${code} ${chair}`);
+  assert.deepEqual(moves, ["AAA 2", "AAA 3", "BBB 1", "BBB 3", "CCC 1", "CCC 2"]);
 });
 
 test("a script gives its readings", async () => {
@@ -164,7 +184,8 @@ test("an order that is cancelled", async () => {
   const asked = { who: { kind: "member", code: "AAA" }, ...VOTES, to: "1000", by: "1" } as const;
   const base = await based(twentyFour());
   const majorities = ["half", "70", "85", "quorum"] as const;
-  await assert.rejects(engine.carryOut("sweep", { base, changes: [], majorities, asked }, progress), Cancelled);
+  const order = { base, changes: [], majorities, asked, from: 0, to: 1001 };
+  await assert.rejects(engine.carryOut("sweep", order, progress), Cancelled);
   assert.equal(reports.length, 3);
 });
 

@@ -1,6 +1,7 @@
 /** The dialog of the best single move for a chair. */
 import type { App, Shown } from "../app";
 import { gainText, valueText } from "../compare";
+import { ranked } from "../best";
 import { openDialog } from "../dialogs";
 import { button, choice, h, paint, type Child } from "../dom";
 import { fractionText, grouped } from "../fractions";
@@ -55,10 +56,12 @@ function form(app: App, { study, counted }: Shown, close: () => void): Child {
   const run = async () => {
     said.textContent = "Counting…";
     const begun = performance.now();
-    const ask = { chair, majority, measure: app.view.measure };
-    const tried = await app.wait("All moves are being counted.", (report) =>
+    const codes = counted.standing.members().filter((it) => !it.suspended && it.chair !== chair).map((it) => it.code);
+    const ask = { codes, chairs: [chair], majority, measure: app.view.measure };
+    const all = await app.wait("All moves are being counted.", (report) =>
       app.counter.best(study.base, study.changes, ask, report),
     );
+    const tried = ranked(all, (it) => it.gain);
     said.textContent = `${tried.length} moves were counted in ${(performance.now() - begun).toFixed(0)} ms.`;
     const rows = tried.flatMap((it): Row[] => {
       const member = counted.standing.place(it.code);

@@ -12,6 +12,7 @@ import { withAdded } from "../study";
 import { openChairName } from "./chairName";
 import { openMember } from "./member";
 import { operationButtons } from "./operations";
+import { openThresholds } from "./thresholds";
 
 function chip(app: App, place: Place): HTMLElement {
   const words = memberWords(place.code, place.name);
@@ -102,12 +103,16 @@ function cardElement(app: App, card: Found): HTMLElement {
   );
 }
 
-/** The buttons of a chair's card: its name, and closing it if it's empty, else operations. */
+/** The buttons of a chair's card: its name, and closing it if it's empty, else its thresholds and operations. */
 function chairButtons(app: App, chair: number, isEmpty: boolean): Child {
   const close = () => app.take(withAdded(app.study, [{ kind: "close", chair }]));
+  const find = () => openThresholds(app, { kind: "chair", chair });
   return [
     button("Name this chair…", () => openChairName(app, chair), { id: `name-${chair}` }),
-    isEmpty ? button("Close this chair", close, { id: `close-${chair}` }) : operationButtons(app, chair),
+    ...isEmpty ? [button("Close this chair", close, { id: `close-${chair}` })] : [
+      button("Find thresholds…", find, { id: `find-${chair}` }),
+      operationButtons(app, chair),
+    ],
   ];
 }
 

@@ -9,28 +9,16 @@ import { fractionText, grouped, percent } from "../fractions";
 import { screenLook } from "../look";
 import { isolated } from "../names";
 import { chairIn, measureOf, readings, voteShare } from "../reading";
-import { memberWords } from "../commandWords";
 import type { SweepAsked } from "../study";
 import { MAJORITY, MEASURE } from "../words";
+import { scriptDetails } from "./scriptDetails";
+import { openThresholds } from "./thresholds";
+import { standingOn, whoKey, whoOf, whoOptions, whoThere } from "./who";
 
 /** The fields of the form: those typed so far, else those of the study's sweep. */
-function fieldsOf(app: App, { study, counted }: Shown): SweepAsked {
-  const asked = app.open.sweep ?? study.sweep ?? FIRST_SWEEP;
-  const { who } = asked;
-  const standing = asked.on === "base" ? counted.opening : counted.standing;
-  const isThere = who.kind === "chair" ? standing.open().includes(who.chair) : standing.place(who.code) !== undefined;
-  const [first] = standing.open();
-  return isThere || first === undefined ? asked : { ...asked, who: { kind: "chair", chair: first } };
-}
-
-function whoOptions({ counted }: Shown, on: SweepAsked["on"]): [string, string][] {
-  const standing = on === "base" ? counted.opening : counted.standing;
-  const chairs = standing.open().map((it): [string, string] => [
-    String(it),
-    `chair ${it} ${isolated(standing.name(it))}`,
-  ]);
-  const members = standing.members().map((it): [string, string] => [it.code, memberWords(it.code, it.name)]);
-  return [...chairs, ...members];
+function fieldsOf(app: App, shown: Shown): SweepAsked {
+  const asked = app.open.sweep ?? shown.study.sweep ?? FIRST_SWEEP;
+  return { ...asked, who: whoThere(standingOn(shown, asked.on), asked.who) };
 }
 
 /** Counts the sweep of the form: it becomes part of the study, if it isn't yet. */
@@ -60,16 +48,13 @@ function form(app: App, shown: Shown): HTMLElement {
     });
     return h("label", { class: "choice", for: `sweep-${id}` }, h("span", {}, label), input);
   };
-  const key = asked.who.kind === "chair" ? String(asked.who.chair) : asked.who.code;
-  const who = (value: string) => set(
-    { who: /^\d+$/.test(value) ? { kind: "chair", chair: Number(value) } : { kind: "member", code: value } },
-  );
+  const options = whoOptions(standingOn(shown, asked.on));
   const submit = (event: Event) => {
     event.preventDefault();
     run(app, asked);
   };
   return h("form", { class: "choices", id: "sweep", onsubmit: submit },
-    choice("sweep-who", "Sweep", whoOptions(shown, asked.on), key, who),
+    choice("sweep-who", "Sweep", options, whoKey(asked.who), (it) => set({ who: whoOf(it) })),
     choice("sweep-on", "on", [["base", "the base"], ["changed", "the changed board"]], asked.on, (it) => {
       set({ on: it === "base" ? "base" : "changed" });
       app.repaint();
@@ -83,6 +68,7 @@ function form(app: App, shown: Shown): HTMLElement {
       (it) => set({ unit: it === "votes" ? "votes" : "percent" }),
     ),
     h("button", { id: "sweep-run" }, "Count the sweep"),
+    button("Find thresholds…", () => openThresholds(app, asked.who, asked.on), { id: "find-open" }),
   );
 }
 
@@ -154,7 +140,8 @@ function sweepWords(app: App): string {
   if (!sweep) return shown?.study.sweep ? "The sweep is being counted." : "";
   if ("problem" in sweep) return `This can't be swept: ${sweep.problem}.`;
   const points = `${sweep.points.length} points at ${sweep.majorities.length} majorities`;
-  return `${points} were counted in ${sweep.milliseconds.toFixed(0)} ms.`;
+  const workers = sweep.desks > 1 ? ` by ${sweep.desks} workers` : "";
+  return `${points} were counted in ${sweep.milliseconds.toFixed(0)} ms${workers}.`;
 }
 
 export function paintCurve(app: App): void {
@@ -173,15 +160,6 @@ export function paintCurve(app: App): void {
 }
 
 /** The script of the sweep, which gives its numbers. */
-function source(found: Curve): HTMLElement {
-  const script = h("pre", { id: "sweep-script", tabindex: 0, role: "region", "aria-label": "Script of the sweep" });
-  const details = h(
-    "details",
-    {},
-    h("summary", {}, "The script of this sweep"),
-    button("Copy", () => void navigator.clipboard.writeText(found.script)),
-    script,
-  );
-  details.addEventListener("toggle", () => (script.textContent = details.open ? found.script : ""));
-  return details;
+function source({ script }: Curve): HTMLElement {
+  return scriptDetails("sweep-script", "this sweep", script);
 }

@@ -1,6 +1,7 @@
 /** Saves and exports: the study, its script, CSV, figures, the table, the page with its data. */
 import type { App, Shown } from "../app";
 import { LIGHT, type Look } from "../charts";
+import { copyText } from "../clipboard";
 import {
   changedColumn, columnsOf, hasGains, scenarioColumns, stepColumns, type Column, type Columns,
 } from "../columns";
@@ -196,16 +197,7 @@ async function pngOf(svg: string): Promise<Blob> {
 }
 
 async function copyTable(app: App): Promise<string> {
-  const content = tableText(columnsOf(app, await app.whole()), app.view);
-  try {
-    await navigator.clipboard.writeText(content);
-  } catch {
-    const area = h("textarea", { "aria-hidden": "true" }, content);
-    (document.querySelector("dialog[open]") ?? document.body).append(area);
-    area.select();
-    document.execCommand("copy");
-    area.remove();
-  }
+  await copyText(tableText(columnsOf(app, await app.whole()), app.view));
   return "The table is on the clipboard.";
 }
 

@@ -12,6 +12,7 @@ import { chairChoices, closedChair, type Place } from "../standing";
 import { withAdded, type Command, type Percentage } from "../study";
 import { MOST_VOTES } from "../words";
 import { choiceForm, fieldForm, readField } from "./field";
+import { openThresholds } from "./thresholds";
 
 /** The places where a member can go: the chairs, none, and a new chair. */
 function places(app: App): [string, string][] {
@@ -79,6 +80,10 @@ export function openMember(app: App, code: string): void {
       close();
       app.take(withAdded(app.study, [what]));
     };
+    const find = () => {
+      close();
+      openThresholds(app, { kind: "member", code });
+    };
     return [
       placeWords(app, place),
       moveForm(app, place, close),
@@ -88,6 +93,7 @@ export function openMember(app: App, code: string): void {
         button("Suspend", () => add({ kind: "suspend", code }), { id: "suspend" }),
         button("Restore", () => add({ kind: "restore", code }), { id: "restore" }),
         button("Withdraw", () => add({ kind: "withdraw", code }), { id: "withdraw" }),
+        button("Find thresholds…", find, { id: "find-member" }),
       ),
       h("p", { class: "note" }, "The register answers each command: one that it refuses stays in the list, in red."),
     ];

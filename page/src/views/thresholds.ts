@@ -1,0 +1,151 @@
+/** The dialog of thresholds: from how many votes a chair prevents everything, carries everything alone, and so on. */
+import type { App, Shown } from "../app";
+import { copyText } from "../clipboard";
+import type { Thresholds, ThresholdsAsked } from "../count";
+import { openDialog } from "../dialogs";
+import { button, choice, h, paint, type Child } from "../dom";
+import { fractionText, grouped, percent } from "../fractions";
+import { firstLines, provenanceOf } from "../provenance";
+import type { SweepAsked, Who } from "../study";
+import { aboutWords, thresholdRows, thresholdsText, whoWords, type ThresholdRow } from "../thresholdModel";
+import { MAJORITY, type Majority } from "../words";
+import { LongWork } from "./longWork";
+import { scriptDetails } from "./scriptDetails";
+import { chairOptions, standingOn, whoKey, whoOf, whoOptions, whoThere } from "./who";
+
+const HEADS = ["From votes", "Not at", "Share of the total", "Compared with now"];
+
+function rowElement(row: ThresholdRow, digits: number): HTMLElement {
+  const { majority, what, words, votes, share, distance, short } = row;
+  const head = h("th", { scope: "row", class: "text" }, words);
+  const cells = votes === null || !share
+    ? h("td", { class: "text", colspan: HEADS.length }, short)
+    : [
+      h("td", {}, grouped(votes)),
+      h("td", {}, grouped(votes - 1)),
+      h("td", { title: fractionText(share) }, `${percent(share, digits)} %`),
+      h("td", {}, distance),
+    ];
+  return h("tr", { "data-majority": majority, "data-what": what }, head, cells);
+}
+
+/** The rows of a majority, below its name. */
+function majorityRows(majority: Majority, rows: readonly ThresholdRow[], digits: number): HTMLElement {
+  const head = h("th", { scope: "rowgroup", class: "text", colspan: 1 + HEADS.length }, MAJORITY[majority].label);
+  const own = rows.filter((it) => it.majority === majority);
+  return h("tbody", {}, h("tr", {}, head), own.map((it) => rowElement(it, digits)));
+}
+
+function tableOf(app: App, all: Thresholds): HTMLElement {
+  const { digits } = app.view;
+  const rows = thresholdRows(all, digits);
+  const majorities = [...new Set(rows.map((it) => it.majority))];
+  const words = `Thresholds of ${whoWords(all.asked, all.standing)}`;
+  const heads = HEADS.map((it) => h("th", { scope: "col", "data-mark": "made here" }, it));
+  return h("div", { class: "scroll preview", tabindex: 0, role: "region", "aria-label": words },
+    h("table", { id: "find-table" },
+      h("caption", {}, words),
+      h("thead", {}, h("tr", {}, h("th", { scope: "col", class: "text" }, `Chair ${all.found.chair}`), heads)),
+      majorities.map((it) => majorityRows(it, rows, digits)),
+    ),
+  );
+}
+
+/** The thresholds as a text with its source: the hashes of the script and its lines, and the version. */
+async function textOf(app: App, shown: Shown, all: Thresholds): Promise<string> {
+  const source = { of: `thresholds of ${whoWords(all.asked, all.standing)}`, script: all.script };
+  return thresholdsText(all, app.view.digits, firstLines(await provenanceOf(app, shown, [source])));
+}
+
+/** The thresholds as sentences, which a narrow screen shows in place of the table. */
+function sentencesOf(app: App, all: Thresholds): HTMLElement {
+  const items = thresholdRows(all, app.view.digits).map((it) => h("li", {}, it.sentence));
+  return h("ul", { id: "find-sentences" }, items);
+}
+
+function answer(app: App, shown: Shown, all: Thresholds, said: HTMLElement): Child {
+  const copy = async () => {
+    await copyText(await textOf(app, shown, all));
+    said.textContent = "The thresholds are on the clipboard, with their source.";
+  };
+  const act = () => void copy().catch((why: unknown) => (said.textContent = String(why)));
+  return [
+    h("p", { id: "find-about" }, aboutWords(all)),
+    tableOf(app, all),
+    sentencesOf(app, all),
+    h("div", { class: "buttons" }, button("Copy as text", act, { id: "find-copy" })),
+    scriptDetails("find-script", "these thresholds", all.script),
+  ];
+}
+
+/** What is asked for, as the boards and their chairs allow it. */
+function possible(shown: Shown, { who, on, other }: ThresholdsAsked): ThresholdsAsked {
+  const standing = standingOn(shown, on);
+  const there = whoThere(standing, who);
+  const own = there.kind === "chair" ? there.chair : standing.place(there.code)?.chair;
+  return { who: there, on, other: other !== null && other !== own && standing.open().includes(other) ? other : null };
+}
+
+/** The fields of what is asked for. */
+function fields(
+  shown: Shown,
+  { who, on, other }: ThresholdsAsked,
+  set: (part: Partial<ThresholdsAsked>) => void,
+): Child {
+  const standing = standingOn(shown, on);
+  const own = who.kind === "chair" ? who.chair : standing.place(who.code)?.chair;
+  const others = chairOptions(standing).filter(([key]) => key !== String(own));
+  const boards: [string, string][] = [["base", "the base"], ["changed", "the changed board"]];
+  return [
+    choice("find-who", "Vary the votes of", whoOptions(standing), whoKey(who), (it) => set({ who: whoOf(it) })),
+    choice("find-on", "on", boards, on, (it) => set({ on: it === "base" ? "base" : "changed" })),
+    choice("find-other", "more swings than", [["", "no other chair"], ...others], String(other ?? ""), (it) =>
+      set({ other: it ? Number(it) : null }),
+    ),
+  ];
+}
+
+/** The choices, and the answer, which is found at once and again after each choice. */
+function content(app: App, shown: Shown, first: ThresholdsAsked, work: LongWork): Child {
+  let asked = possible(shown, first);
+  const form = h("div", { class: "choices" });
+  const said = h("p", { id: "find-words", role: "status" });
+  const place = h("div", {});
+  const show = (all: Thresholds, milliseconds: number) => {
+    said.textContent = `${all.questions.length} thresholds were found in ${milliseconds.toFixed(0)} ms.`;
+    paint(place, answer(app, shown, all, said));
+  };
+  const find = () => {
+    paint(place);
+    const begin = (report: (done: number) => void) =>
+      app.counter.thresholds(shown.counted, shown.study.changes, asked, report);
+    void work.run("Thresholds are being found.", begin, show, said);
+  };
+  const set = (part: Partial<ThresholdsAsked>) => {
+    asked = possible(shown, { ...asked, ...part });
+    paint(form, fields(shown, asked, set), again);
+    find();
+  };
+  const again = button("Find again", find, { id: "find-run" });
+  set({});
+  return [form, said, place];
+}
+
+const WORDS =
+  "Each threshold is found by bisection over all numbers of votes that a member may have. The register counts on " +
+  "both sides of it.";
+
+/** Opens the dialog, which finds the thresholds of a member or a chair; without a board, on the one that is shown. */
+export function openThresholds(app: App, who: Who, on?: SweepAsked["on"]): void {
+  const { shown } = app;
+  if (!shown) return;
+  const board = on ?? (shown.counted.isChanged ? "changed" : "base");
+  const work = new LongWork(app);
+  const dialog = openDialog(
+    "find",
+    "Find thresholds",
+    () => [h("p", { class: "note" }, WORDS), content(app, shown, { who, on: board, other: null }, work)],
+    () => work.end(),
+  );
+  dialog.classList.add("wide");
+}

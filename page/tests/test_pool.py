@@ -1,0 +1,95 @@
+"""Long orders in several workers: the numbers of one worker, in less time."""
+from __future__ import annotations
+
+import math
+import random
+
+import inputs
+from chromium import Page
+from test_exports import DROP
+from test_studies import CELLS, sweep
+from test_tables import take
+
+SEED = 20_261_128
+# The part of one worker's time that four workers take at most, on a machine with nothing else to do. It is tried in
+# some rounds, and the least times count. The bound is wide, since the machine may be busy with something else.
+AIM, BOUND, ROUNDS, EACH = 0.4, 0.9, 3, 2
+FIRST = 'return document.querySelector("#sweep-table tbody th")?.textContent;'
+PROCESSORS = "Object.defineProperty(Navigator.prototype, 'hardwareConcurrency', {{ get: () => {} }});"
+
+
+def open_with(page: Page, processors: int) -> None:
+    """Opens the page as if the computer had this number of processors."""
+    wanted = {"source": PROCESSORS.format(processors)}
+    script = page.driver.execute_cdp_cmd("Page.addScriptToEvaluateOnNewDocument", wanted)
+    page.open()
+    page.driver.execute_cdp_cmd("Page.removeScriptToEvaluateOnNewDocument", script)
+    for majority in ["70", "quorum"]:
+        page.click(f"#at-{majority}")
+
+
+def largest() -> str:
+    """As many members and chairs as there may be, with drawn votes."""
+    some = random.Random(SEED)
+    rows = [f"{code},{some.randint(1_000, 900_000)},{1 + at % 32}" for at, code in enumerate(inputs.codes(256))]
+    return inputs.HEAD + "".join(f"{it}\n" for it in rows)
+
+
+def open_largest(page: Page, processors: int) -> None:
+    open_with(page, processors)
+    page.run(DROP, "largest.csv", largest())
+    page.until(lambda: page.all("#table-take"), "the table")
+    take(page, "largest")
+
+
+def workers(page: Page) -> int:
+    """The number of workers that the page says it counted with."""
+    words = page.text("#sweep-words").split(" by ")
+    return int(words[1].split()[0]) if len(words) > 1 else 1
+
+
+def swept(page: Page) -> tuple[object, list[str], str, str]:
+    """All that a sweep of a chair on a changed board says: its table, its thresholds, its script and its CSV."""
+    assert page.act("votes", "XAA", "+10%") and page.act("move", "XAB", "7")
+    sweep(page, "5", "changed", "0.5", "60", "0.1")
+    page.click("#panel summary")
+    page.until(lambda: page.text("#sweep-script"), "the script")
+    script = str(page.at("#sweep-script").get_property("textContent"))
+    return page.run(CELLS), page.texts("#thresholds li"), script, page.act("exported", "export-csv")
+
+
+def test_the_numbers_of_one_worker(page: Page) -> None:
+    # Catches: a point of another board or in another order, or a threshold of other neighbours, with several workers.
+    open_with(page, 1)
+    one, many = swept(page), workers(page)
+    assert many == 1 and len(one[1]) > 4
+    open_with(page, 4)
+    assert swept(page) == one and workers(page) == 4
+    page.open(None, "Worker")
+    for majority in ["70", "quorum"]:
+        page.click(f"#at-{majority}")
+    assert swept(page) == one and workers(page) == 1
+
+
+def milliseconds(page: Page, value: int) -> float:
+    """The time of a sweep of 200 values at four majorities, which begins at a value that wasn't asked for before."""
+    sweep(page, "1", "base", str(value), str(value + 199_000), "1000", "votes")
+    page.until(lambda: page.run(FIRST) == str(value), "this sweep's table")
+    assert "200 points at 4 majorities were counted" in page.text("#sweep-words")
+    return float(str(page.at("#panel").get_attribute("data-sweep")))
+
+
+def test_several_workers_take_less_time(page: Page, times: list[str]) -> None:
+    # Catches: workers that wait for one another, or a sweep that one of them counts alone.
+    least = {1: math.inf, 4: math.inf}
+    for at in range(ROUNDS):
+        for processors, best in least.items():
+            open_largest(page, processors)
+            least[processors] = min(best, *(milliseconds(page, 1_000 + EACH * at + it) for it in range(EACH)))
+            assert workers(page) == processors
+        if least[4] < AIM * least[1]:
+            break
+    ratio = least[4] / least[1]
+    words = "200 values at 32 chairs, 256 members and 4 majorities"
+    times.append(f"{words}: {least[1]:.0f} ms with one worker, {least[4]:.0f} ms with four, {ratio:.2f} of it")
+    assert ratio < BOUND
