@@ -28,6 +28,9 @@ export function plainCell(cell: string): string {
   return /^[=+\-@\t\r]/.test(cell) && !/^[+-]?[0-9.,]+$/.test(cell) ? `'${cell}` : cell;
 }
 
+/** A cell: a text, a whole number, a fraction, or nothing. */
+export type Cell = string | number | bigint | Ratio | null;
+
 function quoted(cell: string): string {
   const plain = plainCell(cell);
   return /[",#\r\n]/.test(plain) ? `"${plain.replace(/"/g, '""')}"` : plain;
@@ -37,28 +40,37 @@ function fractionsOf(reading: Reading, chair: ChairReading): (Ratio | null)[] {
   return [voteShare(reading, chair), ...MEASURES.map((it) => measureOf(chair, it))];
 }
 
-function fractionCells(ratio: Ratio | null, before: Ratio | null): string[] {
-  const added = difference(ratio, before);
-  const own = ratio ? [String(ratio.numerator), String(ratio.denominator), rounded(ratio, PLACES)] : ["", "", ""];
-  return [...own, added ? rounded(added, PLACES) : ""];
+function cellText(cell: Cell): string {
+  if (typeof cell === "string") return quoted(cell);
+  if (cell === null) return "";
+  return typeof cell === "object" ? rounded(cell, PLACES) : String(cell);
 }
 
-function rowOf(of: Labelled, reading: Reading, chair: ChairReading, base: Readings): string[] {
+function fractionCells(ratio: Ratio | null, before: Ratio | null): Cell[] {
+  return [ratio?.numerator ?? null, ratio?.denominator ?? null, ratio, difference(ratio, before)];
+}
+
+function rowOf(of: Labelled, reading: Reading, chair: ChairReading, base: Readings): Cell[] {
   const earlier = base.get(reading.majority);
   const line = of.standing.isNew(chair.chair) ? undefined : chairIn(earlier, chair.chair);
   const before = earlier && line ? fractionsOf(earlier, line) : [];
   const { chairs, quota, cast, total, winning, coalitions } = reading;
   const board = [chairs.length, quota, cast, total, winning, coalitions];
   const fractions = fractionsOf(reading, chair).flatMap((it, at) => fractionCells(it, before[at] ?? null));
-  const own = [String(chair.chair), of.standing.name(chair.chair), String(chair.weight), String(chair.swings)];
-  return [of.label, of.sweep ?? "", of.percent ?? "", reading.majority, ...board.map(String), ...own, ...fractions];
+  const own = [chair.chair, of.standing.name(chair.chair), chair.weight, chair.swings];
+  return [of.label, of.sweep ?? "", of.percent ?? "", reading.majority, ...board, ...own, ...fractions];
 }
 
-/** The table of registers, of which the first is the base. */
-export function csvOf(all: readonly Labelled[]): string {
+/** The table of registers, of which the first is the base: its headings, and then its rows. */
+export function tableOf(all: readonly Labelled[]): Cell[][] {
   const base: Readings = all[0]?.readings ?? new Map();
   const rows = all.flatMap((it) =>
     [...it.readings.values()].flatMap((reading) => reading.chairs.map((chair) => rowOf(it, reading, chair, base))),
   );
-  return [ALL, ...rows].map((row) => `${row.map(quoted).join(",")}\n`).join("");
+  return [[...ALL], ...rows];
+}
+
+/** That table as CSV. */
+export function csvOf(all: readonly Labelled[]): string {
+  return tableOf(all).map((row) => `${row.map(cellText).join(",")}\n`).join("");
 }

@@ -3,32 +3,24 @@ import { axisTop } from "d3-axis";
 import { scaleLinear, type Linear } from "d3-scale";
 import type { Selection } from "d3-selection";
 import {
-  caption, dot, ended, framed, labelled, labelRoom, legendBar, majorityItems, onAxis, rowGroup, tinted,
-  type Frame, type Look,
+  caption, captionBlock, dot, dotScale, ended, framed, labelled, labelRoom, legendBar, majorityItems, onAxis, rowGroup,
+  TEXT, tinted, type Frame, type Look,
 } from "./charts";
 import { difference } from "./fractions";
+import { hatchPath, hatchWidth } from "./hatches";
 import type { ChairRow } from "./compare";
 import type { PowerModel } from "./powerChart";
 import { MEASURE, type Majority } from "./words";
 
-const [LANE, SPACE] = [12, 8] as const;
-/** Hatches by majority, so that bars can be distinguished without colour: an angle and a distance. */
-const HATCHES: Readonly<Record<Majority, readonly [number, number]>> = {
-  half: [0, 3],
-  "70": [45, 5],
-  "85": [90, 4],
-  quorum: [135, 7],
-};
+/** The heights of a lane, of its bar, and between chairs. */
+interface Heights {
+  readonly lane: number;
+  readonly bar: number;
+  readonly space: number;
+}
 
-function hatches(root: Selection, majorities: readonly Majority[], look: Look): void {
-  const shared = root.append("defs");
-  for (const majority of majorities) {
-    const [angle, size] = HATCHES[majority];
-    const pattern = shared.append("pattern").attr("id", `hatch-${majority}`).attr("patternUnits", "userSpaceOnUse");
-    pattern.attr("width", size).attr("height", size).attr("patternTransform", `rotate(${angle})`);
-    pattern.append("rect").attr("width", size).attr("height", size).attr("fill", look.palette.paper);
-    pattern.append("rect").attr("width", size).attr("height", size / 2).attr("fill", look.palette.of[majority]);
-  }
+function heightsOf({ isTight }: Look): Heights {
+  return isTight ? { lane: 8, bar: 6, space: 5 } : { lane: 12, bar: 8, space: 8 };
 }
 
 /** The gains of a chair: a value for each lane, the votes first if the measure is a share. */
@@ -53,21 +45,20 @@ function gainScale(rows: readonly GainRow[], left: number, right: number): Linea
   return scaleLinear().domain(low === high ? [-1, 1] : [low, high]).range([left, right]).nice(5);
 }
 
-/** Begins the drawing, with its legend and hatches. */
-function begun(target: Element, model: PowerModel, look: Look): Frame {
+/** Begins the drawing, with its legend and the caption of its axis. */
+function begun(target: Element, model: PowerModel, look: Look, left: number): Frame {
   const votes = { words: "votes", draw: (at: Selection) => void legendBar(at).attr("fill", look.palette.bar) };
   const items = [...(model.measure === "share" ? [votes] : []), ...majorityItems(model.majorities)];
   const { label } = MEASURE[model.measure];
   const name = `What is added to ${label} of ${model.rows.length} chairs; the table of this chart has its numbers`;
-  const frame = framed(target, look, items, name);
-  hatches(frame.root, model.majorities, look);
-  return frame;
+  const { root, top } = framed(target, look, items, name);
+  const words = `changed less base, ${model.measure === "share" ? "percentage points" : label}`;
+  const more = captionBlock(root, words, { x: left, y: top + 10, room: look.width - left - 8 }, look);
+  return { root, top: top + more };
 }
 
 /** Draws the axis and the line of no gain. */
-function drawAxis({ root, top }: Frame, model: PowerModel, look: Look, scale: Linear, bottom: number): void {
-  const words = model.measure === "share" ? "percentage points" : MEASURE[model.measure].label;
-  caption(root, `changed less base, ${words}`, scale(scale.domain()[0]), top + 10, look.palette);
+function drawAxis({ root, top }: Frame, look: Look, scale: Linear, bottom: number): void {
   const axis = root.append("g").attr("transform", `translate(0,${top + 32})`);
   axis.call(axisTop(scale).ticks(look.width < 480 ? 4 : 7).tickSizeInner(-(bottom - top - 32)).tickSizeOuter(0));
   tinted(axis, look.palette);
@@ -79,20 +70,22 @@ function drawAxis({ root, top }: Frame, model: PowerModel, look: Look, scale: Li
 export function drawGains(target: Element, model: PowerModel, look: Look): void {
   const { left, head } = labelRoom(model.rows, look);
   const rows = model.rows.map((row) => ({ row, lanes: lanesOf(row, model) }));
-  const height = head + LANE * (rows[0]?.lanes.length ?? 0) + SPACE;
-  const frame = begun(target, model, look);
+  const { lane, space } = heightsOf(look);
+  const height = head + lane * (rows[0]?.lanes.length ?? 0) + space;
+  const frame = begun(target, model, look, left);
   const scale = gainScale(rows, left, look.width - 18);
   const start = frame.top + 36;
   const bottom = start + height * rows.length;
-  drawAxis(frame, model, look, scale, bottom);
+  drawAxis(frame, look, scale, bottom);
   rows.forEach(({ row, lanes }, at) => {
     const group = rowGroup(frame, row, look, start + height * at, height, at % 2 === 1);
     labelled(group, row, look, head, left, height);
-    const inside = group.append("g").attr("transform", `translate(0,${head + SPACE / 2})`);
+    const inside = group.append("g").attr("transform", `translate(0,${head + space / 2})`);
     drawLanes(inside, lanes, scale, look);
     if (lanes.some(([, gain]) => gain !== null)) return;
     const where = row.kind === "closed" ? "not open in the changed board" : "not open in the base";
-    caption(inside, where, scale(0) + 6, LANE, look.palette);
+    const isRoom = scale(0) + 14 + look.typeface.width(where, TEXT) < look.width;
+    caption(inside, where, scale(0) + (isRoom ? 6 : -6), lane + 2, look.palette, isRoom ? "start" : "end");
   });
   ended(frame, look, bottom);
 }
@@ -103,17 +96,21 @@ function drawLanes(
   scale: (value: number) => number,
   look: Look,
 ): void {
+  const { lane: height, bar } = heightsOf(look);
   lanes.forEach(([lane, gain], at) => {
     if (gain === null) return;
     const [from, to] = [Math.min(scale(0), scale(gain)), Math.max(scale(0), scale(gain))];
-    const box = place.append("rect").attr("x", from).attr("width", to - from);
-    box.attr("y", LANE * at + 2).attr("height", LANE - 4);
+    const area = { x: from, y: height * at + (height - bar) / 2, width: to - from, height: bar };
+    const box = place.append("rect").attr("x", from).attr("width", area.width);
+    box.attr("y", area.y).attr("height", area.height);
     if (lane === "votes") box.attr("fill", look.palette.bar);
     else {
-      box.attr("fill", `url(#hatch-${lane})`).attr("stroke", look.palette.of[lane]);
+      box.attr("fill", look.palette.paper).attr("stroke", look.palette.of[lane]);
+      const lines = place.append("path").attr("d", hatchPath(lane, area)).attr("stroke", look.palette.of[lane]);
+      lines.attr("stroke-width", hatchWidth(lane));
       dot(place, lane, false, look.palette).attr(
         "transform",
-        `translate(${scale(gain)},${LANE * at + LANE / 2}) scale(0.8)`,
+        `translate(${scale(gain)},${height * at + height / 2}) scale(${0.8 * dotScale(look)})`,
       );
     }
   });

@@ -3,9 +3,11 @@ import { axisBottom, axisTop } from "d3-axis";
 import { scaleLinear, type Linear } from "d3-scale";
 import type { Selection } from "d3-selection";
 import {
+  caption,
+  captionBlock,
   dot,
+  dotScale,
   ended,
-  fitted,
   framed,
   labelled,
   labelRoom,
@@ -30,7 +32,16 @@ export interface PowerModel {
   readonly isChanged: boolean;
 }
 
-const [VOTES, LANE, SPACE] = [12, 11, 9] as const;
+/** The heights of the bars of votes, of a majority's dots, and between chairs. */
+interface Heights {
+  readonly votes: number;
+  readonly lane: number;
+  readonly space: number;
+}
+
+function heightsOf({ isTight }: Look): Heights {
+  return isTight ? { votes: 9, lane: 8, space: 4 } : { votes: 12, lane: 11, space: 9 };
+}
 
 function place(ratio: Ratio | null, measure: Measure): number | null {
   return ratio && onAxis(ratio, measure);
@@ -69,16 +80,20 @@ function legend({ majorities, isChanged }: PowerModel): LegendItem[] {
   return [bar("votes, base", true), bar("votes, changed", false), ...dots, hollow];
 }
 
+/** Begins the drawing, with its legend and the caption of the axis above. */
+function begun(place: Element, model: PowerModel, look: Look, left: number): Frame {
+  const { label } = MEASURE[model.measure];
+  const name = `${label} of ${model.rows.length} chairs; the table of this chart has its numbers`;
+  const { root, top } = framed(place, look, legend(model), name);
+  const shares = "per cent: votes of the votes cast, power of all swings";
+  const words = model.measure === "share" ? shares : label;
+  const more = captionBlock(root, words, { x: left, y: top + 10, room: look.width - left - 8 }, look);
+  return { root, top: top + more };
+}
+
 function axes(frame: Frame, look: Look, model: PowerModel, { votes, power }: Scales, bottom: number): number {
   const { root, top } = frame;
   const count = look.width < 480 ? 4 : 7;
-  const [left, right] = [votes(votes.domain()[0]), votes(votes.domain()[1])];
-  const shares = "per cent: votes of the votes cast, power of all swings";
-  const words = model.measure === "share" ? shares : MEASURE[model.measure].label;
-  const title = (text: string, y: number) =>
-    root.append("text").attr("x", left).attr("y", y).attr("fill", look.palette.faint).attr("font-size", 11)
-      .text(fitted(text, right - left + 20));
-  title(words, top + 10);
   const above = root.append("g").attr("transform", `translate(0,${top + 32})`);
   above.call(axisTop(power).ticks(count).tickSizeInner(-(bottom - top - 32)).tickSizeOuter(0));
   tinted(above, look.palette);
@@ -86,26 +101,27 @@ function axes(frame: Frame, look: Look, model: PowerModel, { votes, power }: Sca
   const below = root.append("g").attr("transform", `translate(0,${bottom})`);
   below.call(axisBottom(votes).ticks(count).tickSizeOuter(0));
   tinted(below, look.palette);
-  title("share of the votes cast, per cent", bottom + 32);
+  caption(root, "share of the votes cast, per cent", votes(votes.domain()[0]), bottom + 32, look.palette);
   return bottom + 36;
 }
 
 function drawVotes(at: Selection, row: ChairRow, { votes }: Scales, look: Look, isChanged: boolean): void {
   const { bar, paper } = look.palette;
-  const start = votes(0);
+  const [start, height] = [votes(0), heightsOf(look).votes];
   const rect = (share: Ratio | null, y: number, height: number, fill: string) => {
     const end = place(share, "share");
     if (end === null) return;
     const box = at.append("rect").attr("x", start).attr("y", y).attr("width", Math.max(0, votes(end) - start));
     box.attr("height", height).attr("fill", fill).attr("stroke", bar);
   };
-  rect(row.votesBefore, 1, VOTES - 3, paper);
-  if (isChanged) rect(row.votesAfter, 3, VOTES - 7, bar);
+  rect(row.votesBefore, 1, height - 3, paper);
+  if (isChanged) rect(row.votesAfter, 3, height - 7, bar);
 }
 
 function drawDots(at: Selection, row: ChairRow, { power }: Scales, look: Look, model: PowerModel): void {
+  const { votes, lane: height } = heightsOf(look);
   model.majorities.forEach((majority, lane) => {
-    const y = VOTES + LANE * lane + LANE / 2;
+    const y = votes + height * lane + height / 2;
     const found = row.at.get(majority);
     const [before, after] = [value(found?.before, model.measure), value(found?.after, model.measure)];
     if (model.isChanged && before !== null && after !== null) {
@@ -113,7 +129,9 @@ function drawDots(at: Selection, row: ChairRow, { power }: Scales, look: Look, m
       line.attr("stroke", look.palette.of[majority]).attr("stroke-width", 2);
     }
     const put = (x: number | null, isHollow: boolean) => {
-      if (x !== null) dot(at, majority, isHollow, look.palette).attr("transform", `translate(${power(x)},${y})`);
+      if (x === null) return;
+      const place = `translate(${power(x)},${y}) scale(${dotScale(look)})`;
+      dot(at, majority, isHollow, look.palette).attr("transform", place);
     };
     if (model.isChanged) put(before, true);
     put(after, false);
@@ -123,17 +141,16 @@ function drawDots(at: Selection, row: ChairRow, { power }: Scales, look: Look, m
 /** Draws the chart into a place. Each row has a group with the chair's number in `data-chair`. */
 export function drawPower(place: Element, model: PowerModel, look: Look): void {
   const { left, head } = labelRoom(model.rows, look);
-  const height = head + VOTES + LANE * model.majorities.length + SPACE;
-  const { label } = MEASURE[model.measure];
-  const name = `${label} of ${model.rows.length} chairs; the table of this chart has its numbers`;
-  const frame = framed(place, look, legend(model), name);
+  const { votes, lane, space } = heightsOf(look);
+  const height = head + votes + lane * model.majorities.length + space;
+  const frame = begun(place, model, look, left);
   const scale = scales(model, left, look.width - 18);
   const start = frame.top + 36;
   const bottom = axes(frame, look, model, scale, start + height * model.rows.length);
   model.rows.forEach((row, at) => {
     const group = rowGroup(frame, row, look, start + height * at, height, at % 2 === 1);
     labelled(group, row, look, head, left, height);
-    const inside = group.append("g").attr("transform", `translate(0,${head + SPACE / 2})`);
+    const inside = group.append("g").attr("transform", `translate(0,${head + space / 2})`);
     drawVotes(inside, row, scale, look, model.isChanged);
     drawDots(inside, row, scale, look, model);
   });

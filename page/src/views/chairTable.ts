@@ -50,7 +50,7 @@ function votesCells(row: ChairRow, digits: number): Cell[] {
 }
 
 /** All cells of a row after its number and name. */
-function cellsOf(row: ChairRow, { measure, digits }: View): Cell[] {
+export function cellsOf(row: ChairRow, { measure, digits }: View): Cell[] {
   const powers = [...row.at.values()].flatMap(({ before, after, gain }) => [
     countedCell(before, measure, digits),
     countedCell(after, measure, digits),
@@ -68,7 +68,7 @@ interface Head {
 const counted = (words: string): Head => ({ words, mark: "counted" });
 const madeHere = (words: string): Head => ({ words, mark: "made here" });
 
-function headsOf({ majorities, measure }: View): Head[] {
+export function headsOf({ majorities, measure }: View): Head[] {
   const unit = measure === "share" ? ", points" : "";
   const powers = majorities.flatMap((it) => {
     const words = `${MEASURE[measure].label}, ${MAJORITY[it].label}`;
@@ -110,7 +110,7 @@ export function rowWords(row: ChairRow, view: View): Child[] {
   return [h("strong", {}, `${row.chair} ${isolated(row.name)}`), h("ul", {}, items)];
 }
 
-const KIND_WORDS: Readonly<Record<ChairRow["kind"], string>> = { kept: "", opened: " (new)", closed: " (closed)" };
+export const KIND_WORDS: Readonly<Record<ChairRow["kind"], string>> = { kept: "", opened: " (new)", closed: " (closed)" };
 
 /** The table's element. */
 export function chairTable(app: App, rows: readonly ChairRow[]): HTMLElement {

@@ -1,13 +1,14 @@
 /** The figures in the middle: the choices above them, the sentences, and the chart or table of the tab. */
 import type { App } from "../app";
 import type { Look } from "../charts";
-import { chairRows, sentences, type ChairRow } from "../compare";
+import { chairRows, type ChairRow } from "../compare";
 import { byId, choice, h, paint } from "../dom";
 import { powerModel, screenLook } from "../look";
 import { drawGains } from "../gainChart";
 import { drawPower, type PowerModel } from "../powerChart";
 import { chairTable, rowWords } from "./chairTable";
 import { paintCurve } from "./curve";
+import { paintSentences } from "./sentences";
 import { ORDERS, TABS, type Order, type Tab } from "../study";
 import { MAJORITIES, MAJORITY, MEASURE, MEASURES, type Majority, type Measure } from "../words";
 
@@ -152,6 +153,6 @@ export function paintFigures(app: App): void {
   paintChoices(app);
   paintTabs(app);
   const rows = chairRows(shown.counted, view);
-  paint(byId("sentences"), sentences(rows, shown.counted, view).map((it) => h("p", { title: it.source }, it.words)));
+  paintSentences(app, rows);
   TAB[view.tab].draw(app, rows);
 }
