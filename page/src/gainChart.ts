@@ -107,7 +107,7 @@ function drawLanes(
     else {
       box.attr("fill", look.palette.paper).attr("stroke", look.palette.of[lane]);
       const lines = place.append("path").attr("d", hatchPath(lane, area)).attr("stroke", look.palette.of[lane]);
-      lines.attr("stroke-width", hatchWidth(lane));
+      lines.attr("stroke-width", hatchWidth(lane)).attr("fill", "none");
       dot(place, lane, false, look.palette).attr(
         "transform",
         `translate(${scale(gain)},${height * at + height / 2}) scale(${0.8 * dotScale(look)})`,

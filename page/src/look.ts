@@ -17,7 +17,8 @@ function chartWidth(place: HTMLElement): number {
 /** The look of charts on the screen; paper is light. */
 export function screenLook(app: App, place: HTMLElement): Look {
   const isDark = matchMedia("(prefers-color-scheme: dark)").matches && !app.open.isPrinting;
-  return { width: chartWidth(place), palette: isDark ? DARK : LIGHT, title: "", source: [], typeface: SCREEN, isTight: false };
+  const palette = isDark ? DARK : LIGHT;
+  return { width: chartWidth(place), palette, title: "", source: [], typeface: SCREEN, isTight: false };
 }
 
 /** The data of the charts of chairs. */

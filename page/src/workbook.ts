@@ -78,20 +78,23 @@ function sheetOf({ rows, widths }: Sheet): string {
 /** The parts of a workbook by their paths. */
 function partsOf(sheets: readonly Sheet[]): Record<string, string> {
   const numbers = sheets.map((_, at) => at + 1);
-  const part = (path: string, kind: string) => `<Override PartName="/xl/${path}.xml" ContentType="${KIND}.${kind}+xml"/>`;
+  const part = (path: string, kind: string) =>
+    `<Override PartName="/xl/${path}.xml" ContentType="${KIND}.${kind}+xml"/>`;
   const types = [part("workbook", "sheet.main"), part("styles", "styles"),
     ...numbers.map((it) => part(`worksheets/sheet${it}`, "worksheet"))];
   const relation = (id: number, kind: string, target: string) =>
     `<Relationship Id="rId${id}" Type="${OFFICE}/${kind}" Target="${target}"/>`;
   const relations = [...numbers.map((it) => relation(it, "worksheet", `worksheets/sheet${it}.xml`)),
     relation(sheets.length + 1, "styles", "styles.xml")];
-  const names = sheets.map(({ name }, at) => `<sheet name="${escaped(name)}" sheetId="${at + 1}" r:id="rId${at + 1}"/>`);
+  const names = sheets.map(({ name }, at) =>
+    `<sheet name="${escaped(name)}" sheetId="${at + 1}" r:id="rId${at + 1}"/>`);
   const open = `<Relationships xmlns="${PACKAGE}/relationships">`;
   return {
     "[Content_Types].xml": `${XML}<Types xmlns="${PACKAGE}/content-types"><Default Extension="rels" ContentType="` +
       `application/vnd.openxmlformats-package.relationships+xml"/>${types.join("")}</Types>`,
     "_rels/.rels": `${XML}${open}${relation(1, "officeDocument", "xl/workbook.xml")}</Relationships>`,
-    "xl/workbook.xml": `${XML}<workbook xmlns="${MAIN}" xmlns:r="${OFFICE}"><sheets>${names.join("")}</sheets></workbook>`,
+    "xl/workbook.xml":
+      `${XML}<workbook xmlns="${MAIN}" xmlns:r="${OFFICE}"><sheets>${names.join("")}</sheets></workbook>`,
     "xl/_rels/workbook.xml.rels": `${XML}${open}${relations.join("")}</Relationships>`,
     "xl/styles.xml": STYLES,
     ...Object.fromEntries(sheets.map((it, at) => [`xl/worksheets/sheet${at + 1}.xml`, sheetOf(it)])),

@@ -1,4 +1,4 @@
-"""What is taken from the page into a text: tables for LaTeX and Excel, sentences, the citation, by key and by finger."""
+"""What goes from the page into a paper: tables for LaTeX and Excel, sentences, the citation; by key and by finger."""
 from __future__ import annotations
 
 import csv
@@ -51,7 +51,7 @@ def named(page: Page, names: list[str]) -> None:
     """Opens a table with a chair for each name."""
     rows = [["code", "name", "votes", "chair", "chair_name"]]
     for at, name in enumerate(names, 1):
-        rows.append([f"A{chr(64 + (at - 1) // 26 + 1)}{chr(65 + (at - 1) % 26)}", f"M{at}", str(50 + at), str(at), name])
+        rows.append([f"A{chr(64 + at)}A", f"M{at}", str(50 + at), str(at), name])
     text = io.StringIO()
     csv.writer(text).writerows(rows)
     opened(page, text.getvalue())
@@ -387,9 +387,10 @@ def test_a_finger(page: Page, finger: Finger, oracle: Oracle) -> None:
     tap(finger, "#export")
     for group in ["figure", "table", "sentences", "study", "citation"]:
         tap(finger, f"#to-group-{group}")
-        top = page.run("return document.getElementById(arguments[0]).getBoundingClientRect().top;", f"group-{group}-title")
+        title = f"group-{group}-title"
+        top = page.run("return document.getElementById(arguments[0]).getBoundingClientRect().top;", title)
         assert 0 < top < 844, f"{group} is at {top}"
-        assert page.run("return document.activeElement.id;") == f"group-{group}-title"
+        assert page.run("return document.activeElement.id;") == title
     wide = """return [...document.querySelectorAll("#export-dialog *")].filter(
       (it) => it.getBoundingClientRect().right > innerWidth || (!it.closest("svg") && it.scrollWidth > innerWidth))
       .map((it) => it.outerHTML);"""

@@ -10,10 +10,10 @@ WORDS = {
 }
 # What stands for one character, for a sign, or for itself; a bare special character is none of these.
 TOKEN = re.compile(
-    r"\\symbol\{34\}|\\(?P<word>text[a-z]+)\{\}|\\(?P<mark>[&%$#_{}])|\$(?P<sign>[+-])\$|(?P<plain>[^\\&%$#_{}~^<>|`\"])",
+    r"\\symbol\{34\}|\\(?P<word>text[a-z]+)\{\}|\\(?P<mark>[&%$#_{}])|\$(?P<sign>[+-])\$|"
+    r"(?P<plain>[^\\&%$#_{}~^<>|`\"])",
     re.DOTALL,
 )
-ROW = re.compile(r"(?<!\\)(?:\\\\)*?\\\\\n")
 RULES = re.compile(r"\\(?:toprule|midrule|bottomrule)\n|(?:\\cmidrule\(lr\)\{\d+-\d+\})+\n")
 
 

@@ -110,7 +110,9 @@ export function rowWords(row: ChairRow, view: View): Child[] {
   return [h("strong", {}, `${row.chair} ${isolated(row.name)}`), h("ul", {}, items)];
 }
 
-export const KIND_WORDS: Readonly<Record<ChairRow["kind"], string>> = { kept: "", opened: " (new)", closed: " (closed)" };
+export const KIND_WORDS: Readonly<Record<ChairRow["kind"], string>> = {
+  kept: "", opened: " (new)", closed: " (closed)",
+};
 
 /** The table's element. */
 export function chairTable(app: App, rows: readonly ChairRow[]): HTMLElement {

@@ -81,7 +81,7 @@ function tableGroup(app: App, make: Exporter): Child {
       make("LaTeX", "export-tex", saved("tex", tex)),
       make("Copy LaTeX", "export-tex-copy", () => copyShown(app, texText)),
     ),
-    h("p", { class: "note" }, "All numbers of the base, the changes, the scenarios and the sweep, with exact fractions:"),
+    h("p", { class: "note" }, "All numbers of base, changes, scenarios and sweep, with exact fractions:"),
     row(
       make("Excel", "export-xlsx", saved("xlsx", workbookFile)),
       make("CSV with the columns of board_study", "export-csv", saved("csv", csvFile)),
