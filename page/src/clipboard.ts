@@ -17,6 +17,8 @@ function copySelected(text: string): void {
  * once. */
 export async function copy(text: Promise<string>): Promise<void> {
   const blob = text.then((it) => new Blob([it], { type: "text/plain" }));
+  // Whoever copies hears of a text that doesn't come from the text itself.
+  blob.catch(() => {});
   const ways: readonly (() => Promise<void>)[] = [
     () => navigator.clipboard.write([new ClipboardItem({ "text/plain": blob })]),
     async () => navigator.clipboard.writeText(await text),

@@ -82,12 +82,16 @@ export function drawGains(target: Element, model: PowerModel, look: Look): void 
     labelled(group, row, look, head, left, height);
     const inside = group.append("g").attr("transform", `translate(0,${head + space / 2})`);
     drawLanes(inside, lanes, scale, look);
-    if (lanes.some(([, gain]) => gain !== null)) return;
-    const where = row.kind === "closed" ? "not open in the changed board" : "not open in the base";
-    const isRoom = scale(0) + 14 + look.typeface.width(where, TEXT) < look.width;
-    caption(inside, where, scale(0) + (isRoom ? 6 : -6), lane + 2, look.palette, isRoom ? "start" : "end");
+    if (lanes.every(([, gain]) => gain === null)) writeWhy(inside, row, scale(0), lane + 2, look);
   });
   ended(frame, look, bottom);
+}
+
+/** Writes why a chair has no gain: in a word if there is little room to the right of the line. */
+function writeWhy(place: Selection, { kind }: ChairRow, zero: number, y: number, look: Look): void {
+  const words = kind === "closed" ? "not open in the changed board" : "not open in the base";
+  const isRoom = zero + 14 + look.typeface.width(words, TEXT) < look.width;
+  caption(place, isRoom ? words : kind === "closed" ? "closed" : "new", zero + 6, y, look.palette);
 }
 
 function drawLanes(

@@ -83,12 +83,11 @@ function parts(word: string, fits: (text: string) => boolean): string[] {
 /** The lines of a text that fit into a width. A word that is longer is broken. */
 export function wrapped(text: string, room: number, face: Typeface, size: number): string[] {
   const fits = (it: string) => face.width(it, size) <= room;
-  const lines = [""];
+  const lines: string[] = [];
   for (const word of text.split(" ")) {
-    const last = lines[lines.length - 1] ?? "";
-    const longer = last ? `${last} ${word}` : word;
-    if (fits(longer)) lines[lines.length - 1] = longer;
-    else lines.splice(last ? lines.length : 0, 0, ...(fits(word) ? [word] : parts(word, fits)));
+    const last = lines[lines.length - 1];
+    if (last !== undefined && fits(`${last} ${word}`)) lines[lines.length - 1] = `${last} ${word}`;
+    else lines.push(...(fits(word) ? [word] : parts(word, fits)));
   }
   return lines.filter((it) => it !== "");
 }

@@ -22,6 +22,9 @@ const BLOB = `${KIND}.sheet`;
 /** The same file at every time. */
 const DATE = new Date(Date.UTC(2000, 0, 1));
 
+/** The most rows of a sheet, and the most characters of a cell, that spreadsheets read. */
+const [MOST_ROWS, MOST_CHARACTERS] = [2 ** 20, 32_767];
+
 const HEAD_STYLE = 1;
 /** The format of texts, in which a text that is typed again stays one, too. */
 const TEXT_STYLE = 2;
@@ -101,8 +104,20 @@ function partsOf(sheets: readonly Sheet[]): Record<string, string> {
   };
 }
 
+/** Throws a sentence if a spreadsheet wouldn't read all of a sheet. */
+function checkSize({ name, rows }: Sheet): void {
+  const most = "so no workbook was made: export CSV and the script";
+  if (rows.length > MOST_ROWS) {
+    throw new Error(`The sheet ${name} would have ${rows.length} rows of at most ${MOST_ROWS}, ${most}.`);
+  }
+  if (rows.some((row) => row.some((cell) => typeof cell === "string" && cell.length > MOST_CHARACTERS))) {
+    throw new Error(`A cell of the sheet ${name} would have more than ${MOST_CHARACTERS} characters, ${most}.`);
+  }
+}
+
 /** The file of a workbook. */
-export function workbookOf(sheets: readonly Sheet[]): Promise<Blob> {
+export async function workbookOf(sheets: readonly Sheet[]): Promise<Blob> {
+  sheets.forEach(checkSize);
   const zip = new JSZip();
   for (const [path, text] of Object.entries(partsOf(sheets))) zip.file(path, text, { date: DATE });
   return zip.generateAsync({ type: "blob", compression: "DEFLATE", mimeType: BLOB });

@@ -104,9 +104,13 @@ function studyGroup(app: App, make: Exporter): Child {
   ];
 }
 
+const CITATION_WORDS =
+  "The version with its date, and the hash of the script that gives the numbers. Figures, tables in files and in " +
+  "LaTeX, sentences and the saved study have version and hash in them, too.";
+
 function citationGroup(app: App): Child {
   return [
-    h("p", { class: "note" }, "Every export has the version and the hash of the script that gives its numbers."),
+    h("p", { class: "note" }, CITATION_WORDS),
     row(button("How to cite…", () => openCitation(app), { id: "export-cite" })),
   ];
 }

@@ -44,6 +44,8 @@ export function figureGroup(app: App, shown: Shown, make: Exporter): Child {
   };
   const redraw = () => {
     const choice = form.read(false);
+    paint(preview);
+    words.textContent = "";
     if (choice) drawing.then((draw) => show(draw(choice)), (why: unknown) => (words.textContent = String(why)));
   };
   const form = figureForm(redraw);
