@@ -3,6 +3,7 @@ import { select, type Selection } from "d3-selection";
 import { symbol, symbolCircle, symbolDiamond, symbolSquare, symbolTriangle, type SymbolType } from "d3-shape";
 import { drawn, type Ratio } from "./fractions";
 import { isolated } from "./names";
+import { fitted, wrapped, type Typeface } from "./typeface";
 import { MAJORITIES, MAJORITY, type Majority, type Measure } from "./words";
 
 export interface Palette {
@@ -41,6 +42,9 @@ export interface Look {
   readonly palette: Palette;
   readonly title: string;
   readonly source: readonly string[];
+  readonly typeface: Typeface;
+  /** Whether rows are close together, as on paper. */
+  readonly isTight: boolean;
 }
 
 const SHAPES: Readonly<Record<Majority, SymbolType>> = {
@@ -55,19 +59,15 @@ export function onAxis(ratio: Ratio, measure: Measure): number {
   return (measure === "share" ? 100 : 1) * drawn(ratio);
 }
 
-/** Room for a letter, at the size of the charts' text. */
+/** The size of the charts' text, and of their titles, captions and source lines. */
 export const TEXT = 12;
-const LETTER = 6.6;
+const [TITLE, CAPTION, SOURCE] = [15, 11, 10] as const;
+const LINE = 14;
+/** The part of a figure's width on paper that its names may take. */
+const MOST_LABEL = 0.4;
 
 /** The paths of the majorities' dots, each made once. */
 const PATHS = new Map(MAJORITIES.map((it) => [it, symbol().type(SHAPES[it]).size(44)()]));
-
-/** A text that fits into a width. */
-export function fitted(text: string, width: number): string {
-  const most = Math.max(3, Math.floor(width / LETTER));
-  const letters = [...text];
-  return letters.length <= most ? text : `${letters.slice(0, most - 1).join("")}…`;
-}
 
 /** A drawing: its root, and the height that is used so far. */
 export interface Frame {
@@ -78,6 +78,11 @@ export interface Frame {
 export interface LegendItem {
   readonly words: string;
   draw(place: Selection, palette: Palette): void;
+}
+
+/** The size of dots beside that of the legend's. */
+export function dotScale({ isTight }: Look): number {
+  return isTight ? 0.8 : 1;
 }
 
 /** A dot of a majority, hollow for the base. */
@@ -105,20 +110,20 @@ export function majorityItems(majorities: readonly Majority[]): LegendItem[] {
 
 /** Begins a drawing: title, then the legend in as many lines as it takes. */
 export function framed(place: Element, look: Look, items: readonly LegendItem[], name: string): Frame {
-  const { width, palette } = look;
+  const { width, palette, typeface } = look;
   const root = select(place).append("svg").attr("xmlns", "http://www.w3.org/2000/svg");
-  root.attr("font-family", "system-ui, sans-serif").attr("font-size", TEXT).attr("width", width);
+  root.attr("font-family", typeface.family).attr("font-size", TEXT).attr("width", width);
   root.attr("role", "img").attr("aria-label", name);
   root.append("rect").attr("width", "100%").attr("height", "100%").attr("fill", palette.paper);
-  let top = 6;
-  if (look.title) {
-    const title = fitted(look.title, (width - 16) * 0.8);
-    root.append("text").attr("x", 8).attr("y", 20).attr("fill", palette.ink).attr("font-size", 15).text(title);
-    top = 32;
-  }
+  const titles = look.title ? wrapped(look.title, width - 16, typeface, TITLE) : [];
+  titles.forEach((title, at) => {
+    const text = root.append("text").attr("x", 8).attr("y", 20 + 18 * at).attr("fill", palette.ink);
+    text.attr("font-size", TITLE).text(title);
+  });
+  let top = titles.length ? 14 + 18 * titles.length : 6;
   let left = 8;
   for (const item of items) {
-    const room = 26 + item.words.length * LETTER;
+    const room = 26 + typeface.width(item.words, TEXT);
     if (left > 8 && left + room > width) [left, top] = [8, top + 18];
     const at = root.append("g").attr("transform", `translate(${left + 7},${top + 9})`);
     item.draw(at, palette);
@@ -131,15 +136,14 @@ export function framed(place: Element, look: Look, items: readonly LegendItem[],
 /** Ends a drawing: the source lines, and the height. */
 export function ended({ root }: Frame, look: Look, bottom: number): void {
   let height = bottom + 6;
-  for (const line of look.source) {
+  for (const line of look.source.flatMap((it) => wrapped(it, look.width - 16, look.typeface, SOURCE))) {
     height += 14;
-    const words = fitted(line, (look.width - 16) * 1.2);
-    root.append("text").attr("x", 8).attr("y", height).attr(
-      "fill",
-      look.palette.faint,
-    ).attr("font-size", 10).text(words);
+    const text = root.append("text").attr("x", 8).attr("y", height).attr("fill", look.palette.faint);
+    text.attr("font-size", SOURCE).text(line);
   }
   height += 6;
+  // The axes of d3 name another typeface.
+  root.selectAll("g").attr("font-family", null);
   root.attr("height", height).attr("viewBox", `0 0 ${look.width} ${height}`);
 }
 
@@ -153,10 +157,10 @@ export interface Panels {
 
 const [LEAST_PANEL, BETWEEN, EDGE] = [96, 14, 18] as const;
 
-/** Panels beside each other to the right of the names. */
-export function panelsOf(count: number, left: number, width: number): Panels {
+/** Panels beside each other to the right of the names. On paper they are as narrow as the figure's width asks for. */
+export function panelsOf(count: number, left: number, { width, isTight }: Look): Panels {
   const room = (width - left - EDGE - BETWEEN * (count - 1)) / count;
-  const each = count > 1 ? Math.max(LEAST_PANEL, room) : room;
+  const each = Math.max(count === 1 || isTight ? 1 : LEAST_PANEL, room);
   const places = Array.from({ length: count }, (_, at) => {
     const start = left + at * (each + BETWEEN);
     return [start, start + each] as const;
@@ -168,28 +172,29 @@ export function panelsOf(count: number, left: number, width: number): Panels {
 /** The ticks of an axis that fit into a panel. */
 export function ticksOf({ places: [first] }: Panels): number {
   const width = first ? first[1] - first[0] : 0;
-  return width < 160 ? 2 : width < 400 ? 4 : 7;
+  return width < 70 ? 1 : width < 160 ? 2 : width < 400 ? 4 : 7;
 }
 
 /** Writes what is drawn, and a panel's name above each; returns where the axes are. */
 export function headed(frame: Frame, names: readonly string[], panels: Panels, look: Look, words: string): number {
   const { root, top } = frame;
-  const [[left, right] = [0, 0]] = panels.places;
+  const [[left] = [0, 0]] = panels.places;
   if (panels.isWide) root.attr("class", "wide");
-  const room = names.length > 1 ? panels.width - left : right - left + 20;
-  caption(root, fitted(words, room), left, top + 10, look.palette);
-  if (!names.some((it) => it)) return top + 32;
+  const axes = top + 32 + captionBlock(root, words, { x: left, y: top + 10, room: look.width - left - 8 }, look);
+  if (!names.some((it) => it)) return axes;
   names.forEach((name, at) => {
     const [start, end] = panels.places[at] ?? [0, 0];
-    const text = root.append("text").attr("x", start).attr("y", top + 28).attr("fill", look.palette.ink);
-    text.text(isolated(fitted(name, end - start + BETWEEN - 4))).append("title").text(isolated(name));
+    const text = root.append("text").attr("x", start).attr("y", axes - 4).attr("fill", look.palette.ink);
+    const words = fitted(name, end - start + BETWEEN - 4, look.typeface, TEXT);
+    text.text(isolated(words)).append("title").text(isolated(name));
   });
-  return top + 52;
+  return axes + 20;
 }
 
 /** Where rows begin: names are to the left of them, or above them if there is little room. */
-export function labelRoom(rows: readonly Named[], { width }: Look): { left: number; head: number } {
-  const longest = Math.max(0, ...rows.map((row) => nameOf(row).length)) * LETTER + 18;
+export function labelRoom(rows: readonly Named[], { width, typeface, isTight }: Look): { left: number; head: number } {
+  const longest = Math.max(0, ...rows.map((row) => typeface.width(nameOf(row), TEXT))) + 18;
+  if (isTight) return longest > width * MOST_LABEL ? { left: 10, head: 15 } : { left: Math.max(30, longest), head: 0 };
   return width < 480 || longest > width / 2 ? { left: 10, head: 17 } : {
     left: Math.max(60, Math.min(longest, width / 3)),
     head: 0,
@@ -223,8 +228,8 @@ export function rowGroup(
 /** Writes a row's name. */
 export function labelled(group: Selection, row: Named, look: Look, head: number, left: number, height: number): void {
   const label = group.append("text").attr("fill", look.palette.ink);
-  const room = (head ? look.width - 20 : left - 10) - LETTER * `${row.chair} `.length;
-  label.text(`${row.chair} ${isolated(fitted(row.name, room))}`);
+  const room = (head ? look.width - 20 : left - 10) - look.typeface.width(`${row.chair} `, TEXT);
+  label.text(`${row.chair} ${isolated(fitted(row.name, room, look.typeface, TEXT))}`);
   if (head) label.attr("x", 8).attr("y", 13);
   else label.attr("x", left - 10).attr("y", height / 2 + 4).attr("text-anchor", "end");
 }
@@ -239,12 +244,28 @@ export function caption(
   anchor = "start",
 ): void {
   const text = root.append("text").attr("x", x).attr("y", y).attr("text-anchor", anchor);
-  text.attr("fill", palette.faint).attr("font-size", 11).text(words);
+  text.attr("fill", palette.faint).attr("font-size", CAPTION).text(words);
+}
+
+/** Where the caption of an axis is written, and the width that it has. */
+interface CaptionPlace {
+  readonly x: number;
+  readonly y: number;
+  readonly room: number;
+  readonly anchor?: string;
+}
+
+/** Writes the caption of an axis in as many lines as it takes. Returns the height of the lines after the first. */
+export function captionBlock(root: Selection, words: string, place: CaptionPlace, look: Look): number {
+  const { x, y, room, anchor } = place;
+  const lines = wrapped(words, room, look.typeface, CAPTION);
+  lines.forEach((line, at) => caption(root, line, x, y + LINE * at, look.palette, anchor));
+  return LINE * (lines.length - 1);
 }
 
 /** Colours of an axis, whose lines and texts d3 draws. */
 export function tinted(axis: Selection, { faint, rule }: Palette): void {
-  axis.selectAll("text").attr("fill", faint).attr("font-size", 11);
+  axis.selectAll("text").attr("fill", faint).attr("font-size", CAPTION);
   axis.selectAll("line").attr("stroke", rule);
   axis.selectAll("path").attr("stroke", rule);
 }

@@ -35,6 +35,9 @@ export function plainCell(cell: string): string {
   return /^[=+\-@\t\r]/.test(cell) && !/^[+-]?[0-9.,]+$/.test(cell) ? `'${cell}` : cell;
 }
 
+/** A cell: a text, a whole number, a fraction, or nothing. */
+export type Cell = string | number | bigint | Ratio | null;
+
 function quoted(cell: string): string {
   const plain = plainCell(cell);
   return /[",#\r\n]/.test(plain) ? `"${plain.replace(/"/g, '""')}"` : plain;
@@ -44,14 +47,14 @@ function fractionsOf(reading: Reading, chair: ChairReading): (Ratio | null)[] {
   return [voteShare(reading, chair), ...MEASURES.map((it) => measureOf(chair, it))];
 }
 
-function fractionCells(ratio: Ratio | null, before: Ratio | null): string[] {
-  const own = ratio ? [String(ratio.numerator), String(ratio.denominator), rounded(ratio, PLACES)] : ["", "", ""];
-  return [...own, differenceCell(ratio, before)];
+function cellText(cell: Cell): string {
+  if (typeof cell === "string") return quoted(cell);
+  if (cell === null) return "";
+  return typeof cell === "object" ? rounded(cell, PLACES) : String(cell);
 }
 
-function differenceCell(ratio: Ratio | null, before: Ratio | null): string {
-  const added = difference(ratio, before);
-  return added ? rounded(added, PLACES) : "";
+function fractionCells(ratio: Ratio | null, before: Ratio | null): Cell[] {
+  return [ratio?.numerator ?? null, ratio?.denominator ?? null, ratio, difference(ratio, before)];
 }
 
 /** The fractions of a chair in another register; there are none if it isn't open there. */
@@ -61,22 +64,21 @@ function fractionsIn(other: Compared, of: Labelled, majority: Majority, chair: n
   return reading && line ? fractionsOf(reading, line) : [];
 }
 
-function rowOf(of: Labelled, reading: Reading, chair: ChairReading, base: Compared, hasPrevious: boolean): string[] {
+function rowOf(of: Labelled, reading: Reading, chair: ChairReading, base: Compared, hasPrevious: boolean): Cell[] {
   const values = fractionsOf(reading, chair);
   const earlier = fractionsIn(base, of, reading.majority, chair.chair);
   const { chairs, quota, cast, total, winning, coalitions } = reading;
   const board = [chairs.length, quota, cast, total, winning, coalitions];
   const fractions = values.flatMap((it, at) => fractionCells(it, earlier[at] ?? null));
-  const own = [String(chair.chair), of.standing.name(chair.chair), String(chair.weight), String(chair.swings)];
-  const first = [of.label, of.sweep ?? "", of.percent ?? "", reading.majority, ...board.map(String), ...own];
-  if (!hasPrevious) return [...first, ...fractions];
+  const own = [chair.chair, of.standing.name(chair.chair), chair.weight, chair.swings];
+  const first = [of.label, of.sweep ?? "", of.percent ?? "", reading.majority, ...board, ...own, ...fractions];
+  if (!hasPrevious) return first;
   const before = of.previous ? fractionsIn(of.previous, of, reading.majority, chair.chair) : [];
-  const added = values.map((it, at) => differenceCell(it, before[at] ?? null));
-  return [...first, ...fractions, of.previous?.label ?? "", ...added];
+  return [...first, of.previous?.label ?? "", ...values.map((it, at) => difference(it, before[at] ?? null))];
 }
 
-/** The table of registers, of which the first is the base. */
-export function csvOf(all: readonly Labelled[]): string {
+/** The table of registers, of which the first is the base: its headings, and then its rows. */
+export function tableOf(all: readonly Labelled[]): Cell[][] {
   const [base] = all;
   const hasPrevious = all.some((it) => it.previous);
   const rows = base ? all.flatMap((it) =>
@@ -84,6 +86,10 @@ export function csvOf(all: readonly Labelled[]): string {
       reading.chairs.map((chair) => rowOf(it, reading, chair, base, hasPrevious)),
     ),
   ) : [];
-  const heads = hasPrevious ? [...ALL, ...PREVIOUS] : ALL;
-  return [heads, ...rows].map((row) => `${row.map(quoted).join(",")}\n`).join("");
+  return [hasPrevious ? [...ALL, ...PREVIOUS] : [...ALL], ...rows];
+}
+
+/** That table as CSV. */
+export function csvOf(all: readonly Labelled[]): string {
+  return tableOf(all).map((row) => `${row.map(cellText).join(",")}\n`).join("");
 }

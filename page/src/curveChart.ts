@@ -2,7 +2,9 @@
 import { axisBottom, axisLeft, axisRight } from "d3-axis";
 import { scaleLinear, type Linear } from "d3-scale";
 import type { Selection } from "d3-selection";
-import { caption, dot, ended, framed, majorityItems, onAxis, tinted, type LegendItem, type Look } from "./charts";
+import {
+  caption, captionBlock, dot, ended, framed, majorityItems, onAxis, tinted, type LegendItem, type Look,
+} from "./charts";
 import type { Ratio } from "./fractions";
 import { chairIn, measureOf, voteShare, type Readings } from "./reading";
 import { MEASURE, type Majority, type Measure } from "./words";
@@ -91,7 +93,14 @@ export function drawCurve(place: Element, model: CurveModel, look: Look): void {
   if (model.hasVotes) drawVotes(plot);
   drawMarks(plot);
   model.majorities.forEach((majority, at) => drawLine(plot, majority, values[at] ?? [], y));
-  ended(frame, look, bottom + 38);
+  ended(frame, look, bottom + 38 + captionBelow(plot));
+}
+
+/** Writes the caption of the lower axis. Returns the height of its lines after the first. */
+function captionBelow({ root, model, look, left, right, bottom }: Plot): number {
+  const x = (left + right) / 2;
+  const room = 2 * Math.min(x, look.width - x) - 16;
+  return captionBlock(root, model.xWords, { x, y: bottom + 34, room, anchor: "middle" }, look);
 }
 
 /** Draws the axes of the plot, and returns the scale of the measure, with a little room around its values. */
@@ -113,7 +122,6 @@ function drawAxes(
   tinted(along, look.palette);
   const words = measure === "share" ? "share of power, per cent" : MEASURE[measure].label;
   caption(root, words, 8, top - 12, look.palette);
-  caption(root, model.xWords, (left + right) / 2, bottom + 34, look.palette, "middle");
   return y;
 }
 

@@ -29,6 +29,13 @@ export function difference(after: Ratio | null, before: Ratio | null): Ratio | n
   return { numerator, denominator: after.denominator * before.denominator };
 }
 
+/** A fraction in lowest terms. */
+export function lowest({ numerator, denominator }: Ratio): Ratio {
+  let [one, other] = [numerator < 0n ? -numerator : numerator, denominator];
+  while (other !== 0n) [one, other] = [other, one % other];
+  return { numerator: numerator / one, denominator: denominator / one };
+}
+
 /** Less than 0, 0 or more: as `left` is less than, equal to or more than `right`. */
 export function compared(left: Ratio, right: Ratio): number {
   const [here, there] = [left.numerator * right.denominator, right.numerator * left.denominator];

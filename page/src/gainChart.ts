@@ -3,33 +3,25 @@ import { axisTop } from "d3-axis";
 import { scaleLinear, type Linear } from "d3-scale";
 import type { Selection } from "d3-selection";
 import {
-  caption, dot, ended, framed, headed, labelled, labelRoom, legendBar, majorityItems, onAxis, panelsOf, rowGroup,
-  ticksOf, tinted, type Frame, type Look, type Panels,
+  caption, dot, dotScale, ended, framed, headed, labelled, labelRoom, legendBar, majorityItems, onAxis, panelsOf,
+  rowGroup, TEXT, ticksOf, tinted, type Frame, type Look, type Panels,
 } from "./charts";
 import type { Line } from "./columns";
 import type { ChairRow } from "./compare";
 import { difference } from "./fractions";
+import { hatchPath, hatchWidth } from "./hatches";
 import type { PowerModel } from "./powerChart";
 import { MEASURE, type Majority } from "./words";
 
-const [LANE, SPACE] = [12, 8] as const;
-/** Hatches by majority, so that bars can be distinguished without colour: an angle and a distance. */
-const HATCHES: Readonly<Record<Majority, readonly [number, number]>> = {
-  half: [0, 3],
-  "70": [45, 5],
-  "85": [90, 4],
-  quorum: [135, 7],
-};
+/** The heights of a lane, of its bar, and between chairs. */
+interface Heights {
+  readonly lane: number;
+  readonly bar: number;
+  readonly space: number;
+}
 
-function hatches(root: Selection, majorities: readonly Majority[], look: Look): void {
-  const shared = root.append("defs");
-  for (const majority of majorities) {
-    const [angle, size] = HATCHES[majority];
-    const pattern = shared.append("pattern").attr("id", `hatch-${majority}`).attr("patternUnits", "userSpaceOnUse");
-    pattern.attr("width", size).attr("height", size).attr("patternTransform", `rotate(${angle})`);
-    pattern.append("rect").attr("width", size).attr("height", size).attr("fill", look.palette.paper);
-    pattern.append("rect").attr("width", size).attr("height", size / 2).attr("fill", look.palette.of[majority]);
-  }
+function heightsOf({ isTight }: Look): Heights {
+  return isTight ? { lane: 8, bar: 6, space: 5 } : { lane: 12, bar: 8, space: 8 };
 }
 
 type Lane = readonly [Majority | "votes", number | null];
@@ -59,15 +51,13 @@ function gainScales(lines: readonly GainLine[], { places }: Panels): Linear[] {
   return places.map(([left, right]) => scaleLinear().domain([from, to]).range([left, right]).nice(5));
 }
 
-/** Begins the drawing, with its legend and hatches. */
+/** Begins the drawing, with its legend. */
 function begun(target: Element, model: PowerModel, look: Look): Frame {
   const votes = { words: "votes", draw: (at: Selection) => void legendBar(at).attr("fill", look.palette.bar) };
   const items = [...(model.measure === "share" ? [votes] : []), ...majorityItems(model.majorities)];
   const { label } = MEASURE[model.measure];
   const name = `What is added to ${label} of ${model.lines.length} chairs; the table of this chart has its numbers`;
-  const frame = framed(target, look, items, name);
-  hatches(frame.root, model.majorities, look);
-  return frame;
+  return framed(target, look, items, name);
 }
 
 /** Draws the axis of a panel and its line of no gain. */
@@ -88,10 +78,11 @@ function wordsOf({ panels, compared, measure }: PowerModel): string {
 /** Draws the chart into a place. Each row has a group with the chair's number in `data-chair`. */
 export function drawGains(target: Element, model: PowerModel, asked: Look): void {
   const { left, head } = labelRoom(model.lines, asked);
-  const panels = panelsOf(model.panels.length, left, asked.width);
+  const panels = panelsOf(model.panels.length, left, asked);
   const look = { ...asked, width: panels.width };
   const lines = model.lines.map((line) => ({ line, panels: line.cells.map((it) => lanesOf(it, model)) }));
-  const height = head + LANE * (lines[0]?.panels[0]?.length ?? 0) + SPACE;
+  const { lane, space } = heightsOf(look);
+  const height = head + lane * (lines[0]?.panels[0]?.length ?? 0) + space;
   const frame = begun(target, model, look);
   const scales = gainScales(lines, panels);
   const top = headed(frame, model.panels, panels, look, wordsOf(model));
@@ -100,42 +91,51 @@ export function drawGains(target: Element, model: PowerModel, asked: Look): void
   lines.forEach((it, at) => {
     const group = rowGroup(frame, it.line, look, top + 4 + height * at, height, at % 2 === 1);
     labelled(group, it.line, look, head, left, height);
-    const inside = group.append("g").attr("transform", `translate(0,${head + SPACE / 2})`);
-    it.panels.forEach((lanes, panel) => {
-      const scale = scales[panel];
-      if (scale) drawPanel(inside, it.line, lanes, scale, model, look);
-    });
+    const inside = group.append("g").attr("transform", `translate(0,${head + space / 2})`);
+    drawPanels(inside, it, scales, panels, look);
   });
   ended(frame, look, bottom);
 }
 
-/** Draws the lanes of a chair in a panel, or says where the chair isn't open. */
-function drawPanel(
+/** Draws the lanes of a chair in each panel, or writes why there are none. */
+function drawPanels(
   place: Selection,
-  line: Line,
-  lanes: readonly Lane[],
-  scale: Linear,
-  model: PowerModel,
+  { line, panels: all }: GainLine,
+  scales: readonly Linear[],
+  { places }: Panels,
   look: Look,
 ): void {
-  drawLanes(place, lanes, scale, look);
-  if (lanes.some(([, gain]) => gain !== null)) return;
-  const where = line.kind === "closed" ? "not open in the changed board" : "not open in the base";
-  caption(place, model.panels.length > 1 ? "not in both" : where, scale(0) + 6, LANE, look.palette);
+  scales.forEach((scale, at) => {
+    const [lanes, row, [, end] = [0, 0]] = [all[at] ?? [], line.cells[at], places[at]];
+    drawLanes(place, lanes, scale, look);
+    if (row && lanes.every(([, gain]) => gain === null)) writeWhy(place, row, scale(0), end, look);
+  });
+}
+
+/** Writes why a chair has no gain: in a word if there is little room to the right of the line. */
+function writeWhy(place: Selection, { kind }: ChairRow, zero: number, end: number, look: Look): void {
+  const words = kind === "closed" ? "not open in the changed board" : "not open in the base";
+  const isRoom = zero + look.typeface.width(words, TEXT) < end;
+  const short = kind === "closed" ? "closed" : "new";
+  caption(place, isRoom ? words : short, zero + 6, heightsOf(look).lane + 2, look.palette);
 }
 
 function drawLanes(place: Selection, lanes: readonly Lane[], scale: Linear, look: Look): void {
+  const { lane: height, bar } = heightsOf(look);
   lanes.forEach(([lane, gain], at) => {
     if (gain === null) return;
     const [from, to] = [Math.min(scale(0), scale(gain)), Math.max(scale(0), scale(gain))];
-    const box = place.append("rect").attr("x", from).attr("width", to - from);
-    box.attr("y", LANE * at + 2).attr("height", LANE - 4);
+    const area = { x: from, y: height * at + (height - bar) / 2, width: to - from, height: bar };
+    const box = place.append("rect").attr("x", from).attr("width", area.width);
+    box.attr("y", area.y).attr("height", area.height);
     if (lane === "votes") box.attr("fill", look.palette.bar);
     else {
-      box.attr("fill", `url(#hatch-${lane})`).attr("stroke", look.palette.of[lane]);
+      box.attr("fill", look.palette.paper).attr("stroke", look.palette.of[lane]);
+      const lines = place.append("path").attr("d", hatchPath(lane, area)).attr("stroke", look.palette.of[lane]);
+      lines.attr("stroke-width", hatchWidth(lane)).attr("fill", "none");
       dot(place, lane, false, look.palette).attr(
         "transform",
-        `translate(${scale(gain)},${LANE * at + LANE / 2}) scale(0.8)`,
+        `translate(${scale(gain)},${height * at + height / 2}) scale(${0.8 * dotScale(look)})`,
       );
     }
   });

@@ -3,6 +3,7 @@ import type { App } from "./app";
 import { DARK, LIGHT, type Look } from "./charts";
 import type { Columns } from "./columns";
 import type { PowerModel } from "./powerChart";
+import { SCREEN } from "./typeface";
 
 const LEAST_WIDTH = 280;
 /** The width of charts in a window of some width: measuring it lays out the whole page. */
@@ -16,7 +17,8 @@ function chartWidth(place: HTMLElement): number {
 /** The look of charts on the screen; paper is light. */
 export function screenLook(app: App, place: HTMLElement): Look {
   const isDark = matchMedia("(prefers-color-scheme: dark)").matches && !app.open.isPrinting;
-  return { width: chartWidth(place), palette: isDark ? DARK : LIGHT, title: "", source: [] };
+  const palette = isDark ? DARK : LIGHT;
+  return { width: chartWidth(place), palette, title: "", source: [], typeface: SCREEN, isTight: false };
 }
 
 /** The data of the charts of chairs. */

@@ -16,10 +16,20 @@ export function listed(items: readonly string[]): string {
   return first.join(", ") + (last === undefined ? "" : ` and ${last}`);
 }
 
+/** A text without controls of direction. */
+export function withoutControls(text: string): string {
+  return text.replace(CONTROLS, "");
+}
+
+/** Whether a text has letters from right to left. */
+export function isRightToLeft(text: string): boolean {
+  return RIGHT_TO_LEFT.test(text);
+}
+
 /** A name for a text, isolated if it has letters from right to left. Controls of direction in it are left out. */
 export function isolated(name: string): string {
-  const plain = name.replace(CONTROLS, "");
-  return RIGHT_TO_LEFT.test(plain) ? ISOLATE + plain + END : plain;
+  const plain = withoutControls(name);
+  return isRightToLeft(plain) ? ISOLATE + plain + END : plain;
 }
 
 /** A member's code and name. */

@@ -3,8 +3,8 @@ import { axisBottom, axisTop } from "d3-axis";
 import { scaleLinear, type Linear } from "d3-scale";
 import type { Selection } from "d3-selection";
 import {
-  caption, dot, ended, framed, headed, labelled, labelRoom, legendBar, majorityItems, onAxis, panelsOf, rowGroup,
-  ticksOf, tinted, type Frame, type LegendItem, type Look, type Panels,
+  caption, dot, dotScale, ended, framed, headed, labelled, labelRoom, legendBar, majorityItems, onAxis, panelsOf,
+  rowGroup, ticksOf, tinted, type Frame, type LegendItem, type Look, type Panels,
 } from "./charts";
 import type { Line } from "./columns";
 import type { ChairRow } from "./compare";
@@ -23,7 +23,16 @@ export interface PowerModel {
   readonly compared: string;
 }
 
-const [VOTES, LANE, SPACE] = [12, 11, 9] as const;
+/** The heights of the bars of votes, of a majority's dots, and between chairs. */
+interface Heights {
+  readonly votes: number;
+  readonly lane: number;
+  readonly space: number;
+}
+
+function heightsOf({ isTight }: Look): Heights {
+  return isTight ? { votes: 9, lane: 8, space: 4 } : { votes: 12, lane: 11, space: 9 };
+}
 
 function place(ratio: Ratio | null, measure: Measure): number | null {
   return ratio && onAxis(ratio, measure);
@@ -92,20 +101,21 @@ const VOTES_WORDS = "share of the votes cast, per cent";
 
 function drawVotes(at: Selection, row: ChairRow, { votes }: Scales, look: Look, isChanged: boolean): void {
   const { bar, paper } = look.palette;
-  const start = votes(0);
+  const [start, height] = [votes(0), heightsOf(look).votes];
   const rect = (share: Ratio | null, y: number, height: number, fill: string) => {
     const end = place(share, "share");
     if (end === null) return;
     const box = at.append("rect").attr("x", start).attr("y", y).attr("width", Math.max(0, votes(end) - start));
     box.attr("height", height).attr("fill", fill).attr("stroke", bar);
   };
-  rect(row.votesBefore, 1, VOTES - 3, paper);
-  if (isChanged) rect(row.votesAfter, 3, VOTES - 7, bar);
+  rect(row.votesBefore, 1, height - 3, paper);
+  if (isChanged) rect(row.votesAfter, 3, height - 7, bar);
 }
 
 function drawDots(at: Selection, row: ChairRow, { power }: Scales, look: Look, model: PowerModel): void {
+  const { votes, lane: height } = heightsOf(look);
   model.majorities.forEach((majority, lane) => {
-    const y = VOTES + LANE * lane + LANE / 2;
+    const y = votes + height * lane + height / 2;
     const found = row.at.get(majority);
     const [before, after] = [value(found?.before, model.measure), value(found?.after, model.measure)];
     if (model.isChanged && before !== null && after !== null) {
@@ -113,7 +123,9 @@ function drawDots(at: Selection, row: ChairRow, { power }: Scales, look: Look, m
       line.attr("stroke", look.palette.of[majority]).attr("stroke-width", 2);
     }
     const put = (x: number | null, isHollow: boolean) => {
-      if (x !== null) dot(at, majority, isHollow, look.palette).attr("transform", `translate(${power(x)},${y})`);
+      if (x === null) return;
+      const place = `translate(${power(x)},${y}) scale(${dotScale(look)})`;
+      dot(at, majority, isHollow, look.palette).attr("transform", place);
     };
     if (model.isChanged) put(before, true);
     put(after, false);
@@ -124,9 +136,10 @@ function drawDots(at: Selection, row: ChairRow, { power }: Scales, look: Look, m
 export function drawPower(target: Element, model: PowerModel, asked: Look): void {
   const { lines, majorities, measure } = model;
   const { left, head } = labelRoom(lines, asked);
-  const panels = panelsOf(model.panels.length, left, asked.width);
+  const panels = panelsOf(model.panels.length, left, asked);
   const look = { ...asked, width: panels.width };
-  const height = head + VOTES + LANE * majorities.length + SPACE;
+  const { votes, lane, space } = heightsOf(look);
+  const height = head + votes + lane * majorities.length + space;
   const { label } = MEASURE[measure];
   const name = `${label} of ${lines.length} chairs; the table of this chart has its numbers`;
   const frame = framed(target, look, legend(model), name);
@@ -138,7 +151,7 @@ export function drawPower(target: Element, model: PowerModel, asked: Look): void
   lines.forEach((line, at) => {
     const group = rowGroup(frame, line, look, top + 4 + height * at, height, at % 2 === 1);
     labelled(group, line, look, head, left, height);
-    const inside = group.append("g").attr("transform", `translate(0,${head + SPACE / 2})`);
+    const inside = group.append("g").attr("transform", `translate(0,${head + space / 2})`);
     line.cells.forEach((row, panel) => {
       const scale = scales[panel];
       if (!row || !scale) return;

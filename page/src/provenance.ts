@@ -1,6 +1,7 @@
 /** The provenance of figures: version, commit, and the hashes of module, table, scripts and lines. */
 import type { App, Shown } from "./app";
 import { COMMIT, hashOf, MODULE_HASH, RELEASED, VERSION } from "./made";
+import { texText } from "./tex";
 
 /** A script, and what it gives the readings of. */
 export interface Source {
@@ -57,14 +58,6 @@ function oneLine(text: string): string {
   return text.replace(/\s+/g, " ");
 }
 
-/** A text for BibTeX. */
-function escaped(text: string): string {
-  const marks: Readonly<Record<string, string>> = {
-    "\\": "\\textbackslash{}", "~": "\\textasciitilde{}", "^": "\\textasciicircum{}",
-  };
-  return text.replace(/[\\~^]|[&%$#_{}]/g, (it) => marks[it] ?? `\\${it}`);
-}
-
 /** How to cite: a text, and an entry of BibTeX, with the version's date. */
 export async function citation(app: App, shown: Shown): Promise<{ text: string; bibtex: string }> {
   const { counted, module, table, scripts, check } = await provenanceOf(app, shown, [studySource(shown)]);
@@ -76,7 +69,7 @@ export async function citation(app: App, shown: Shown): Promise<{ text: string; 
     "  title = {board: a proved register of voting power},",
     `  version = {${VERSION}},`,
     `  date = {${RELEASED}},`,
-    `  note = {${escaped(note)}},`,
+    `  note = {${texText(note)}},`,
     "}",
   ];
   return { text, bibtex: bibtex.join("\n") };

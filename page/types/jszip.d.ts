@@ -10,6 +10,10 @@ declare module "jszip" {
     readonly files: Readonly<Record<string, unknown>>;
     static loadAsync(bytes: ArrayBuffer): Promise<JSZip>;
     file(name: string): { internalStream(type: "string"): Stream } | null;
+    file(name: string, content: string, options: { readonly date: Date }): JSZip;
+    generateAsync(
+      options: { readonly type: "blob"; readonly compression: "DEFLATE"; readonly mimeType: string },
+    ): Promise<Blob>;
   }
   export default JSZip;
 }

@@ -74,7 +74,7 @@ function powerCells({ cells }: Line, columns: Columns, view: View, majority: Maj
 }
 
 /** All cells of a line after its number and name. */
-function cellsOf(line: Line, columns: Columns, view: View): Cell[] {
+export function cellsOf(line: Line, columns: Columns, view: View): Cell[] {
   const powers = view.majorities.flatMap((it) => powerCells(line, columns, view, it));
   return [...weightCells(line), ...shareCells(line, columns, view), ...powers];
 }
@@ -97,7 +97,7 @@ function groupHeads(words: string, added: string, columns: Columns, view: View, 
   return [mark(`${words}, base`), ...rest];
 }
 
-function headsOf(columns: Columns, view: View): Head[] {
+export function headsOf(columns: Columns, view: View): Head[] {
   const { majorities, measure } = view;
   const unit = measure === "share" ? ", points" : "";
   const powers = majorities.flatMap((it) => {
@@ -139,7 +139,9 @@ export function rowWords(line: Line, columns: Columns, view: View): Child[] {
   return [h("strong", {}, `${line.chair} ${isolated(line.name)}`), h("ul", {}, items)];
 }
 
-const KIND_WORDS: Readonly<Record<ChairRow["kind"], string>> = { kept: "", opened: " (new)", closed: " (closed)" };
+export const KIND_WORDS: Readonly<Record<ChairRow["kind"], string>> = {
+  kept: "", opened: " (new)", closed: " (closed)",
+};
 
 /** The table's element. */
 export function chairTable(app: App, columns: Columns): HTMLElement {

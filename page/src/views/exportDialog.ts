@@ -1,46 +1,24 @@
-/** Saves and exports: the study, its script, CSV, figures, the table, the page with its data. */
+/** The dialog of exports: figure, table, sentences, the whole study, citation. Each has version and hash. */
 import type { App, Shown } from "../app";
-import { LIGHT, type Look } from "../charts";
-import { copyText } from "../clipboard";
-import {
-  changedColumn, columnsOf, hasGains, scenarioColumns, stepColumns, type Column, type Columns,
-} from "../columns";
-import { stepsScript } from "../count";
-import { csvOf, type Labelled } from "../csv";
-import { drawCurve } from "../curveChart";
-import { curveModel, sweepRegisters, sweepTitle } from "../curveModel";
+import { copy } from "../clipboard";
+import { chairRows } from "../compare";
 import { openDialog } from "../dialogs";
-import { button, h, save } from "../dom";
+import { button, byId, h, save, type Child } from "../dom";
+import { fileName, textFile } from "../exportFile";
+import { csvFile, shownText, texText, workbookFile } from "../exportTables";
 import { grouped } from "../fractions";
-import { drawGains } from "../gainChart";
-import { powerModel } from "../look";
-import { isolated } from "../names";
 import { pageText } from "../pageText";
-import { drawPower } from "../powerChart";
-import { firstLines, provenanceOf, studySource, type Source } from "../provenance";
-import { sizesModel } from "../sizes";
-import { drawSizes } from "../sizesChart";
+import { firstLines, provenanceOf, studySource } from "../provenance";
 import { dataText, readData } from "../studyData";
-import type { Tab } from "../study";
-import { INPUT_BYTES, MAJORITY, MEASURE } from "../words";
-import { tableText } from "./chairTable";
-import { boardWords } from "./coalitionParts";
-
-const WIDTH = 900;
-
-/** The name of exported files, from the study's. */
-function fileName(app: App): string {
-  return app.study.name.toLowerCase().replace(/[^a-z0-9]+/g, "-").replace(/^-|-$/g, "") || "study";
-}
-
-function text(content: string, kind: string): Blob {
-  return new Blob([content], { type: `${kind};charset=utf-8` });
-}
+import { INPUT_BYTES } from "../words";
+import { openCitation } from "./citation";
+import { figureGroup, type Exporter } from "./figureGroup";
+import { sentenceList } from "./sentences";
 
 /** Saves the study's script. One that is longer than `board replay` reads is saved, and that is said. */
 async function saveScript(app: App): Promise<string> {
   const { counted } = await app.whole();
-  const content = text(counted.script, "text/csv");
+  const content = textFile(counted.script, "text/csv");
   save(`${fileName(app)}.csv`, content);
   if (content.size <= INPUT_BYTES) return "";
   return `The script has ${grouped(content.size)} bytes. board replay reads at most ${grouped(INPUT_BYTES)}.`;
@@ -61,194 +39,118 @@ async function studyText(app: App, shown: Shown): Promise<string> {
 /** Saves the study in one file. */
 export async function saveStudy(app: App): Promise<void> {
   const shown = await app.whole();
-  save(`${fileName(app)}.study.json`, text(`${await studyText(app, shown)}\n`, "application/json"));
+  save(`${fileName(app)}.study.json`, textFile(`${await studyText(app, shown)}\n`, "application/json"));
   app.savedStudy = shown.study;
 }
 
 /** Saves the page with the study in it. */
 async function savePage(app: App): Promise<void> {
   const shown = await app.whole();
-  save(`${fileName(app)}.html`, text(pageText(await studyText(app, shown)), "text/html"));
+  save(`${fileName(app)}.html`, textFile(pageText(await studyText(app, shown)), "text/html"));
   app.savedStudy = shown.study;
 }
 
-/** Columns as registers of a table; with `isChained` each is compared with the one before it, too. */
-function labelled(columns: readonly Column[], base: Labelled, isChained: boolean): Labelled[] {
-  const all = columns.map(({ label, readings, standing }): Labelled => ({ label, readings, standing }));
-  return isChained ? all.map((it, at) => ({ ...it, previous: all[at - 1] ?? base })) : all;
-}
-
-/** The registers of the study, and the scripts that give their readings. */
-function registers(app: App, shown: Shown): { all: Labelled[]; sources: Source[] } {
-  const { counted } = shown;
-  const base: Labelled = { label: "base", readings: counted.before, standing: counted.opening };
-  const scenarios = scenarioColumns(shown, app.results).list;
-  const changed = counted.commands.length ? [changedColumn(shown)] : [];
-  const steps = app.view.columns === "steps" ? stepColumns(shown, app.results).list : [];
-  const isChained = app.view.columns !== "changed" && app.view.against === "before";
-  const { curve } = app;
-  return {
-    all: [
-      base,
-      ...labelled([...scenarios, ...changed], base, isChained),
-      ...labelled(steps, base, isChained),
-      ...sweepRegisters(app),
-    ],
-    sources: [
-      studySource(shown),
-      ...scenarios.map(scenarioSource),
-      ...(steps.length ? [stepsSource(shown, steps)] : []),
-      ...(curve ? [{ of: `sweep ${sweepTitle(curve.asked)}`, script: curve.script }] : []),
-    ],
-  };
-}
-
-function scenarioSource({ label, counted: { script } }: Column): Source {
-  return { of: `scenario ${label}`, script };
-}
-
-/** The script that gives the readings of the base and of each step. */
-function stepsSource({ counted: { base, majorities } }: Shown, steps: readonly Column[]): Source {
-  return { of: "steps", script: stepsScript(base, steps.map((it) => it.counted.commands), majorities) };
-}
-
-/** The scripts that give the numbers of columns. */
-function columnSources(app: App, shown: Shown, { list, isOne }: Columns): Source[] {
-  if (isOne) return [studySource(shown)];
-  if (app.view.columns === "steps") return [stepsSource(shown, list)];
-  return list.map((it) => (it.counted === shown.counted ? studySource(shown) : scenarioSource(it)));
-}
-
-async function saveCsv(app: App): Promise<void> {
-  const shown = await app.whole();
-  const { all, sources } = registers(app, shown);
-  const head = firstLines(await provenanceOf(app, shown, sources)).map((it) => `# ${it}\n`).join("");
-  save(`${fileName(app)}-table.csv`, text(head + csvOf(all), "text/csv"));
-}
-
-/** A figure for an export: its title, the script that gives its numbers, and how it is drawn. */
-interface Figure {
-  readonly title: string;
-  readonly sources: readonly Source[];
-  draw(place: Element, look: Look): void;
-}
-
-function chairFigure(app: App, shown: Shown, draw: typeof drawPower): Figure {
-  const { measure, majorities } = app.view;
-  const columns = columnsOf(app, shown);
-  const model = powerModel(app, columns);
-  const title = `${MEASURE[measure].label}, ${majorities.map((it) => MAJORITY[it].label).join(", ")}`;
-  return { title, sources: columnSources(app, shown, columns), draw: (place, look) => draw(place, model, look) };
-}
-
-/** The figure of the winning coalitions by number of chairs; null if no chair is open. */
-function sizesFigure(shown: Shown): Figure | null {
-  const model = sizesModel(shown.counted.after);
-  const majorities = [...model.winning.keys()].map((it) => MAJORITY[it].label).join(", ");
-  const title = `Winning coalitions by number of chairs, ${boardWords(shown)}, ${majorities}`;
-  if (model.all.length === 1) return null;
-  return { title, sources: [studySource(shown)], draw: (place, look) => drawSizes(place, model, look) };
-}
-
-/** The figures of the tabs, or null where there is none. */
-const FIGURE: Readonly<Record<Tab, (app: App, shown: Shown) => Figure | null>> = {
-  power: (app, shown) => chairFigure(app, shown, drawPower),
-  change: (app, shown) => (hasGains(app, shown) ? chairFigure(app, shown, drawGains) : null),
-  curve: (app) => {
-    const [model, { curve }] = [curveModel(app), app];
-    if (!model || !curve) return null;
-    const source = { of: `sweep ${sweepTitle(curve.asked)}`, script: curve.script };
-    return { title: model.name, sources: [source], draw: (place, look) => drawCurve(place, model, look) };
-  },
-  table: () => null,
-  coalition: (_, shown) => sizesFigure(shown),
-};
-
-/** The figure of the tab as SVG, light, with a source line. */
-async function figure(app: App, hasTitle: boolean): Promise<string> {
-  const shown = await app.whole();
-  const found = FIGURE[app.view.tab](app, shown);
-  if (!found) throw new Error("this tab has no figure now");
-  const lines = await provenanceOf(app, shown, found.sources);
-  const place = document.createElement("div");
-  const scripts = lines.scripts.filter((it) => it.startsWith("script"));
-  const source = [`Source: ${lines.counted}; ${lines.date}`, ...scripts, lines.module];
-  const title = hasTitle ? `${isolated(app.study.name)}: ${found.title}` : "";
-  found.draw(place, { width: WIDTH, palette: LIGHT, title, source });
-  const svg = new XMLSerializer().serializeToString(place.firstElementChild as Element);
-  const comment = firstLines(lines).map((it) => it.replace(/--+/g, "-")).join("\n");
-  return `<!--\n${comment}\n-->\n${svg}\n`;
-}
-
-async function pngOf(svg: string): Promise<Blob> {
-  const url = URL.createObjectURL(text(svg, "image/svg+xml"));
-  try {
-    const image = new Image();
-    image.src = url;
-    await image.decode();
-    const canvas = h("canvas", { width: 2 * image.naturalWidth, height: 2 * image.naturalHeight });
-    canvas.getContext("2d")?.drawImage(image, 0, 0, canvas.width, canvas.height);
-    return await new Promise(
-      (take, refuse) => canvas.toBlob((blob) => (blob ? take(blob) : refuse(new Error("no picture"))), "image/png"),
-    );
-  } finally {
-    URL.revokeObjectURL(url);
-  }
-}
-
-async function copyTable(app: App): Promise<string> {
-  await copyText(tableText(columnsOf(app, await app.whole()), app.view));
+async function copyShown(app: App, text: (app: App) => Promise<string>): Promise<string> {
+  await copy(text(app));
   return "The table is on the clipboard.";
 }
 
-type Exported = () => Promise<string | void>;
-
-/** A button that makes an export. */
-function exporter(said: HTMLElement) {
-  return (words: string, id: string, act: Exported, disabled = false): HTMLElement => {
+/** A function that makes a button of an export. What the export says is written into a place. */
+function exporter(said: HTMLElement): Exporter {
+  return (words, id, act, attributes) => {
     const run = () => {
       act().then(
         (done) => (said.textContent = done ?? ""),
         (why: unknown) => (said.textContent = why instanceof Error ? why.message : String(why)),
       );
     };
-    return button(words, run, { id, disabled });
+    return button(words, run, { id, ...attributes });
   };
+}
+
+const row = (...children: Child[]) => h("div", { class: "buttons" }, children);
+
+function tableGroup(app: App, make: Exporter): Child {
+  const saved = (end: string, content: (app: App) => Promise<Blob>) => async () =>
+    save(`${fileName(app)}-table.${end}`, await content(app));
+  const tex = async () => textFile(await texText(app), "application/x-tex");
+  return [
+    h("p", { class: "note" }, "As shown: the chairs, digits, measure and majorities of the tab Table."),
+    row(
+      make("Copy for a spreadsheet", "export-copy", () => copyShown(app, shownText)),
+      make("LaTeX", "export-tex", saved("tex", tex)),
+      make("Copy LaTeX", "export-tex-copy", () => copyShown(app, texText)),
+    ),
+    h("p", { class: "note" }, "All numbers of base, changes, scenarios and sweep, with exact fractions:"),
+    row(
+      make("Excel", "export-xlsx", saved("xlsx", workbookFile)),
+      make("CSV with the columns of board_study", "export-csv", saved("csv", csvFile)),
+    ),
+  ];
 }
 
 const SCRIPT_WORDS =
   "The script gives board replay the base, the changes and the readings; what it prints has the numbers that this " +
   "page shows. A script has no names: the saved study has them, with version, commit and hashes.";
 
-/** Opens the list of exports. */
+function studyGroup(app: App, make: Exporter): Child {
+  return [
+    row(
+      make("Study, to open here again", "export-beside", () => saveStudy(app)),
+      make("This page with the study in it", "export-page", () => savePage(app)),
+      make("Script", "export-script", () => saveScript(app)),
+    ),
+    h("p", { class: "note" }, SCRIPT_WORDS),
+  ];
+}
+
+const CITATION_WORDS =
+  "The version with its date, and the hash of the script that gives the numbers. Figures, tables in files and in " +
+  "LaTeX, sentences and the saved study have version and hash in them, too.";
+
+function citationGroup(app: App): Child {
+  return [
+    h("p", { class: "note" }, CITATION_WORDS),
+    row(button("How to cite…", () => openCitation(app), { id: "export-cite" })),
+  ];
+}
+
+/** The groups by their names. */
+const GROUPS = ["Figure", "Table", "Sentences", "Whole study", "Citation"] as const;
+type Group = typeof GROUPS[number];
+
+function idOf(group: Group): string {
+  return `group-${group.split(" ").pop()?.toLowerCase()}`;
+}
+
+/** Buttons that lead to the groups. */
+function ways(): HTMLElement {
+  const lead = (group: Group) => () => {
+    byId(idOf(group)).scrollIntoView({ block: "start" });
+    byId(`${idOf(group)}-title`).focus({ preventScroll: true });
+  };
+  const items = GROUPS.map((it) => button(it, lead(it), { id: `to-${idOf(it)}` }));
+  return h("nav", { class: "buttons ways", "aria-label": "Kinds of exports" }, items);
+}
+
+/** Opens the dialog. */
 export function openExports(app: App): void {
   const { shown } = app;
   if (!shown) return;
   const said = h("p", { id: "export-words", role: "status" });
   const make = exporter(said);
-  const title = h("input", { type: "checkbox", id: "with-title", checked: true });
-  const noFigure = FIGURE[app.view.tab](app, shown) === null;
-  const name = `${fileName(app)}-${app.view.tab}`;
-  const svg = async () => save(`${name}.svg`, text(await figure(app, title.checked), "image/svg+xml"));
-  const png = async () => save(`${name}.png`, await pngOf(await figure(app, title.checked)));
-  const row = (...children: HTMLElement[]) => h("div", { class: "buttons" }, children);
-  openDialog("export-dialog", "Export", () => [
-    h("h3", {}, "Study"),
-    row(
-      make("Study, to open here again", "export-beside", () => saveStudy(app)),
-      make("This page with the study in it", "export-page", () => savePage(app)),
-    ),
-    h("h3", {}, "Script"),
-    h("p", { class: "note" }, SCRIPT_WORDS),
-    row(make("Script", "export-script", () => saveScript(app))),
-    h("h3", {}, "Table"),
-    row(
-      make("CSV with the columns of board_study", "export-csv", () => saveCsv(app)),
-      make("Copy the table shown", "export-copy", () => copyTable(app)),
-    ),
-    h("h3", {}, "Figure of the tab"),
-    h("label", {}, title, "with its title"),
-    row(make("SVG", "export-svg", svg, noFigure), make("PNG", "export-png", png, noFigure)),
-    said,
-  ]);
+  const say = (words: string) => void (said.textContent = words);
+  const content: Readonly<Record<Group, Child>> = {
+    Figure: figureGroup(app, shown, make),
+    Table: tableGroup(app, make),
+    Sentences: sentenceList(app, chairRows(shown.counted, app.view), "export-sentence", say),
+    "Whole study": studyGroup(app, make),
+    Citation: citationGroup(app),
+  };
+  const groups = GROUPS.map((it) => {
+    const title = h("h3", { id: `${idOf(it)}-title`, tabindex: -1 }, it);
+    return h("section", { id: idOf(it), class: "group", "aria-labelledby": title.id }, title, content[it]);
+  });
+  const dialog = openDialog("export-dialog", "Export", () => [ways(), h("div", { class: "groups" }, groups), said]);
+  dialog.classList.add("wide");
 }

@@ -2,7 +2,7 @@
 import type { App } from "../app";
 import type { Look } from "../charts";
 import { columnsOf, hasGains, type Columns } from "../columns";
-import { chairRows, sentences } from "../compare";
+import { chairRows } from "../compare";
 import { byId, choice, h, paint } from "../dom";
 import { grouped } from "../fractions";
 import { powerModel, screenLook } from "../look";
@@ -12,6 +12,7 @@ import { chairTable, rowWords } from "./chairTable";
 import { chartPlace, readout, tableBehind } from "./chartParts";
 import { paintCoalition } from "./coalition";
 import { paintCurve } from "./curve";
+import { paintSentences } from "./sentences";
 import { MOST_STEPS } from "../steps";
 import {
   AGAINST, COLUMNS, ORDERS, TABS, type Against, type ColumnsShown, type Order, type Tab,
@@ -153,7 +154,7 @@ export function paintFigures(app: App): void {
   paintChoices(app);
   paintTabs(app);
   const rows = chairRows(shown.counted, view);
-  paint(byId("sentences"), sentences(rows, shown.counted, view).map((it) => h("p", { title: it.source }, it.words)));
+  paintSentences(app, rows);
   const columns = columnsOf(app, shown);
   paint(byId("columns-words"), columnsNote(app, columns));
   TAB[view.tab].draw(app, columns);

@@ -3,8 +3,9 @@ import type { App } from "../app";
 import { openDialog } from "../dialogs";
 import { byId, button, h, paint, type Child } from "../dom";
 import licences from "../licences.txt";
-import { citation, firstLines, provenanceOf, studySource } from "../provenance";
+import { firstLines, provenanceOf, studySource } from "../provenance";
 import { MAJORITY, MEASURE } from "../words";
+import { openCitation } from "./citation";
 
 function definitions({ view }: App): HTMLElement {
   const { column, definition, label, source } = MEASURE[view.measure];
@@ -81,23 +82,6 @@ function source(app: App): HTMLElement {
   details.addEventListener("toggle", () => void fill());
   details.open = wasOpen;
   return details;
-}
-
-function openCitation(app: App): void {
-  const { shown } = app;
-  if (!shown) return;
-  openDialog("cite", "How to cite", () => {
-    const place = h("div", {});
-    void citation(app, shown).then(({ text, bibtex }) => {
-      place.append(
-        h("h3", {}, "Text"),
-        h("pre", { id: "cite-text" }, text),
-        h("h3", {}, "BibTeX"),
-        h("pre", { id: "cite-bibtex" }, bibtex),
-      );
-    });
-    return place;
-  });
 }
 
 const MODULE_WORDS = [

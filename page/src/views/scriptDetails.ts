@@ -1,5 +1,5 @@
 /** A script that is shown once it is wanted. */
-import { copyText } from "../clipboard";
+import { copy } from "../clipboard";
 import { button, h } from "../dom";
 
 /** The script that gives some numbers, closed at first. */
@@ -9,7 +9,7 @@ export function scriptDetails(id: string, of: string, script: string): HTMLEleme
     "details",
     {},
     h("summary", {}, `The script of ${of}`),
-    button("Copy", () => void copyText(script)),
+    button("Copy", () => void copy(Promise.resolve(script))),
     place,
   );
   details.addEventListener("toggle", () => (place.textContent = details.open ? script : ""));

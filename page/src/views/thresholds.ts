@@ -1,6 +1,6 @@
 /** The dialog of thresholds: from how many votes a chair prevents everything, carries everything alone, and so on. */
 import type { App, Shown } from "../app";
-import { copyText } from "../clipboard";
+import { copy } from "../clipboard";
 import type { Thresholds, ThresholdsAsked } from "../count";
 import { openDialog } from "../dialogs";
 import { button, choice, h, paint, type Child } from "../dom";
@@ -64,11 +64,11 @@ function sentencesOf(app: App, all: Thresholds): HTMLElement {
 }
 
 function answer(app: App, shown: Shown, all: Thresholds, said: HTMLElement): Child {
-  const copy = async () => {
-    await copyText(await textOf(app, shown, all));
+  const copied = async () => {
+    await copy(textOf(app, shown, all));
     said.textContent = "The thresholds are on the clipboard, with their source.";
   };
-  const act = () => void copy().catch((why: unknown) => (said.textContent = String(why)));
+  const act = () => void copied().catch((why: unknown) => (said.textContent = String(why)));
   return [
     h("p", { id: "find-about" }, aboutWords(all)),
     tableOf(app, all),

@@ -1,0 +1,110 @@
+/** The figure of the tab for exports: at a chosen width, in a chosen typeface, light, with its source. */
+import type { App, Shown } from "./app";
+import { LIGHT, type Look } from "./charts";
+import { columnsOf, hasGains } from "./columns";
+import { drawCurve } from "./curveChart";
+import { curveModel, sweepTitle } from "./curveModel";
+import { millimetresOf, unitsOf } from "./figureSize";
+import { drawGains } from "./gainChart";
+import { powerModel } from "./look";
+import { isolated } from "./names";
+import { drawPower } from "./powerChart";
+import { firstLines, provenanceOf, studySource, type Provenance, type Source } from "./provenance";
+import { columnSources } from "./registers";
+import { sizesModel } from "./sizes";
+import { drawSizes } from "./sizesChart";
+import type { Tab } from "./study";
+import { typeface } from "./typeface";
+import { boardWords } from "./views/coalitionParts";
+import { MAJORITY, MEASURE } from "./words";
+
+/** How a figure is drawn: its width in millimetres, its fonts as CSS has them, and whether it has a title. */
+export interface FigureChoice {
+  readonly width: number;
+  readonly family: string;
+  readonly hasTitle: boolean;
+}
+
+/** A figure that was drawn, with its size in millimetres. */
+export interface DrawnFigure {
+  readonly svg: SVGSVGElement;
+  readonly width: number;
+  readonly height: number;
+  readonly title: string;
+  /** Where its numbers come from, and how it was drawn: a line each. */
+  readonly lines: readonly string[];
+}
+
+/** A figure for an export: its title, the script that gives its numbers, and how it is drawn. */
+interface Figure {
+  readonly title: string;
+  readonly sources: readonly Source[];
+  draw(place: Element, look: Look): void;
+}
+
+function chairFigure(app: App, shown: Shown, draw: typeof drawPower): Figure {
+  const { measure, majorities } = app.view;
+  const columns = columnsOf(app, shown);
+  const model = powerModel(app, columns);
+  const title = `${MEASURE[measure].label}, ${majorities.map((it) => MAJORITY[it].label).join(", ")}`;
+  return { title, sources: columnSources(app, shown, columns), draw: (place, look) => draw(place, model, look) };
+}
+
+/** The figure of the winning coalitions by number of chairs; null if no chair is open. */
+function sizesFigure(shown: Shown): Figure | null {
+  const model = sizesModel(shown.counted.after);
+  const majorities = [...model.winning.keys()].map((it) => MAJORITY[it].label).join(", ");
+  const title = `Winning coalitions by number of chairs, ${boardWords(shown)}, ${majorities}`;
+  if (model.all.length === 1) return null;
+  return { title, sources: [studySource(shown)], draw: (place, look) => drawSizes(place, model, look) };
+}
+
+/** The figures of the tabs, or null where there is none. */
+const FIGURE: Readonly<Record<Tab, (app: App, shown: Shown) => Figure | null>> = {
+  power: (app, shown) => chairFigure(app, shown, drawPower),
+  change: (app, shown) => (hasGains(app, shown) ? chairFigure(app, shown, drawGains) : null),
+  curve: (app) => {
+    const [model, { curve }] = [curveModel(app), app];
+    if (!model || !curve) return null;
+    const source = { of: `sweep ${sweepTitle(curve.asked)}`, script: curve.script };
+    return { title: model.name, sources: [source], draw: (place, look) => drawCurve(place, model, look) };
+  },
+  table: () => null,
+  coalition: (_, shown) => sizesFigure(shown),
+};
+
+/** Whether the tab has a figure. */
+export function hasFigure(app: App, shown: Shown): boolean {
+  return FIGURE[app.view.tab](app, shown) !== null;
+}
+
+/** The figure of the tab, which is drawn by choices; its numbers are those of the moment it is asked for. */
+export async function figureOfTab(app: App): Promise<(choice: FigureChoice) => DrawnFigure> {
+  const shown = await app.whole();
+  const found = FIGURE[app.view.tab](app, shown);
+  if (!found) throw new Error("this tab has no figure now");
+  const title = `${isolated(app.study.name)}: ${found.title}`;
+  const provenance = await provenanceOf(app, shown, found.sources);
+  return (choice) => drawn({ ...found, title }, choice, provenance);
+}
+
+function drawn(figure: Figure, { width, family, hasTitle }: FigureChoice, found: Provenance): DrawnFigure {
+  const place = document.createElement("div");
+  const scripts = found.scripts.filter((it) => it.startsWith("script"));
+  const source = [`Source: ${found.counted}; ${found.date}`, ...scripts, found.module];
+  const title = hasTitle ? figure.title : "";
+  const style = { palette: LIGHT, typeface: typeface(family), isTight: true };
+  figure.draw(place, { width: unitsOf(width), title, source, ...style });
+  const svg = place.firstElementChild as SVGSVGElement;
+  const height = millimetresOf(Number(svg.getAttribute("height")));
+  svg.setAttribute("width", `${width}mm`);
+  svg.setAttribute("height", `${height}mm`);
+  const words = `figure ${width} mm wide, ${height} mm high, text of 9 points, fonts ${family}`;
+  return { svg, width, height, title: figure.title, lines: [...firstLines(found), words] };
+}
+
+/** The text of a figure's file. */
+export function svgText({ svg, lines }: DrawnFigure): string {
+  const comment = lines.map((it) => it.replace(/--+/g, "-")).join("\n");
+  return `<!--\n${comment}\n-->\n${new XMLSerializer().serializeToString(svg)}\n`;
+}

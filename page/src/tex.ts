@@ -1,0 +1,125 @@
+/** Tables for LaTeX: a tabular with the rules of booktabs. */
+import { isRightToLeft, withoutControls } from "./names";
+
+const MARKS: Readonly<Record<string, string>> = {
+  "\\": "\\textbackslash{}",
+  "~": "\\textasciitilde{}",
+  "^": "\\textasciicircum{}",
+  "<": "\\textless{}",
+  ">": "\\textgreater{}",
+  "|": "\\textbar{}",
+  "`": "\\textasciigrave{}",
+  // Some languages of babel take a quote as the beginning of a command.
+  '"': "\\symbol{34}",
+};
+
+/** A text for LaTeX: each mark stands for itself. */
+export function texText(text: string): string {
+  return text.replace(/[\\~^<>|`"]|[&%$#_{}]/g, (it) => MARKS[it] ?? `\\${it}`);
+}
+
+/** A name for LaTeX, on one line. One with letters from right to left is the argument of a command. */
+function texName(name: string): string {
+  const plain = texText(withoutControls(name).replace(/[\s\u0000-\u001f\u007f]+/g, " ").trim());
+  return isRightToLeft(plain) ? `\\righttoleft{${plain}}` : plain;
+}
+
+/** A number without its unit, and with a true sign. */
+function texNumber(cell: string): string {
+  const number = cell.replace(/ %$/, "");
+  return number === "-" ? "--" : number.replace(/^[+-]/, (sign) => `$${sign}$`);
+}
+
+/** A column of numbers: what it belongs to, and its own words. */
+interface Head {
+  readonly group: string;
+  readonly words: string;
+}
+
+/** The heads of columns such as "Votes, base": those of one thing have its name above them. */
+function headsOf(words: readonly string[]): Head[] {
+  let group = "";
+  return words.map((it) => {
+    const [, before, last] = /^(.*), (base|changed)$/.exec(it) ?? [];
+    const [added, unit = ""] = /^Added(, points)?/.exec(it) ?? [];
+    group = before ?? (added ? group : it);
+    return { group, words: last ?? (added ? `added${unit}` : "") };
+  });
+}
+
+/** Columns side by side under one heading. The first is counted from 0. */
+interface Group {
+  readonly words: string;
+  readonly from: number;
+  readonly many: number;
+}
+
+function groupsOf(heads: readonly Head[]): Group[] {
+  const found: Group[] = [];
+  heads.forEach(({ group }, at) => {
+    const last = found[found.length - 1];
+    if (last?.words === group) found[found.length - 1] = { ...last, many: last.many + 1 };
+    else found.push({ words: group, from: at, many: 1 });
+  });
+  return found;
+}
+
+/** A row of a table: the chair's number, its name, and its numbers as they are shown. */
+export interface TexRow {
+  readonly chair: number;
+  readonly name: string;
+  /** Words after the name. */
+  readonly note: string;
+  readonly cells: readonly string[];
+}
+
+function texRow({ chair, name, note, cells }: TexRow): string {
+  // A name from right to left ends its line, or an editor would reverse the numbers after it.
+  const label = `${texName(name)}${note}`;
+  const space = isRightToLeft(label) ? "\n " : "";
+  return `${[String(chair), label + space, ...cells.map(texNumber)].join(" & ")} \\\\`;
+}
+
+/** The heading: the groups with a rule under each, and the heads of the columns. The first two have no group. */
+function heading(heads: readonly Head[], rows: readonly TexRow[]): string[] {
+  const groups = groupsOf(heads);
+  const isPercent = ({ from, many }: Group) =>
+    rows.some(({ cells }) => cells.slice(from, from + many).some((it) => it.endsWith(" %")));
+  const cells = groups.map((it) =>
+    `\\multicolumn{${it.many}}{c}{${texText(it.words)}${isPercent(it) ? " (\\%)" : ""}}`);
+  const rules = groups.map(({ from, many }) => `\\cmidrule(lr){${from + 3}-${from + many + 2}}`);
+  const own = ["Chair", "Name", ...heads.map((it) => it.words)];
+  return [`${["", "", ...cells].join(" & ").trimStart()} \\\\`, rules.join(""), `${own.join(" & ")} \\\\`];
+}
+
+const WORDS = [
+  "A table for \\input. It needs \\usepackage{booktabs}.",
+  "The numbers of a column have the same places after the point, so that alignment to the right aligns the points.",
+];
+const RIGHT_TO_LEFT_WORDS =
+  "Names from right to left are in \\righttoleft: define it before as your engine writes them, such as " +
+  "\\newcommand{\\righttoleft}[1]{\\foreignlanguage{hebrew}{#1}}.";
+
+/** A comment on one line. */
+function comment(line: string): string {
+  return `% ${line.replace(/[\s\u0000-\u001f\u007f]+/g, " ")}`;
+}
+
+/** The table. Its columns' words are those of the page. */
+export function texTable(words: readonly string[], rows: readonly TexRow[], source: readonly string[]): string {
+  const heads = headsOf(words);
+  const hasTurned = rows.some(({ name }) => isRightToLeft(name));
+  const comments = [...WORDS, ...(hasTurned ? [RIGHT_TO_LEFT_WORDS] : []), ...source].map(comment);
+  return [
+    ...comments,
+    ...(hasTurned ? ["\\providecommand{\\righttoleft}[1]{#1}"] : []),
+    `\\begin{tabular}{rl*{${heads.length}}{r}}`,
+    "\\toprule",
+    ...heading(heads, rows),
+    "\\midrule",
+    ...rows.map(texRow),
+    "\\bottomrule",
+    "\\end{tabular}",
+    "",
+  ].join("\n");
+}

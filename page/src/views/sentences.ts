@@ -1,0 +1,69 @@
+/** The sentences above the tabs, each with a button that copies it with its source. */
+import type { App, Shown } from "../app";
+import { copy } from "../clipboard";
+import { sentences, type ChairRow, type Said } from "../compare";
+import { button, byId, h, paint, type Child } from "../dom";
+import { provenanceOf, studySource } from "../provenance";
+import { MAJORITY } from "../words";
+
+/** How long a button says that it has copied, in milliseconds. */
+const SAID = 2500;
+
+/** Sentences, each with a line that has its exact fractions, the version and the hashes. */
+export async function withSource(app: App, shown: Shown, said: readonly Said[]): Promise<string> {
+  const { counted, scripts } = await provenanceOf(app, shown, [studySource(shown)]);
+  const parts = said.map(({ words, source }) => {
+    return `${words}\nSource: ${[source, counted, ...scripts].filter((it) => it !== "").join("; ")}\n`;
+  });
+  return parts.join("\n");
+}
+
+/** A button that copies sentences with their sources, and says so. */
+function copier(
+  app: App,
+  said: readonly Said[],
+  id: string,
+  words: string,
+  name: string,
+  say: (words: string) => void,
+): HTMLElement {
+  const { shown } = app;
+  const done = () => {
+    made.textContent = "Copied";
+    setTimeout(() => (made.textContent = words), SAID);
+    say(`${name.replace(/^Copy the/, "The")} ${said.length > 1 ? "are" : "is"} on the clipboard.`);
+  };
+  const failed = (why: unknown) => say(why instanceof Error ? why.message : String(why));
+  const act = () => void (shown && copy(withSource(app, shown, said)).then(done, failed));
+  const made = button(words, act, { id, "aria-label": name });
+  return made;
+}
+
+/** The sentences with a button each, and one for all. Their ids begin with a word. */
+export function sentenceList(
+  app: App,
+  rows: readonly ChairRow[],
+  id: string,
+  say: (words: string) => void,
+): Child {
+  const { shown, view } = app;
+  if (!shown) return null;
+  const all = sentences(rows, shown.counted, view);
+  // A screen reader that reads sentences as they change doesn't read the buttons.
+  const quiet = (made: HTMLElement) => h("span", { "aria-live": "off" }, made);
+  const items = all.map((it, at) => {
+    const majority = view.majorities[at] ?? "half";
+    const name = `Copy the sentence ${MAJORITY[majority].at.replace(/^./, (letter) => letter.toLowerCase())}`;
+    const made = copier(app, [it], `${id}-${majority}`, "Copy", name, say);
+    return h("div", { class: "said" }, h("p", { title: it.source }, it.words), quiet(made));
+  });
+  const last = all.length > 1
+    ? quiet(copier(app, all, `${id}-all`, "Copy all", "Copy all sentences", say))
+    : null;
+  return [items, last];
+}
+
+/** Paints the sentences above the tabs. */
+export function paintSentences(app: App, rows: readonly ChairRow[]): void {
+  paint(byId("sentences"), sentenceList(app, rows, "copy", (words) => (byId("live").textContent = words)));
+}

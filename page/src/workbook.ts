@@ -1,0 +1,124 @@
+/** Workbooks (.xlsx) that are written: texts stay texts, and numbers have all their digits. */
+import JSZip from "jszip";
+
+/** A cell: a text, a number, or nothing. */
+export type Value = string | number | null;
+
+export interface Sheet {
+  readonly name: string;
+  /** The headings, and the rows under them. */
+  readonly rows: readonly (readonly Value[])[];
+  /** The widths of the columns, in characters. The others are as wide as the last. */
+  readonly widths: readonly number[];
+}
+
+const XML = '<?xml version="1.0" encoding="UTF-8" standalone="yes"?>\n';
+const FORMATS = "http://schemas.openxmlformats.org";
+const MAIN = `${FORMATS}/spreadsheetml/2006/main`;
+const OFFICE = `${FORMATS}/officeDocument/2006/relationships`;
+const PACKAGE = `${FORMATS}/package/2006`;
+const KIND = "application/vnd.openxmlformats-officedocument.spreadsheetml";
+const BLOB = `${KIND}.sheet`;
+/** The same file at every time. */
+const DATE = new Date(Date.UTC(2000, 0, 1));
+
+/** The most rows of a sheet, and the most characters of a cell, that spreadsheets read. */
+const [MOST_ROWS, MOST_CHARACTERS] = [2 ** 20, 32_767];
+
+const HEAD_STYLE = 1;
+/** The format of texts, in which a text that is typed again stays one, too. */
+const TEXT_STYLE = 2;
+const STYLES =
+  `${XML}<styleSheet xmlns="${MAIN}"><fonts count="2"><font><sz val="11"/><name val="Calibri"/></font>` +
+  '<font><b/><sz val="11"/><name val="Calibri"/></font></fonts><fills count="2"><fill><patternFill ' +
+  'patternType="none"/></fill><fill><patternFill patternType="gray125"/></fill></fills><borders count="1"><border>' +
+  '<left/><right/><top/><bottom/><diagonal/></border></borders><cellStyleXfs count="1"><xf numFmtId="0" fontId="0" ' +
+  'fillId="0" borderId="0"/></cellStyleXfs><cellXfs count="3"><xf numFmtId="0" fontId="0" fillId="0" borderId="0" ' +
+  'xfId="0"/><xf numFmtId="49" fontId="1" fillId="0" borderId="0" xfId="0" applyNumberFormat="1" applyFont="1"/>' +
+  '<xf numFmtId="49" fontId="0" fillId="0" borderId="0" xfId="0" quotePrefix="1" applyNumberFormat="1"/></cellXfs>' +
+  '<cellStyles count="1"><cellStyle name="Normal" xfId="0" builtinId="0"/></cellStyles></styleSheet>';
+
+const ENTITIES: Readonly<Record<string, string>> = { "&": "&amp;", "<": "&lt;", ">": "&gt;", '"': "&quot;" };
+
+/** A text for XML. A character that XML doesn't have is written as workbooks write it, by its number. */
+function escaped(text: string): string {
+  const coded = (it: string) => `_x${it.charCodeAt(0).toString(16).toUpperCase().padStart(4, "0")}_`;
+  return text
+    .replace(/_(?=x[0-9A-Fa-f]{4}_)/g, coded)
+    .replace(/[\u0000-\u0008\u000b-\u001f\ufffe\uffff]/g, coded)
+    .replace(/[\ud800-\udbff][\udc00-\udfff]|[\ud800-\udfff]/g, (it) => (it.length === 1 ? coded(it) : it))
+    .replace(/[&<>"]/g, (it) => ENTITIES[it] ?? it);
+}
+
+/** The letters of a column, from 0. */
+function letters(column: number): string {
+  const last = String.fromCharCode(65 + (column % 26));
+  return column < 26 ? last : letters(Math.floor(column / 26) - 1) + last;
+}
+
+function cellOf(value: Value, place: string, isHead: boolean): string {
+  if (value === null || value === "") return "";
+  if (typeof value === "number") return `<c r="${place}"><v>${value}</v></c>`;
+  const style = isHead ? HEAD_STYLE : TEXT_STYLE;
+  return `<c r="${place}" s="${style}" t="inlineStr"><is><t xml:space="preserve">${escaped(value)}</t></is></c>`;
+}
+
+function sheetOf({ rows, widths }: Sheet): string {
+  const columns = Math.max(...rows.map((it) => it.length));
+  const sizes = Array.from({ length: columns }, (_, at) => {
+    const width = widths[at] ?? widths[widths.length - 1] ?? 12;
+    return `<col min="${at + 1}" max="${at + 1}" width="${width}" customWidth="1"/>`;
+  });
+  const lines = rows.map((row, at) => {
+    const cells = row.map((value, column) => cellOf(value, `${letters(column)}${at + 1}`, at === 0));
+    return `<row r="${at + 1}">${cells.join("")}</row>`;
+  });
+  const pane = '<pane ySplit="1" topLeftCell="A2" activePane="bottomLeft" state="frozen"/>';
+  return `${XML}<worksheet xmlns="${MAIN}"><sheetViews><sheetView workbookViewId="0">${pane}</sheetView></sheetViews>` +
+    `<cols>${sizes.join("")}</cols><sheetData>${lines.join("")}</sheetData></worksheet>`;
+}
+
+/** The parts of a workbook by their paths. */
+function partsOf(sheets: readonly Sheet[]): Record<string, string> {
+  const numbers = sheets.map((_, at) => at + 1);
+  const part = (path: string, kind: string) =>
+    `<Override PartName="/xl/${path}.xml" ContentType="${KIND}.${kind}+xml"/>`;
+  const types = [part("workbook", "sheet.main"), part("styles", "styles"),
+    ...numbers.map((it) => part(`worksheets/sheet${it}`, "worksheet"))];
+  const relation = (id: number, kind: string, target: string) =>
+    `<Relationship Id="rId${id}" Type="${OFFICE}/${kind}" Target="${target}"/>`;
+  const relations = [...numbers.map((it) => relation(it, "worksheet", `worksheets/sheet${it}.xml`)),
+    relation(sheets.length + 1, "styles", "styles.xml")];
+  const names = sheets.map(({ name }, at) =>
+    `<sheet name="${escaped(name)}" sheetId="${at + 1}" r:id="rId${at + 1}"/>`);
+  const open = `<Relationships xmlns="${PACKAGE}/relationships">`;
+  return {
+    "[Content_Types].xml": `${XML}<Types xmlns="${PACKAGE}/content-types"><Default Extension="rels" ContentType="` +
+      `application/vnd.openxmlformats-package.relationships+xml"/>${types.join("")}</Types>`,
+    "_rels/.rels": `${XML}${open}${relation(1, "officeDocument", "xl/workbook.xml")}</Relationships>`,
+    "xl/workbook.xml":
+      `${XML}<workbook xmlns="${MAIN}" xmlns:r="${OFFICE}"><sheets>${names.join("")}</sheets></workbook>`,
+    "xl/_rels/workbook.xml.rels": `${XML}${open}${relations.join("")}</Relationships>`,
+    "xl/styles.xml": STYLES,
+    ...Object.fromEntries(sheets.map((it, at) => [`xl/worksheets/sheet${at + 1}.xml`, sheetOf(it)])),
+  };
+}
+
+/** Throws a sentence if a spreadsheet wouldn't read all of a sheet. */
+function checkSize({ name, rows }: Sheet): void {
+  const most = "so no workbook was made: export CSV and the script";
+  if (rows.length > MOST_ROWS) {
+    throw new Error(`The sheet ${name} would have ${rows.length} rows of at most ${MOST_ROWS}, ${most}.`);
+  }
+  if (rows.some((row) => row.some((cell) => typeof cell === "string" && cell.length > MOST_CHARACTERS))) {
+    throw new Error(`A cell of the sheet ${name} would have more than ${MOST_CHARACTERS} characters, ${most}.`);
+  }
+}
+
+/** The file of a workbook. */
+export async function workbookOf(sheets: readonly Sheet[]): Promise<Blob> {
+  sheets.forEach(checkSize);
+  const zip = new JSZip();
+  for (const [path, text] of Object.entries(partsOf(sheets))) zip.file(path, text, { date: DATE });
+  return zip.generateAsync({ type: "blob", compression: "DEFLATE", mimeType: BLOB });
+}

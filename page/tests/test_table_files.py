@@ -1,0 +1,406 @@
+"""What goes from the page into a paper: tables for LaTeX and Excel, sentences, the citation; by key and by finger."""
+from __future__ import annotations
+
+import csv
+import io
+import re
+from collections.abc import Iterator
+from fractions import Fraction
+from typing import Any
+
+import openpyxl  # type: ignore[import]
+import pytest
+from board_python.replay_output import Chair, Reading
+from board_python.rounding import exact
+from chromium import EVERY, NARROW, Page
+from figures import measure_of, shown_majorities
+from oracle import MAJORITIES, TOP, Oracle
+from selenium.webdriver.common.keys import Keys
+from test_exports import COMMANDS, sha256
+from test_hands import Finger, middle
+from test_random import table_of
+from test_said import DIRECTOR, FORMULAS, opened
+from tex_reader import Table, read
+
+BROWSERS = EVERY
+NOT_IN_FIREFOX = ["test_a_finger"]
+LABELS = {"half": "simple majority", "70": "70 per cent", "85": "85 per cent", "quorum": "quorum"}
+MEASURES = {
+    "share": "Share of power", "banzhaf": "Banzhaf measure", "prevent": "Power to prevent action",
+    "initiate": "Power to initiate action", "swings": "Swings",
+}
+# Names with every character that LaTeX, XML or a spreadsheet takes for something else.
+HOSTILE = [
+    "A & B", "100 % of it", "$x_1^2$", "#1", "{open", "close}", "~tilde~ ^hat^", "back\\slash\\\\", "\\input{x} \\end",
+    "<i>|`\"quote\"'", "=1+1", "+SUM(A1)", "-2", "@x", "%", "_x0041_ & _", "]]> & <![CDATA[", "Ünter 日本", DIRECTOR,
+    f"{DIRECTOR} & 50 %", "--", "\\", "a\\", "&amp;",
+]
+
+
+@pytest.fixture
+def study(page: Page) -> Page:
+    """The page with three changes, at all four majorities."""
+    for act in [["votes", "XAD", "+40%"], ["move", "XAA", "2"], ["suspend", "XAC"]]:
+        assert page.act(*act)
+    for majority in ["70", "quorum"]:
+        page.click(f"#at-{majority}")
+    return page
+
+
+def named(page: Page, names: list[str]) -> None:
+    """Opens a table with a chair for each name."""
+    rows = [["code", "name", "votes", "chair", "chair_name"]]
+    for at, name in enumerate(names, 1):
+        rows.append([f"A{chr(64 + at)}A", f"M{at}", str(50 + at), str(at), name])
+    text = io.StringIO()
+    csv.writer(text).writerows(rows)
+    opened(page, text.getvalue())
+
+
+def tex_table(page: Page) -> Table:
+    return read(str(page.act("exported", "export-tex")))
+
+
+def signed(number: Fraction, places: int) -> str:
+    """A number with its sign, rounded half to even by Python."""
+    value = round(number * 10**places) if places else round(number)
+    text = f"{abs(value):0{places + 1}d}"
+    whole = f"{int(text[:-places] if places else text):,}"
+    sign = "-" if value < 0 else "+" if value > 0 else ""
+    return f"{sign}{whole}.{text[-places:]}" if places else sign + whole
+
+
+def plain(number: Fraction, places: int) -> str:
+    return signed(number, places).removeprefix("+")
+
+
+Pair = tuple[tuple[Reading, Chair], tuple[Reading, Chair]]
+
+
+def pairs(oracle: Oracle, majorities: list[str]) -> dict[str, dict[int, Pair]]:
+    """For each majority and chair its readings, base and changed. No chair of these studies opens or closes."""
+    before, after = (oracle.output(it, majorities).readings for it in (list[str](), COMMANDS))
+    return {
+        old.majority: {one.chair: ((old, one), (new, other)) for one, other in zip(old.chairs, new.chairs)}
+        for old, new in zip(before, after)
+    }
+
+
+def shares(pair: Pair) -> list[Fraction]:
+    return [Fraction(chair.weight, reading.cast) for reading, chair in pair]
+
+
+def powers(pair: Pair, measure: str) -> list[Fraction]:
+    found = [measure_of(chair, measure) for _, chair in pair]
+    return [exact(it) for it in found if it]
+
+
+def wanted_cells(found: dict[str, dict[int, Pair]], chair: int, measure: str, digits: int) -> list[str]:
+    """The cells of a chair, from the oracle's fractions."""
+    first = found["half"][chair]
+    votes, (base, changed) = [f"{of.weight:,}" for _, of in first], shares(first)
+    cells = [*votes, *(plain(100 * it, digits) for it in (base, changed)), signed(100 * (changed - base), digits)]
+    for majority in MAJORITIES:
+        base, changed = powers(found[majority][chair], measure)
+        times, places = (100, digits) if measure == "share" else (1, 0 if measure == "swings" else digits + 2)
+        cells += [plain(times * base, places), plain(times * changed, places), signed(times * (changed - base), places)]
+    return cells
+
+
+def test_latex(study: Page, oracle: Oracle) -> None:
+    # Catches: a number in a table for LaTeX that isn't the oracle's, in any measure, or one under another heading.
+    found, compared = pairs(oracle, MAJORITIES), 0
+    for digits, (measure, words) in zip([3, 1, 6, 0, 2], MEASURES.items()):
+        study.choose("#measure", measure)
+        study.choose("#digits", str(digits))
+        table = tex_table(study)
+        unit = " (%)" if measure == "share" else ""
+        groups = ["Votes"] * 2 + ["Share of votes (%)"] * 3
+        groups += [f"{words}, {LABELS[it]}{unit}" for it in MAJORITIES for _ in range(3)]
+        points = "added, points" if measure == "share" else "added"
+        own = ["base", "changed", "base", "changed", "added, points", *["base", "changed", points] * 4]
+        assert table.heads == [["", "", *groups], ["Chair", "Name", *own]]
+        assert [it[0] for it in table.rows] == [str(it) for it in range(1, 25)]
+        for chair, _, *cells in table.rows:
+            assert cells == wanted_cells(found, int(chair), measure, digits), (chair, measure)
+            compared += len(cells)
+        for column in zip(*(it[2:] for it in table.rows)):
+            assert len({len(cell.partition(".")[2]) for cell in column}) == 1, "points that don't align"
+    assert compared == 5 * 24 * 17
+    assert table.rules[1].count("cmidrule") == 6 and len(table.rules) == 4
+
+
+def test_latex_fractions_and_order(study: Page, oracle: Oracle) -> None:
+    # Catches: a table that isn't the one shown: other words, another order, decimals in place of fractions.
+    study.choose("#order", "power")
+    study.choose("#order-at", "half")
+    study.click("#tab-table")
+    study.click("#toggle-fractions")
+    shown = study.run("""return [...document.querySelectorAll("#chair-table tbody tr")].map(
+      (row) => [...row.cells].map((it) => it.textContent));""")
+    table, found = tex_table(study), pairs(oracle, MAJORITIES)
+    assert table.rows == [[{"-": "--"}.get(it, it) for it in row] for row in shown]
+    assert [int(it[0]) for it in table.rows] != sorted(int(it[0]) for it in table.rows)
+    for chair, _, *cells in table.rows:
+        values = [Fraction(it) for it in cells]
+        for at, majority in enumerate(MAJORITIES):
+            base, changed = powers(found[majority][int(chair)], "share")
+            assert values[5 + 3 * at : 8 + 3 * at] == [base, changed, changed - base]
+        base, changed = shares(found["half"][int(chair)])
+        assert values[2:5] == [base, changed, changed - base]
+
+
+def test_latex_source(study: Page, oracle: Oracle) -> None:
+    # Catches: a table without the version, or with the hash of another script.
+    comments = tex_table(study).comments
+    script = oracle.script(COMMANDS, MAJORITIES).encode()
+    assert f"script sha256 {sha256(script)}" in comments
+    assert any(re.match(r"counted by board \d+\.\d+\.\d+, commit [0-9a-f]{40}", it) for it in comments)
+    assert any("\\usepackage{booktabs}" in it for it in comments)
+
+
+def test_latex_names(page: Page) -> None:
+    # Catches: a name that ends a cell, begins a comment or a command, or comes out as another name.
+    named(page, HOSTILE)
+    table = tex_table(page)
+    assert [it[1] for it in table.rows] == [" ".join(it.split()) for it in HOSTILE]
+    text = str(page.act("exported", "export-tex"))
+    assert f"\\righttoleft{{{DIRECTOR}}}\n" in text and "\\providecommand{\\righttoleft}" in text
+    assert not re.search("[\u200e\u200f\u202a-\u202e\u2066-\u2069]", text)
+    opened(page, FORMULAS, "formulas")
+    assert [it[1] for it in tex_table(page).rows] == ["=cmd|' /C calc'!A0", "+1-2", "-Minus"]
+
+
+def test_latex_chairs_that_open_and_close(page: Page) -> None:
+    # Catches: a chair that isn't open in one of the boards with a number there, or a row that lost a cell.
+    for code in ["XAA", "XAD"]:
+        assert page.act("move", code, "none")
+    assert page.act("close", "1") and page.act("open")
+    rows = tex_table(page).rows
+    [closed], [new] = ([it for it in rows if it[1].endswith(f" ({word})")] for word in ["closed", "new"])
+    assert closed[0] == new[0] == "1" and len(rows) == 25
+    # The cells of the closed chair are empty in the changed board, and those of the new one in the base.
+    assert closed[2] == "650,549"
+    assert closed[3] == closed[5] == closed[8] == "" and closed[4] and closed[7] and closed[9] in ("", "--")
+    assert new[2] == new[4] == new[7] == "" and new[3] == "0" and new[5] and new[8] and new[9] in ("", "--")
+
+
+def workbook(page: Page) -> tuple[str, Any]:
+    page.click("#export")
+    name, content = page.downloaded("#export-xlsx")
+    page.press(Keys.ESCAPE)
+    return name, openpyxl.load_workbook(io.BytesIO(content))
+
+
+def rows_of(sheet: Any) -> list[dict[str, Any]]:
+    heads, *rows = sheet.iter_rows(values_only=True)
+    return [dict(zip(heads, row)) for row in rows]
+
+
+def check_cells(row: dict[str, Any], wanted: dict[str, str]) -> int:
+    """A row of the workbook has the cells of a row of board_study's CSV, with numbers as numbers."""
+    for name, text in wanted.items():
+        cell, is_number = row[name], bool(re.fullmatch(r"-?[0-9.]+", text)) and name not in ("majority", "name")
+        if not is_number:
+            assert (cell or "") == text, (name, cell, text)
+            continue
+        assert type(cell) in (int, float), (name, cell)
+        if re.search("_(numerator|denominator)$", name):
+            # The workbook's fractions of votes aren't in lowest terms.
+            of = name.rpartition("_")[0]
+            value, own = (Fraction(int(it[f"{of}_numerator"]), int(it[f"{of}_denominator"])) for it in (wanted, row))
+            assert own == value and row[of] == float(value), (name, own, value)
+            continue
+        places = len(text.partition(".")[2])
+        assert abs(Fraction(cell) - Fraction(text)) <= Fraction(6, 10 ** (places + 1)) if places else cell == int(text)
+    return len(wanted)
+
+
+def exact_values(row: dict[str, str], base: dict[str, str]) -> Iterator[tuple[str, Fraction]]:
+    """The fractions of a row, and the differences from its row in the base."""
+    for name in ["vote_share", "banzhaf", "power_share", "prevent", "initiate"]:
+        value, before = (
+            Fraction(int(it[f"{name}_numerator"]), int(it[f"{name}_denominator"])) for it in (row, base)
+        )
+        yield name, value
+        yield f"{name}_difference", value - before
+
+
+def test_workbook(study: Page, oracle: Oracle) -> None:
+    # Catches: a cell of the workbook that isn't the oracle's, a number that is a text, or a digit that is lost.
+    name, book = workbook(study)
+    assert name.endswith("-table.xlsx") and book.sheetnames == ["Table", "Fractions", "Source"]
+    wanted = table_of(oracle.study({"changed": COMMANDS}, MAJORITIES))
+    rows, fractions = rows_of(book["Table"]), rows_of(book["Fractions"])
+    assert len(rows) == len(fractions) == len(wanted) == 2 * 4 * 24
+    assert sum(check_cells(row, it) for row, it in zip(rows, wanted)) == len(wanted) * 34
+    csv_rows = table_of(str(study.act("exported", "export-csv")))
+    assert [list(it) for it in rows[:1]] == [list(it) for it in csv_rows[:1]]
+    base = {(it["majority"], it["chair"]): it for it in wanted if it["scenario"] == "base"}
+    compared = 0
+    for row, texts, number in zip(wanted, fractions, rows):
+        for column, value in exact_values(row, base[row["majority"], row["chair"]]):
+            assert isinstance(texts[column], str) and Fraction(texts[column]) == value, (column, texts)
+            assert number[column] == float(value), (column, number[column], value)
+            compared += 1
+    assert compared == 2 * 4 * 24 * 10
+
+
+def test_workbook_source(study: Page, oracle: Oracle) -> None:
+    # Catches: a workbook whose script isn't the one of its numbers, or that doesn't say its version.
+    study.write("#scenario-name", "Kept")
+    book = workbook(study)[1]
+    rows = [(row["what"], row["text"] or "") for row in rows_of(book["Source"])]
+    script = "\n".join(text for what, text in rows if what == "script")
+    assert script == oracle.script(COMMANDS, MAJORITIES) == "\n".join(
+        text for what, text in rows if what == "script of scenario Kept"
+    )
+    source = [text for what, text in rows if what == "source"]
+    assert f"script sha256 {sha256(script.encode())}" in source and ("majorities", ", ".join(MAJORITIES)) in rows
+    assert any(re.match(r"counted by board \d+\.\d+\.\d+, commit ", it) for it in source)
+
+
+def test_workbook_of_a_sweep(page: Page, oracle: Oracle) -> None:
+    # Catches: steps of a sweep that are missing, or whose value is a text.
+    page.click("#tab-curve")
+    page.at("#sweep-run").click()
+    page.until(lambda: page.all("#sweep-table"), "the sweep")
+    page.settle()
+    rows = rows_of(workbook(page)[1]["Table"])
+    wanted = table_of(oracle.study({}, ["half", "85"], "chair 1 10..20 by 0.5 %"))
+    assert len(rows) == len(wanted) == 2 * 24 * 22
+    steps = [(it["sweep_percent"], Fraction(of["sweep_percent"])) for it, of in zip(rows, wanted) if of["sweep"]]
+    assert len(steps) == 2 * 24 * 21 and all(Fraction(cell) == value for cell, value in steps)
+    assert [it["power_share_numerator"] for it in rows] == [int(it["power_share_numerator"]) for it in wanted]
+
+
+def test_workbook_names(page: Page) -> None:
+    # Catches: a name that a spreadsheet takes for a formula, or one that breaks the file.
+    named(page, HOSTILE)
+    sheet = workbook(page)[1]["Table"]
+    column = [it.value for it in sheet[1]].index("name")
+    cells = [row[column] for row in sheet.iter_rows(min_row=2, max_row=1 + len(HOSTILE))]
+    # openpyxl leaves the code of a literal _x0041_ as it is written; Excel and LibreOffice read it.
+    assert [str(it.value).replace("_x005F_", "_") for it in cells] == HOSTILE
+    assert {it.data_type for it in cells} <= {"s", "inlineStr"} and {it.number_format for it in cells} == {"@"}
+    opened(page, FORMULAS, "formulas")
+    sheet = workbook(page)[1]["Table"]
+    cells = [row[column] for row in sheet.iter_rows(min_row=2, max_row=4)]
+    assert [it.value for it in cells] == ["=cmd|' /C calc'!A0", "+1-2", "-Minus"]
+    assert "f" not in {it.data_type for it in cells}
+
+
+# The clipboard.
+
+
+def pasted(page: Page) -> str:
+    """What is on the clipboard."""
+    while page.all("dialog[open]"):
+        page.press(Keys.ESCAPE)
+    page.click("#paste")
+    page.at("#paste-text").send_keys(Keys.CONTROL, "v")
+    text = str(page.at("#paste-text").get_property("value"))
+    page.press(Keys.ESCAPE)
+    return text
+
+
+def check_sentence(text: str, page: Page, oracle: Oracle, majority: str) -> None:
+    """The text is the sentence at a majority, and a line with its fractions, the version and the hash."""
+    sentence, source = text.strip().splitlines()
+    assert sentence == page.texts("#sentences p")[shown_majorities(page).index(majority)]
+    script = oracle.script(COMMANDS, shown_majorities(page)).encode()
+    assert re.search(r"; counted by board \d+\.\d+\.\d+, commit [0-9a-f]{40}", source)
+    assert f"script sha256 {sha256(script)}" in source and source.startswith("Source: ")
+    found = pairs(oracle, [majority])[majority]
+    values = {chair: powers(of, "share") for chair, of in found.items()}
+    gains = {chair: changed - base for chair, (base, changed) in values.items()}
+    for chair in (max(gains, key=lambda it: gains[it]), min(gains, key=lambda it: gains[it])):
+        said = re.search(rf"(?:Source: |; ){chair} [^,;]+, made here: (\S+) less (\S+?);", source)
+        assert said and [Fraction(said[2]), Fraction(said[1])] == values[chair], source
+
+
+def test_sentences_by_keyboard(study: Page, oracle: Oracle) -> None:
+    # Catches: a sentence without its source, a button that no key reaches, a copy that nothing says.
+    study.run("document.getElementById('digits').focus();")
+    for majority in MAJORITIES:
+        study.press(Keys.TAB)
+        assert study.run("return document.activeElement.id;") == f"copy-{majority}"
+    study.run("document.getElementById('copy-85').focus();")
+    study.press(Keys.ENTER)
+    live = "return document.getElementById('live').textContent;"
+    study.until(lambda: study.run(live) == "The sentence at 85 per cent is on the clipboard.", "a word of the copy")
+    assert study.text("#copy-85") == "Copied"
+    check_sentence(pasted(study), study, oracle, "85")
+    study.at("#copy-all").send_keys(Keys.ENTER)
+    study.until(lambda: "sentences are" in study.run(live), "a word of the copy")
+    for text, majority in zip(pasted(study).strip().split("\n\n"), MAJORITIES, strict=True):
+        check_sentence(text, study, oracle, majority)
+
+
+def test_copies_in_the_dialog(study: Page, oracle: Oracle) -> None:
+    # Catches: another sentence or table than the one at the button; a copy that only works on the page itself.
+    for place, words in [("#export-sentence-quorum", "sentence for the quorum"), ("#export-tex-copy", "table")]:
+        study.click("#export")
+        study.at(place).send_keys(Keys.ENTER)
+        study.until(lambda: words in study.text("#export-words"), "a word of the copy")
+        text = pasted(study)
+        if "tex" in place:
+            assert text == study.act("exported", "export-tex")
+        else:
+            check_sentence(text, study, oracle, "quorum")
+
+
+def test_citation(study: Page, oracle: Oracle) -> None:
+    # Catches: a citation without version, date or hash, with an address that doesn't exist, or that no export names.
+    version, date = re.findall(r"^## ([0-9.]+), ([0-9-]+)$", (TOP / "CHANGELOG.md").read_text(), re.MULTILINE)[0]
+    study.click("#export")
+    study.click("#export-cite")
+    study.until(lambda: study.all("#cite-bibtex"), "the citation")
+    text, bibtex = study.text("#cite-text"), study.text("#cite-bibtex")
+    script = sha256(oracle.script(COMMANDS, MAJORITIES).encode())
+    assert f"board {version} ({date})" in text and f"script sha256 {script}" in text
+    assert f"version = {{{version}}}" in bibtex and f"date = {{{date}}}" in bibtex and script in bibtex
+    assert not re.search("https?:|doi|url", (text + bibtex).lower())
+    study.at("#cite-bibtex-copy").send_keys(Keys.ENTER)
+    study.until(lambda: study.text("#cite-words"), "a word of the copy")
+    assert pasted(study) == bibtex
+
+
+@pytest.fixture
+def finger(page: Page) -> Iterator[Finger]:
+    """A phone."""
+    page.driver.execute_cdp_cmd("Emulation.setTouchEmulationEnabled", {"enabled": True, "maxTouchPoints": 1})
+    page.open()
+    page.show(NARROW, 844)
+    yield Finger(page)
+    page.driver.execute_cdp_cmd("Emulation.setTouchEmulationEnabled", {"enabled": False})
+
+
+def tap(finger: Finger, place: str) -> None:
+    finger.page.run("document.querySelector(arguments[0]).scrollIntoView({ block: 'center' });", place)
+    finger.down(middle(finger.page, place))
+    finger.up()
+
+
+def test_a_finger(page: Page, finger: Finger, oracle: Oracle) -> None:
+    # Catches: a group that a finger doesn't find, something wider than a phone, a copy that needs a mouse.
+    tap(finger, "#export")
+    for group in ["figure", "table", "sentences", "study", "citation"]:
+        tap(finger, f"#to-group-{group}")
+        title = f"group-{group}-title"
+        top = page.run("return document.getElementById(arguments[0]).getBoundingClientRect().top;", title)
+        assert 0 < top < 844, f"{group} is at {top}"
+        assert page.run("return document.activeElement.id;") == title
+    wide = """return [...document.querySelectorAll("#export-dialog *")].filter(
+      (it) => it.getBoundingClientRect().right > innerWidth || (!it.closest("svg") && it.scrollWidth > innerWidth))
+      .map((it) => it.outerHTML);"""
+    small = """return [...document.querySelectorAll("#export-dialog :is(button, select, input:not([type=checkbox]))")]
+      .filter((it) => it.offsetParent && it.offsetHeight < 40).map((it) => it.id);"""
+    assert page.run(wide) == [] and page.run(small) == []
+    tap(finger, "#export-sentence-half")
+    page.until(lambda: page.text("#export-words"), "a word of the copy")
+    assert page.text("#export-words") == "The sentence at a simple majority is on the clipboard."
+    tap(finger, "#export-dialog .close")
+    tap(finger, "#copy-85")
+    page.until(lambda: page.text("#copy-85") == "Copied", "a word of the copy")
+    assert pasted(page).startswith(page.texts("#sentences p")[1] + "\nSource: counted: ")

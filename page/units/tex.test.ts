@@ -1,0 +1,43 @@
+/** Tests of tables for LaTeX. */
+import assert from "node:assert/strict";
+import { test } from "node:test";
+import { texTable, texText } from "../src/tex";
+
+test("marks that LaTeX takes for something else", () => {
+  // Catches: a mark that isn't escaped, or one that is escaped twice.
+  const texts: Record<string, string> = {
+    "A & B_1": "A \\& B\\_1",
+    "100 % of $5 #1": "100 \\% of \\$5 \\#1",
+    "{x}": "\\{x\\}",
+    "~^\\": "\\textasciitilde{}\\textasciicircum{}\\textbackslash{}",
+    "\\&": "\\textbackslash{}\\&",
+    '<a|b> "c"`': "\\textless{}a\\textbar{}b\\textgreater{} \\symbol{34}c\\symbol{34}\\textasciigrave{}",
+    "Ünter 日本": "Ünter 日本",
+  };
+  for (const [text, wanted] of Object.entries(texts)) assert.equal(texText(text), wanted);
+});
+
+test("a table", () => {
+  // Catches: a heading over other columns, a missing number that looks like a minus, a comment of two lines.
+  const words = ["Votes, base", "Votes, changed", "Share, base", "Share, changed", "Added, points", "Count"];
+  const rows = [
+    { chair: 1, name: "Hills\n& Dales", note: " (new)", cells: ["", "1,234", "-", "50.0 %", "-1.5", "7"] },
+    { chair: 2, name: "שלום", note: "", cells: ["9", "8", "1.0 %", "2.0 %", "+1.0", "8"] },
+  ];
+  const lines = texTable(words, rows, ["table A\nB sha256 x"]).split("\n").filter((it) => !it.startsWith("% A ta"));
+  assert.ok(lines.includes("% table A B sha256 x"));
+  assert.deepEqual(lines.slice(lines.indexOf("\\providecommand{\\righttoleft}[1]{#1}") + 1), [
+    "\\begin{tabular}{rl*{6}{r}}",
+    "\\toprule",
+    "&  & \\multicolumn{2}{c}{Votes} & \\multicolumn{3}{c}{Share (\\%)} & \\multicolumn{1}{c}{Count} \\\\",
+    "\\cmidrule(lr){3-4}\\cmidrule(lr){5-7}\\cmidrule(lr){8-8}",
+    "Chair & Name & base & changed & base & changed & added, points &  \\\\",
+    "\\midrule",
+    "1 & Hills \\& Dales (new) &  & 1,234 & -- & 50.0 & $-$1.5 & 7 \\\\",
+    "2 & \\righttoleft{שלום}",
+    "  & 9 & 8 & 1.0 & 2.0 & $+$1.0 & 8 \\\\",
+    "\\bottomrule",
+    "\\end{tabular}",
+    "",
+  ]);
+});
