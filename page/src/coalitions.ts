@@ -146,7 +146,7 @@ export function smallestWith(rule: Rule, chair: number, subsets: Subsets, most: 
   return { size: size + 1, many, first: first.map((it) => [...it, chair].sort((left, right) => left - right)) };
 }
 
-/** Whether the winning coalitions of all sizes are as many as the register counts: it counts in another way. */
+/** Whether the winning coalitions of all sizes are together as many as the register counts. */
 export function checkOf(counted: number, bySize: readonly number[]): { readonly sum: number; readonly holds: boolean } {
   const sum = bySize.reduce((all, it) => all + it, 0);
   return { sum, holds: sum === counted };

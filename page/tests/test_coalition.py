@@ -1,7 +1,6 @@
 """The tab Coalition: ticks by mouse, keyboard and finger, and each of its numbers against an independent count."""
 from __future__ import annotations
 
-import re
 import struct
 import xml.etree.ElementTree as ElementTree
 from collections.abc import Iterator
@@ -176,7 +175,7 @@ def test_sizes(small: Page) -> None:
     found = sizes(small)
     assert found[:-2] == every
     sums = [text for column in columns for text in (str(sum(winning for _, winning in column)), "")]
-    assert found[-2:] == [["Sum, made here", "128", *sums], ["Counted", "128", *sums]]
+    assert found[-2:] == [["Sum", "128", *sums], ["All", "128", *sums]]
     small.at("#panel .chart").click()
     small.press(Keys.ARROW_UP * 9)
     for size, (many, _) in enumerate(columns[0]):
@@ -249,7 +248,7 @@ def test_example(page: Page, oracle: Oracle) -> None:
     assert found[-1] == found[-2] == [it.winning for it in readings]
     columns = [large_by_size(board, it) for it in MAJORITIES]
     assert found[:-2] == [list(it) for it in zip(*columns)]
-    check = "{} the sum over all sizes equals the counted number of winning coalitions: {:,}."
+    check = "{} the sum equals the counted number of winning coalitions: {:,}."
     assert page.texts("#size-checks li") == [check.format(WORDS[it.majority], it.winning) for it in readings]
     vetoes = [[it.chair for it in reading.chairs if it.swings == reading.winning] for reading in readings]
     assert [bool(it) for it in vetoes] == [not text.endswith("none.") for text in page.texts("#vetoes li")]
@@ -310,8 +309,8 @@ def test_export(small: Page) -> None:
     _, content = small.downloaded("#export-svg")
     picture = ElementTree.fromstring(content)
     assert [it.get("data-size") for it in picture.iter() if it.get("data-size")] == [str(it) for it in range(8)]
-    text = content.decode()
-    assert "made here" in text and re.search("Winning coalitions by number of chairs, the base, simple majority", text)
+    texts = "".join(picture.itertext())
+    assert "made here" in texts and "council: Winning coalitions by number of chairs, the base" in texts
     _, content = small.downloaded("#export-png")
     width, height = struct.unpack(">II", content[16:24])
     assert width >= 1600 and height >= 800 and len(content) > 30_000

@@ -18,7 +18,7 @@ interface Found {
   readonly smallest: Smallest | null;
 }
 
-function tableOf(found: readonly Found[]): HTMLElement {
+function tableOf(looked: Looked, chair: number, found: readonly Found[]): HTMLElement {
   const heads = ["Least number of chairs", "Winning coalitions with this number"];
   const rows = found.map(({ reading: { majority }, smallest }) =>
     h("tr", { "data-majority": majority },
@@ -29,6 +29,7 @@ function tableOf(found: readonly Found[]): HTMLElement {
   );
   return h("div", { class: "scroll" },
     h("table", { id: "smallest-table" },
+      h("caption", {}, "With ", chairList(looked, [chair])),
       h("thead", {},
         h("tr", {}, h("td", {}), heads.map((it) => h("th", { scope: "col", "data-mark": "made here" }, it)))),
       h("tbody", {}, rows),
@@ -116,9 +117,9 @@ export function smallestPart(looked: Looked, tickThem: TickThem): Child {
   const listed = found.find((it) => it.reading === readingAt(looked, ticks.at));
   return [
     h("h3", {}, "Smallest winning coalitions"),
-    h("p", { class: "note" }, "Of all winning coalitions with the chosen chair, those with the fewest chairs."),
+    h("p", { class: "note" }, "Of all winning coalitions with a chair, those with the fewest chairs."),
     choices(looked, chair, tickThem),
-    tableOf(found),
+    tableOf(looked, chair, found),
     listed ? listOf(looked, listed, tickThem) : null,
     vetoes(looked),
   ];
