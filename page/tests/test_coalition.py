@@ -182,10 +182,10 @@ def test_sizes(small: Page) -> None:
     small.at("#panel .chart").click()
     small.press(Keys.ARROW_UP * 9)
     for size, (many, _) in enumerate(columns[0]):
-        fractions = [column[size][1] for column in columns]
-        words = small.text("#readout").splitlines()
-        assert words[0] == f"{counted(size, 'chair')}: {counted(many, 'coalition')}, of which win"
-        assert [f"= {it}/{many} (made here)" in line for it, line in zip(fractions, words[1:])] == [True] * 4
+        shares = [f"{column[size][1]}, {share_text(column[size][1], many)} (made here)" for column in columns]
+        head, *lines = small.text("#readout").splitlines()
+        assert head == f"{counted(size, 'chair')}: {counted(many, 'coalition')}, of which win"
+        assert [it.split(": ")[1] for it in lines] == shares
         small.press(Keys.ARROW_RIGHT)
 
 

@@ -115,7 +115,8 @@ function verdicts(looked: Looked, coalition: ReadonlySet<number>): Child {
     const cells = looked.readings.map(({ majority }, column) =>
       h("td", { class: "text", "data-majority": majority }, columns[column]?.[at]?.[3] ?? null),
     );
-    return h("tr", { "data-part": part }, h("th", { scope: "row", class: "text", "data-mark": mark }, `${line} `), cells);
+    const head = h("th", { scope: "row", class: "text", "data-mark": mark }, `${line} `);
+    return h("tr", { "data-part": part }, head, cells);
   });
   return h("div", { class: "scroll", tabindex: 0, role: "region", "aria-label": "The coalition at each majority" },
     h("table", { id: "verdict-table" },

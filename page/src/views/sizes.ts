@@ -40,9 +40,9 @@ function shareText(model: SizesModel, majority: Majority, size: number, digits: 
 /** A size in words. */
 function sizeWords({ app: { view }, readings }: Looked, model: SizesModel, size: number): Child {
   const items = readings.map(({ majority }) => {
-    const share = shareOfSize(model, majority, size);
-    const text = `${shareText(model, majority, size, view.digits)} = ${fractionText(share)}`;
-    return h("li", {}, `${MAJORITY[majority].label}: ${text} (made here)`);
+    const winning = grouped(model.winning.get(majority)?.[size] ?? 0);
+    const share = shareText(model, majority, size, view.digits);
+    return h("li", {}, `${MAJORITY[majority].label}: ${winning}, ${share} (made here)`);
   });
   const many = counted(model.all[size] ?? 0, "coalition");
   return [h("strong", {}, `${counted(size, "chair")}: ${many}, of which win`), h("ul", {}, items)];

@@ -53,9 +53,10 @@ function listWords({ reading: { majority }, smallest }: Found): string {
   const { at } = MAJORITY[majority];
   if (!smallest) return `${at} no coalition wins.`;
   const { many, size } = smallest;
-  const all = many === 1 ? "the one" : `all ${many}`;
-  const which = many > MOST_LISTED ? `the first ${MOST_LISTED} of ${grouped(many)}` : all;
-  return `${at}: ${which} with ${counted(size, "chair")}, in order of their chairs' numbers.`;
+  const chairs = counted(size, "chair");
+  if (many === 1) return `${at}: the only one with ${chairs}.`;
+  const which = many > MOST_LISTED ? `the first ${MOST_LISTED} of ${grouped(many)}` : `all ${many}`;
+  return `${at}: ${which} with ${chairs}, in order of their chairs' numbers.`;
 }
 
 function listOf(looked: Looked, found: Found, tickThem: TickThem): Child {
