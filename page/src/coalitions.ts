@@ -105,17 +105,18 @@ function mostVotes(voters: readonly Voter[]): number[] {
 }
 
 /** The subsets of some size with at least some votes, in order of their chairs' numbers. */
-function* inOrder(voters: readonly Voter[], size: number, votes: number): Generator<number[]> {
+function* inOrder(voters: readonly Voter[], size: number, votes: number): Generator<readonly number[]> {
   // The chairs from a place on can only have the votes if those of them with the most do.
   const most = voters.map((_, at) => mostVotes(voters.slice(at)));
-  function* from(start: number, chairs: number, least: number): Generator<number[]> {
-    if (chairs === 0 && least <= 0) yield [];
-    for (let at = start; chairs > 0 && (most[at]?.[chairs] ?? -Infinity) >= least; at += 1) {
+  function* from(start: number, own: readonly number[], least: number): Generator<readonly number[]> {
+    const missing = size - own.length;
+    if (missing === 0 && least <= 0) yield own;
+    for (let at = start; missing > 0 && (most[at]?.[missing] ?? -Infinity) >= least; at += 1) {
       const { chair, weight } = voters[at] as Voter;
-      for (const others of from(at + 1, chairs - 1, least - weight)) yield [chair, ...others];
+      yield* from(at + 1, [...own, chair], least - weight);
     }
   }
-  yield* from(0, size, votes);
+  yield* from(0, [], votes);
 }
 
 /** The first values of a generator. */
@@ -146,7 +147,7 @@ export function smallestWith(rule: Rule, chair: number, subsets: Subsets, most: 
   return { size: size + 1, many, first: first.map((it) => [...it, chair].sort((left, right) => left - right)) };
 }
 
-/** Whether the winning coalitions of all sizes are as many as the register counts: it counts in another way. */
+/** Whether the winning coalitions of all sizes are together as many as the register counts. */
 export function checkOf(counted: number, bySize: readonly number[]): { readonly sum: number; readonly holds: boolean } {
   const sum = bySize.reduce((all, it) => all + it, 0);
   return { sum, holds: sum === counted };

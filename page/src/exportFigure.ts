@@ -53,8 +53,7 @@ function chairFigure(app: App, shown: Shown, draw: typeof drawPower): Figure {
 /** The figure of the winning coalitions by number of chairs; null if no chair is open. */
 function sizesFigure(shown: Shown): Figure | null {
   const model = sizesModel(shown.counted.after);
-  const majorities = [...model.winning.keys()].map((it) => MAJORITY[it].label).join(", ");
-  const title = `Winning coalitions by number of chairs, ${boardWords(shown)}, ${majorities}`;
+  const title = `Winning coalitions by number of chairs, ${boardWords(shown)}`;
   if (model.all.length === 1) return null;
   return { title, sources: [studySource(shown)], draw: (place, look) => drawSizes(place, model, look) };
 }

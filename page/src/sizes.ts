@@ -30,14 +30,14 @@ export function shareOfSize({ all, winning }: SizesModel, majority: Majority, si
   return over(winning.get(majority)?.[size] ?? 0, all[size] ?? 0);
 }
 
-/** Whether the sum over all sizes is what the register counts, in words. */
+/** Whether the winning coalitions of all sizes are as many as the register counts, in words. */
 export function checkWords(reading: Reading, bySize: readonly number[]): { holds: boolean; words: string } {
   const { sum, holds } = checkOf(reading.winning, bySize);
   const { at } = MAJORITY[reading.majority];
   const counted = grouped(reading.winning);
   const words = holds
-    ? `${at} the sum over all sizes equals the counted number of winning coalitions: ${counted}.`
-    : `${at} the sum over all sizes is ${grouped(sum)}, made here, but the counted number of winning coalitions is ` +
+    ? `${at} the sum equals the counted number of winning coalitions: ${counted}.`
+    : `${at} the sum is ${grouped(sum)}, made here, but the counted number of winning coalitions is ` +
       `${counted}. One of the two is wrong: don't use the numbers of this tab.`;
   return { holds, words };
 }

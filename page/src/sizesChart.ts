@@ -100,9 +100,9 @@ export function drawSizes(place: Element, model: SizesModel, look: Look): void {
   const x = scaleLinear().domain([-0.5, most + 0.5]).range([LEFT, look.width - RIGHT]);
   const above = panelOf(frame.top + SPACE, COUNTS, Math.max(...model.all), x);
   const below = panelOf(above.bottom + SPACE, SHARES, 100, x);
-  const groups = groupsOf(frame, model, above, below);
   drawAxis(frame, above, "number of coalitions, made here", look);
   drawAxis(frame, below, "of these win, per cent, made here", look);
+  const groups = groupsOf(frame, model, above, below);
   drawBars(model, above, groups, look);
   for (const majority of majorities) {
     drawValues(frame, above, groups, majority, model.winning.get(majority) ?? [], look);

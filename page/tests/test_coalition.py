@@ -4,16 +4,18 @@ from __future__ import annotations
 import re
 import struct
 import xml.etree.ElementTree as ElementTree
-from collections.abc import Iterator
+from collections.abc import Iterator, Sequence
 from fractions import Fraction
 from random import Random
 
 import pytest
+from board_python.replay_output import Reading
 from chromium import EVERY, NARROW, Page
 from coalition_count import Board, Coalition, counted, large_by_size
 from inputs import MOST
 from oracle import MAJORITIES, Oracle
 from selenium.webdriver.common.keys import Keys
+from test_exports import DROP
 from test_hands import Finger, focus, middle
 from test_said import ARABIC, HEAD, opened
 
@@ -176,14 +178,14 @@ def test_sizes(small: Page) -> None:
     found = sizes(small)
     assert found[:-2] == every
     sums = [text for column in columns for text in (str(sum(winning for _, winning in column)), "")]
-    assert found[-2:] == [["Sum, made here", "128", *sums], ["Counted", "128", *sums]]
+    assert found[-2:] == [["Sum", "128", *sums], ["All", "128", *sums]]
     small.at("#panel .chart").click()
     small.press(Keys.ARROW_UP * 9)
     for size, (many, _) in enumerate(columns[0]):
-        fractions = [column[size][1] for column in columns]
-        words = small.text("#readout").splitlines()
-        assert words[0] == f"{counted(size, 'chair')}: {counted(many, 'coalition')}, of which win"
-        assert [f"= {it}/{many} (made here)" in line for it, line in zip(fractions, words[1:])] == [True] * 4
+        shares = [f"{column[size][1]}, {share_text(column[size][1], many)} (made here)" for column in columns]
+        head, *lines = small.text("#readout").splitlines()
+        assert head == f"{counted(size, 'chair')}: {counted(many, 'coalition')}, of which win"
+        assert [it.split(": ")[1] for it in lines] == shares
         small.press(Keys.ARROW_RIGHT)
 
 
@@ -224,7 +226,10 @@ def test_ticks_stay(small: Page) -> None:
             small.run('if (!document.getElementById("close-8")) document.getElementById("card-8").click();')
         assert small.act(*act)
     assert ticked(small) == (1, 5)
-    for _ in range(3):
+    # The number 4 is free from the beginning: the second chair that is opened is 8 again, and another chair.
+    assert small.act("open") and small.act("open") and small.at("#tick-8")
+    assert ticked(small) == (1, 5)
+    for _ in range(5):
         small.click("#undo")
     check_verdict(small, BOARD, (1, 5, 8))
     small.click("#tab-power")
@@ -241,6 +246,16 @@ def example(oracle: Oracle) -> Board:
     return Board(votes, {}, reading.total)
 
 
+def vetoes(page: Page) -> list[list[int]]:
+    """The numbers of the veto chairs at each majority; the example's names have no digits."""
+    return [[int(it) for it in re.findall(r"\d+", text.split(":")[1])] for text in page.texts("#vetoes li")]
+
+
+def vetoes_of(readings: Sequence[Reading]) -> list[list[int]]:
+    """The chairs that, by the program's counts, swing in every winning coalition."""
+    return [[it.chair for it in reading.chairs if it.swings == reading.winning] for reading in readings]
+
+
 def test_example(page: Page, oracle: Oracle) -> None:
     # Catches: 24 chairs that aren't counted as the program counts them.
     show_all(page)
@@ -249,11 +264,45 @@ def test_example(page: Page, oracle: Oracle) -> None:
     assert found[-1] == found[-2] == [it.winning for it in readings]
     columns = [large_by_size(board, it) for it in MAJORITIES]
     assert found[:-2] == [list(it) for it in zip(*columns)]
-    check = "{} the sum over all sizes equals the counted number of winning coalitions: {:,}."
+    check = "{} the sum equals the counted number of winning coalitions: {:,}."
     assert page.texts("#size-checks li") == [check.format(WORDS[it.majority], it.winning) for it in readings]
-    vetoes = [[it.chair for it in reading.chairs if it.swings == reading.winning] for reading in readings]
-    assert [bool(it) for it in vetoes] == [not text.endswith("none.") for text in page.texts("#vetoes li")]
-    assert not page.all(".alarm")
+    assert not page.all(".alarm") and vetoes(page) == vetoes_of(readings) == [[], [], [], []]
+    # With more votes chair 1 is in every winning coalition at 85 per cent, and at 70 with many more.
+    for votes, where in [("900000", [False, False, True, False]), ("5000000", [True, True, True, True])]:
+        assert page.act("votes", "XAA", votes)
+        wanted = vetoes_of(oracle.output([f"votes,XAA,{votes}"], MAJORITIES).readings)
+        assert vetoes(page) == wanted and [1 in it for it in wanted] == where
+
+
+def test_marks(small: Page) -> None:
+    # Catches: a number of the tab that doesn't say whether the register counts it or the page makes it.
+    sizes(small)
+    marks = "return [...document.querySelectorAll(arguments[0])].map((it) => it.dataset.mark ?? '');"
+    parts = dict(zip([part for part, _ in small.run(VERDICTS)], small.run(marks, "#verdict-table tbody th")))
+    assert {part for part, mark in parts.items() if mark == "counted"} == {"quota", "least"}
+    assert set(parts.values()) == {"counted", "made here"}
+    for table in ["#smallest-table", "#smallest-list"]:
+        assert set(small.run(marks, f"{table} thead th")) == {"made here"}
+    assert small.run(marks, "#size-table thead th") == ["", *["made here"] * 9]
+    assert small.run(marks, "#size-table tfoot th") == ["made here", "counted"]
+
+
+@pytest.mark.parametrize("chairs", [0, 1])
+def test_few_chairs(page: Page, chairs: int) -> None:
+    # Catches: a fault on a board of one chair, or without chairs.
+    reads = "publish\nread,1,half\nread,1,85\n"
+    page.run(DROP, "few.csv", "member,votes\nAAA,5\nscript\n" + "open,7\nmove,AAA,7\n" * chairs + reads)
+    page.until(lambda: page.text("#study-name") == "few", "the study")
+    show_all(page)
+    if chairs:
+        page.click("#tick-7")
+        check_verdict(page, Board({7: 5}, {7: "AAA"}, 5), (7,))
+        rows = [["0", "1", "0"], ["1", "1", "1"], ["Sum", "2", "1"], ["All", "2", "1"]]
+        assert [cells[:3] for cells in sizes(page)] == rows
+    else:
+        assert page.text("#panel") == "No chair is open, so there is no coalition to look at."
+        page.click("#export")
+        assert not page.at("#export-svg").is_enabled()
 
 
 def test_most(page: Page, times: list[str]) -> None:
@@ -310,8 +359,8 @@ def test_export(small: Page) -> None:
     _, content = small.downloaded("#export-svg")
     picture = ElementTree.fromstring(content)
     assert [it.get("data-size") for it in picture.iter() if it.get("data-size")] == [str(it) for it in range(8)]
-    text = content.decode()
-    assert "made here" in text and re.search("Winning coalitions by number of chairs, the base, simple majority", text)
+    texts = "".join(picture.itertext())
+    assert "made here" in texts and "council: Winning coalitions by number of chairs, the base" in texts
     _, content = small.downloaded("#export-png")
     width, height = struct.unpack(">II", content[16:24])
     assert width >= 1600 and height >= 800 and len(content) > 30_000

@@ -30,7 +30,7 @@ test("no module imports itself, directly or through others", () => {
 
 test("the reader of tables, and what counts, need no page", () => {
   // Catches: a module for Node and for the worker that asks for elements of the page.
-  const names = /src\/tables\/|src\/(engine|sweep|best|amount|amounts|csv|operations)\.ts/;
+  const names = /src\/tables\/|src\/(engine|sweep|best|amount|amounts|csv|operations|coalitions|subsets|sizes)\.ts/;
   const pure = Object.keys(inputs).filter((it) => names.test(it));
   const ofPage = /src\/(dom|app|dialogs)\.ts|src\/views\//;
   assert.ok(pure.length > 15);

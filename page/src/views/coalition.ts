@@ -14,8 +14,8 @@ import { failures, sizesPart } from "./sizes";
 import { smallestPart } from "./smallest";
 
 const DEFINITIONS = [
-  "A coalition is a set of open chairs. It wins if its votes reach the quota, which is the least number of votes " +
-    "that wins, and for the quorum also its chairs the least number of chairs; otherwise it loses.",
+  "A coalition is a set of open chairs. It wins if it has at least the quota, the least number of votes that wins; " +
+    "for the quorum it also needs the least number of chairs. Otherwise it loses.",
   "A chair is critical in a winning coalition if the coalition loses once this chair alone leaves it (Banzhaf 1965).",
   "A coalition can block if the other chairs together lose: nothing passes against all of its chairs.",
   "All of this is made here from the chairs' votes, the quota and the least number of chairs, which are counted.",
@@ -114,7 +114,8 @@ function verdicts(looked: Looked, coalition: ReadonlySet<number>): Child {
     const cells = looked.readings.map(({ majority }, column) =>
       h("td", { class: "text", "data-majority": majority }, columns[column]?.[at]?.[3] ?? null),
     );
-    return h("tr", { "data-part": part }, h("th", { scope: "row", class: "text", "data-mark": mark }, line), cells);
+    const head = h("th", { scope: "row", class: "text", "data-mark": mark }, `${line} `);
+    return h("tr", { "data-part": part }, head, cells);
   });
   return h("div", { class: "scroll", tabindex: 0, role: "region", "aria-label": "The coalition at each majority" },
     h("table", { id: "verdict-table" },

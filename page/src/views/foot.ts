@@ -36,7 +36,8 @@ const MARKS: readonly (readonly [string, string])[] = [
   [
     "made here",
     "by this page: per cent, differences, rounding and order. Each decimal is its exact fraction, rounded once, half " +
-      "to even, in whole-number arithmetic, so rounded shares may not add up. An exact difference is a fraction, too.",
+      "to even, in whole-number arithmetic, so rounded shares may not add up. An exact difference is a fraction, " +
+      "too. What the tab Coalition says of coalitions is made here, from counted votes and quotas.",
   ],
   ["given", "from the table, with its row and column."],
 ];

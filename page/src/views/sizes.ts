@@ -6,6 +6,10 @@ import { MAJORITY, type Majority } from "../words";
 import { chartPlace, readout, tableBehind } from "./chartParts";
 import type { Looked } from "./coalitionParts";
 
+const NOTE =
+  "How many coalitions of each number of chairs win, and how many there are, made here. The winning ones of all " +
+  "numbers of chairs are added up, and the register counts them on its own.";
+
 /** The chart's place and its model, and all parts around it. */
 export interface SizesPart {
   readonly chart: HTMLElement;
@@ -36,9 +40,9 @@ function shareText(model: SizesModel, majority: Majority, size: number, digits: 
 /** A size in words. */
 function sizeWords({ app: { view }, readings }: Looked, model: SizesModel, size: number): Child {
   const items = readings.map(({ majority }) => {
-    const share = shareOfSize(model, majority, size);
-    const text = `${shareText(model, majority, size, view.digits)} = ${fractionText(share)}`;
-    return h("li", {}, `${MAJORITY[majority].label}: ${text} (made here)`);
+    const winning = grouped(model.winning.get(majority)?.[size] ?? 0);
+    const share = shareText(model, majority, size, view.digits);
+    return h("li", {}, `${MAJORITY[majority].label}: ${winning}, ${share} (made here)`);
   });
   const many = counted(model.all[size] ?? 0, "coalition");
   return [h("strong", {}, `${counted(size, "chair")}: ${many}, of which win`), h("ul", {}, items)];
@@ -59,15 +63,15 @@ function sizeRow({ app: { view }, readings }: Looked, model: SizesModel, size: n
 /** The last rows: the sums over all sizes, and what the register counts. */
 function footOf({ readings }: Looked, { all, winning }: SizesModel): HTMLElement[] {
   const row = (words: string, mark: string, coalitions: number, of: (majority: Majority, at: number) => number) =>
-    h("tr", { "data-mark": mark },
-      h("th", { scope: "row" }, words),
+    h("tr", {},
+      h("th", { scope: "row", "data-mark": mark }, words),
       h("td", {}, grouped(coalitions)),
       readings.map(({ majority }, at) => [h("td", {}, grouped(of(majority, at))), h("td", {})]),
     );
   const sum = (some: readonly number[]) => some.reduce((total, it) => total + it, 0);
   return [
-    row("Sum, made here", "made here", sum(all), (it) => sum(winning.get(it) ?? [])),
-    row("Counted", "counted", readings[0]?.coalitions ?? 0, (_, at) => readings[at]?.winning ?? 0),
+    row("Sum", "made here", sum(all), (it) => sum(winning.get(it) ?? [])),
+    row("All", "counted", readings[0]?.coalitions ?? 0, (_, at) => readings[at]?.winning ?? 0),
   ];
 }
 
@@ -100,6 +104,7 @@ export function sizesPart(looked: Looked): SizesPart {
   const said = checks(looked).map((it) => h("li", { class: it.holds ? "" : "alarm" }, it.words));
   const parts = [
     h("h3", {}, "Winning coalitions by number of chairs"),
+    h("p", { class: "note" }, NOTE),
     h("ul", { id: "size-checks" }, said),
     box,
     chart,

@@ -18,7 +18,7 @@ interface Found {
   readonly smallest: Smallest | null;
 }
 
-function tableOf(found: readonly Found[]): HTMLElement {
+function tableOf(looked: Looked, chair: number, found: readonly Found[]): HTMLElement {
   const heads = ["Least number of chairs", "Winning coalitions with this number"];
   const rows = found.map(({ reading: { majority }, smallest }) =>
     h("tr", { "data-majority": majority },
@@ -29,6 +29,7 @@ function tableOf(found: readonly Found[]): HTMLElement {
   );
   return h("div", { class: "scroll" },
     h("table", { id: "smallest-table" },
+      h("caption", {}, "With ", chairList(looked, [chair])),
       h("thead", {},
         h("tr", {}, h("td", {}), heads.map((it) => h("th", { scope: "col", "data-mark": "made here" }, it)))),
       h("tbody", {}, rows),
@@ -52,9 +53,10 @@ function listWords({ reading: { majority }, smallest }: Found): string {
   const { at } = MAJORITY[majority];
   if (!smallest) return `${at} no coalition wins.`;
   const { many, size } = smallest;
-  const all = many === 1 ? "the one" : `all ${many}`;
-  const which = many > MOST_LISTED ? `the first ${MOST_LISTED} of ${grouped(many)}` : all;
-  return `${at}: ${which} with ${counted(size, "chair")}, in order of their chairs' numbers.`;
+  const chairs = counted(size, "chair");
+  if (many === 1) return `${at}: the only one with ${chairs}.`;
+  const which = many > MOST_LISTED ? `the first ${MOST_LISTED} of ${grouped(many)}` : `all ${many}`;
+  return `${at}: ${which} with ${chairs}, in order of their chairs' numbers.`;
 }
 
 function listOf(looked: Looked, found: Found, tickThem: TickThem): Child {
@@ -116,9 +118,9 @@ export function smallestPart(looked: Looked, tickThem: TickThem): Child {
   const listed = found.find((it) => it.reading === readingAt(looked, ticks.at));
   return [
     h("h3", {}, "Smallest winning coalitions"),
-    h("p", { class: "note" }, "Of all winning coalitions with the chosen chair, those with the fewest chairs."),
+    h("p", { class: "note" }, "Of all winning coalitions with a chair, those with the fewest chairs."),
     choices(looked, chair, tickThem),
-    tableOf(found),
+    tableOf(looked, chair, found),
     listed ? listOf(looked, listed, tickThem) : null,
     vetoes(looked),
   ];
