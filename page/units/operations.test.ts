@@ -223,9 +223,10 @@ test("the script of a list with operations gives the readings", async () => {
   // By first letters: accepted, refused, impossible, off. While CCC is suspended, nothing moves it. Once chair 1 is
   // merged, the split opens chair 1, so chair 4 isn't open.
   assert.deepEqual(kinds, ["araara", "aaairr", "oaaira", "araara"]);
-  const { commands, standing } = await counted(changes);
+  // A refused command stays in the script, and opens no chair.
+  const { commands, standing } = await counted([...changes, change({ kind: "open", chair: 3 }, 9)]);
   assert.deepEqual(commands.map((it) => it.kind), [
-    "suspend", "open", "move", "move", "votes", "votes", "move", "move", "close",
+    "suspend", "open", "move", "move", "votes", "votes", "move", "move", "close", "open",
   ]);
   assert.deepEqual([standing.open, standing.opened], [[1, 3, 4], [4]]);
 });
@@ -255,6 +256,7 @@ test("operations in words", () => {
   const merge: Operation = { kind: "merge", chair: 1, to: 2 };
   assert.equal(words(merge), `Chair 1 is merged into chair 2 (3 members: ${all}) | `);
   assert.equal(words(merge, suspended), `Chair 1 is merged into chair 2 | ${bbb}: ${refused}; ${nothing}`);
+  assert.equal(words(move("BBB", 2), suspended), `${bbb} → chair 2 | ${refused}`);
   assert.equal(words({ kind: "merge", chair: 3, to: 2 }), "Chair 3 is merged into chair 2 (it had no member) | ");
   const dissolved = "Chair 2 is dissolved, and its members go to no chair (1 member: DDD Delland) | ";
   assert.equal(words({ kind: "dissolve", chair: 2, to: null }), dissolved);

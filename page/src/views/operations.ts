@@ -50,19 +50,21 @@ function suspendedWords(members: readonly Place[]): string {
     `restore ${them} first.`;
 }
 
+const WHOLE = "This is one change: all of it is carried out, or nothing.";
+
 /** Members that move to a chair which is chosen, and their chair, which is closed. */
 function openEmptying(app: App, kind: "merge" | "dissolve", chair: number): void {
   const { title, members } = chairOf(app, chair);
   const others = app.shown ? chairChoices(app.shown.counted.standing).filter(([key]) => key !== String(chair)) : [];
   const isMerge = kind === "merge";
-  const none: [string, string] = ["none", "no chair: they cast no vote"];
+  const none: [string, string] = ["none", "no chair"];
   const options = isMerge ? others : [none, ...others];
-  const [act, label, to] = isMerge
+  const [act, label, where] = isMerge
     ? ["Merge", "Into", "to the chosen chair"]
-    : ["Dissolve", "Its members go to", "to the chosen chair, or to none"];
+    : ["Dissolve", "Its members go to", "to the chosen chair, or to no chair, where no vote is cast,"];
   const who = members.length === 1 ? "Its one member moves" : `Its ${members.length} members move`;
   openDialog(kind, `${act} ${title}`, (close) => [
-    h("p", {}, `${who} ${to}, and chair ${chair} is closed. This is one change: all of it is carried out, or nothing.`),
+    h("p", {}, `${who} ${where}, and chair ${chair} is closed. ${WHOLE}`),
     h("p", { class: "wrong" }, suspendedWords(members)),
     options.length === 0 && h("p", { class: "wrong" }, "No other chair is open."),
     options.length > 0 && choiceForm(kind, label, options, act, (choice) => {
@@ -96,7 +98,8 @@ function splitForm(app: App, id: string, codes: Codes, close: () => void): Child
 /** A form for votes plus or minus per cent. */
 function scaleForm(app: App, id: string, of: () => Scale["of"] | null, place: string, close: () => void): Child {
   const read = (text: string) => percentage(text, "change");
-  const field = readField(`${id}-percent`, "Plus or minus per cent of each member's votes", read, { placeholder: "+40" });
+  const label = "Plus or minus per cent of each member's votes";
+  const field = readField(`${id}-percent`, label, read, { placeholder: "+40" });
   return fieldForm(field, "Change votes", (percent) => {
     const found = of();
     if (found === null) return;
