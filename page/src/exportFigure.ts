@@ -77,9 +77,17 @@ export function hasFigure(app: App, shown: Shown): boolean {
   return FIGURE[app.view.tab](app, shown) !== null;
 }
 
+/** The study once it is counted; its sweep and its scenarios are counted for the tab Curve alone. */
+async function countedStudy(app: App): Promise<Shown> {
+  if (app.view.tab === "curve") return app.whole();
+  await app.counting;
+  if (!app.shown) throw app.fault ?? new Error("there is no count yet");
+  return app.shown;
+}
+
 /** The figure of the tab, which is drawn by choices; its numbers are those of the moment it is asked for. */
 export async function figureOfTab(app: App): Promise<(choice: FigureChoice) => DrawnFigure> {
-  const shown = await app.whole();
+  const shown = await countedStudy(app);
   const found = FIGURE[app.view.tab](app, shown);
   if (!found) throw new Error("this tab has no figure now");
   const title = `${isolated(app.study.name)}: ${found.title}`;

@@ -78,12 +78,12 @@ function tableGroup(app: App, make: Exporter): Child {
     h("p", { class: "note" }, "As shown: the chairs, digits, measure and majorities of the tab Table."),
     row(
       make("Copy for a spreadsheet", "export-copy", () => copyShown(app, shownText)),
-      make("LaTeX", "export-tex", saved("tex", tex)),
+      make("LaTeX (.tex)", "export-tex", saved("tex", tex)),
       make("Copy LaTeX", "export-tex-copy", () => copyShown(app, texText)),
     ),
     h("p", { class: "note" }, "All numbers of base, changes, scenarios and sweep, with exact fractions:"),
     row(
-      make("Excel", "export-xlsx", saved("xlsx", workbookFile)),
+      make("Excel (.xlsx)", "export-xlsx", saved("xlsx", workbookFile)),
       make("CSV with the columns of board_study", "export-csv", saved("csv", csvFile)),
     ),
   ];

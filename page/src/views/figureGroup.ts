@@ -3,6 +3,7 @@ import type { App, Shown } from "../app";
 import { h, paint, save, type Child } from "../dom";
 import { fileName, textFile } from "../exportFile";
 import { figureOfTab, hasFigure, svgText, type DrawnFigure, type FigureChoice } from "../exportFigure";
+import { WIDTHS } from "../figureSize";
 import { pngOf } from "../png";
 import { printFigure } from "../printFigure";
 import { figureForm } from "./figureForm";
@@ -19,11 +20,15 @@ const NO_FIGURE = "There is no figure on this tab now: Power, Change and Curve h
 const PDF_WORDS =
   "PDF: the browser's print dialog opens with this figure alone. Choose “Save as PDF”; the page has the figure's size.";
 
-/** The height of a page of A4, in millimetres. */
-const PAGE = 297;
+/** The heights of what a figure is put on, in millimetres. */
+const [SLIDE, PAGE] = [
+  { height: 143, words: "a slide of 16 by 9" },
+  { height: 297, words: "a page of A4" },
+];
 
 function sizeWords({ width, height }: DrawnFigure): string {
-  const high = height > PAGE ? " This is higher than a page of A4: fewer majorities make it lower." : "";
+  const most = width === WIDTHS.slide.width ? SLIDE : PAGE;
+  const high = height > most.height ? ` It is higher than ${most.words}: fewer majorities make it lower.` : "";
   return `${width} mm wide, ${height} mm high; the text has 9 points at every width.${high}`;
 }
 
