@@ -126,7 +126,7 @@ function gainSource({ chair, name, at }: ChairRow, majority: Majority, measure: 
 const MOST_NAMED = 3;
 
 /** Chairs by number and name. */
-function chairsWords(rows: readonly ChairRow[]): string {
+export function chairsWords(rows: readonly Pick<ChairRow, "chair" | "name">[]): string {
   const names = rows.slice(0, MOST_NAMED).map(({ chair, name }) => `${chair} ${isolated(name)}`);
   const others = rows.length - names.length;
   const last = others ? `${grouped(others)} more` : names.length > 1 ? names.pop() : undefined;
