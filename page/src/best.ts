@@ -54,22 +54,16 @@ export async function triedMoves(
   return tried;
 }
 
-function absolute({ numerator, denominator }: Ratio): Ratio {
-  return { numerator: numerator < 0n ? -numerator : numerator, denominator };
-}
-
-/** The greatest change of any chair by a move. */
-export function changeOf({ most, least }: Tried): Ratio {
-  const [gain, loss] = [most, least].map((it) => absolute(it?.gain ?? ZERO));
-  return gain && loss && compared(gain, loss) < 0 ? loss : gain ?? ZERO;
-}
-
 const ZERO: Ratio = { numerator: 0n, denominator: 1n };
 
-/** Moves with the greatest gain of the chair that they go to first, or the greatest change of any chair. */
+/** The greatest change of any chair by a move, a gain or a loss. */
+export function changeOf({ most, least }: Tried): Ratio {
+  const [gain, loss] = [most?.gain ?? ZERO, difference(ZERO, least?.gain ?? ZERO) ?? ZERO];
+  return compared(gain, loss) < 0 ? loss : gain;
+}
+
+/** Moves in order: the greatest first, and equal ones in the order in which they were tried. */
 export function ranked(tried: readonly Tried[], of: (it: Tried) => Ratio): Tried[] {
-  return tried
-    .map((it) => ({ it, key: of(it) }))
-    .sort((left, right) => compared(right.key, left.key))
-    .map(({ it }) => it);
+  const keyed = tried.map((it) => ({ it, key: of(it) }));
+  return keyed.sort((left, right) => compared(right.key, left.key)).map(({ it }) => it);
 }

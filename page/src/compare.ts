@@ -155,7 +155,7 @@ function gainSource({ chair, name, at }: ChairRow, majority: Majority, measure: 
 }
 
 /** Chairs by number and name. */
-function chairsWords(rows: readonly ChairRow[]): string {
+export function chairsWords(rows: readonly Pick<ChairRow, "chair" | "name">[]): string {
   return listed(rows.map(({ chair, name }) => `${chair} ${isolated(name)}`));
 }
 

@@ -110,9 +110,8 @@ class Shift<Part, Value> implements Task<Value[]> {
     }
   }
 
-  cancel(): void {
-    this.#stop(new Cancelled());
-  }
+  /** It is also called without its object, as a part of another task. */
+  readonly cancel = (): void => this.#stop(new Cancelled());
 
   #say(at: number, done: number): void {
     if (this.#isOver) return;

@@ -6,9 +6,8 @@ import random
 
 import inputs
 from chromium import Page
-from test_exports import DROP
+from test_said import opened
 from test_studies import CELLS, sweep
-from test_tables import take
 
 SEED = 20_261_128
 # The part of one worker's time that four workers take at most, on a machine with nothing else to do. It is tried in
@@ -37,9 +36,7 @@ def largest() -> str:
 
 def open_largest(page: Page, processors: int) -> None:
     open_with(page, processors)
-    page.run(DROP, "largest.csv", largest())
-    page.until(lambda: page.all("#table-take"), "the table")
-    take(page, "largest")
+    opened(page, largest(), "largest")
 
 
 def workers(page: Page) -> int:

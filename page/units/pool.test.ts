@@ -109,6 +109,23 @@ test("Cancel ends all workers' parts", async () => {
   assert.ok(hands.flatMap((it) => it.begun).filter((it) => it === "sweep").length < 20);
 });
 
+test("Cancel of moves and thresholds, also once they are over", async () => {
+  // Catches: a Cancel that throws, so that the dialog of the best move can't count a second time.
+  const { pool, place } = await pooled(3);
+  const ask = { codes: ["AAA", "AAB"], chairs: [1, 2, 3, 4, 5], majority: "85", measure: "share" } as const;
+  const begin = [
+    (report: Report) => movesOver(pool, place, ask, report),
+    (report: Report) => thresholdsOver(pool, place, MAJORITIES, SWEEP.who, 1, report),
+  ];
+  for (const it of begin) {
+    const { answer, cancel } = it(() => cancel());
+    await assert.rejects(answer, Cancelled);
+    const other = it(NO_REPORT);
+    await other.answer;
+    other.cancel();
+  }
+});
+
 test("a fault of one part is the fault of all", async () => {
   // Catches: a sweep with a hole, or one that never ends, where one of its points can't be counted.
   const { pool, place } = await pooled(3);

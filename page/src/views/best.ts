@@ -1,82 +1,78 @@
-/** The dialog of the best single move for a chair. */
+/** The dialog of single moves: the best ones for a chair, or those of all that change any chair most. */
 import type { App, Shown } from "../app";
-import { gainText, valueText } from "../compare";
-import { ranked } from "../best";
+import { changeOf, ranked } from "../best";
+import { measureWords } from "../compare";
 import { openDialog } from "../dialogs";
 import { button, choice, h, paint, type Child } from "../dom";
-import { fractionText, grouped } from "../fractions";
-import { chairWords, memberWords } from "../commandWords";
-import { moveTo } from "../moves";
+import { grouped } from "../fractions";
 import type { Tried } from "../orders";
-import { chairChoices, type Place } from "../standing";
-import { MAJORITY, MEASURE } from "../words";
+import type { Report } from "../pool";
+import { chairChoices, type Standing } from "../standing";
+import { MAJORITY, MEASURE, type Majority } from "../words";
+import { movesToAny, movesToChair } from "./bestTables";
+import { LongWork } from "./longWork";
 
-/** A tried move, and its member. */
-interface Row extends Tried {
-  readonly member: Place;
+/** The moves to any chair that are shown. */
+const MOST_SHOWN = 50;
+
+/** What is asked for: moves to a chair, or with null to each chair, at a majority. */
+interface Asked {
+  readonly chair: number | null;
+  readonly majority: Majority;
 }
 
-function rowOf(app: App, chair: number, tried: Row, at: number, close: () => void): HTMLElement {
-  const { member, value, gain } = tried;
-  const { measure, digits } = app.view;
-  const act = () => {
-    close();
-    moveTo(app, member.code, String(chair));
-  };
-  const words = memberWords(member.code, member.name);
-  return h("tr", { "data-code": member.code },
-    h("th", { scope: "row" }, String(at + 1)),
-    h("td", { class: "text" }, words),
-    h("td", { class: "text" }, chairWords(member.chair)),
-    h("td", {}, grouped(member.votes)),
-    h("td", { title: fractionText(value) }, valueText(value, measure, digits)),
-    h("td", { title: fractionText(gain) }, gainText(gain, measure, digits)),
-    h("td", {}, button("Take", act, { "aria-label": `Take: ${words} to chair ${chair}` })),
-  );
+/** The members that can be moved, the chairs that they are moved to, and how many moves these are. */
+function movesOf(standing: Standing, { chair }: Asked): { codes: string[]; chairs: readonly number[]; many: number } {
+  const chairs = chair === null ? standing.open() : [chair];
+  const members = standing.members().filter((it) => !it.suspended);
+  const many = members.reduce((sum, it) => sum + chairs.filter((to) => to !== it.chair).length, 0);
+  return { codes: members.map((it) => it.code), chairs, many };
 }
 
-function tableOf(app: App, chair: number, tried: readonly Row[], close: () => void): HTMLElement {
-  const heads = ["", "Member", "From", "Votes", MEASURE[app.view.measure].label, "Added", ""];
-  const words = `Moves to chair ${chair}`;
-  return h("div", { class: "scroll preview", tabindex: 0, role: "region", "aria-label": words },
-    h("table", { id: "best-table" },
-      h("thead", {}, h("tr", {}, heads.map((it) => (it ? h("th", { scope: "col" }, it) : h("td", {}))))),
-      h("tbody", {}, tried.map((it, at) => rowOf(app, chair, it, at, close))),
-    ),
-  );
+/** What was counted: in which time, moves without a value, and which moves the table has. */
+function wordsOf(app: App, { chair, majority }: Asked, tried: readonly Tried[], many: number, time: number): string {
+  const missing = many - tried.length;
+  const counted = `${grouped(many)} moves were counted in ${time.toFixed(0)} ms.`;
+  const why = "have no gain, since no coalition wins before or after";
+  const without = missing ? ` Of these, ${grouped(missing)} ${why}.` : "";
+  const shown = Math.min(MOST_SHOWN, tried.length);
+  const about = `${measureWords(app.view.measure)}, ${MAJORITY[majority].label}`;
+  const first = chair === null ? ` The ${shown} with the greatest gain or loss of any chair, by ${about}:` : "";
+  return counted + without + first;
 }
 
 /** The request, and the place of the answer. */
-function form(app: App, { study, counted }: Shown, close: () => void): Child {
-  const open = counted.standing.open();
-  let chair = open[0] ?? 0;
-  let majority = app.view.orderAt;
+function form(app: App, { study, counted }: Shown, close: () => void, work: LongWork): Child {
+  const { standing } = counted;
+  const open = standing.open();
+  let asked: Asked = { chair: open[0] ?? 0, majority: app.view.orderAt };
   const place = h("div", {});
   const said = h("p", { id: "best-words", role: "status" });
-  const run = async () => {
-    said.textContent = "Counting…";
-    const begun = performance.now();
-    const codes = counted.standing.members().filter((it) => !it.suspended && it.chair !== chair).map((it) => it.code);
-    const ask = { codes, chairs: [chair], majority, measure: app.view.measure };
-    const all = await app.wait("All moves are being counted.", (report) =>
-      app.counter.best(study.base, study.changes, ask, report),
-    );
-    const tried = ranked(all, (it) => it.gain);
-    said.textContent = `${tried.length} moves were counted in ${(performance.now() - begun).toFixed(0)} ms.`;
-    const rows = tried.flatMap((it): Row[] => {
-      const member = counted.standing.place(it.code);
-      return member ? [{ ...it, member }] : [];
-    });
-    paint(place, tableOf(app, chair, rows, close));
+  const act = () => {
+    const now = asked;
+    const { many, ...moves } = movesOf(standing, now);
+    const ask = { ...moves, majority: now.majority, measure: app.view.measure };
+    const begin = (report: Report) => app.counter.best(study.base, study.changes, ask, report);
+    const show = (all: readonly Tried[], time: number) => {
+      said.textContent = wordsOf(app, now, all, many, time);
+      const tried = now.chair === null ? ranked(all, changeOf).slice(0, MOST_SHOWN) : ranked(all, (it) => it.gain);
+      const found = { app, standing, tried, close };
+      paint(place, now.chair === null ? movesToAny(found) : movesToChair(found, now.chair));
+    };
+    paint(place);
+    void work.run("All moves are being counted.", begin, show, said);
   };
-  const act = () => void run().catch((why: unknown) => (said.textContent = String(why)));
-  const chairs = chairChoices(counted.standing);
+  const chairs = chairChoices(standing);
   const majorities = app.view.majorities.map((it) => [it, MAJORITY[it].label] as const);
-  const setMajority = (text: string) => (majority = app.view.majorities.find((it) => it === text) ?? majority);
+  const setMajority = (text: string) => {
+    asked = { ...asked, majority: app.view.majorities.find((it) => it === text) ?? asked.majority };
+  };
   return [
     h("div", { class: "choices" },
-      choice("best-chair", "Chair", chairs, String(chair), (it) => (chair = Number(it))),
-      choice("best-at", "at", majorities, majority, setMajority),
+      choice("best-chair", "To", [...chairs, ["any", "any chair"]], String(asked.chair), (it) => {
+        asked = { ...asked, chair: it === "any" ? null : Number(it) };
+      }),
+      choice("best-at", "at", majorities, asked.majority, setMajority),
       button("Try all members", act, { id: "best-run" }),
     ),
     said,
@@ -89,11 +85,14 @@ export function openBest(app: App): void {
   const { shown } = app;
   if (!shown) return;
   const words =
-    "Each member that sits elsewhere and isn't suspended is moved to the chair, on the changed board, and the " +
-    `program counts. The measure is the one chosen above the chart: ${MEASURE[app.view.measure].label}.`;
-  const dialog = openDialog("best", "The best single move for a chair", (close) => [
-    h("p", { class: "note" }, words),
-    form(app, shown, close),
-  ]);
+    "Each member that isn't suspended is moved to the chair, or to each other open chair, on the changed board, and " +
+    `the program counts. The measure is the one chosen above the chart: ${MEASURE[app.view.measure].label}.`;
+  const work = new LongWork(app);
+  const dialog = openDialog(
+    "best",
+    "The best single move",
+    (close) => [h("p", { class: "note" }, words), form(app, shown, close, work)],
+    () => work.end(),
+  );
   dialog.classList.add("wide");
 }
