@@ -133,6 +133,8 @@ def test_dissolve_by_mouse(page: Page, oracle: Oracle, target: str) -> None:
     # Catches: members in no chair that still count among the votes cast, or that are withdrawn.
     page.click("#card-3")
     page.click("#dissolve-3")
+    where = "to the chosen chair, or to no chair, where no vote is cast, and chair 3 is closed."
+    assert page.texts("#dissolve p")[0].startswith("Its ") and where in page.texts("#dissolve p")[0]
     page.choose("#dissolve-to", target)
     page.click("#dissolve-take")
     commands = expected(oracle, f"dissolve,3,{target}")

@@ -61,7 +61,7 @@ function openEmptying(app: App, kind: "merge" | "dissolve", chair: number): void
   const options = isMerge ? others : [none, ...others];
   const [act, label, where] = isMerge
     ? ["Merge", "Into", "to the chosen chair"]
-    : ["Dissolve", "Its members go to", "to the chosen chair, or to no chair, where no vote is cast,"];
+    : ["Dissolve", "Its members go to", "to the chosen chair, or to no chair, where no vote is cast"];
   const who = members.length === 1 ? "Its one member moves" : `Its ${members.length} members move`;
   openDialog(kind, `${act} ${title}`, (close) => [
     h("p", {}, `${who} ${where}, and chair ${chair} is closed. ${WHOLE}`),
