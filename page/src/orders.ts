@@ -94,14 +94,20 @@ export interface Threshold {
   readonly share: Ratio | null;
 }
 
+/** A point with its readings as numbers. */
+export interface PackedPoint extends Omit<Point, "readings"> {
+  readonly readings: Float64Array;
+}
+
 /** Some points of a sweep, the chair that is swept, and the votes of all others in the total. */
 export interface SweptPart {
   readonly chair: number;
   readonly rest: number;
-  readonly points: readonly Point[];
+  readonly points: readonly PackedPoint[];
 }
 
-export interface Swept extends SweptPart {
+export interface Swept extends Omit<SweptPart, "points"> {
+  readonly points: readonly Point[];
   readonly thresholds: readonly Threshold[];
   readonly milliseconds: number;
   /** The number of workers at its end. */

@@ -2,6 +2,7 @@
 import { MEMBER_VOTES } from "../../bindings/javascript/src/names";
 import { compared, over, type Ratio } from "./fractions";
 import type { Board, Interval, Orders, Point, Question, Statement, Swept, Threshold, Tried, Turns } from "./orders";
+import { unpacked } from "./packed";
 import { inSteps, type Ask, type Boards, type Report, type Task } from "./pool";
 import type { SweepAsked, Who } from "./study";
 import { valuesOf } from "./sweep";
@@ -66,7 +67,7 @@ export function sweepOver(
     const begun = performance.now();
     const pieces = intervals(valuesOf(asked).length, place).map((it) => ({ ...board, majorities, asked, ...it }));
     const parts = await step(boards.spread("sweep", base, pieces, report));
-    const points = parts.flatMap((it) => it.points);
+    const points = parts.flatMap((it) => it.points).map((it) => ({ ...it, readings: unpacked(it.readings) }));
     const { chair = 0, rest = 0 } = parts[0] ?? {};
     const questions = questionsOf(points, chair, majorities);
     const orders = questions.map((it) => ({ ...board, who: asked.who, questions: [it] }));

@@ -3,7 +3,8 @@ import { MEMBER_VOTES } from "../../bindings/javascript/src/names";
 import type { Register } from "../../bindings/javascript/src/register";
 import { shareVotes } from "./amount";
 import { decimalRatio, nearest, times } from "./fractions";
-import type { Orders, Point, Progress, SweptPart } from "./orders";
+import type { Orders, PackedPoint, Progress, SweptPart } from "./orders";
+import { packed } from "./packed";
 import { readingsOf } from "./reading";
 import type { SweepAsked } from "./study";
 import { BadSweep, give, targetOf } from "./target";
@@ -44,13 +45,13 @@ export async function sweptPart(
   progress: Progress,
 ): Promise<SweptPart> {
   const { chair, rest, commands } = targetOf(register, asked.who);
-  const points: Point[] = [];
+  const points: PackedPoint[] = [];
   for (const value of valuesOf(asked).slice(from, to)) {
     await progress(points.length / (to - from));
     const votes = votesAt(value, asked.unit, rest);
     const given = commands(votes);
     give(register, given);
-    points.push({ value, votes, commands: given, readings: readingsOf(register, majorities) });
+    points.push({ value, votes, commands: given, readings: packed(readingsOf(register, majorities)) });
   }
   return { chair, rest, points };
 }

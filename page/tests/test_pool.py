@@ -7,13 +7,21 @@ import random
 import inputs
 from chromium import Page
 from test_said import opened
-from test_studies import CELLS, sweep
+from test_studies import CELLS, ask, sweep
 
 SEED = 20_261_128
 # The part of one worker's time that four workers take at most, on a machine with nothing else to do. It is tried in
 # some rounds, and the least times count. The bound is wide, since the machine may be busy with something else.
 AIM, BOUND, ROUNDS, EACH = 0.4, 0.9, 3, 2
-FIRST = 'return document.querySelector("#sweep-table tbody th")?.textContent;'
+# The milliseconds of the sweep whose first value is the first argument, once it is counted.
+COUNTED = """
+  const [value, done] = arguments;
+  (function wait() {
+    const first = document.querySelector("#sweep-table tbody th");
+    if (first?.textContent === value) done(document.getElementById("panel").dataset.sweep);
+    else setTimeout(wait, 20);
+  })();
+"""
 PROCESSORS = "Object.defineProperty(Navigator.prototype, 'hardwareConcurrency', {{ get: () => {} }});"
 
 
@@ -70,10 +78,10 @@ def test_the_numbers_of_one_worker(page: Page) -> None:
 
 def milliseconds(page: Page, value: int) -> float:
     """The time of a sweep of 200 values at four majorities, which begins at a value that wasn't asked for before."""
-    sweep(page, "1", "base", str(value), str(value + 199_000), "1000", "votes")
-    page.until(lambda: page.run(FIRST) == str(value), "this sweep's table")
+    ask(page, "1", "base", str(value), str(value + 199_000), "1000", "votes")
+    found = float(page.wait_for(COUNTED, str(value)))
     assert "200 points at 4 majorities were counted" in page.text("#sweep-words")
-    return float(str(page.at("#panel").get_attribute("data-sweep")))
+    return found
 
 
 def test_several_workers_take_less_time(page: Page, times: list[str]) -> None:
