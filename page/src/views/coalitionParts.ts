@@ -32,9 +32,12 @@ export function boardWords({ counted }: Shown): string {
   return counted.isChanged ? "the changed board" : "the base";
 }
 
-/** Chairs by number and name. */
+/** Chairs by number and name, which stay on one line if there is room. */
 export function chairList({ names }: Looked, chairs: readonly number[]): Child {
-  return chairs.map((it, at) => [at ? ", " : "", `${it} `, h("bdi", {}, names.get(it) ?? "")]);
+  return chairs.map((it, at) => {
+    const mark = at === chairs.length - 1 ? "" : ",";
+    return [at ? " " : "", h("span", { class: "named" }, `${it} `, h("bdi", {}, names.get(it) ?? ""), mark)];
+  });
 }
 
 /** The reading of a majority, else the first one. */
