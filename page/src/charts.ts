@@ -63,6 +63,7 @@ export function onAxis(ratio: Ratio, measure: Measure): number {
 export const TEXT = 12;
 const [TITLE, CAPTION, SOURCE] = [15, 11, 10] as const;
 const LINE = 14;
+const MOST_TITLES = 4;
 /** The part of a figure's width on paper that its names may take. */
 const MOST_LABEL = 0.4;
 
@@ -108,6 +109,13 @@ export function majorityItems(majorities: readonly Majority[]): LegendItem[] {
   }));
 }
 
+/** The lines of a title; the last one is cut off if there are too many. */
+function titleLines({ title, width, typeface }: Look): string[] {
+  const lines = title ? wrapped(title, width - 16, typeface, TITLE) : [];
+  const rest = lines.slice(MOST_TITLES - 1).join(" ");
+  return rest ? [...lines.slice(0, MOST_TITLES - 1), fitted(rest, width - 16, typeface, TITLE)] : lines;
+}
+
 /** Begins a drawing: title, then the legend in as many lines as it takes. */
 export function framed(place: Element, look: Look, items: readonly LegendItem[], name: string): Frame {
   const { width, palette, typeface } = look;
@@ -115,7 +123,7 @@ export function framed(place: Element, look: Look, items: readonly LegendItem[],
   root.attr("font-family", typeface.family).attr("font-size", TEXT).attr("width", width);
   root.attr("role", "img").attr("aria-label", name);
   root.append("rect").attr("width", "100%").attr("height", "100%").attr("fill", palette.paper);
-  const titles = look.title ? wrapped(look.title, width - 16, typeface, TITLE) : [];
+  const titles = titleLines(look);
   titles.forEach((title, at) => {
     const text = root.append("text").attr("x", 8).attr("y", 20 + 18 * at).attr("fill", palette.ink);
     text.attr("font-size", TITLE).text(title);

@@ -1,9 +1,13 @@
 /** Exported files: their names and their texts. */
 import type { App } from "./app";
 
+/** The most characters of a file's name before its kind: no system takes one of any length. */
+const LONGEST = 80;
+
 /** The name of exported files, from the study's. */
 export function fileName(app: App): string {
-  return app.study.name.toLowerCase().replace(/[^a-z0-9]+/g, "-").replace(/^-|-$/g, "") || "study";
+  const name = app.study.name.toLowerCase().replace(/[^a-z0-9]+/g, "-");
+  return name.slice(0, LONGEST).replace(/^-|-$/g, "") || "study";
 }
 
 /** The content of a file of text. */

@@ -59,6 +59,15 @@ function scaled({ svg }: DrawnFigure, width: number, height: number): SVGSVGElem
   return copy;
 }
 
+/** A picture of an image, or null if the browser makes none of that size: some leave it empty. */
+async function painted(image: HTMLImageElement, width: number, height: number): Promise<Blob | null> {
+  const canvas = h("canvas", { width, height });
+  const pen = canvas.getContext("2d");
+  pen?.drawImage(image, 0, 0, width, height);
+  const isPainted = pen && pen.getImageData(width - 1, height - 1, 1, 1).data[3] === 255;
+  return isPainted ? new Promise((take) => canvas.toBlob(take, "image/png")) : null;
+}
+
 /** The picture of a figure at a resolution. */
 export async function pngOf(figure: DrawnFigure, resolution: number): Promise<Blob> {
   const [width, height] = [pointsOf(figure.width, resolution), pointsOf(figure.height, resolution)];
@@ -68,9 +77,7 @@ export async function pngOf(figure: DrawnFigure, resolution: number): Promise<Bl
     const image = new Image();
     image.src = url;
     await image.decode();
-    const canvas = h("canvas", { width, height });
-    canvas.getContext("2d")?.drawImage(image, 0, 0, width, height);
-    const blob = await new Promise<Blob | null>((take) => canvas.toBlob(take, "image/png"));
+    const blob = await painted(image, width, height);
     if (!blob) throw new Error(`This browser makes no picture of ${width} by ${height} points: ask for fewer dpi.`);
     const texts = { Title: figure.title, Source: figure.lines.join("\n") };
     const bytes = withChunks(new Uint8Array(await blob.arrayBuffer()), resolution, texts);

@@ -96,6 +96,8 @@ const WORDS = [
   "A table for \\input. It needs \\usepackage{booktabs}.",
   "The numbers of a column have the same places after the point, so that alignment to the right aligns the points.",
 ];
+const OTHER_LETTERS = /[^\u0000-\u024f\u1e00-\u1eff\u2010-\u203a]/;
+const OTHER_LETTERS_WORDS = "Names have letters that pdfLaTeX lacks: use LuaLaTeX or XeLaTeX, and a font with them.";
 const RIGHT_TO_LEFT_WORDS =
   "Names from right to left are in \\righttoleft: define it before as your engine writes them, such as " +
   "\\newcommand{\\righttoleft}[1]{\\foreignlanguage{hebrew}{#1}}.";
@@ -109,7 +111,9 @@ function comment(line: string): string {
 export function texTable(words: readonly string[], rows: readonly TexRow[], source: readonly string[]): string {
   const heads = headsOf(words);
   const hasTurned = rows.some(({ name }) => isRightToLeft(name));
-  const comments = [...WORDS, ...(hasTurned ? [RIGHT_TO_LEFT_WORDS] : []), ...source].map(comment);
+  const hasOthers = rows.some(({ name }) => OTHER_LETTERS.test(name));
+  const notes = [...(hasOthers ? [OTHER_LETTERS_WORDS] : []), ...(hasTurned ? [RIGHT_TO_LEFT_WORDS] : [])];
+  const comments = [...WORDS, ...notes, ...source].map(comment);
   return [
     ...comments,
     ...(hasTurned ? ["\\providecommand{\\righttoleft}[1]{#1}"] : []),

@@ -62,11 +62,16 @@ export function isInstalled(name: string): boolean {
 
 /** A text that fits into a width: its end is left out if it is too long. */
 export function fitted(text: string, room: number, face: Typeface, size: number): string {
-  const letters = [...text];
   if (face.width(text, size) <= room) return text;
-  let most = letters.length - 1;
-  while (most > 2 && face.width(`${letters.slice(0, most).join("")}…`, size) > room) most -= 1;
-  return `${letters.slice(0, most).join("")}…`;
+  const letters = [...text];
+  const cut = (many: number) => `${letters.slice(0, many).join("")}…`;
+  let [least, most] = [2, Math.max(2, letters.length - 1)];
+  while (least < most) {
+    const middle = Math.ceil((least + most) / 2);
+    if (face.width(cut(middle), size) <= room) least = middle;
+    else most = middle - 1;
+  }
+  return cut(least);
 }
 
 /** The parts of a word that each fit into a width. */

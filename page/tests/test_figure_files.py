@@ -264,6 +264,27 @@ def test_page_after_printing(study: Page) -> None:
     assert not study.all("#print-figure") and study.run(STATE)[1:] == before[1:]
 
 
+def test_long_names(study: Page) -> None:
+    # Catches: a title of hundreds of lines, a name that is written beyond the figure, a page that stands still.
+    name = "A very long name of a council & its seats " * 200
+    study.run(
+        """const [name, text] = arguments, dataTransfer = new DataTransfer();
+        dataTransfer.items.add(new File([text], name, { type: "text/csv" }));
+        document.body.dispatchEvent(new DragEvent("drop", { dataTransfer, bubbles: true, cancelable: true }));""",
+        f"{name}.csv", f"code,name,votes,chair,chair_name\nAAA,Alland,5,1,{name}\nBBB,Belland,4,2,Hills\n",
+    )
+    study.until(lambda: study.all("#table-take"), "the preview")
+    study.at("#table-take").click()
+    study.until(lambda: study.text("#study-name").startswith("A very"), "the study")
+    study.settle()
+    choose(study, "single", "mono")
+    text = svg_file(study)
+    assert study.run(BEYOND, text) == []
+    texts = [it.text or "" for it in ElementTree.fromstring(text).iter(f"{SVG}text")]
+    titles = [it for it in texts if it.startswith(("A very", "council", "its", "name", "seats")) or it.endswith("…")]
+    assert len(titles) <= 6 and sum(it.endswith("…") for it in texts) == 2
+
+
 def test_no_figure(study: Page) -> None:
     # Catches: a figure of a tab that has none, or buttons that do nothing without a word.
     study.click("#tab-table")

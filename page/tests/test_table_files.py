@@ -167,7 +167,9 @@ def test_latex_names(page: Page) -> None:
     text = str(page.act("exported", "export-tex"))
     assert f"\\righttoleft{{{DIRECTOR}}}\n" in text and "\\providecommand{\\righttoleft}" in text
     assert not re.search("[\u200e\u200f\u202a-\u202e\u2066-\u2069]", text)
+    assert "pdfLaTeX lacks" in text
     opened(page, FORMULAS, "formulas")
+    assert "pdfLaTeX lacks" not in str(page.act("exported", "export-tex"))
     assert [it[1] for it in tex_table(page).rows] == ["=cmd|' /C calc'!A0", "+1-2", "-Minus"]
 
 
