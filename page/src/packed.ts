@@ -14,9 +14,9 @@ function chairNumbers({ chair, weight, swings, banzhaf, share, prevent, initiate
 
 /** The numbers of readings. */
 export function packed(readings: readonly Reading[]): Float64Array {
-  const numbers = readings.flatMap(({ majority, quota, cast, total, winning, coalitions, act, chairs }) => [
-    MAJORITIES.indexOf(majority), quota, cast, total, winning, coalitions, ...numbersOf(act), chairs.length,
-    ...chairs.flatMap(chairNumbers),
+  const numbers = readings.flatMap(({ majority, act, chairs, ...it }) => [
+    MAJORITIES.indexOf(majority), it.quota, it.leastSize, it.cast, it.total, it.winning, it.coalitions,
+    ...numbersOf(act), chairs.length, ...chairs.flatMap(chairNumbers),
   ]);
   return Float64Array.from(numbers);
 }
@@ -31,8 +31,8 @@ export function unpacked(numbers: Float64Array): Reading[] {
     banzhaf: ratio(), share: ratio(), prevent: ratio(), initiate: ratio(),
   });
   const reading = (): Reading => ({
-    majority: MAJORITIES[next()] as Majority, quota: next(), cast: next(), total: next(), winning: next(),
-    coalitions: next(), act: ratio(), chairs: Array.from({ length: next() }, chair),
+    majority: MAJORITIES[next()] as Majority, quota: next(), leastSize: next(), cast: next(), total: next(),
+    winning: next(), coalitions: next(), act: ratio(), chairs: Array.from({ length: next() }, chair),
   });
   const all: Reading[] = [];
   while (at < numbers.length) all.push(reading());
