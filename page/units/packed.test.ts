@@ -13,7 +13,8 @@ test("readings as numbers, and back", () => {
     initiate: { numerator: BigInt(number), denominator: 7n },
   });
   const one: Reading = {
-    majority: "85", quota: 11, leastSize: 1, cast: 12, total: 13, winning: 0, coalitions: 2 ** 32, act: null, chairs: [],
+    majority: "85", quota: 11, leastSize: 1, cast: 12, total: 13, winning: 0, coalitions: 2 ** 32, act: null,
+    chairs: [],
   };
   const two: Reading = { ...one, majority: "half", act: large, chairs: [chair(3, true), chair(32, false)] };
   for (const readings of [[], [one], [two, one, two]]) assert.deepEqual(unpacked(packed(readings)), readings);
