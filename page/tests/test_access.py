@@ -55,7 +55,8 @@ def test_names_in_dialogs(page: Page, opener: str) -> None:
     dialogs = [it["name"]["value"] for it in nodes if it["role"]["value"] == "dialog"]
     assert len(dialogs) == 1 and dialogs[0].strip()
     page.press(Keys.ESCAPE)
-    assert not page.all("dialog") and page.run("return `#${document.activeElement.id}`;") == opener
+    page.until(lambda: not page.all("dialog"), "the dialog's end")
+    assert page.run("return `#${document.activeElement.id}`;") == opener
 
 
 def check_contrast(page: Page, where: str) -> None:
