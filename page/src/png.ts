@@ -56,6 +56,8 @@ function scaled({ svg }: DrawnFigure, width: number, height: number): SVGSVGElem
   const copy = svg.cloneNode(true) as SVGSVGElement;
   copy.setAttribute("width", String(width));
   copy.setAttribute("height", String(height));
+  // Both were rounded to whole points: else a part of a point at the edge would stay without colour.
+  copy.setAttribute("preserveAspectRatio", "none");
   return copy;
 }
 
@@ -64,7 +66,7 @@ async function painted(image: HTMLImageElement, width: number, height: number): 
   const canvas = h("canvas", { width, height });
   const pen = canvas.getContext("2d");
   pen?.drawImage(image, 0, 0, width, height);
-  const isPainted = pen && pen.getImageData(width - 1, height - 1, 1, 1).data[3] === 255;
+  const isPainted = pen && pen.getImageData(width >> 1, height >> 1, 1, 1).data[3] === 255;
   return isPainted ? new Promise((take) => canvas.toBlob(take, "image/png")) : null;
 }
 

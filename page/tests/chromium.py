@@ -17,6 +17,8 @@ SECONDS = 20.0
 # The browsers of a module of tests that is run in all of them.
 EVERY = ["chromium", "firefox"]
 WIDE, NARROW = 1280, 390
+# The ends of the names of files that are still being downloaded, in Chromium and in Firefox.
+PARTIAL = (".crdownload", ".part")
 HERE = Path(__file__).parent
 ACCESS, ACTS = ((HERE / name).read_text() for name in ["access.js", "acts.js"])
 
@@ -126,7 +128,7 @@ class Page:
         def ended() -> Path | None:
             """The file, once it is complete: before that it is empty, and a partial file is next to it."""
             file, *others = [*self.downloads.iterdir(), None]
-            is_whole = file and others == [None] and file.suffix != ".crdownload" and file.stat().st_size
+            is_whole = file and others == [None] and file.suffix not in PARTIAL and file.stat().st_size
             return file if is_whole else None
 
         file = self.until(ended, f"what {place} downloads")

@@ -39,6 +39,19 @@ BEYOND = """
   place.remove();
   return [...out, ...over].map(([it]) => it.textContent);
 """
+# The opacity of the corners of a PNG.
+CORNERS = """
+  const [data, done] = arguments, image = new Image();
+  image.onload = () => {
+    const [{ naturalWidth: width, naturalHeight: height }, canvas] = [image, document.createElement("canvas")];
+    Object.assign(canvas, { width, height });
+    const pen = canvas.getContext("2d", { willReadFrequently: true });
+    pen.drawImage(image, 0, 0);
+    const corners = [[0, 0], [width - 1, 0], [0, height - 1], [width - 1, height - 1]];
+    done(corners.map(([x, y]) => pen.getImageData(x, y, 1, 1).data[3]));
+  };
+  image.src = `data:image/png;base64,${data}`;
+"""
 # The page as it is: its elements, rules and title.
 STATE = """
   return [document.documentElement.outerHTML.replace(/<script[^]*?<.script>/g, ""), document.title,
@@ -164,7 +177,9 @@ def test_png_at_each_resolution(study: Page, oracle: Oracle, width: str, dpi: in
     assert study.at("#resolution").get_property("value") == "300"
     if dpi != 300:
         study.write("#resolution", str(dpi))
-    found = chunks(study.downloaded("#export-png")[1])
+    png = study.downloaded("#export-png")[1]
+    found = chunks(png)
+    assert "IEND" in found and study.wait_for(CORNERS, base64.b64encode(png).decode()) == [255] * 4
     sides = struct.unpack(">II", found["IHDR"][0][:8])
     assert sides == (round(WIDTHS[width] / INCH * dpi), round(height / INCH * dpi))
     metre = round(dpi / 0.0254)
