@@ -19,7 +19,8 @@ from voting_board.files import csv_text, place_of, plain_cell, write_files
 from voting_board.study_files import START, empty_page
 
 EXAMPLES = Path(__file__).resolve().parents[3] / "examples"
-TABLE = "code,name,votes,chair,chair_name\nAAA,</script>,40,1,=cmd|' /C calc'!A0\nBBB,B #2,25,2,\nCCC,C,16,2,\nDDD,D,9,,\n"
+ROWS = ["AAA,</script>,40,1,=cmd|' /C calc'!A0", "BBB,B #2,25,2,", "CCC,C,16,2,", "DDD,D,9,,"]
+TABLE = "\n".join(["code,name,votes,chair,chair_name", *ROWS, ""])
 SCENARIOS = ["More: votes,AAA,+12.5%; move,DDD,2", "Both: votes,BBB+CCC,30% of total; open,3; move,AAA,3; suspend,AAA"]
 SWEEPS = ["from More: AAA 10..20 by 10 %", "chair 2 10..20 by 2.5 %"]
 
@@ -43,7 +44,7 @@ def table(tmp_path: Path) -> Path:
 
 
 def arguments() -> list[str]:
-    return [word for it in SCENARIOS for word in ("--scenario", it)] + [word for it in SWEEPS for word in ("--sweep", it)]
+    return [f"--scenario={it}" for it in SCENARIOS] + [f"--sweep={it}" for it in SWEEPS]
 
 
 def test_files_of_a_study(table: Path, tmp_path: Path) -> None:
@@ -82,7 +83,8 @@ def test_page_of_a_study(table: Path, tmp_path: Path) -> None:
         "who": {"kind": "chair", "chair": 2}, "on": "base", "unit": "percent", "from": "10", "to": "20", "by": "2.5",
     }
     assert [it["what"] for it in found["scenarios"][0]["changes"]] == [
-        {"kind": "percent", "of": "own", "code": "AAA", "percent": "+12.5"}, {"kind": "move", "code": "DDD", "chair": 2},
+        {"kind": "percent", "of": "own", "code": "AAA", "percent": "+12.5"},
+        {"kind": "move", "code": "DDD", "chair": 2},
     ]
     assert [it["what"] for it in found["scenarios"][1]["changes"]] == [
         {"kind": "votes", "code": "BBB", "votes": 13}, {"kind": "votes", "code": "CCC", "votes": 8},
@@ -141,7 +143,7 @@ def test_files_take_their_places_together(tmp_path: Path, monkeypatch: pytest.Mo
     foreign = tmp_path / f".{'00' * 8}.part"
     foreign.write_text("foreign")
     with monkeypatch.context() as patch, pytest.raises(FileExistsError):
-        patch.setattr("secrets.token_hex", lambda size: "00" * size)
+        patch.setattr("os.urandom", bytes)
         write_files({one: b"after", other: b"after"})
     with pytest.raises(TypeError):
         write_files({one: b"after", other: "text"})  # type: ignore[dict-item]

@@ -103,6 +103,11 @@ def test_subtotals() -> None:
     # Catches: a subtotal that is read as a member, so that votes count twice.
     rows = "AAA,10,1\nBBB,20,1\nSUA,30,1\nCCC,5,2\nDDD,6,2\nSUB,11,2\n"
     assert [it[:6] for it in said_of(f"code,votes,chair\n{rows}")] == ["row 4:", "row 7:"]
+    rows = "TOA,30,1\nTOB,30,\nAAA,20,1\nBBB,10,2\n"
+    assert [it[:6] for it in said_of(f"code,votes,chair\n{rows}")] == ["row 2:", "row 3:"]
+    saved = "code,name,votes,chair,chair_name,suspended\nAAA,,2,1,,false\nBBB,,1,2,,false\nCCC,Total,3,2,,true\n"
+    found = read_table(saved.encode())
+    assert len(found.members) == 3 and found.notices[0].startswith("Row 4: the 3 votes of 'CCC' equal the sum of all")
 
 
 def test_mechanical_choices() -> None:

@@ -25,6 +25,7 @@ NAMES: dict[IndexName, str] = {
     "initiate": "power to initiate action",
 }
 PLACES, PERCENT_PLACES = 6, 3
+UNITS = [10**places for places in range(11)]
 #: What begins to hold at a threshold, and what ends.
 WORDS = {
     ("prevents", True): "can prevent every decision alone",
@@ -36,10 +37,13 @@ WORDS = {
 
 def decimal(numerator: int, denominator: int, places: int) -> str:
     """A fraction as a decimal, rounded once, half to even."""
-    whole, rest = divmod(numerator * 10**places, denominator)
-    units = whole + (2 * rest > denominator or (2 * rest == denominator and whole % 2 == 1))
-    whole, part = divmod(abs(units), 10**places)
-    return f"{'-' if units < 0 else ''}{whole}.{part:0{places}}"
+    units, rest = divmod(numerator * UNITS[places], denominator)
+    rest += rest
+    if rest >= denominator and (rest > denominator or units % 2):
+        units += 1
+    digits = str(abs(units)).zfill(places + 1)
+    decimal = digits[:-places] + "." + digits[-places:]
+    return "-" + decimal if units < 0 else decimal
 
 
 def value_words(value: Fraction, index: IndexName) -> str:
@@ -69,15 +73,14 @@ def chairs_words(result: Result, chairs: Sequence[int]) -> str:
     return f"chair{'s' * (len(names) > 1)} {listed}"
 
 
-def most_words(result: Result, index: IndexName, gains: Mapping[int, Fraction], verb: str) -> str:
-    """The chair or chairs that gain most, or lose most."""
-    sign = 1 if verb == "gain" else -1
-    most = max((sign * gain for gain in gains.values()), default=Fraction(0))
-    if most <= 0:
+def most_words(result: Result, index: IndexName, over: Mapping[int, int], under: int, verb: str) -> str:
+    """The chair or chairs that gain most, or lose most, by the numerators of the gains and their denominator."""
+    most = max(over.values(), default=0) if verb == "gain" else min(over.values(), default=0)
+    if most == 0 or (most < 0) == (verb == "gain"):
         return f"no chair {verb}s"
-    chairs = [chair for chair, gain in gains.items() if sign * gain == most]
+    chairs = [chair for chair, gain in over.items() if gain == most]
     ending, each = ("s", "") if len(chairs) == 1 else ("", " each")
-    return f"{chairs_words(result, chairs)} {verb}{ending} most, {gain_words(sign * most, index)}{each}"
+    return f"{chairs_words(result, chairs)} {verb}{ending} most, {gain_words(Fraction(most, under), index)}{each}"
 
 
 def opened_words(result: Result, base: Result, majority: Majority, index: IndexName) -> str:
@@ -106,9 +109,9 @@ def gain_sentence(result: Result, majority: Majority, index: IndexName) -> str:
         return f"{AT[majority]}, in {NAMES[index]}: {chairs_words(result, first)} {words}."
     if not result.base.indices[majority].omega:
         return f"{AT[majority]} no coalition wins in the base, so nothing can be compared."
-    gains = result.gains(index, majority)
-    both = "; ".join(most_words(result, index, gains, verb) for verb in ("gain", "lose"))
-    said = both if any(gains.values()) else "no chair gains, and no chair loses"
+    over, under = result.gains_over(index, majority)
+    both = "; ".join(most_words(result, index, over, under, verb) for verb in ("gain", "lose"))
+    said = both if any(over.values()) else "no chair gains, and no chair loses"
     return f"{AT[majority]}, in {NAMES[index]}: {said}.{opened_words(result, result.base, majority, index)}"
 
 

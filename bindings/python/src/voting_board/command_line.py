@@ -2,6 +2,7 @@
 from __future__ import annotations
 
 import argparse
+import io
 import os
 import shlex
 import sys
@@ -22,6 +23,8 @@ def say(command: str, lines: Iterable[str]) -> None:
 
 def ended(command: str, run: Callable[[], None]) -> int:
     """Runs a command, and returns its status: 1 with a message if something is wrong, and then nothing was written."""
+    if isinstance(sys.stdout, io.TextIOWrapper):
+        sys.stdout.reconfigure(errors="backslashreplace")
     try:
         run()
         sys.stdout.flush()

@@ -5,19 +5,18 @@ import csv
 import io
 import os
 import re
-import secrets
 from collections.abc import Iterable, Mapping, Sequence
 from pathlib import Path
 
 from .amounts import BadStudy
 
-#: What no spreadsheet may take for a formula, unless it is a number. board.html has the same rule.
-FORMULA, PLAIN_NUMBER = re.compile(r"[=+\-@\t\r]"), re.compile(r"[+-]?[0-9.,]+")
+#: How a cell begins that a spreadsheet takes for a formula, unless it is a number. board.html has the same rule.
+FORMULA, PLAIN_NUMBER = frozenset("=+-@\t\r"), re.compile(r"[+-]?[0-9.,]+")
 
 
 def plain_cell(cell: str) -> str:
     """A cell that no spreadsheet takes for a formula."""
-    return f"'{cell}" if FORMULA.match(cell) and not PLAIN_NUMBER.fullmatch(cell) else cell
+    return f"'{cell}" if cell[:1] in FORMULA and not PLAIN_NUMBER.fullmatch(cell) else cell
 
 
 def csv_text(lines: Iterable[str], columns: Sequence[str], rows: Iterable[Sequence[str]]) -> str:
@@ -26,8 +25,8 @@ def csv_text(lines: Iterable[str], columns: Sequence[str], rows: Iterable[Sequen
     write = csv.writer(text, lineterminator="\n").writerow
     quoted = csv.writer(text, lineterminator="\n", quoting=csv.QUOTE_ALL).writerow
     for row in (columns, *rows):
-        cells = [plain_cell(it) for it in row]
-        (quoted if any("#" in it for it in cells) else write)(cells)
+        cells = [plain_cell(it) if it[:1] in FORMULA else it for it in row]
+        (quoted if "#" in "".join(cells) else write)(cells)
     return "".join(f"# {line}\n" for line in lines) + text.getvalue()
 
 
@@ -52,7 +51,7 @@ def place_of(path: Path, kind: str) -> Path:
 
 def write_files(texts: Mapping[Path, bytes]) -> None:
     """Writes each file beside its place, and moves them there once all are whole."""
-    parts = {place: place.with_name(f".{secrets.token_hex(8)}.part") for place in texts}
+    parts = {place: place.with_name(f".{os.urandom(8).hex()}.part") for place in texts}
     made: list[Path] = []
     try:
         for place, data in texts.items():

@@ -5,6 +5,7 @@ import csv
 import io
 import re
 import unicodedata
+from collections import Counter
 from collections.abc import Iterable, Iterator, Sequence
 from dataclasses import dataclass, field, replace
 from hashlib import sha256
@@ -185,13 +186,14 @@ def check_columns(row: int, columns: Sequence[str]) -> None:
 
 
 def sums_of(members: Sequence[StrictMember]) -> Iterator[tuple[StrictMember, str]]:
-    """The rows that equal the sum of all others, of all rows above, or of the rows since the last such row."""
-    whole, start = sum(it.votes for it in members), 0
+    """The rows that equal the sum of all others, of all rows above, or of the rows since the last such row. A row with
+    the same votes, such as a total that stands twice, isn't among the others."""
+    whole, times, start = sum(it.votes for it in members), Counter(it.votes for it in members), 0
     for at, it in enumerate(members):
         since = members[start:at]
         if not it.votes:
             continue
-        if len(members) > 2 and 2 * it.votes == whole:
+        if len(members) - times[it.votes] > 1 and (times[it.votes] + 1) * it.votes == whole:
             yield it, "all others"
         elif len(since) > 1 and sum(one.votes for one in since) == it.votes:
             yield it, f"rows {since[0].row} to {since[-1].row}"

@@ -12,7 +12,7 @@ from __future__ import annotations
 
 from collections import Counter
 from collections.abc import Iterable, Iterator, Mapping, Sequence
-from dataclasses import dataclass, field
+from dataclasses import dataclass, field, replace
 from fractions import Fraction
 from functools import cached_property
 from hashlib import sha256
@@ -72,6 +72,10 @@ def base_of(given: Given) -> Base:
     return Base(Register(columns), {code: str(name) for code, name in pairs if not is_missing(name)})
 
 
+#: Commands, each with the records for it.
+Taken = tuple[tuple[str, tuple[str, ...]], ...]
+
+
 @dataclass(frozen=True)
 class Result:
     """A register of a study: the base, that of a scenario, or a step of a sweep.
@@ -79,8 +83,8 @@ class Result:
     label: the scenario's label, "base", or the sweep's subject and step, such as "XAA 10.5 %"
     indices: the counts by majority
     names: the names of chairs: as given, else of the member with the most votes and how many others there are
-    records: the commands that lead there from the base, with numbers of votes
-    opened: the chairs that were opened by them, so that they can't be compared with the base's
+    taken: the commands that lead there from the base, each with its records, which have numbers of votes
+    back: the records that lead back
     base: the result of the base, or None in the base itself
     sweep, percent: the text of the sweep and the step's share in per cent, else empty
     votes: the votes of the sweep's subject at this step
@@ -89,13 +93,22 @@ class Result:
     label: str
     indices: dict[Majority, Indices]
     names: dict[int, str]
-    records: tuple[str, ...] = ()
+    taken: Taken = ()
     back: tuple[str, ...] = field(default=(), repr=False)
-    opened: frozenset[int] = frozenset()
     base: Optional[Result] = field(default=None, repr=False)
     sweep: str = ""
     percent: str = ""
     votes: int = 0
+
+    @cached_property
+    def records(self) -> tuple[str, ...]:
+        """The records that lead there from the base."""
+        return tuple(record for _, records in self.taken for record in records)
+
+    @cached_property
+    def opened(self) -> frozenset[int]:
+        """The chairs that they open, which can't be compared with the base's."""
+        return frozenset(int(it[5:]) for it in self.records if it.startswith("open,"))
 
     @cached_property
     def chairs(self) -> dict[Majority, dict[int, Chair]]:
@@ -108,9 +121,16 @@ class Result:
 
     def gains(self, index: IndexName, majority: Majority) -> dict[int, Fraction]:
         """The exact gain of each chair over the base in an index, where both have one."""
-        pairs = [(it, self.before(majority, it.chair)) for it in self.indices[majority].chairs]
-        both = [(it.chair, getattr(it, index), getattr(old, index)) for it, old in pairs if old]
-        return {chair: after - before for chair, after, before in both if None not in (after, before)}
+        over, under = self.gains_over(index, majority)
+        return {chair: Fraction(gain, under) for chair, gain in over.items()}
+
+    def gains_over(self, index: IndexName, majority: Majority) -> tuple[dict[int, int], int]:
+        """The gains as numerators, and their denominator."""
+        found, base = self.indices[majority], (self.base or self).indices[majority]
+        under, before = found.divisor(index), base.divisor(index)
+        old = {it: swings for it, swings in zip(base.numbers, base.swings) if before and it not in self.opened}
+        pairs = [(it, swings, old[it]) for it, swings in zip(found.numbers, found.swings) if under and it in old]
+        return {it: now * before - then * under for it, now, then in pairs}, under * before
 
     def answers(self, index: IndexName = "share") -> list[str]:
         """Sentences on who gains and who loses most, at each majority."""
@@ -246,41 +266,47 @@ def counted(register: Register, majorities: Sequence[Majority]) -> dict[Majority
     return {it: found[it] for it in majorities}
 
 
-def chair_names(register: Register, members: Mapping[str, str], opened: Iterable[int]) -> dict[int, str]:
-    """A name for each open chair: the given one, else its member with the most votes and how many others there are."""
-    given = {chair: name for chair, name in register.names.items() if chair not in set(opened)}
-    seated, all_of = register.chairs, register.members
-    for chair in seated.keys() - given.keys():
-        codes = sorted(seated[chair], key=lambda code: -all_of[code].votes)
-        more = f" and {len(codes) - 1} more" if len(codes) > 1 else ""
-        given[chair] = (members.get(codes[0]) or codes[0]) + more if codes else f"chair {chair}"
-    return {chair: given[chair] for chair in seated}
+def with_names(found: Result, register: Register, members: Mapping[str, str]) -> Result:
+    """The result with a name for each open chair: the given one, else that of its member with the most votes, and how
+    many others there are."""
+    open_chairs = next(iter(found.indices.values())).numbers
+    given = {chair: name for chair, name in register.names.items() if chair not in found.opened}
+    seated = register.members if set(open_chairs) - given.keys() else {}
+    for chair in set(open_chairs) - given.keys():
+        own = sorted((-it.votes, at, code) for at, (code, it) in enumerate(seated.items()) if it.chair == chair)
+        first, more = own[0][2] if own else "", f" and {len(own) - 1} more" * (len(own) > 1)
+        given[chair] = (members.get(first) or first) + more if own else f"chair {chair}"
+    return replace(found, names={chair: given[chair] for chair in open_chairs})
 
 
 @dataclass(frozen=True)
 class Moved:
-    """A register after commands: the register, the records, and those that lead back."""
+    """A register after commands: the register, the commands with their records, and the records that lead back."""
 
     register: Register
-    records: tuple[str, ...] = ()
+    taken: Taken = ()
     back: tuple[str, ...] = ()
+
+    @cached_property
+    def members(self) -> Members:
+        return self.register.members
 
     def after(self, commands: Iterable[str]) -> Moved:
         """The register after further commands. A refused one is a BadStudy."""
-        register, records, back = self.register.copy(), list(self.records), list(self.back)
-        for command in commands:
-            members = register.members
+        register, taken, back, members = self.register.copy(), list(self.taken), list(self.back), self.members
+        for number, command in enumerate(commands):
+            members = register.members if number else members
             try:
-                taken = records_of(members, command)
-                for record in taken:
+                records = records_of(members, command)
+                for record in records:
                     register.submit(record)
             except Refused as why:
                 raise BadStudy(str(why)) from None
             except BadStudy as why:
                 raise BadStudy(f"{command!r}: {why}") from None
-            records += taken
-            back = [*(it for record in reversed(taken) for it in undone(members, record)), *back]
-        return Moved(register, tuple(records), tuple(back))
+            taken.append((command, tuple(records)))
+            back = [*(it for record in reversed(records) for it in undone(members, record)), *back]
+        return Moved(register, tuple(taken), tuple(back))
 
 
 @dataclass(frozen=True)
@@ -294,13 +320,10 @@ class Counting:
 
     def add(self, label: str, moved: Moved, sweep: str = "", percent: str = "", votes: int = 0) -> Result:
         """Counts a register and adds the result."""
-        opened = frozenset(int(it[5:]) for it in moved.records if it.startswith("open,"))
-        names = chair_names(moved.register, self.base.members, opened)
-        indices = counted(moved.register, self.majorities)
-        base = self.results.get(BASE)
-        found = Result(label, indices, names, moved.records, moved.back, opened, base, sweep, percent, votes)
-        self.moved[label], self.results[label] = moved, found
-        return found
+        indices, base = counted(moved.register, self.majorities), self.results.get(BASE)
+        found = Result(label, indices, {}, moved.taken, moved.back, base, sweep, percent, votes)
+        self.moved[label], self.results[label] = moved, with_names(found, moved.register, self.base.members)
+        return self.results[label]
 
     def add_scenario(self, asked: Scenario) -> None:
         """Carries out a scenario, and counts it."""
@@ -341,7 +364,7 @@ class Subject:
 
     @cached_property
     def members(self) -> Members:
-        return self.start.register.members
+        return self.start.members
 
     @cached_property
     def codes(self) -> list[str]:
@@ -401,7 +424,7 @@ class Subject:
         found = sorted(self.thresholds(steps), key=lambda it: (order(it.majority), it.votes))
         points = dict.fromkeys((it.majority, votes) for it in found for votes in (it.votes - 1, it.votes))
         sides = [(majority, self.at(votes)) for majority, votes in points]
-        results = [(majority, Result("", {}, {}, it.records, it.back)) for majority, it in sides]
+        results = [(majority, Result("", {}, {}, it.taken, it.back)) for majority, it in sides]
         return Swept(self.asked, seats, steps, tuple(found), tuple(results))
 
 

@@ -7,24 +7,13 @@ from pathlib import Path
 
 from . import studies
 from .answers import NAMES
-from .command_line import (
-    PAGE,
-    TABLE,
-    add_figure_words,
-    check_names,
-    command_words,
-    counted,
-    ended,
-    majorities,
-    out_name,
-    read_bytes,
-    say,
-)
+from .command_line import PAGE, TABLE, add_figure_words, check_names, command_words, counted, ended
+from .command_line import majorities, out_name, read_bytes, say
 from .files import place_of, write_files
 from .names import MAJORITIES, VERSION
-from .scenarios import each, scenario_of, scenarios_in, sweep_of
+from .scenarios import BASE, each, scenario_of, scenarios_in, sweep_of
 from .strict import ENCODINGS, StrictTable, read_table
-from .study_files import file_line, is_in_page, page_data, page_with, provenance, study_table
+from .study_files import file_line, page_data, page_with, provenance, study_table, sweep_in_page
 
 SCRIPT = "member,votes\n"
 MOST_NAMED = 12
@@ -99,12 +88,12 @@ def table_in(given: argparse.Namespace, data: bytes) -> StrictTable:
 
 
 def sentences(study: studies.Study, given: argparse.Namespace) -> list[str]:
-    """The answers, below the label of what they are about."""
-    found = []
-    for it in study.scenarios:
-        result = study.results[it.label]
-        both = [result.answers("share"), result.answers(given.measure)]
-        found += [f"{it.label}:", *dict.fromkeys(line for pair in zip(*both) for line in pair)]
+    """The answers, below the label of what they are about; those on the base if nothing else was asked for."""
+    found, labels = [], [it.label for it in study.scenarios]
+    for label in labels or [BASE][len(study.sweeps) :]:
+        result = study.results[label]
+        both = [result.answers(it) for it in dict.fromkeys(["share", given.measure])]
+        found += [f"{label}:", *dict.fromkeys(line for pair in zip(*both) for line in pair)]
     for swept in study.sweeps:
         found += [f"{swept.sweep.text}:", *swept.answers()]
     return found
@@ -140,9 +129,9 @@ def make(given: argparse.Namespace) -> None:
     page = page_with(page_data(study, name, lines, given.measure, given.total))
     texts = [study_table(study, lines), page, *([study.script()] if given.replay else [])]
     write_files({**dict(zip(places_of(given, figures), (it.encode() for it in texts))), **figures})
-    say("board-study", [f"{it.sweep.text!r} is in OUT.csv alone: the page holds one sweep, of a member or a chair"
-                        for it in study.sweeps if it.sweep != next((one.sweep for one in study.sweeps
-                                                                     if is_in_page(one.sweep)), None)])
+    others = [it.sweep for it in study.sweeps if it.sweep != sweep_in_page(study)]
+    alone = "is in OUT.csv alone: the page holds one sweep, of a member or a chair"
+    say("board-study", [f"{it.text!r} {alone}" for it in others])
     print("\n".join(sentences(study, given)))
 
 

@@ -4,19 +4,19 @@ from __future__ import annotations
 import json
 import pkgutil
 import re
-from collections.abc import Iterable, Iterator, Sequence
+from collections.abc import Iterable, Iterator, Mapping, Sequence
 from hashlib import sha256
 from math import gcd
 from pathlib import Path
 from typing import Optional
 
-from .amounts import CODE, percent_of, records_of
+from .amounts import CODE, percent_of
 from .answers import decimal
 from .files import csv_text
 from .library import path_of
-from .names import KINDS, VERSION
-from .results import IndexName, Indices
-from .scenarios import BASE, Scenario, Sweep, plain
+from .names import KINDS, VERSION, Majority
+from .results import INDEX_NAMES, IndexName, Indices
+from .scenarios import BASE, Sweep, plain
 from .studies import Base, Result, Study
 
 PLACES = 10
@@ -54,7 +54,7 @@ Pair = Optional[tuple[int, int]]
 
 def pairs_of(found: Indices) -> dict[int, list[Pair]]:
     """The fractions of each chair, by number."""
-    under = [found.coalitions // 2, sum(found.swings), found.omega, found.coalitions - found.omega]
+    under = [found.divisor(it) for it in INDEX_NAMES]
     rows = zip(found.numbers, found.weights, found.swings)
     return {chair: [(weight, found.cast) if found.cast else None, *((swings, it) if it else None for it in under)]
             for chair, weight, swings in rows}
@@ -70,23 +70,26 @@ def cells_of(now: Pair, before: Pair) -> tuple[str, str, str, str]:
     return str(over // common), str(under // common), decimal(over, under, PLACES), added
 
 
-def rows_of(result: Result, found: Indices, base: dict[int, list[Pair]]) -> Iterator[list[str]]:
-    """The rows of a result at a majority. `base` has the fractions of the base there."""
-    board = (len(found.numbers), found.quota, found.cast, found.total, found.omega, found.coalitions)
-    head = [result.label, result.sweep, result.percent, found.majority, *map(str, board)]
+def rows_of(result: Result, bases: Mapping[Majority, dict[int, list[Pair]]]) -> Iterator[list[str]]:
+    """The rows of a result. `bases` has the fractions of the base by majority."""
     nothing: list[Pair] = [None] * len(FRACTIONS)
-    for (chair, pairs), weight, swings in zip(pairs_of(found).items(), found.weights, found.swings):
-        old = nothing if chair in result.opened else base.get(chair, nothing)
-        cells = [cell for pair in map(cells_of, pairs, old) for cell in pair]
-        yield [*head, str(chair), result.names[chair], str(weight), str(swings), *cells]
+    shares: dict[int, tuple[str, str, str, str]] = {}
+    for majority, found in result.indices.items():
+        board = (len(found.numbers), found.quota, found.cast, found.total, found.omega, found.coalitions)
+        head = [result.label, result.sweep, result.percent, majority, *map(str, board)]
+        for (chair, (share, *pairs)), weight, swings in zip(pairs_of(found).items(), found.weights, found.swings):
+            old = nothing if chair in result.opened else bases[majority].get(chair, nothing)
+            if chair not in shares:
+                # The share of the votes is the same at each majority.
+                shares[chair] = cells_of(share, old[0])
+            cells = [cell for pair in map(cells_of, pairs, old[1:]) for cell in pair]
+            yield [*head, str(chair), result.names[chair], str(weight), str(swings), *shares[chair], *cells]
 
 
 def study_table(study: Study, lines: Sequence[str]) -> str:
     """The table of a study as CSV, behind lines of provenance."""
     bases = {majority: pairs_of(found) for majority, found in study.results[BASE].indices.items()}
-    readings = ((it, found) for it in study.results.values() for found in it.indices.values())
-    rows = (row for it, found in readings for row in rows_of(it, found, bases[found.majority]))
-    return csv_text(lines, STUDY_COLUMNS, rows)
+    return csv_text(lines, STUDY_COLUMNS, (row for it in study.results.values() for row in rows_of(it, bases)))
 
 
 def command_data(record: str) -> dict[str, object]:
@@ -97,12 +100,10 @@ def command_data(record: str) -> dict[str, object]:
     return {"kind": kind, **parts, **whole}
 
 
-def changes_of(base: Base, scenario: Scenario, first: int) -> list[dict[str, object]]:
+def changes_of(result: Result, first: int) -> list[dict[str, object]]:
     """The changes of a scenario in the page's format: per cent stay per cent, and several members get numbers."""
-    register, found = base.register.copy(), list[dict[str, object]]()
-    for command in scenario.commands:
-        records = records_of(register.members, command)
-        register.submit(records)
+    found = list[dict[str, object]]()
+    for command, records in result.taken:
         _, who, amount = [*command.split(","), "", ""][:3]
         percent = percent_of(amount)
         if percent and re.fullmatch(CODE, who):
@@ -113,13 +114,16 @@ def changes_of(base: Base, scenario: Scenario, first: int) -> list[dict[str, obj
     return [{"id": first + at, "on": True, "what": what} for at, what in enumerate(found)]
 
 
-def is_in_page(sweep: Sweep) -> bool:
-    """Whether the page can hold a sweep: one of a member or a chair, on the base."""
-    return sweep.start == BASE and "+" not in sweep.who
+def sweep_in_page(study: Study) -> Optional[Sweep]:
+    """The sweep that the page holds: the first one of a member or a chair on the base."""
+    sweeps = (it.sweep for it in study.sweeps)
+    return next((it for it in sweeps if it.start == BASE and "+" not in it.who), None)
 
 
-def sweep_data(sweep: Sweep) -> dict[str, object]:
+def sweep_data(sweep: Optional[Sweep]) -> Optional[dict[str, object]]:
     """A sweep in the page's format."""
+    if sweep is None:
+        return None
     chair = sweep.who.removeprefix("chair ")
     who: dict[str, object] = {"kind": "member", "code": chair}
     if chair != sweep.who:
@@ -142,17 +146,16 @@ def page_data(
     """The study as board.html keeps it, as JSON that is safe in a page."""
     scenarios, first = list[dict[str, object]](), 1
     for it in study.scenarios:
-        changes = changes_of(study.base, it, first)
+        changes = changes_of(study.results[it.label], first)
         scenarios.append({"name": it.label, "changes": changes})
         first += len(changes)
-    sweep = next((sweep_data(it.sweep) for it in study.sweeps if is_in_page(it.sweep)), None)
     kept: dict[str, object] = {"name": name, "base": base_data(study.base), "changes": [], "scenarios": scenarios}
-    kept.update({"published": published, "sweep": sweep})
+    kept.update({"published": published, "sweep": sweep_data(sweep_in_page(study))})
     order_at = "85" if "85" in study.majorities else study.majorities[0]
     view = {"majorities": study.majorities, "measure": index, "order": "number", "orderAt": order_at, "digits": 3,
             "fractions": False, "tab": "power", "curveChair": None, "curveVotes": False}
     data = {"format": FORMAT, "provenance": lines, "study": kept, "view": view}
-    return json.dumps(data, ensure_ascii=False, indent=1).replace("<", "\\u003c")
+    return json.dumps(data, ensure_ascii=False).replace("<", "\\u003c")
 
 
 def empty_page() -> str:
