@@ -239,7 +239,7 @@ $(LANGUAGES):
 	$(call said,env -u MAKEFLAGS -u MFLAGS BOARD_ANSWERS=$O/answers bindings/$@/check)
 	touch $O/$@.packaged
 # The packages in out/packages, which are made when they are tested.
-$(PACKAGED): $O/%.packaged: $$(shell git ls-files bindings/$$* portable wasm) $(answers) wasm/out/board.wasm
+$(PACKAGED): $O/%.packaged: $$(shell git ls-files bindings/$$* portable wasm board.html) $(answers) wasm/out/board.wasm
 	$(MAKE) $*
 tables:  ## the page's reader of tables over a corpus of cases, in Node
 	$(call said,tests/tables/run)

@@ -14,6 +14,7 @@ BROWSERS = EVERY
 SCENARIOS = {
     "XAD +40% & <b>": ["votes,XAD,+40%", "move,XAA,2"],
     "Two together": ["votes,XAB+XAC,20% of total", "suspend,XAA", "open,25", "move,XAD,25"],
+    "In and out": ["move,XBC,none", "withdraw,XBC", "admit,ZZZ,500000", "move,ZZZ,3", "votes,ZZZ,10% of total"],
 }
 SWEEP = "XAD 10..20 by 2.5 %"
 
@@ -42,7 +43,7 @@ def test_page_of_a_study(page: Page, oracle: Oracle, made: Path) -> None:
     page.click("#tab-power")
     check_figures(page, oracle, [])
     rows = table_of((made / "it.csv").read_text())
-    assert table_of(page.act("exported", "export-csv")) == rows and len({it["scenario"] for it in rows}) == 8
+    assert table_of(page.act("exported", "export-csv")) == rows and len({it["scenario"] for it in rows}) == 9
     page.click('[aria-label^="Show XAD"]')
     assert page.texts("#changes .change-words")[0] == "XAD Lomenia: 227,217 → 318,104 (+40 %)"
     assert len(page.all(f"#at-{MAJORITIES[0]}:checked")) == 1

@@ -21,12 +21,13 @@ def say(command: str, lines: Iterable[str]) -> None:
         print(f"{command}: {line}", file=sys.stderr)
 
 
-def ended(command: str, run: Callable[[], None]) -> int:
+def ended(parser: argparse.ArgumentParser, make: Callable[[argparse.Namespace], None]) -> int:
     """Runs a command, and returns its status: 1 with a message if something is wrong, and then nothing was written."""
+    given, command = parser.parse_args(), parser.prog
     if isinstance(sys.stdout, io.TextIOWrapper):
         sys.stdout.reconfigure(errors="backslashreplace")
     try:
-        run()
+        make(given)
         sys.stdout.flush()
     except BrokenPipeError:
         os.dup2(os.open(os.devnull, os.O_WRONLY), 1)

@@ -107,8 +107,7 @@ def make(given: argparse.Namespace) -> None:
 
 def main() -> int:
     """Runs the command."""
-    given = words().parse_args()
-    return ended("board-figures", lambda: make(given))
+    return ended(words(), make)
 
 
 if __name__ == "__main__":

@@ -58,8 +58,7 @@ def make(given: argparse.Namespace) -> None:
 
 def main() -> int:
     """Runs the command."""
-    given = words().parse_args()
-    return ended("board-recount", lambda: make(given))
+    return ended(words(), make)
 
 
 if __name__ == "__main__":

@@ -193,16 +193,12 @@ class Study:
     scenarios: tuple[Scenario, ...]
     sweeps: tuple[Swept, ...]
 
-    def rows(self) -> Iterator[tuple[Result, Indices, Chair]]:
-        """Each result's chairs at each majority, in the order of tables."""
-        return ((it, found, chair) for it in self.results.values() for found in it.indices.values()
-                for chair in found.chairs)
-
     def records(self, *, floats: bool = False) -> list[dict[str, Cell]]:
         """A row for each result, majority and chair, by column: scenario, sweep, percent, majority, the fields of
         `Indices`, chair, name, weight, swings, vote_share and the indices, each followed by its difference from the
         base."""
-        return [record_of(*row, floats) for row in self.rows()]
+        readings = ((it, found) for it in self.results.values() for found in it.indices.values())
+        return [record_of(it, found, chair, floats) for it, found in readings for chair in found.chairs]
 
     def to_dataframe(self, *, floats: bool = False) -> DataFrame:
         """The records as a table of pandas. Fractions stay exact unless `floats` is given."""
