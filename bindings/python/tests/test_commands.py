@@ -165,7 +165,7 @@ def test_figures(table: Path, tmp_path: Path) -> None:
     # Catches: a figure without its title and source, or with another's name.
     pytest.importorskip("matplotlib")
     (tmp_path / "figures").mkdir()
-    words = [*arguments(), "--at", "half", "--figures", tmp_path / "figures", tmp_path / "out"]
+    words = [*arguments(), "--at", "half", f"--figures={tmp_path}//figures/", tmp_path / "out"]
     good("study", table, *words)
     names = ["base", "scenario-1", "scenario-2", "sweep-1", "sweep-1-others-half", "sweep-2", "sweep-2-others-half"]
     found = sorted(it.name for it in (tmp_path / "figures").iterdir())

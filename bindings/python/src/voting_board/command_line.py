@@ -61,13 +61,14 @@ def read_bytes(name: str) -> bytes:
 
 def command_words(command: str, words: Sequence[str], paths: Iterable[object]) -> str:
     """The command line, with names in place of paths: where a file was is nobody's business."""
-    names = {str(it): Path(str(it)).name or str(it) for it in paths if it is not None}
+    known = {Path(str(it)) for it in paths if it is not None}
+
+    def named(word: str) -> str:
+        return Path(word).name or word if Path(word) in known else word
 
     def published(word: str) -> str:
         option, mark, value = word.partition("=")
-        if mark and option.startswith("--") and value in names:
-            return f"{option}={names[value]}"
-        return names.get(word, word)
+        return f"{option}={named(value)}" if mark and option.startswith("--") else named(word)
 
     return f"command: {shlex.join([command, *map(published, words)])}"
 

@@ -90,7 +90,7 @@ def table_in(given: argparse.Namespace, data: bytes) -> StrictTable:
 def sentences(study: studies.Study, given: argparse.Namespace) -> list[str]:
     """The answers, below the label of what they are about; those on the base if nothing else was asked for."""
     found, labels = [], [it.label for it in study.scenarios]
-    for label in labels or [BASE][len(study.sweeps) :]:
+    for label in labels if labels or study.sweeps else [BASE]:
         result = study.results[label]
         both = [result.answers(it) for it in dict.fromkeys(["share", given.measure])]
         found += [f"{label}:", *dict.fromkeys(line for pair in zip(*both) for line in pair)]
@@ -109,13 +109,13 @@ def places_of(given: argparse.Namespace, figures: dict[Path, bytes]) -> list[Pat
 def make(given: argparse.Namespace) -> None:
     """Runs the study, writes its files, and says the answers."""
     places_of(given, {})
-    data, files = read_bytes(given.table), {it: Path(it).read_bytes() for it in given.scenarios}
+    data, files = read_bytes(given.table), [(it, Path(it).read_bytes()) for it in given.scenarios]
     table = table_in(given, data)
     say("board-study", said_of(table))
-    asked = [it for many in each(lambda it: scenarios_in(*it), files.items()) for it in many]
+    asked = [it for many in each(lambda it: scenarios_in(*it), files) for it in many]
     asked += each(scenario_of, given.scenario)
     study = studies.study(table, at=given.at, scenarios=asked, sweeps=each(sweep_of, given.sweep))
-    read = [file_line("table", given.table, data), *(file_line("scenarios", *it) for it in files.items())]
+    read = [file_line("table", given.table, data), *(file_line("scenarios", *it) for it in files)]
     paths = [given.table, given.out, given.replay, given.figures, *given.scenarios]
     more = [command_words("board-study", sys.argv[1:], paths), *(f"read: {it}" for it in said_of(table))]
     lines = provenance(study, read, more)
