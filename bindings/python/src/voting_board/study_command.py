@@ -128,11 +128,12 @@ def make(given: argparse.Namespace) -> None:
         figures = figure_files(study_figures(study, given.measure), start, given.figure_titles == "in", lines)
     page = page_with(page_data(study, name, lines, given.measure, given.total))
     texts = [study_table(study, lines), page, *([study.script()] if given.replay else [])]
+    answers = "\n".join(sentences(study, given))
     write_files({**dict(zip(places_of(given, figures), (it.encode() for it in texts))), **figures})
     others = [it.sweep for it in study.sweeps if it.sweep != sweep_in_page(study)]
     alone = "is in OUT.csv alone: the page holds one sweep, of a member or a chair"
     say("board-study", [f"{it.text!r} {alone}" for it in others])
-    print("\n".join(sentences(study, given)))
+    print(answers)
 
 
 def main() -> int:
