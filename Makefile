@@ -183,7 +183,7 @@ tail -qn 1 $O/said/* | awk -v status=$$status '/^[0-9]+ passed, [0-9]+ failed$$/
   END {print passed + 0 " passed, " (status && !failed ? 1 : failed + 0) " failed"}'
 exit $$status
 endef
-.PHONY: docs lint tools ci steps steps-tests edits cases independent memory register script stress figures targets compilers $(LANGUAGES) tables page-units page-tests release-tests kit-gate
+.PHONY: docs lint tools ci steps steps-tests edits cases independent memory register script stress recipes targets compilers $(LANGUAGES) tables page-units page-tests release-tests kit-gate
 docs:  ## names, links and made parts of the documents
 	$(call said,docs/check)
 lint:  ## what no clause can say of the sources
@@ -221,8 +221,8 @@ register: $(STATIC:%=$O/%.proved) board  ## the register's calls from C, against
 	$(call said,tests/register/run $O/board)
 script: $(STATIC:%=$O/%.proved) board  ## scripts read as data from C, against the program and the independent reader
 	$(call said,tests/script/run $O/board)
-figures: board  ## the scripts of figures
-	$(call said,figures/check $O/board)
+recipes: board  ## the recipes of the documents
+	$(call said,tests/recipes/run $O/board)
 targets: board module aarch64  ## the library, also for aarch64 and WebAssembly, against the program
 	$(call said,tests/targets/run $O/board)
 compilers: board one-file  ## the C file by each compiler and on each system, against the program
@@ -239,7 +239,7 @@ $(LANGUAGES):
 	$(call said,env -u MAKEFLAGS -u MFLAGS BOARD_ANSWERS=$O/answers bindings/$@/check)
 	touch $O/$@.packaged
 # The packages in out/packages, which are made when they are tested.
-$(PACKAGED): $O/%.packaged: $$(shell git ls-files bindings/$$* portable wasm) $(answers) wasm/out/board.wasm
+$(PACKAGED): $O/%.packaged: $$(shell git ls-files bindings/$$* portable wasm board.html) $(answers) wasm/out/board.wasm
 	$(MAKE) $*
 tables:  ## the page's reader of tables over a corpus of cases, in Node
 	$(call said,tests/tables/run)
@@ -251,7 +251,7 @@ release-tests: release $(answers)  ## a release, unpacked and run without the to
 	$(call said,tests/release/run)
 
 gate:  ## all that must pass before a change lands
-	+@$(call judged,"docs lint tools" ci "steps steps-tests edits cases independent figures memory register script" stress targets compilers "$(LANGUAGES)" "tables page-units" page-tests release-tests)
+	+@$(call judged,"docs lint tools" ci "steps steps-tests edits cases independent recipes memory register script" stress targets compilers "$(LANGUAGES)" "tables page-units" page-tests release-tests)
 clean:  ## removes all results
 	@rm -rf $O {wasm,aarch64,page,portable}/out
 help:  ## this list

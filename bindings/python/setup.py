@@ -13,6 +13,7 @@ from typing import Any
 
 from setuptools import Extension, setup
 from setuptools.command.build_ext import build_ext
+from setuptools.command.build_py import build_py
 from setuptools.command.sdist import sdist
 
 try:
@@ -21,8 +22,11 @@ except ImportError:  # setuptools before 70
     from wheel.bdist_wheel import bdist_wheel
 
 HERE = Path(__file__).resolve().parent
-# A source package has the C file next to this one, and a clone has it once.
-PORTABLE = HERE if (HERE / "board.c").exists() else HERE.parent.parent / "portable"
+# A source package has the C file and the page next to this one, and a clone has them once.
+IS_SOURCE = (HERE / "board.c").exists()
+PORTABLE = HERE if IS_SOURCE else HERE.parent.parent / "portable"
+#: The page into which studies are put.
+PAGE = (HERE if IS_SOURCE else HERE.parent.parent) / "board.html"
 LIBRARY = "voting_board.libboard"
 NAMES = {"win": "board.dll", "macosx": "libboard.dylib"}
 #: A file of the package that says which processor its library needs.
@@ -83,13 +87,25 @@ class BuildLibrary(build_ext):
         )
 
 
+class BuildModules(build_py):
+    """Copies the page next to the modules."""
+
+    def run(self) -> None:
+        super().run()
+        if not getattr(self, "editable_mode", False):
+            shutil.copyfile(PAGE, Path(self.build_lib, "voting_board", PAGE.name))
+
+    def get_outputs(self, include_bytecode: bool = True) -> list[str]:
+        return [*super().get_outputs(include_bytecode), str(Path(self.build_lib, "voting_board", PAGE.name))]
+
+
 class SourcePackage(sdist):
-    """Copies the C file and its header into the source package."""
+    """Copies the C file, its header and the page into the source package."""
 
     def make_release_tree(self, base_dir: str, files: Any) -> None:
         super().make_release_tree(base_dir, files)
-        for name in ("board.c", "board.h"):
-            shutil.copyfile(PORTABLE / name, Path(base_dir, name))
+        for path in (PORTABLE / "board.c", PORTABLE / "board.h", PAGE):
+            shutil.copyfile(path, Path(base_dir, path.name))
 
 
 class Wheel(bdist_wheel):
@@ -106,5 +122,5 @@ class Wheel(bdist_wheel):
 
 setup(
     ext_modules=[Extension(LIBRARY, [])],
-    cmdclass={"build_ext": BuildLibrary, "sdist": SourcePackage, "bdist_wheel": Wheel},
+    cmdclass={"build_ext": BuildLibrary, "build_py": BuildModules, "sdist": SourcePackage, "bdist_wheel": Wheel},
 )

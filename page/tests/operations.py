@@ -18,7 +18,7 @@ WORDS = ["merge", "dissolve", "split", "scale"]
 
 def seated(standing: Standing, chair: int) -> list[str]:
     """The members of a chair in order of entry."""
-    return [code for code, place in standing.places.items() if place.chair == chair]
+    return [code for code, place in standing.register.members.items() if place.chair == chair]
 
 
 def scaled(votes: int, percent: str) -> int:
@@ -37,13 +37,13 @@ def commands_of(standing: Standing, operation: str) -> list[str]:
     if word in ("merge", "dissolve"):
         return [*(f"move,{code},{second}" for code in seated(standing, int(first))), f"close,{first}"]
     if word == "split":
-        closed = [it for it in range(1, MOST_CHAIRS + 1) if it not in standing.open]
+        closed = [it for it in range(1, MOST_CHAIRS + 1) if it not in standing.register.chairs]
         chair = closed[0] if first == "lowest" else int(first)
         return [f"open,{chair}", *(f"move,{code},{chair}" for code in second.split("+"))]
     codes = codes_of(standing, first)
-    if not set(codes) <= set(standing.places):
+    if not set(codes) <= set(standing.register.members):
         return []
-    votes = {code: scaled(standing.places[code].votes, second) for code in codes}
+    votes = {code: scaled(standing.register.members[code].votes, second) for code in codes}
     if not all(0 <= it <= MOST_VOTES for it in votes.values()):
         return []
     return [f"votes,{code},{it}" for code, it in votes.items()]
@@ -82,9 +82,9 @@ def added_by(standing: Standing, change: Change) -> tuple[list[str], bool]:
 def drawn_operation(some: Random, standing: Standing) -> Act:
     """An operation, most often one that can be carried out."""
     # In order of entry, which is that of the list with ticks.
-    members = list(standing.places)
+    members = list(standing.register.members)
     codes = sorted(some.sample(members, some.randint(1, 5)), key=members.index)
-    chair, other = some.sample(sorted(standing.open), 2)
+    chair, other = some.sample(sorted(standing.register.chairs), 2)
     percent = f"{some.choice('+-')}{some.choice([0, 5, 33, 100])}{some.choice(['', '.5', '.125'])}%"
     drawn: list[Act] = [
         ["merge", str(chair), str(other)],

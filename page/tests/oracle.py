@@ -1,20 +1,19 @@
-"""The answers of the program and of the scripts of figures, with which the page is compared."""
+"""The answers of the program and of the package for Python, with which the page is compared."""
 from __future__ import annotations
 
 import subprocess
 from collections.abc import Callable
 from pathlib import Path
+from typing import Any
 
-from board_python.member_tables import Columns, Layout, MemberTable, input_lines, read_table
-from board_python.programs import Program
+from board_python.member_tables import MemberTable, input_lines, read_table
 from board_python.replay_output import Output, read_output
-from board_python.scenarios import Scenario, sweep_of
-from board_python.studies import run_study
-from board_python.tables import STUDY_COLUMNS, csv_text, study_rows
+from voting_board.scenarios import Scenario
+from voting_board.studies import study
+from voting_board.study_files import study_table
 
 TOP = Path(__file__).resolve().parents[2]
 EXAMPLE = TOP / "examples" / "members.csv"
-AS_IT_IS = Layout(blank_is_no_chair=True, keep_total=True)
 MAJORITIES = ["half", "70", "85", "quorum"]
 
 
@@ -27,10 +26,7 @@ class Oracle:
 
     def __init__(self, program: Path):
         self.program = program
-        self.table = self.table_of(EXAMPLE.read_bytes())
-
-    def table_of(self, data: bytes, layout: Layout = AS_IT_IS) -> MemberTable:
-        return read_table(data, Columns(), layout=layout)
+        self.table = read_table(EXAMPLE.read_bytes())
 
     def lines(self, script: bytes) -> bytes:
         """The output of `board replay` for a script, even if it ends in a fault."""
@@ -52,10 +48,10 @@ class Oracle:
         return lines[len(lines) - len(commands) :]
 
     def study(self, scenarios: dict[str, list[str]], majorities: list[str], *sweeps: str) -> str:
-        """The rows of a study, as figures/board_study writes them: commands by their label, and sweeps."""
+        """The rows of a study, as board-study writes them: commands by their label, and sweeps."""
         labelled = [Scenario(label, tuple(commands)) for label, commands in scenarios.items()]
-        study = run_study(Program(str(self.program)), self.table, majorities, labelled, list(map(sweep_of, sweeps)))
-        return csv_text([], STUDY_COLUMNS, study_rows(study))
+        at: Any = majorities
+        return study_table(study(self.table.rows(), at=at, scenarios=labelled, sweeps=sweeps), [])
 
 
 def least(holds: Callable[[int], bool], low: int, high: int) -> int:

@@ -59,7 +59,7 @@ def test_beside(study: Page, oracle: Oracle) -> None:
 
 
 def test_csv(study: Page, oracle: Oracle) -> None:
-    # Catches: a table with other columns, names or roundings than that of board_study.
+    # Catches: a table with other columns, names or roundings than that of board-study.
     _, content = study.downloaded("#export-csv")
     head = [line for line in content.decode().splitlines() if line.startswith("# ")]
     check_provenance("\n".join(head), study, oracle)
@@ -67,11 +67,11 @@ def test_csv(study: Page, oracle: Oracle) -> None:
 
 
 def test_csv_of_the_script(study: Page, oracle: Oracle, tmp_path: Path) -> None:
-    # Catches: a table that is board_study's only as far as the tests' own call of its modules goes.
+    # Catches: a table that is board-study's only as far as the tests' own call of its modules goes.
     _, content = study.downloaded("#export-csv")
-    words = ["examples/members.csv", str(tmp_path / "it"), "--board", str(oracle.program)]
+    words = ["examples/members.csv", str(tmp_path / "it")]
     words += ["--at", ",".join(shown_majorities(study)), "--scenario", f"changed: {'; '.join(COMMANDS)}"]
-    subprocess.run([TOP / "figures" / "board_study", *words], check=True, cwd=TOP)
+    subprocess.run([TOP / "commands" / "board-study", *words], check=True, cwd=TOP)
     assert table_of(content.decode()) == table_of((tmp_path / "it.csv").read_text())
 
 

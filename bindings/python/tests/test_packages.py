@@ -61,6 +61,7 @@ def test_the_installed_package_is_tested() -> None:
 def test_source_package(source: Path) -> None:
     for name in ("board.c", "board.h"):
         assert (source / name).read_bytes() == (PORTABLE / name).read_bytes()
+    assert (source / "board.html").read_bytes() == (TOP / "board.html").read_bytes()
     assert (source / "src/voting_board/py.typed").exists() and (source / "setup.py").exists()
 
 
@@ -73,7 +74,7 @@ def test_wheels(packages: Path, platform: str, library: str) -> None:
         about, tags = (wheel.read(f"{INFO}/{name}").decode() for name in ("METADATA", "WHEEL"))
         infos = [it for it in wheel.infolist() if not it.filename.endswith("RECORD")]
     modules = {f"voting_board/{it.name}" for it in (HERE.parent / "src/voting_board").glob("*.py")}
-    assert names == modules | {"voting_board/py.typed", f"voting_board/{library}"}
+    assert names == modules | {f"voting_board/{it}" for it in ("py.typed", "board.html", library)}
     assert f"Tag: py3-none-{platform}\n" in tags and "Root-Is-Purelib: false\n" in tags
     assert {it.external_attr >> 16 & 0o777 for it in infos} == {0o644} and len({it.date_time for it in infos}) == 1
     for line in (f"Version: {version}", "Requires-Python: >=3.9", "Provides-Extra: plot", "Name: voting-board"):
@@ -159,7 +160,12 @@ def test_pip_in_a_clone(tmp_path: Path) -> None:
     leave = shutil.ignore_patterns("libboard.*", "board.dll", "build", "*.egg-info", "__pycache__")
     shutil.copytree(HERE.parent, clone / "bindings/python", ignore=leave)
     shutil.copytree(PORTABLE, clone / "portable", ignore=shutil.ignore_patterns("out"))
+    shutil.copy(TOP / "board.html", clone)
     words = [sys.executable, "-m", "pip", "install", "--quiet", "--no-index", "--no-deps", "--no-build-isolation"]
     ran(*words, "--disable-pip-version-check", "--target", there := tmp_path / "there", clone / "bindings/python")
     code = "import voting_board; print(voting_board.__file__, voting_board.__version__)"
     assert ran(sys.executable, "-c", code, PYTHONPATH=str(there)) == f"{there}/voting_board/__init__.py {version}\n"
+    for command in ("study", "figures", "recount"):
+        assert ran(there / f"bin/board-{command}", "--version", PYTHONPATH=str(there)) == f"board-{command} {version}\n"
+    ran(there / "bin/board-study", TOP / "examples/members.csv", tmp_path / "study", PYTHONPATH=str(there))
+    assert '"format": "board study 2"' in (tmp_path / "study.html").read_text()

@@ -25,6 +25,7 @@ from voting_board import (
     replay,
     replay_text,
 )
+from voting_board.studies import Study, study, thresholds
 
 
 def weights() -> Iterator[int]:
@@ -72,6 +73,10 @@ for outcome in replay(Path("script.csv")):
     if isinstance(outcome, (Reading, Accepted)):
         record: int = outcome.record
 text: str = replay_text(b"")[0]
+found: Study = study(Path("members.csv"), at="85", scenarios={"More": "votes,AAA,+5%"}, sweeps=["AAA 1..2 by 1 %"])
+gain: Fraction = found.results["More"].gains("share", "85")[1]
+least: int = thresholds(register, "AAA 1..2 by 1 %")[0].votes
+study(Path("members.csv"), at=["90"])  # wrong
 indices([50, 49, 1])  # wrong
 indices([50, 49, 1], "seventy")  # wrong
 indices(["50"], "half")  # wrong

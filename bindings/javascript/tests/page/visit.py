@@ -17,7 +17,7 @@ from pathlib import Path
 from typing import Any
 
 HERE = Path(__file__).resolve().parent
-sys.path.insert(0, str(HERE.parents[3] / "figures"))
+sys.path.insert(0, str(HERE.parents[3] / "tests" / "python"))
 from board_checks.browser_visit import started  # noqa: E402
 from selenium.webdriver.support.ui import WebDriverWait  # noqa: E402
 

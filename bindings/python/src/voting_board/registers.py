@@ -180,8 +180,8 @@ class Register:
 
         members: a mapping or a series of pandas from codes to votes, or a table. A table is a data frame, a mapping
             from columns to lists, or a list of rows with named parts. Its columns are code and votes, and if wanted
-            chair, chair_name and suspended, and name, which isn't used. The chairs that it names are opened, its members are moved there, and then
-            the suspended ones are suspended: these are commands of the journal
+            chair, chair_name and suspended, and name, which isn't used. The chairs that it names are opened, its
+            members are moved there, and then the suspended ones are suspended: these are commands of the journal
         journal: the most commands that are accepted, from 1 to 1,000,000
 
         Raises `Refused`: BadMember, VotesTooLarge, BadRecord, BadChair or DuplicateMember for a value, with its place;

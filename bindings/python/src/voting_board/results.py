@@ -93,7 +93,7 @@ class Indices:
     @cached_property
     def chairs(self) -> tuple[Chair, ...]:
         """The open chairs by number, each with its weight, swings and indices."""
-        divisors = tuple(self._divisor(index) for index in INDEX_NAMES)
+        divisors = tuple(self.divisor(index) for index in INDEX_NAMES)
         rows = zip(self.numbers, self.names, self.weights, self.swings)
         return tuple(Chair(*row, divisors) for row in rows)
 
@@ -102,7 +102,7 @@ class Indices:
         """Coleman's power of the board to act: the winning coalitions over all coalitions."""
         return Fraction(self.omega, self.coalitions)
 
-    def _divisor(self, index: IndexName) -> int:
+    def divisor(self, index: IndexName) -> int:
         """What the swings are divided by for an index: 0 if the index is None."""
         if index == "banzhaf":
             return self.coalitions // 2
@@ -114,7 +114,7 @@ class Indices:
         """An index of each chair as a float; nan where it is None. An unknown index is a ValueError."""
         if index not in INDEX_NAMES:
             raise ValueError(f"no index {index!r}: {', '.join(INDEX_NAMES)}")
-        divisor = self._divisor(index)
+        divisor = self.divisor(index)
         return [it / divisor if divisor else float("nan") for it in self.swings]
 
     def records(self, *, floats: bool = False) -> list[dict[str, Cell]]:

@@ -1,0 +1,150 @@
+"""What `votes,WHO,AMOUNT` means for a register: per cent, and votes of several members together, as whole votes."""
+from __future__ import annotations
+
+import re
+from collections.abc import Mapping, Sequence
+from dataclasses import dataclass
+from fractions import Fraction
+
+from .names import KINDS, MEMBER_VOTES
+from .results import Member
+
+DECIMAL = r"[0-9]{1,9}(?:\.[0-9]{1,9})?"
+CODE = "[A-Z]{3}"
+CHAIR = re.compile("chair ([1-9][0-9]?)")
+PERCENT = re.compile(rf"([+-]?)({DECIMAL}) ?%( of total)?")
+GROUP = re.compile(rf"{CODE}(?:\+{CODE})+|{CHAIR.pattern}")
+Members = Mapping[str, Member]
+
+
+class BadStudy(ValueError):
+    """A scenario, a sweep or an option that isn't as it must be. Each line of the message is about one."""
+
+
+@dataclass(frozen=True)
+class Percent:
+    """Votes in per cent: with a sign, a change of the present votes; without one, a share of the total."""
+
+    sign: str
+    number: str
+
+    def votes(self, members: Members, codes: Sequence[str]) -> int:
+        """The votes of some members together, rounded once, half to even."""
+        own, number = votes_of(members, codes), Fraction(self.number)
+        if self.sign:
+            return round(own * (1 + (number if self.sign == "+" else -number) / 100))
+        for code in codes:
+            if members[code].suspended:
+                raise BadStudy(f"{code} is suspended, so it has no share of the total voting power")
+        rest = total_of(members) - own
+        if number >= 100 or rest == 0:
+            raise BadStudy(f"no number of votes is {self.number} per cent of the total voting power")
+        return round(number / (100 - number) * rest)
+
+
+def total_of(members: Members) -> int:
+    """The total voting power: the votes of all members that aren't suspended."""
+    return sum(it.votes for it in members.values() if not it.suspended)
+
+
+def votes_of(members: Members, codes: Sequence[str]) -> int:
+    """The votes of some members together."""
+    return sum(members[code].votes for code in codes)
+
+
+def percent_of(text: str) -> Percent | None:
+    """The meaning of an amount in per cent, or None for another amount. One that has two meanings is refused."""
+    found = PERCENT.fullmatch(text)
+    if not found:
+        return None
+    sign, number, of_total = found.groups()
+    if bool(sign) == bool(of_total):
+        raise BadStudy(
+            f"{text!r} has two meanings: write {number}% of total for a share of the total voting power, "
+            f"or +{number}% for a change of the member's own votes"
+        )
+    return Percent(sign, number)
+
+
+def codes_of(members: Members, who: str) -> list[str]:
+    """The members that a code, several codes joined by +, or a chair names; for a chair, those whose votes count."""
+    if found := CHAIR.fullmatch(who):
+        codes = [code for code, it in members.items() if it.chair == int(found[1]) and not it.suspended]
+        if not codes:
+            raise BadStudy(f"chair {found[1]} has no member whose votes count")
+        return codes
+    codes = who.split("+")
+    for code in codes:
+        if code not in members:
+            raise BadStudy(f"no member has the code {code}")
+    if len(set(codes)) < len(codes):
+        raise BadStudy(f"{who} names a member twice")
+    return codes
+
+
+def shared_out(votes: int, weights: Mapping[str, int]) -> dict[str, int]:
+    """Whole votes for members in the proportions of their weights.
+
+    Each part is rounded down or up: the parts with the greatest remainders are rounded up until all parts add up to the
+    votes. Of equal remainders, the earlier one is rounded up first.
+    """
+    whole = sum(weights.values())
+    exact = {code: Fraction(votes * weight, whole) for code, weight in weights.items()}
+    parts = {code: int(part) for code, part in exact.items()}
+    order = sorted(weights, key=lambda code: parts[code] - exact[code])
+    for code in order[: votes - sum(parts.values())]:
+        parts[code] += 1
+    return parts
+
+
+def records_for(members: Members, codes: Sequence[str], votes: int) -> list[str]:
+    """The records that give some members votes together, in the proportions of their present votes."""
+    if len(codes) == 1 or votes < 0:
+        parts = {codes[0]: votes}
+    elif own := votes_of(members, codes):
+        assert own
+        parts = shared_out(votes, {code: members[code].votes for code in codes})
+    else:
+        raise BadStudy("these members have no votes, so no proportions to keep")
+    for code, part in parts.items():
+        if not 0 <= part <= MEMBER_VOTES:
+            raise BadStudy(f"{code} would have {part} votes, and votes are from 0 to 2^40")
+    return [f"votes,{code},{part}" for code, part in parts.items()]
+
+
+def plain_command(text: str) -> str:
+    """A command of a scenario without blanks around its fields."""
+    command = ",".join(" ".join(part.split()) for part in text.split(","))
+    kind, *fields = command.split(",")
+    if kind not in KINDS or '"' in command:
+        raise BadStudy(f"{text.strip()[:60]!r} is no command of a scenario: these are {', '.join(KINDS)}")
+    if kind == "votes" and len(fields) == 2:
+        percent_of(fields[1])
+    return command
+
+
+def records_of(members: Members, command: str) -> list[str]:
+    """The records of a command: per cent as a number of votes, and a record for each member of a group."""
+    kind, *fields = command.split(",")
+    if kind != "votes" or len(fields) != 2:
+        return [command]
+    who, amount = fields
+    percent = percent_of(amount)
+    is_number = amount.isascii() and amount.isdecimal() and len(amount) <= 20
+    if percent is None and not (GROUP.fullmatch(who) and is_number):
+        return [command]
+    codes = codes_of(members, who)
+    return records_for(members, codes, percent.votes(members, codes) if percent else int(amount))
+
+
+def undone(members: Members, record: str) -> list[str]:
+    """The records that undo an accepted record, for which the members were these before it."""
+    kind, *fields = record.split(",")
+    opposite = {"open": "close", "close": "open", "suspend": "restore", "restore": "suspend", "admit": "withdraw"}
+    if kind in opposite:
+        return [f"{opposite[kind]},{fields[0]}"]
+    before = members[fields[0]]
+    if kind == "withdraw":
+        suspension = [f"suspend,{fields[0]}"] * before.suspended
+        return [f"admit,{fields[0]},{before.votes}", *suspension]
+    return [f"{kind},{fields[0]},{before.votes if kind == 'votes' else before.chair or 'none'}"]

@@ -1,0 +1,102 @@
+"""What the commands have in common: messages, the end of a run, and the command line as it is published."""
+from __future__ import annotations
+
+import argparse
+import io
+import os
+import shlex
+import sys
+from collections.abc import Callable, Iterable, Sequence
+from pathlib import Path
+
+from .amounts import BadStudy
+
+#: How a file that the commands write may begin: a table, the page, and a figure.
+TABLE, PAGE, SVG, PDF = "(scenario|reading),", r"<!DOCTYPE html>.*id=\"study-data\"", r"<\?xml.*board-", "%PDF-"
+
+
+def say(command: str, lines: Iterable[str]) -> None:
+    """Writes lines to standard error, each with the command's name."""
+    for line in lines:
+        print(f"{command}: {line}", file=sys.stderr)
+
+
+def ended(parser: argparse.ArgumentParser, make: Callable[[argparse.Namespace], None]) -> int:
+    """Runs a command, and returns its status: 1 with a message if something is wrong, and then nothing was written."""
+    given, command = parser.parse_args(), parser.prog
+    if isinstance(sys.stdout, io.TextIOWrapper):
+        sys.stdout.reconfigure(errors="backslashreplace")
+    try:
+        make(given)
+        sys.stdout.flush()
+    except BrokenPipeError:
+        os.dup2(os.open(os.devnull, os.O_WRONLY), 1)
+    except ImportError as why:
+        needed = "pip install 'voting-board[pandas,plot]' installs what this needs"
+        say(command, [f"{why.name or why} isn't here: {needed}", "nothing was written"])
+        return 1
+    except (ValueError, OSError) as why:
+        said = f"{why.filename}: {why.strerror}" if isinstance(why, OSError) and why.filename else str(why)
+        say(command, [*said.splitlines(), "nothing was written"])
+        return 1
+    except KeyboardInterrupt:
+        say(command, ["interrupted"])
+        return 130
+    return 0
+
+
+def out_name(text: str) -> str:
+    """The name of files without their endings."""
+    if not Path(text).name or text.endswith(("/", os.sep)):
+        raise argparse.ArgumentTypeError(f"{text!r} is the name of no file")
+    if Path(text).is_dir():
+        raise argparse.ArgumentTypeError(f"{text!r} is a folder: give a name for the files")
+    return text
+
+
+def read_bytes(name: str) -> bytes:
+    """The bytes of a file, or of standard input for -."""
+    return sys.stdin.buffer.read() if name == "-" else Path(name).read_bytes()
+
+
+def command_words(command: str, words: Sequence[str], paths: Iterable[object]) -> str:
+    """The command line, with names in place of paths: where a file was is nobody's business."""
+    known = {Path(str(it)) for it in paths if it is not None}
+
+    def named(word: str) -> str:
+        return Path(word).name or word if Path(word) in known else word
+
+    def published(word: str) -> str:
+        option, mark, value = word.partition("=")
+        return f"{option}={named(value)}" if mark and option.startswith("--") else named(word)
+
+    return f"command: {shlex.join([command, *map(published, words)])}"
+
+
+def add_figure_words(parser: argparse.ArgumentParser) -> None:
+    """Adds the arguments for figures."""
+    figures = "write each figure as SVG and PDF into this folder, which must be there; needs pandas and matplotlib"
+    parser.add_argument("--figures", metavar="FOLDER", type=Path, help=figures)
+    titles = "whether their titles are in them, or in their metadata alone (default: %(default)s)"
+    parser.add_argument("--figure-titles", choices=["in", "out"], default="in", help=titles)
+
+
+def majorities(text: str) -> list[str]:
+    """The majorities that an argument lists, each once."""
+    found = text.split(",")
+    if not set(found) <= {"half", "70", "85", "quorum"} or len(set(found)) != len(found):
+        raise argparse.ArgumentTypeError(f"{text!r}: the majorities are half, 70, 85 and quorum, each once")
+    return found
+
+
+def counted(count: int, noun: str) -> str:
+    """A number of things in words."""
+    return f"{count:,} {noun}" + "s" * (count != 1)
+
+
+def check_names(paths: Iterable[Path]) -> None:
+    """Checks that no two files have one place."""
+    places = [it.resolve() for it in paths]
+    for at, it in enumerate(places):
+        if it in places[:at]:
+            raise BadStudy(f"two files would have the place of {it.name}")

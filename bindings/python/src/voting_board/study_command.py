@@ -1,0 +1,145 @@
+"""The command board-study: a study of a table of members, as a table and as a page."""
+from __future__ import annotations
+
+import argparse
+import sys
+from pathlib import Path
+
+from . import studies
+from .answers import NAMES
+from .command_line import PAGE, TABLE, add_figure_words, check_names, command_words, counted, ended
+from .command_line import majorities, out_name, read_bytes, say
+from .files import place_of, write_files
+from .names import MAJORITIES, VERSION
+from .scenarios import BASE, each, scenario_of, scenarios_in, sweep_of
+from .strict import ENCODINGS, StrictTable, read_table
+from .study_files import file_line, page_data, page_with, provenance, study_table, sweep_in_page
+
+SCRIPT = "member,votes\n"
+MOST_NAMED = 12
+EPILOG = """For example:
+
+  board-study members.csv --at half,70,85,quorum --scenario "China +30%: votes,CHN,+30%" \\
+    --scenario "Mexico to chair 23: move,MEX,23" --sweep "USA 10..20 by 0.5 %" out/study
+
+TABLE is a strict table: CSV with the columns code (or name), votes, chair, and if there chair_name and suspended, in
+whole numbers. board.html cleans any other one and saves it as such a table.
+
+A scenario is a label, a colon, and commands separated by semicolons (open, close, move, votes, suspend, restore, admit,
+withdraw, as docs/FORMATS.md has them), carried out on the register of the table. --scenarios takes a file of them: CSV
+with the columns label and commands, or TOML, where the name ends in .toml, with a table [[scenario]] for each.
+
+Votes are a number, or per cent: votes,CHN,+30% changes the member's own votes, and votes,USA,15% of total gives 15 per
+cent of the total voting power. Several codes joined by +, or a chair such as 'chair 17', may take a code's place. They
+get the votes together, in their proportions. Votes are rounded once to whole votes, half to even.
+
+A sweep gives such votes one share of the total after the other: 'USA 10..20 by 0.5 %', 'chair 17 1..30 by 1 %'. It
+starts from the table's register; 'from LABEL: USA 10..20 by 1 %' from that of a scenario.
+
+OUT.csv has a row for each scenario, majority and chair. OUT.html is board.html with the study in it. The answers in
+sentences go to standard output.
+
+Status: 0 where all files were written; 1 where something is wrong, which is named, and then nothing was written; 2
+where the command line is wrong."""
+
+
+def words() -> argparse.ArgumentParser:
+    """The arguments of the command."""
+    parser = argparse.ArgumentParser(
+        prog="board-study",
+        description="Compares scenarios of a table of members at several majorities: OUT.csv and OUT.html.",
+        epilog=EPILOG,
+        formatter_class=argparse.RawDescriptionHelpFormatter,
+    )
+    add = parser.add_argument
+    add("--version", action="version", version=f"board-study {VERSION}")
+    add("table", metavar="TABLE", help="the table of members; - is standard input")
+    add("out", metavar="OUT", type=out_name, help="the name of the two files, without .csv and .html")
+    add("--at", metavar="MAJORITIES", type=majorities, default=MAJORITIES, help="(default: half,70,85,quorum)")
+    add("--scenario", metavar="TEXT", action="append", default=[], help="'LABEL: command; command'")
+    add("--scenarios", metavar="FILE", action="append", default=[], help="scenarios, in CSV or TOML")
+    add("--sweep", metavar="TEXT", action="append", default=[], help="'WHO FROM..TO by STEP %%', of the total")
+    add("--measure", choices=NAMES, default="share", help="what sentences, page and figures compare (default: share)")
+    add("--replay", metavar="FILE", type=Path, help="write the input of `board replay` that gives these readings")
+    add("--title", help="the study's name in the page (default: the table's name)")
+    add_figure_words(parser)
+    add("--encoding", choices=ENCODINGS, default="utf-8", help="of the table (default: utf-8)")
+    add("--header-row", metavar="N", type=int, default=1, help="the row of the table's header (default: 1)")
+    add("--total", metavar="N", type=int, help="stop unless the votes add up to this published total")
+    return parser
+
+
+def said_of(table: StrictTable) -> list[str]:
+    """Sentences on what was read: members, votes and chairs, then each notice."""
+    none = [f"{it.code} ({counted(it.votes, 'vote')})" for it in table.members if it.chair is None]
+    more = f" and {len(none) - MOST_NAMED} more" if none[MOST_NAMED:] else ""
+    seats = f"{counted(len(none), 'member')} in no chair: {', '.join(none[:MOST_NAMED])}{more}"
+    members = f"{counted(len(table.members), 'member')}, {counted(sum(it.votes for it in table.members), 'vote')}"
+    chairs = counted(len({it.chair for it in table.members if it.chair}), "chair")
+    return [f"{members}; {chairs}; {seats if none else 'every member is in a chair'}", *table.notices]
+
+
+def table_in(given: argparse.Namespace, data: bytes) -> StrictTable:
+    """The table of members."""
+    try:
+        return read_table(data, encoding=given.encoding, header_row=given.header_row, total=given.total)
+    except ValueError as why:
+        raise ValueError("\n".join(f"{given.table}: {it}" for it in str(why).splitlines())) from None
+
+
+def sentences(study: studies.Study, given: argparse.Namespace) -> list[str]:
+    """The answers, below the label of what they are about; those on the base if nothing else was asked for."""
+    found, labels = [], [it.label for it in study.scenarios]
+    for label in labels if labels or study.sweeps else [BASE]:
+        result = study.results[label]
+        both = [result.answers(it) for it in dict.fromkeys(["share", given.measure])]
+        found += [f"{label}:", *dict.fromkeys(line for pair in zip(*both) for line in pair)]
+    for swept in study.sweeps:
+        found += [f"{swept.sweep.text}:", *swept.answers()]
+    return found
+
+
+def places_of(given: argparse.Namespace, figures: dict[Path, bytes]) -> list[Path]:
+    """The places of all files, which are checked: the table, the page, the script if wanted, and the figures."""
+    paths = [Path(f"{given.out}.csv"), Path(f"{given.out}.html"), *([given.replay] if given.replay else [])]
+    check_names([*paths, *figures, *([] if given.table == "-" else [Path(given.table)]), *map(Path, given.scenarios)])
+    return [place_of(path, kind) for path, kind in zip(paths, [TABLE, PAGE, SCRIPT])]
+
+
+def make(given: argparse.Namespace) -> None:
+    """Runs the study, writes its files, and says the answers."""
+    places_of(given, {})
+    data, files = read_bytes(given.table), [(it, Path(it).read_bytes()) for it in given.scenarios]
+    table = table_in(given, data)
+    say("board-study", said_of(table))
+    asked = [it for many in each(lambda it: scenarios_in(*it), files) for it in many]
+    asked += each(scenario_of, given.scenario)
+    study = studies.study(table, at=given.at, scenarios=asked, sweeps=each(sweep_of, given.sweep))
+    read = [file_line("table", given.table, data), *(file_line("scenarios", *it) for it in files)]
+    paths = [given.table, given.out, given.replay, given.figures, *given.scenarios]
+    more = [command_words("board-study", sys.argv[1:], paths), *(f"read: {it}" for it in said_of(table))]
+    lines = provenance(study, read, more)
+    name = given.title or ("Table" if given.table == "-" else Path(given.table).stem)
+    figures: dict[Path, bytes] = {}
+    if given.figures:
+        from .figures import figure_files, study_figures
+
+        start = given.figures / Path(given.out).name
+        figures = figure_files(study_figures(study, given.measure), start, given.figure_titles == "in", lines)
+    page = page_with(page_data(study, name, lines, given.measure, given.total))
+    texts = [study_table(study, lines), page, *([study.script()] if given.replay else [])]
+    answers = "\n".join(sentences(study, given))
+    write_files({**dict(zip(places_of(given, figures), (it.encode() for it in texts))), **figures})
+    others = [it.sweep for it in study.sweeps if it.sweep != sweep_in_page(study)]
+    alone = "is in OUT.csv alone: the page holds one sweep, of a member or a chair"
+    say("board-study", [f"{it.text!r} {alone}" for it in others])
+    print(answers)
+
+
+def main() -> int:
+    """Runs the command."""
+    return ended(words(), make)
+
+
+if __name__ == "__main__":
+    sys.exit(main())

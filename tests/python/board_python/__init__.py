@@ -1,0 +1,1 @@
+"""What the tests of the page know besides the program: tables, amounts and the lines that the program prints."""
