@@ -1,4 +1,4 @@
-/** The table of a study as CSV, with the columns of board_study: a row for each scenario, majority and chair. */
+/** The table of a study as CSV, with the columns of board-study: a row for each scenario, majority and chair. */
 import { difference, rounded, type Ratio } from "./fractions";
 import { chairIn, measureOf, voteShare, type ChairReading, type Reading, type Readings } from "./reading";
 import type { Standing } from "./standing";

@@ -66,7 +66,7 @@ export function curveModel(app: App): CurveModel | null {
   };
 }
 
-/** A value of a sweep, with the decimal places of its first value and its step, as board_study writes it. */
+/** A value of a sweep, with the decimal places of its first value and its step, as board-study writes it. */
 function padded(value: string, { from, by }: SweepAsked): string {
   const places = Math.max(...[from, by].map((it) => it.split(".")[1]?.length ?? 0));
   return places ? rounded(decimalRatio(value), places) : value;

@@ -56,7 +56,7 @@ export async function sweptPart(
   return { chair, rest, points };
 }
 
-/** The text of a sweep in board_study's form: `XAA 10..20 by 0.5 %`. */
+/** The text of a sweep in board-study's form: `XAA 10..20 by 0.5 %`. */
 export function sweepText({ who, unit, from, to, by }: SweepAsked): string {
   const name = who.kind === "member" ? who.code : `chair ${who.chair}`;
   return `${name} ${from}..${to} by ${by}${unit === "percent" ? " %" : " votes"}`;

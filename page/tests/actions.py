@@ -17,7 +17,7 @@ Act = list[str]
 
 @dataclass(frozen=True)
 class Change:
-    """A change in the list: its command, where per cent may replace votes as in board_study."""
+    """A change in the list: its command, where per cent may replace votes as in board-study."""
 
     command: str
     is_on: bool = True
@@ -70,7 +70,7 @@ class Model:
 
 
 def spelled(command: str) -> str:
-    """A command as board_study spells it, which marks a share of the total as one."""
+    """A command as board-study spells it, which marks a share of the total as one."""
     return re.sub(",([0-9.]+%)$", r",\1 of total", command)
 
 

@@ -28,8 +28,8 @@ def state(page: Page) -> list[str]:
 
 
 def bare(table: str, opened: set[str]) -> list[dict[str, str]]:
-    """The rows of a table without names of chairs, which board_study makes in another way, and without the gains of
-    chairs that were opened: board_study compares one that was closed and opened again with itself."""
+    """The rows of a table without names of chairs, which board-study makes in another way, and without the gains of
+    chairs that were opened: board-study compares one that was closed and opened again with itself."""
     rows = table_of(table)
     for row in rows:
         gains = [it for it in row if it.endswith("_difference")] if row["chair"] in opened else []

@@ -104,7 +104,7 @@ def test_sweep_of_a_chair_on_the_changed_board(page: Page, oracle: Oracle) -> No
 
 @pytest.mark.parametrize(("first", "last", "by"), [("10", "20", "5"), ("10", "20", "2.5"), ("7.5", "8", "0.25")])
 def test_sweep_in_csv(page: Page, oracle: Oracle, first: str, last: str, by: str) -> None:
-    # Catches: steps that are written differently from board_study's.
+    # Catches: steps that are written differently from board-study's.
     sweep(page, "XAD", "base", first, last, by)
     wanted = oracle.study({}, shown_majorities(page), f"XAD {first}..{last} by {by} %")
     assert table_of(page.act("exported", "export-csv")) == table_of(wanted)

@@ -200,7 +200,7 @@ def rows_of(sheet: Any) -> list[dict[str, Any]]:
 
 
 def check_cells(row: dict[str, Any], wanted: dict[str, str]) -> int:
-    """A row of the workbook has the cells of a row of board_study's CSV, with numbers as numbers."""
+    """A row of the workbook has the cells of a row of board-study's CSV, with numbers as numbers."""
     for name, text in wanted.items():
         cell, is_number = row[name], bool(re.fullmatch(r"-?[0-9.]+", text)) and name not in ("majority", "name")
         if not is_number:

@@ -84,7 +84,7 @@ function tableGroup(app: App, make: Exporter): Child {
     h("p", { class: "note" }, "All numbers of base, changes, scenarios and sweep, with exact fractions:"),
     row(
       make("Excel (.xlsx)", "export-xlsx", saved("xlsx", workbookFile)),
-      make("CSV with the columns of board_study", "export-csv", saved("csv", csvFile)),
+      make("CSV with the columns of board-study", "export-csv", saved("csv", csvFile)),
     ),
   ];
 }
