@@ -323,7 +323,7 @@ def check_sentence(text: str, page: Page, oracle: Oracle, majority: str) -> None
 
 def test_sentences_by_keyboard(study: Page, oracle: Oracle) -> None:
     # Catches: a sentence without its source, a button that no key reaches, a copy that nothing says.
-    study.run("document.getElementById('digits').focus();")
+    study.run("document.getElementById('columns').focus();")
     for majority in MAJORITIES:
         study.press(Keys.TAB)
         assert study.run("return document.activeElement.id;") == f"copy-{majority}"
