@@ -65,8 +65,8 @@ def open_largest(page: Page, processors: int) -> None:
 
 
 def workers(page: Page) -> int:
-    """The number of workers that the page says it counted with."""
-    words = page.text("#sweep-words").split(" by ")
+    """The number of workers that the page says were running."""
+    words = page.text("#sweep-words").split(" with ")
     return int(words[1].split()[0]) if len(words) > 1 else 1
 
 
