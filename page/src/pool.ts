@@ -208,7 +208,8 @@ export class Pool implements Boards {
     try {
       const { desk } = await helper;
       await (await helper).bring(base);
-      await join(desk);
+      // The second part is there when the first one ends, although the page may be busy then.
+      await Promise.all([join(desk), join(desk)]);
     } catch {
       if (this.#helpers.get(at) === helper) this.#helpers.delete(at);
       helper.then(({ desk }) => desk.end(), () => {});

@@ -11,8 +11,25 @@ from test_studies import CELLS, ask, sweep
 
 SEED = 20_261_128
 # The part of one worker's time that four workers take at most, on a machine with nothing else to do. It is tried in
-# some rounds, and the least times count. The bound is wide, since the machine may be busy with something else.
-AIM, BOUND, ROUNDS, EACH = 0.4, 0.9, 3, 2
+# some rounds, and the least times count. A machine that is busy with something else is measured, too: there the sweep
+# may take twice the part that four workers need for a loop that asks for nothing.
+AIM, TIMES_PLAIN, ROUNDS, EACH, LOOPS = 0.4, 2, 3, 2, 200_000_000
+# The milliseconds that some workers take for a loop, of which each does a part.
+PLAIN = """
+  const [workers, loops, done] = arguments;
+  const text = `onmessage = ({ data }) => {
+    let sum = 0;
+    for (let at = 0; at < data; at += 1) sum = (31 * sum + at) % 1009;
+    postMessage(sum);
+  };`;
+  const url = URL.createObjectURL(new Blob([text])), begun = performance.now();
+  const each = Array.from({ length: workers }, () => new Promise((take) => {
+    const worker = new Worker(url);
+    worker.onmessage = () => (worker.terminate(), take());
+    worker.postMessage(loops / workers);
+  }));
+  Promise.all(each).then(() => done(performance.now() - begun));
+"""
 # The milliseconds of the sweep whose first value is the first argument, once it is counted.
 COUNTED = """
   const [value, done] = arguments;
@@ -48,8 +65,8 @@ def open_largest(page: Page, processors: int) -> None:
 
 
 def workers(page: Page) -> int:
-    """The number of workers that the page says it counted with."""
-    words = page.text("#sweep-words").split(" by ")
+    """The number of workers that the page says were running."""
+    words = page.text("#sweep-words").split(" with ")
     return int(words[1].split()[0]) if len(words) > 1 else 1
 
 
@@ -86,15 +103,17 @@ def milliseconds(page: Page, value: int) -> float:
 
 def test_several_workers_take_less_time(page: Page, times: list[str]) -> None:
     # Catches: workers that wait for one another, or a sweep that one of them counts alone.
-    least = {1: math.inf, 4: math.inf}
+    least, plain = {1: math.inf, 4: math.inf}, {1: math.inf, 4: math.inf}
     for at in range(ROUNDS):
         for processors, best in least.items():
             open_largest(page, processors)
             least[processors] = min(best, *(milliseconds(page, 1_000 + EACH * at + it) for it in range(EACH)))
+            plain[processors] = min(plain[processors], float(page.wait_for(PLAIN, processors, LOOPS)))
             assert workers(page) == processors
         if least[4] < AIM * least[1]:
             break
-    ratio = least[4] / least[1]
+    ratio, possible = least[4] / least[1], plain[4] / plain[1]
     words = "200 values at 32 chairs, 256 members and 4 majorities"
     times.append(f"{words}: {least[1]:.0f} ms with one worker, {least[4]:.0f} ms with four, {ratio:.2f} of it")
-    assert ratio < BOUND
+    times.append(f"a plain loop then: {plain[1]:.0f} ms with one worker, {plain[4]:.0f} ms with four, {possible:.2f}")
+    assert ratio < max(AIM, TIMES_PLAIN * possible)

@@ -8,13 +8,16 @@ import pytest
 from board_python.member_tables import MOST_VOTES
 from board_python.replay_output import Ratio
 from board_python.rounding import exact, rounded
-from chromium import NARROW, Page
+from chromium import EVERY, NARROW, Page
 from figures import open_menu
 from oracle import MAJORITIES, Oracle, least
 from selenium.webdriver.common.keys import Keys
 from test_access import tab_to
 from test_studies import is_one
 
+BROWSERS = EVERY
+# A script gives Firefox no clipboard, and can't have it show a phone; the program is asked for all of it once.
+NOT_IN_FIREFOX = ("test_copied", "test_on_a_phone", "test_both_sides_of_each")
 OTHER = 3
 CHANGES = ["votes,XAA,100000", "suspend,XAB", "move,XAC,4"]
 # For each row of the table: its majority, its statement, and the words and titles of its cells.

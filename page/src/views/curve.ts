@@ -140,7 +140,7 @@ function sweepWords(app: App): string {
   if (!sweep) return shown?.study.sweep ? "The sweep is being counted." : "";
   if ("problem" in sweep) return `This can't be swept: ${sweep.problem}.`;
   const points = `${sweep.points.length} points at ${sweep.majorities.length} majorities`;
-  const workers = sweep.desks > 1 ? ` by ${sweep.desks} workers` : "";
+  const workers = sweep.desks > 1 ? ` with ${sweep.desks} workers running` : "";
   return `${points} were counted in ${sweep.milliseconds.toFixed(0)} ms${workers}.`;
 }
 
