@@ -240,8 +240,8 @@ pub room_for_the_last : (opening : List (List ℕ × ℕ)) (journal : List Comma
 room_for_the_last opening journal = ((λ long. rw long refl), (λ long. rw long refl))
 
 -- no opening has 257 members, or one of more than 2^40 votes
-pub too_many_members : IsOpening (replicate 257 (AAA, 1)) → ⊥
-too_many_members h = omega (arith, h.bound)
+pub too_many_members : (opening : List (List ℕ × ℕ)) → length opening ≡ 257 → IsOpening opening → ⊥
+too_many_members opening long h = omega (arith, h.bound, long)
 
 pub too_many_votes : IsOpening ((AAA, 2 ^ 40 + 1) ∷ []) → ⊥
 too_many_votes h = omega (arith, h.small 0 (AAA, 0) (omega arith))
