@@ -1,5 +1,5 @@
 -- Worked cases of a handle's calls, and what they refuse.
-use Rattle.std.proofs.Common.{◌≡◌, ℕ, List, [], ◌∷◌, None, Some, Ok, Err, inl, inr, refl, ap, arith, length, get_or, ◌∙◌, ◌⊎◌, Option}
+use Rattle.std.proofs.Common.{◌≡◌, ℕ, List, [], ◌∷◌, None, Some, Ok, Err, inl, inr, ⊎_elim, refl, ap, arith, length, get_or, ◌∙◌, ◌⊎◌, Option}
 use Rattle.std.specs.Option.{option_map_or}
 use denote.RawPtr.{null_ptr}
 use Rattle.council_core.specs.Ledgers.{Ledger, sheet_of}
@@ -12,8 +12,9 @@ use Rattle.council_core.specs.declared.refusals.Refusal.{Refusal}
 use Rattle.c_values.specs.Given.{command_with, given_opening}
 use Rattle.c_values.specs.declared.counts.BoardCounts.{BoardCounts}
 use Rattle.c_values.specs.declared.commands.BoardCommand.{BoardCommand}
+use Rattle.c_values.specs.declared.entries.BoardEntry.{BoardEntry}
 use Rattle.board_register.specs.declared.TheConstants.{DONE}
-use Rattle.board_register.specs.Calls.{AcceptsAs, Answers, AnswersCopy, AnswersWith, IsCopied, IsRefusedStart, IsStarted, OfRegister, WritesAt, WritesCommand, WritesCounts, opening_entry, reply_number, register_in, reply, row_at, start_reply}
+use Rattle.board_register.specs.Calls.{AcceptsAs, Answers, AnswersCopy, AnswersWith, Begins, IsAccepted, IsCopied, IsRefusedStart, IsStarted, OfRegister, WritesAt, WritesCommand, WritesCounts, opening_entry, reply_number, register_in, reply, row_at, start_reply}
 use Rattle.board_register.specs.declared.handles.BoardRegister.{BoardRegister}
 
 -- the answer of a call that is not refused
@@ -113,3 +114,59 @@ not_at_start = (
 pub no_majority : (counts : BoardCounts) → WritesCounts 4 (sheet_of small.ledger) 0 counts counts → ⊥
 no_majority counts (inl h) = let known : None ≡ Some h.1.majority = h.1.known in cc known
 no_majority counts (inr h) = omega (arith, h.0)
+
+-- an index without an item leaves what was there, and one with an item is answered by 0
+pub not_answered : (WritesAt {A = ℕ} (Some 7) 35 5 7 → ⊥) × (AnswersWith {A = ℕ} 7 35 7 → ⊥)
+not_answered = ((λ e. omega (arith, e.0)), (λ e. omega (arith, e.0)))
+
+-- so is a command, which the struct written gives back; chair 33 would be none
+pub command_kept : WritesCommand None 35 (command 0 1) (command 0 2) → ⊥
+command_kept e = let chair : 2 ≡ 1 = ap (λ (c : BoardCommand). c.chair) e.1 in omega (arith, chair)
+
+pub command_answered : (WritesCommand (Some (Open 1)) 0 (command 0 2) (command 0 1)) × (WritesCommand (Some (Open 1)) 35 (command 0 2) (command 0 1) → ⊥)
+    × (WritesCommand (Some (Open 33)) 0 (command 0 2) (command 0 33) → ⊥)
+command_answered = ((refl, refl, refl), (λ e. omega (arith, e.0)), (λ e. cc e.2))
+
+-- counts are answered by 0, and by 17 only at the number of no majority, which leaves what was there
+pub counts_answered : (words : List ℕ) (old new : BoardCounts)
+    → (WritesCounts 0 words 5 old new → ⊥) × (WritesCounts 0 words 17 old new → ⊥) × (WritesCounts 4 words 17 old new → new ≡ old)
+counts_answered words old new = (
+  ⊎_elim (λ h. omega (arith, h.0)) (λ h. omega (arith, h.0)),
+  ⊎_elim (λ h. omega (arith, h.0)) (λ h. cc h.1),
+  ⊎_elim (λ h. let at : 17 ≡ 0 = h.0 in absurd (omega (arith, at))) (λ h. h.2),
+)
+
+-- a start over no members, and over a member with 5 votes: the register has that member and no other
+pub started : IsStarted [] 2 (record { at = null_ptr; state = 1; register = record { ledger = record { opening = []; journal = []; limit = 2 }; published = 0 } })
+started = (record { ledger = record { opening = []; journal = []; limit = 2 }; published = 0 }, refl, ([], refl, refl, refl))
+
+pub same_opening : (s : Sequential) → Begins (record { code = 65 ∷ 65 ∷ 65 ∷ 0 ∷ []; votes = 5 } ∷ []) 2 s → s.ledger.opening ≡ (65 ∷ 65 ∷ 65 ∷ [], 5) ∷ []
+same_opening s h =
+    let given : Ok ((65 ∷ 65 ∷ 65 ∷ [], 5) ∷ []) ≡ Ok h.0 = h.1 in
+    let opening : h.0 ≡ (65 ∷ 65 ∷ 65 ∷ [], 5) ∷ [] = cc given in
+    ap (λ (l : Sequential). l.ledger.opening) h.3 ∙ opening
+
+-- no register begins with room for no command
+pub no_limit : (entries : List BoardEntry) (s : Sequential) → Begins entries 0 s → ⊥
+no_limit entries s h = cc h.2
+
+-- the third command is accepted as the third, in a register of the same handle
+abbrev handle_with : ℕ → Sequential → BoardRegister
+handle_with state s = record { at = null_ptr; state = state; register = s }
+
+pub third : AcceptsAs small (with_third (Open 3)) (command 0 3) 3 × (AcceptsAs small (with_third (Open 3)) (command 0 3) 2 → ⊥)
+third = ((Open 3, refl, refl, refl), (λ h. omega (arith, h.3)))
+
+pub accepted : IsAccepted (handle 1) (handle_with 1 (with_third (Open 3))) (command 0 3) 3
+accepted = (with_third (Open 3), refl, refl, (Open 3, refl, refl, refl))
+
+-- not in a handle without a register, nor in another handle, nor where the register is the old one
+pub no_handle : (IsAccepted (handle 0) (handle_with 0 (with_third (Open 3))) (command 0 3) 3 → ⊥)
+    × (IsAccepted (handle 0) (handle_with 1 (with_third (Open 3))) (command 0 3) 3 → ⊥)
+no_handle = ((λ h. cc h.1), (λ h. let state : 1 ≡ 0 = ap (λ (b : BoardRegister). b.state) h.2 in omega (arith, state)))
+
+pub not_accepted : IsAccepted (handle 1) (handle 1) (command 0 3) 2 → ⊥
+not_accepted h =
+    let same : small ≡ h.0 = ap (λ (b : BoardRegister). b.register) h.2 in
+    let longer : 2 ≡ 3 = ap (λ (s : Sequential). length s.ledger.journal) same ∙ ap (λ (s : Sequential). length s.ledger.journal) h.3.2 in
+    omega (arith, longer)

@@ -1,4 +1,5 @@
 mod KindFacts
 mod LimitFacts
+mod RoomCases
 mod TextFacts
 mod WorkedCases

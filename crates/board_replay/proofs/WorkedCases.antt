@@ -20,7 +20,7 @@ done : DONE ≡ 0
 done = refl
 
 -- a run of one line, "A"
-abbrev one_line : Run
+abbrev pub one_line : Run
 one_line = printed_run ((65 ∷ []) ∷ [])
 
 -- two bytes are room enough for it
@@ -44,7 +44,7 @@ no_line lacks =
     omega (arith, ap length is, length-append (text_of front) (line_text line))
 
 -- a run that a fault at record 5 ends
-abbrev one_fault : Run
+abbrev pub one_fault : Run
 one_fault = stopped_run (fault_at BadRecord 5)
 
 -- the number of another record is refused

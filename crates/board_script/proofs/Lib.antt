@@ -4,4 +4,5 @@ mod PlaceFacts
 mod PlainFacts
 mod ItemFacts
 mod InputFacts
+mod ShownCases
 mod WorkedCases

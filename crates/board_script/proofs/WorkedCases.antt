@@ -46,7 +46,7 @@ pub first_of_two : overlaid {A = ℕ} (1 ∷ []) (7 ∷ 8 ∷ []) ≡ 1 ∷ 8 �
 first_of_two = refl
 
 -- member,votes / AAA,1 / script / "op"en,2 / publish
-abbrev input : List ℕ
+abbrev pub input : List ℕ
 input = codes "member,votes\nAAA,1\nscript\n\"op\"en,2\npublish"
 
 -- the fourth record, whose quotes end before its field does, is open,2

@@ -1,11 +1,12 @@
 -- What is said of a writer with and without pending commands, computed; and of the steps, seats and histories of a board, part by part.
-use Rattle.std.proofs.Common.{◌≡◌, ◌++◌, ℕ, Bool, true, false, List, [], ◌∷◌, length, replicate, slice_get, Option, Some, None, refl, ap}
+use Rattle.std.proofs.Common.{◌≡◌, ◌++◌, ℕ, Bool, true, false, List, [], ◌∷◌, length, replicate, slice_get, Option, Some, None, refl, ap, sym, ◌∙◌}
+use Rattle.std.proofs.lemmas.Option.{same_Some}
 use Rattle.std.specs.List.{filter}
 use lib.ListN.{get_elem?}
 use mathlib.Core.Option.{some}
 use Rattle.atomic_table.specs.Seated.{TableId}
 use Rattle.atomic_table.specs.Table as table
-use Rattle.council_core.specs.Ledgers.{IsLedger}
+use Rattle.council_core.specs.Ledgers.{IsLedger, Ledger}
 use Rattle.council_core.specs.Rolls.{IsLegal, Opening, sheet}
 use Rattle.council_core.specs.declared.commands.Command.{Command}
 use Rattle.council_core.specs.declared.commands.Command.TheVariants.{Open}
@@ -22,7 +23,7 @@ use Rattle.board_share.specs.Laws.{SharedOutputsLaw}
 use Rattle.board_share.specs.Readers.{IsLegalSheet, ReaderSeen, TookSteps, known_by, number_of}
 use Rattle.board_share.specs.Rule.{IsAfter, KnowsPrefix, RuleHolds}
 use Rattle.board_share.specs.Seats.{Part, Seated, as_reader}
-use Rattle.board_share.specs.Writers.{IsViewOf, Publisher, TookTries, TookTry, cuts_after, has_pending, look_count, publication_steps, seen_out_after}
+use Rattle.board_share.specs.Writers.{IsViewOf, Publisher, TookTries, TookTry, cuts_after, has_pending, look_count, publication_steps, publisher_at, seen_out_after}
 use Rattle.board_share.proofs.WorkedCases.{begun, seated, table}
 
 -- events of the writer, and of a reader by its number
@@ -131,6 +132,20 @@ module _ (b : Publisher) (v : View) (is : IsViewOf b v) where
 
   history_of_seat : v.history ≡ b.history
   history_of_seat = is.history
+
+-- the state of a writer in a seat has that seat's view; a seat without a writer, with other members or with another history has not
+view_of_seat : (id : TableId) (ledger : Ledger) (v : View) (held : WriterView) → v.writer ≡ Some (ledger.opening, held) → IsViewOf (publisher_at id ledger v) v
+view_of_seat id ledger v held writes = record { held = held; writes = writes; history = refl }
+
+no_writer_seated : (b : Publisher) (v : View) → v.writer ≡ None → IsViewOf b v → ⊥
+no_writer_seated b v none is = cc (none, is.writes)
+
+other_members_seated : (b : Publisher) (v : View) (opening : Opening) (held : WriterView) → v.writer ≡ Some (opening, held) → (opening ≡ b.ledger.opening → ⊥) → IsViewOf b v → ⊥
+other_members_seated b v opening held writes other is =
+    other (ap (λ (p : Opening × WriterView). p.0) (same_Some (opening, held) (b.ledger.opening, is.held) (sym writes ∙ is.writes)))
+
+other_history_seated : (b : Publisher) (v : View) → (v.history ≡ b.history → ⊥) → IsViewOf b v → ⊥
+other_history_seated b v other is = other is.history
 
 -- a publication after one that was abandoned: both are tries, and the register between them is the same
 module _ (before after : Publisher) (took : TookTries 1 before after) where

@@ -1,16 +1,19 @@
 -- Numbers, words and records at their limits and one beside them, computed; and the first fault before a script.
-use Rattle.std.proofs.Common.{◌≡◌, ◌+◌, ◌++◌, ◌^◌, ◌<◌, ℕ, Bool, true, false, List, [], ◌∷◌, length, replicate, Option, Some, None, Ok, Err, refl}
+use Rattle.std.proofs.Common.{◌≡◌, ◌∙◌, ◌+◌, ◌++◌, ◌^◌, ◌<◌, ℕ, Bool, true, false, List, [], ◌∷◌, length, replicate, Option, Some, None, Ok, Err, refl}
+use Rattle.std.proofs.lemmas.List.{length-replicate}
 use Rattle.std.specs.Prelude.{codes}
 use Rattle.council_core.specs.declared.commands.Command.TheVariants.{Open, Close, Move, SetVotes, Suspend, Restore, Admit, Withdraw}
 use Rattle.council_core.specs.declared.calls.Order.TheVariants as order
-use Rattle.council_core.specs.declared.refusals.Refusal.TheVariants.{BadHeader, BadLimit, BadReader, BadRecord, DuplicateMember, NoScript, TooManyMembers}
+use Rattle.council_core.specs.declared.refusals.Refusal.TheVariants.{BadHeader, BadLimit, BadReader, BadRecord, DuplicateMember, NoScript, TooLong, TooManyMembers}
 use Rattle.council_core.specs.Sequential.{ordered, read}
+use Rattle.csv.specs.Reading.{default_config, records, strip_bom}
 use Rattle.majority_rule.specs.declared.majorities.Majority.TheVariants.{Half, Seventy, EightyFive, Quorum}
 use Rattle.board_text.specs.Numbers.{number_of_digits}
 use Rattle.board_text.specs.Requests.{Row, call_of, command_of, is_header, is_mark, is_publish, member_of, reading_of, request_of, submission}
 use Rattle.board_text.specs.Schedules.{act_of, act_within, count_of}
 use Rattle.board_text.specs.Text.{begun_of, fault_at, in_range, is_reader, ledger_at_start, members_before, members_in, opened_of, opening_of, request_within, run_begun_with, run_limits, unpublished_register}
 use Rattle.board_text.specs.Words.{chair_of, code_of_member, majority_of, target_chair, votes_of}
+use Rattle.board_text.specs.declared.bounds.Limits.{Limits}
 use Rattle.board_text.specs.declared.input.TheConstants.{INPUT_LIMIT}
 use Rattle.board_text.specs.declared.requests.Request.TheVariants as ask
 use Rattle.board_text.specs.declared.schedules.Act.TheVariants as act
@@ -18,6 +21,18 @@ use Rattle.board_text.specs.declared.schedules.Act.TheVariants as act
 -- the most bytes of an input, so that a changed constant is rejected
 longest_input : INPUT_LIMIT ≡ 4194304
 longest_input = refl
+
+-- an input of one byte more is refused before anything in it is read, and one of the most bytes is read
+too_long : (lim : Limits) (bytes : List ℕ) → in_range lim ≡ true → length bytes ≡ 4194305 → begun_of lim bytes ≡ Err (fault_at TooLong 0)
+unfolding begun_of
+too_long lim bytes range long = rw range (rw long refl)
+
+not_too_long : (lim : Limits) (bytes : List ℕ) → in_range lim ≡ true → length bytes ≡ 4194304 → begun_of lim bytes ≡ run_begun_with lim (opened_of (records default_config (strip_bom bytes)))
+unfolding begun_of
+not_too_long lim bytes range long = rw range (rw long refl)
+
+zeros_too_long : (n : ℕ) → n ≡ 4194305 → begun_of (run_limits 1 9) (replicate n 48) ≡ Err (fault_at TooLong 0)
+zeros_too_long n long = too_long (run_limits 1 9) (replicate n 48) refl (length-replicate n 48 ∙ long)
 
 -- a number has one to twenty digits and is below 2^64
 numbers : (number_of_digits (codes "0") ≡ Some 0) × (number_of_digits (codes "10") ≡ Some 10) × (number_of_digits (codes "007") ≡ Some 7)

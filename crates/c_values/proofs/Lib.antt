@@ -1,3 +1,4 @@
 pub mod RowLemmas
 pub mod OpeningFacts
+mod CountCases
 mod WorkedCases

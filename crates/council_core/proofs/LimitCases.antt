@@ -1,5 +1,5 @@
 -- Definitions at their limits and one beside them, computed; and what they exclude.
-use Rattle.std.proofs.Common.{rules, ◌≡◌, ◌≤◌, ◌^◌, ◌+◌, ◌++◌, ℕ, Bool, true, false, List, [], ◌∷◌, length, replicate, Some, None, Ok, Err, Result, refl, sym, ap, arith, true≢false, is_ok, nat_eq, subst, take, slice_index_or}
+use Rattle.std.proofs.Common.{rules, ◌≡◌, ◌≤◌, ◌^◌, ◌+◌, ◌++◌, ℕ, Bool, true, false, List, [], ◌∷◌, length, replicate, Some, None, Ok, Err, Result, refl, sym, ap, ◌∙◌, zero, suc, arith, true≢false, is_ok, nat_eq, subst, take, slice_index_or}
 use Rattle.std.specs.Prelude.{⊤}
 use Rattle.std.specs.List.Sorted.{IsPermutation}
 use Rattle.council_core.specs.Codes.{is_code}
@@ -8,7 +8,7 @@ use Rattle.council_core.specs.Ledgers.{IsLedger, Ledger, ledger_as_of, room_of, 
 use Rattle.council_core.specs.Laws.{SetsInRange, IsOpening, same_set}
 use Rattle.council_core.specs.Published.{IsShown, sequential_as_of}
 use Rattle.council_core.specs.Refusals.{refusal_of}
-use Rattle.council_core.specs.Rolls.{IsLegal, Roll, admit_member, new_entry, sheet}
+use Rattle.council_core.specs.Rolls.{IsLegal, Roll, admit_member, all_accepted, new_entry, sheet}
 use Rattle.council_core.specs.Sequential.{AreCuts, AreLegalRecords, AreRecords, IsCutSheet, IsRecordFrom, Sequential, replies_of, submit}
 use Rattle.council_core.specs.Sheets.{Chair, IsSheet, cast_of, front_of, open_chairs, total_of, weight_word}
 use Rattle.council_core.specs.Verdicts.{Follows}
@@ -209,9 +209,39 @@ last_refused h = true≢false (sym h.0)
 pub too_many_commands : (commands : List Command) → length commands ≡ 1000001 → IsLegal three_members commands → ⊥
 too_many_commands commands long h = omega (arith, h.1, long)
 
+-- a million commands are legal, the last of them finds room, and none comes after it: chair 1 is opened and closed n times
+pub pairs : ℕ → List Command
+pairs zero = []
+pairs (suc n) = Open 1 ∷ Close 1 ∷ pairs n
+
+abbrev empty_roll : Roll
+empty_roll = record { members = []; open_chairs = [] }
+
+pairs-accepted : (n : ℕ) → all_accepted empty_roll (pairs n) ≡ true
+unfolding pairs
+pairs-accepted zero = refl
+pairs-accepted (suc n) = pairs-accepted n
+
+pairs-length : (n : ℕ) → length (pairs n) ≡ n + n
+unfolding pairs
+pairs-length zero = refl
+pairs-length (suc n) = omega (arith, pairs-length n)
+
+pub a_million_commands : (n : ℕ) → n + n ≡ 1000000 → IsLegal [] (pairs n) × IsLedger (record { opening = []; journal = pairs n; limit = 1000000 })
+    × (front_of (sheet [] (pairs n)) ≡ 1000000)
+a_million_commands n all =
+    let long : length (pairs n) ≡ 1000000 = pairs-length n ∙ all in
+    let legal : IsLegal [] (pairs n) = (pairs-accepted n, omega (arith, long)) in
+    (legal, record { legal = legal; within = omega (arith, long); small = omega arith }, long)
+
+pub room_for_the_last : (opening : List (List ℕ × ℕ)) (journal : List Command)
+    → (length journal ≡ 999999 → room_of (record { opening = opening; journal = journal; limit = 1000000 }) ≡ Ok tt)
+    × (length journal ≡ 1000000 → room_of (record { opening = opening; journal = journal; limit = 1000000 }) ≡ Err JournalFull)
+room_for_the_last opening journal = ((λ long. rw long refl), (λ long. rw long refl))
+
 -- no opening has 257 members, or one of more than 2^40 votes
-pub too_many_members : IsOpening (replicate 257 (AAA, 1)) → ⊥
-too_many_members h = omega (arith, h.bound)
+pub too_many_members : (opening : List (List ℕ × ℕ)) → length opening ≡ 257 → IsOpening opening → ⊥
+too_many_members opening long h = omega (arith, h.bound, long)
 
 pub too_many_votes : IsOpening ((AAA, 2 ^ 40 + 1) ∷ []) → ⊥
 too_many_votes h = omega (arith, h.small 0 (AAA, 0) (omega arith))

@@ -1,5 +1,5 @@
 -- What the definitions of both tapes take and refuse.
-use Rattle.std.proofs.Common.{◌≡◌, ◌≢◌, ℕ, inl, inr, Bool, true, false, List, [], ◌∷◌, Some, None, Ok, Err, refl}
+use Rattle.std.proofs.Common.{◌≡◌, ◌≢◌, ◌∙◌, ◌++◌, ap, ℕ, inl, inr, Bool, true, false, List, [], ◌∷◌, Some, None, Ok, Err, refl}
 use Rattle.std.specs.IoError.{error_kind}
 use Rattle.std.specs.declared.io.Error.{Error}
 use Rattle.std.specs.declared.io.ErrorKind.TheVariants.{Interrupted}
@@ -95,6 +95,19 @@ more_given h = let e = h.gave in cc e
 not_ended : HasEnded (giving one false 1) → ⊥
 not_ended h = let e = h.0 in cc e
 
+-- where it is known what a reader has left, it has lost what was given, and at its end has none
+abbrev known : List ℕ → Giving → Giving
+known left g = record g { left = Some left }
+
+given_and_lost : WasGiven (known two (giving [] false 0)) (known (8 ∷ []) (giving one false 1)) one
+given_and_lost = record { gave = refl; left = refl }
+
+given_and_kept : WasGiven (known two (giving [] false 0)) (known two (giving one false 1)) one → ⊥
+given_and_kept h = let e = h.left in cc e
+
+ended_too_early : HasEnded (known one (giving one true 2)) → ⊥
+ended_too_early h = let e = h.1 in cc e
+
 -- where the reader didn't say that this is all, the input may go on
 goes_on : IsInput (giving [] false 0) (giving one false 1) two
 goes_on = inr (8 ∷ [], refl, λ ended. cc ended)
@@ -102,6 +115,11 @@ goes_on = inr (8 ∷ [], refl, λ ended. cc ended)
 begins_otherwise : IsInput (giving [] false 0) (giving one false 1) (8 ∷ []) → ⊥
 begins_otherwise (inl reported) = cc reported
 begins_otherwise (inr more) = let e = more.1 in cc e
+
+-- and where it did, the input ends there
+ended_input : IsInput (giving [] false 0) (giving one true 2) two → ⊥
+ended_input (inl reported) = cc reported
+ended_input (inr more) = let e : two ≡ one = more.1 ∙ ap (λ (rest : List ℕ). one ++ rest) (more.2 refl) in cc e
 
 -- a reader whose contents are known has them as its input
 reported : IsInput (record (giving [] false 0) { left = Some two }) (giving one false 1) two

@@ -7,6 +7,7 @@ pub mod Steps
 pub mod Meeting
 pub mod SizeLemmas
 pub mod LargePairs
+mod WalkCases
 pub mod WorkedCases
 mod LimitCases
 pub mod Routes

@@ -25,7 +25,7 @@ use Rattle.two_copy_steps.specs.declared.views.Stage.TheVariants.{AtRest, Arrive
 use Rattle.two_copy_steps.specs.declared.views.Phase.{Phase}
 use Rattle.two_copy_steps.specs.declared.views.Phase.TheVariants.{Idle, Seeing, Filling, Swapping}
 use Rattle.two_copy_steps.proofs.LawCases.{held_up, ledger}
-use Rattle.two_copy_steps.proofs.WorkedCases.{blocking, code, first_sheet, hands_three_votes, last_sheet, one_member, votes_in_range}
+use Rattle.two_copy_steps.proofs.WorkedCases.{blocking, code, first_sheet, hands_three_votes, one_member, votes_in_range}
 
 -- the words at the start, and with another pin
 abbrev words_with_pin : ℕ → List ℕ
@@ -40,6 +40,16 @@ written words side published staged phase seen cuts stage readings =
       readers = record { stage = stage; readings = readings } ∷ [];
     }
 
+-- one command, the sheet after it, and words of which copy 0 shows that sheet
+abbrev one : List Command
+one = Open 1 ∷ []
+
+abbrev sheet_of_one : List ℕ
+sheet_of_one = 1 ∷ replicate 31 0 ++ 10 ∷ 1 ∷ []
+
+abbrev words_of_one : List ℕ
+words_of_one = 0 ∷ sheet_of_one ++ first_sheet ++ 0 ∷ []
+
 -- a state at rest, but for its words, phase, cuts or reader
 abbrev at_rest : List ℕ → Phase → List ℕ → Stage → List (List ℕ) → State
 at_rest words phase cuts stage readings = written words 0 [] [] phase true cuts stage readings
@@ -48,10 +58,10 @@ abbrev IsLawfulState : State → Type 0
 IsLawfulState s = LawfulFor one_member.opening s
 
 -- the words reach to the pin, and the first is the writer's side, 0 or 1
-words_missing : IsLawfulState (at_rest [] Idle (0 ∷ []) AtRest []) → ⊥
+words_missing : IsLawfulState (at_rest (0 ∷ first_sheet ++ first_sheet) Idle (0 ∷ []) AtRest []) → ⊥
 words_missing h = omega (arith, h.wide)
 
-third_side : IsLawfulState (written (words_with_pin 0) 2 [] [] Idle true (0 ∷ []) AtRest []) → ⊥
+third_side : IsLawfulState (written (2 ∷ first_sheet ++ first_sheet ++ first_sheet) 2 [] [] Idle true (0 ∷ []) AtRest []) → ⊥
 third_side h = omega (arith, h.writer.two)
 
 another_side : IsLawfulState (written (words_with_pin 0) 1 [] [] Idle true (0 ∷ []) AtRest []) → ⊥
@@ -65,13 +75,13 @@ flag_missing h = omega (arith, h.writer.flags)
 illegal_staged : IsLawfulState (written (words_with_pin 0) 0 [] (Close 1 ∷ []) Idle true (0 ∷ []) AtRest []) → ⊥
 illegal_staged h = true≢false (sym h.writer.legal.0.0)
 
-published_not_staged : IsLawfulState (written (words_with_pin 0) 0 (Open 1 ∷ []) [] Idle true (1 ∷ []) AtRest []) → ⊥
+published_not_staged : IsLawfulState (written words_of_one 0 one [] Idle true (1 ∷ []) AtRest []) → ⊥
 published_not_staged h = let e = h.writer.begins.1 in cc e
 
 not_shown : IsLawfulState (at_rest (replicate 70 0) Idle (0 ∷ []) AtRest []) → ⊥
 not_shown h = omega (arith, h.writer.shown 32 (omega arith))
 
--- the last cut is the number of published commands, and none is above it or below the one before it
+-- the last cut is the number of published commands, and none is above it, which follows, or below the one before it
 no_cut_at_all : IsLawfulState (at_rest (words_with_pin 0) Idle [] AtRest []) → ⊥
 no_cut_at_all h = none h.writer.last_cut.0 h.writer.last_cut.1
   where
@@ -82,7 +92,7 @@ no_cut_at_all h = none h.writer.last_cut.0 h.writer.last_cut.1
 cut_too_high : IsLawfulState (at_rest (words_with_pin 0) Idle (5 ∷ 0 ∷ []) AtRest []) → ⊥
 cut_too_high h = omega (arith, (h.writer.cuts 5 (0, omega arith, refl)).0)
 
-falling_cuts : IsLawfulState (at_rest (words_with_pin 0) Idle (5 ∷ 0 ∷ []) AtRest []) → ⊥
+falling_cuts : IsLawfulState (written words_of_one 0 one one Idle true (1 ∷ 0 ∷ 1 ∷ []) AtRest []) → ⊥
 falling_cuts h = omega (arith, h.writer.ascending 0 1 0 (omega arith) (omega arith))
 
 -- 34 words are stored from the first on, once all readers are quiescent
@@ -106,7 +116,7 @@ read_nothing : IsLawfulState (at_rest (words_with_pin 0) Idle (0 ∷ []) AtRest 
 read_nothing h = let e = (h.each_reader 0 _ refl).record_legal.0.2 in cc e
 
 -- it loads words of one copy, 0 or 1, and a reading that is whole is the last of its record
-loads_too_many : IsLawfulState (at_rest (words_with_pin 1) Idle (0 ∷ []) (Reading 0 (replicate 34 0)) []) → ⊥
+loads_too_many : IsLawfulState (at_rest (words_with_pin 1) Idle (0 ∷ []) (Reading 0 first_sheet) []) → ⊥
 loads_too_many h = omega (arith, (h.each_reader 0 _ refl).stands.1)
 
 loads_another_word : IsLawfulState (at_rest (words_with_pin 1) Idle (0 ∷ []) (Reading 0 (7 ∷ [])) []) → ⊥
@@ -119,18 +129,26 @@ leaves_unread h = let last = (h.each_reader 0 _ refl).stands.3 in none last.0 la
     none [] e = cc e
     none (sheet ∷ sheets) e = cc e
 
-holds_no_copy : IsLawfulState (at_rest (words_with_pin 1) Idle (0 ∷ []) (Reading 2 []) []) → ⊥
+holds_no_copy : IsLawfulState (written (0 ∷ sheet_of_one ++ sheet_of_one ++ sheet_of_one) 0 one one Idle false (1 ∷ []) (Reading 2 []) []) → ⊥
 holds_no_copy h = omega (arith, (h.each_reader 0 _ refl).stands.0.two)
 
 -- a quiescent reader does not hold the copy that is not published, and no copy is older than what it has read
 holds_the_other : IsLawfulState (at_rest (words_with_pin 1) Idle (0 ∷ []) (Reading 1 []) []) → ⊥
 holds_the_other h = let e = (h.each_reader 0 _ refl).stands.0.late (λ same. omega (arith, same)) in cc e
 
-reads_backwards : IsLawfulState (at_rest (words_with_pin 1) Idle (0 ∷ []) (Reading 0 []) (last_sheet ∷ [])) → ⊥
-reads_backwards h = above ((h.each_reader 0 _ refl).stands.0.cut) (h.writer.cuts ((h.each_reader 0 _ refl).stands.0.cut) ((h.each_reader 0 _ refl).stands.0.is_cut)).0 (h.each_reader 0 _ refl).stands.0.above
+abbrev words_before_one : List ℕ
+words_before_one = 1 ∷ first_sheet ++ sheet_of_one ++ 1 ∷ []
+
+reads_backwards : IsLawfulState (written words_before_one 1 one one Idle false (0 ∷ 1 ∷ []) (Reading 0 []) (sheet_of_one ∷ [])) → ⊥
+reads_backwards h =
+    let held = (h.each_reader 0 _ refl).stands.0 in
+    above held.cut (h.writer.cuts held.cut held.is_cut).0 held.above held.shows
   where
-    above : (cut : ℕ) → cut ≤ 0 → 2 ≤ cut → ⊥
-    above cut low high = omega (arith, low, high)
+    above : (cut : ℕ) → cut ≤ 1 → 1 ≤ cut → ShowsSheet words_before_one 0 (sheet one_member.opening (take cut one)) → ⊥
+    above cut low high shown =
+        let last : cut ≡ 1 = omega (arith, low, high) in
+        let S : ℕ → Type 0 = λ n. ShowsSheet words_before_one 0 (sheet one_member.opening (take n one)) in
+        omega (arith, subst S last shown 0 (omega arith))
 
 -- the copy that it holds shows the sheet of a cut
 abbrev another_copy : List ℕ

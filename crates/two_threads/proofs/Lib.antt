@@ -1,1 +1,2 @@
 mod ReadingFacts
+mod WorkedCases
