@@ -40,6 +40,8 @@ def made(page: Page, tmp_path: Path) -> Path:
 def test_page_of_a_study(page: Page, oracle: Oracle, made: Path) -> None:
     # Catches: a page whose register, scenarios or sweep aren't those of the table next to it.
     assert page.text("#study-name") == "What if?"
+    assert page.at("#columns").get_property("value") == "scenarios"
+    page.choose("#columns", "changed")
     page.click("#tab-power")
     check_figures(page, oracle, [])
     rows = table_of((made / "it.csv").read_text())

@@ -152,8 +152,10 @@ def page_data(
     kept: dict[str, object] = {"name": name, "base": base_data(study.base), "changes": [], "scenarios": scenarios}
     kept.update({"published": published, "sweep": sweep_data(sweep_in_page(study))})
     order_at = "85" if "85" in study.majorities else study.majorities[0]
+    tab, columns = ("change", "scenarios") if scenarios else ("power", "changed")
     view = {"majorities": study.majorities, "measure": index, "order": "number", "orderAt": order_at, "digits": 3,
-            "fractions": False, "tab": "power", "curveChair": None, "curveVotes": False}
+            "fractions": False, "tab": tab, "columns": columns, "against": "base", "curveChair": None,
+            "curveVotes": False}
     data = {"format": FORMAT, "provenance": lines, "study": kept, "view": view}
     return json.dumps(data, ensure_ascii=False).replace("<", "\\u003c")
 
