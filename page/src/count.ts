@@ -1,5 +1,7 @@
 /** Studies and their counts: the page's side of the registers. */
-import type { Board, Orders, Outcome, Point, Question, Swept, Tried, Turns } from "./orders";
+import {
+  MOST_BASES, type Board, type Orders, type Outcome, type Point, type Question, type Swept, type Tried, type Turns,
+} from "./orders";
 import type { Boards, Report, Task } from "./pool";
 import type { MemberRow } from "../../bindings/javascript/src/tables";
 import { readings, type Readings } from "./reading";
@@ -78,20 +80,24 @@ function admitted(changes: readonly Change[], outcomes: ReadonlyMap<number, Outc
 /** The registers, to which each base is sent once. */
 export class Counter {
   readonly boards: Boards;
-  readonly #numbers = new Map<string, number>();
+  readonly #numbers = new Map<string, Promise<number>>();
+  #last = 0;
 
   constructor(boards: Boards) {
     this.boards = boards;
   }
 
-  /** The number of a base's script, which is sent first if it is new. */
-  async #number(script: string): Promise<number> {
+  /** The number of a base's script, which is sent first if it isn't among those that the engine keeps. */
+  #number(script: string): Promise<number> {
     const known = this.#numbers.get(script);
-    if (known !== undefined) return known;
-    const number = this.#numbers.size + 1;
-    await this.boards.ask("base", { number, script }).answer;
-    this.#numbers.set(script, number);
-    return number;
+    if (known) return known;
+    const number = (this.#last += 1);
+    const sent = this.boards.ask("base", { number, script }).answer.then(() => number);
+    this.#numbers.set(script, sent);
+    const [oldest] = this.#numbers.keys();
+    if (this.#numbers.size > MOST_BASES && oldest !== undefined) this.#numbers.delete(oldest);
+    sent.catch(() => this.#numbers.delete(script));
+    return sent;
   }
 
   async #board({ script }: Base, changes: readonly Change[]): Promise<Board> {

@@ -31,6 +31,16 @@ WEIGHTY = HEAD + "".join(f"{code},,{10**9 + 7919 * at},{1 + at % 32},,\n" for at
 MANY = HEAD + "".join(f"{code},,{1000 + 7 * at},{1 + at},,\n" for at, code in enumerate(codes(26)))
 
 
+def test_many_tables_that_were_opened(page: Page) -> None:
+    # Catches: registers of which only the last few are kept, so that a study before them can't be counted again.
+    for votes in range(100, 111):
+        opened(page, HEAD + f"AAA,,{votes},1,,\nBBB,,50,2,,\n", f"table {votes}")
+    for votes in range(110, 100, -1):
+        assert f"{votes + 50} votes" in page.text("#summary")
+        page.click("#undo")
+    assert page.act("votes", "AAA", "7") and "57 votes" in page.text("#summary")
+
+
 def reopened(page: Page, name: str, content: bytes, folder: Path) -> None:
     """Opens the page from scratch, and then a file."""
     (folder / name).write_bytes(content)
