@@ -145,6 +145,10 @@ says_another h = let e = h.same in omega (arith, e)
 says_nine_bits : Says 8 (codes "256") 256 → ⊥
 says_nine_bits h = let e = h.small in omega (arith, e)
 
+-- no text and a text that isn't a numeral say no number
+says_nothing : Says 8 [] 0 → ⊥
+says_nothing h = omega (arith, h.numeral.0)
+
 -- words that ask for a call ask for no other, and with no other limits
 abbrev rows_of : Option (Text × List Row) → List Row
 rows_of found = option_map_or (λ p. p.1) found []

@@ -1,5 +1,5 @@
 -- What the definitions of how the program ends take and refuse.
-use Rattle.std.proofs.Common.{◌≡◌, ℕ, List, [], ◌∷◌, ◌++◌, get_or, Some, codes, inl, inr, refl, sym, ap, ◌∙◌, subst, arith}
+use Rattle.std.proofs.Common.{◌≡◌, ℕ, List, [], ◌∷◌, ◌++◌, get_or, Option, Some, Ok, codes, inl, inr, refl, sym, ap, ◌∙◌, subst, arith}
 use Rattle.council_core.specs.Refusals.{code_of}
 use Rattle.council_core.specs.declared.refusals.Refusal.TheVariants.{BadHeader, BadLimit, BadRecord, OutOfMemory, ReadFault, WriteFault}
 use Rattle.board_text.specs.Output.{AppendsFront}
@@ -8,8 +8,8 @@ use Rattle.board_text.specs.declared.faults.Fault.{Fault}
 use Rattle.board_runs.specs.Replays.{run_of}
 use Rattle.board_report.proofs.WordCases.{plain, replay_asks_no_text, replay_has_no_fault}
 use Rattle.board_report.specs.declared.calls.Invocation.{Invocation}
-use Rattle.board_report.specs.declared.calls.Invocation.TheVariants.{Replay}
-use Rattle.board_report.specs.Programs.{AnswersWords, CallExits, LacksMemory, Written, failure_text, written_streams}
+use Rattle.board_report.specs.declared.calls.Invocation.TheVariants.{Replay, Serve}
+use Rattle.board_report.specs.Programs.{AnswersWords, CallEnds, CallExits, LacksMemory, Written, failure_text, written_streams}
 
 abbrev one : List ℕ
 one = 7 ∷ []
@@ -123,3 +123,8 @@ another_fault_named bytes (inr (inl (one, (f, inr (inl (inl same, new)), said)))
 another_fault_named bytes (inr (inl (one, (f, inr (inl (inr same, new)), said)))) = not_of_a_read (subst IsSaid same said)
 another_fault_named bytes (inr (inl (one, (f, inr (inr (same, new)), said)))) = not_of_a_write (subst IsSaid same said)
 another_fault_named bytes (inr (inr lacks)) = not_of_memory lacks.said
+
+-- no serve with a journal of no commands ends well
+serve_without_a_journal : (bytes : List ℕ) (old new : Option (List ℕ)) → CallEnds (Serve 0) bytes old new (Ok tt) → ⊥
+unfolding begun_of
+serve_without_a_journal bytes old new h = cc h.1.1

@@ -1,5 +1,5 @@
 -- What is said of the work of each thread when it is done, and of the work of all.
-use Rattle.std.proofs.Common.{◌≡◌, ◌++◌, ℕ, List, [], ◌∷◌, length, map, replicate, arith, refl, subst, All}
+use Rattle.std.proofs.Common.{◌≡◌, ◌*◌, ◌++◌, ℕ, List, [], ◌∷◌, length, map, replicate, arith, refl, subst, All}
 use Rattle.council_core.specs.Rolls.{IsLegal}
 use Rattle.council_core.specs.Sequential.{answered}
 use Rattle.council_core.specs.declared.calls.Answer.{Answer}
@@ -8,6 +8,9 @@ use Rattle.council_core.proofs.WorkedCases.{published}
 use Rattle.majority_rule.specs.declared.majorities.Majority.TheVariants.{Half, Seventy}
 use Rattle.two_copy_steps.specs.Lawful.{last_front}
 use Rattle.board_share.specs.Analysts.{AnalystSeen}
+use Rattle.two_copy_steps.specs.Stages.{reading_steps}
+use Rattle.two_copy_steps.specs.declared.events.Event.TheVariants.{Reader}
+use Rattle.board_share.specs.Histories.{Adds, is_readers}
 use Rattle.board_share.specs.Readers.{IsLegalSheet, number_of}
 use Rattle.board_share.specs.Writers.{Publisher}
 use Rattle.board_serve.specs.Outcomes.{IsBrought, sheets_of, winning_of}
@@ -67,6 +70,11 @@ module _ (before : AnalystSeen) (done : ReaderWork) (h : IsReadFrom before done)
       let rises : IsRising 0 done.sheets.items = subst (λ (earlier : List (List ℕ)). IsRising (last_front 0 earlier) done.sheets.items) none h.rising in
       let falls : IsRising 0 (one_chair ∷ (replicate 33 0 ++ 1 ∷ []) ∷ []) = subst (IsRising 0) are rises in
       omega (arith, falls.1.0)
+
+  no_step_without_a_sheet : done.sheets.items ≡ [] → Adds (is_readers (number_of before.reader)) [] before.reader.history done.analyst.reader.history
+  no_step_without_a_sheet none =
+      let own = number_of before.reader in
+      subst (λ (sheets : List (List ℕ)). Adds (is_readers own) (replicate (length sheets * reading_steps) (Reader own)) before.reader.history done.analyst.reader.history) none h.steps
 
   same_reader : number_of done.analyst.reader ≡ number_of before.reader
   same_reader = h.number
