@@ -101,8 +101,7 @@ def records_for(members: Members, codes: Sequence[str], votes: int) -> list[str]
     """The records that give some members votes together, in the proportions of their present votes."""
     if len(codes) == 1 or votes < 0:
         parts = {codes[0]: votes}
-    elif own := votes_of(members, codes):
-        assert own
+    elif votes_of(members, codes):
         parts = shared_out(votes, {code: members[code].votes for code in codes})
     else:
         raise BadStudy("these members have no votes, so no proportions to keep")
