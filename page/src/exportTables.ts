@@ -89,8 +89,8 @@ export async function texText(app: App): Promise<string> {
     note: KIND_WORDS[line.kind],
     cells: cellsOf(line, columns, view).map((cell) => (view.fractions ? cell.fraction : cell.decimal)),
   }));
-  const words = headsOf(columns, view).slice(2).map((it) => it.words);
-  return texTable(words, rows, firstLines(await provenanceOf(app, shown, columnSources(app, shown, columns))));
+  const heads = headsOf(columns, view).slice(2);
+  return texTable(heads, rows, firstLines(await provenanceOf(app, shown, columnSources(app, shown, columns))));
 }
 
 /** The table of chairs as it is shown, with tabs. */

@@ -30,21 +30,10 @@ function texNumber(cell: string): string {
   return number === "-" ? "--" : number.replace(/^[+-]/, (sign) => `$${sign}$`);
 }
 
-/** A column of numbers: what it belongs to, and its own words. */
-interface Head {
+/** A column of numbers: what it has in common with those beside it, and its own words. */
+export interface TexHead {
   readonly group: string;
-  readonly words: string;
-}
-
-/** The heads of columns such as "Votes, base": those of one thing have its name above them. */
-function headsOf(words: readonly string[]): Head[] {
-  let group = "";
-  return words.map((it) => {
-    const [, before, last] = /^(.*), (base|changed)$/.exec(it) ?? [];
-    const [added, unit = ""] = /^Added(, points)?/.exec(it) ?? [];
-    group = before ?? (added ? group : it);
-    return { group, words: last ?? (added ? `added${unit}` : "") };
-  });
+  readonly own: string;
 }
 
 /** Columns side by side under one heading. The first is counted from 0. */
@@ -54,7 +43,7 @@ interface Group {
   readonly many: number;
 }
 
-function groupsOf(heads: readonly Head[]): Group[] {
+function groupsOf(heads: readonly TexHead[]): Group[] {
   const found: Group[] = [];
   heads.forEach(({ group }, at) => {
     const last = found[found.length - 1];
@@ -81,14 +70,14 @@ function texRow({ chair, name, note, cells }: TexRow): string {
 }
 
 /** The heading: the groups with a rule under each, and the heads of the columns. The first two have no group. */
-function heading(heads: readonly Head[], rows: readonly TexRow[]): string[] {
+function heading(heads: readonly TexHead[], rows: readonly TexRow[]): string[] {
   const groups = groupsOf(heads);
   const isPercent = ({ from, many }: Group) =>
     rows.some(({ cells }) => cells.slice(from, from + many).some((it) => it.endsWith(" %")));
   const cells = groups.map((it) =>
     `\\multicolumn{${it.many}}{c}{${texText(it.words)}${isPercent(it) ? " (\\%)" : ""}}`);
   const rules = groups.map(({ from, many }) => `\\cmidrule(lr){${from + 3}-${from + many + 2}}`);
-  const own = ["Chair", "Name", ...heads.map((it) => it.words)];
+  const own = ["Chair", "Name", ...heads.map((it) => texName(it.own))];
   return [`${["", "", ...cells].join(" & ").trimStart()} \\\\`, rules.join(""), `${own.join(" & ")} \\\\`];
 }
 
@@ -108,10 +97,10 @@ function comment(line: string): string {
 }
 
 /** The table. Its columns' words are those of the page. */
-export function texTable(words: readonly string[], rows: readonly TexRow[], source: readonly string[]): string {
-  const heads = headsOf(words);
-  const hasTurned = rows.some(({ name }) => isRightToLeft(name));
-  const hasOthers = rows.some(({ name }) => OTHER_LETTERS.test(name));
+export function texTable(heads: readonly TexHead[], rows: readonly TexRow[], source: readonly string[]): string {
+  const names = [...heads.map((it) => it.own), ...rows.map((it) => it.name)];
+  const hasTurned = names.some(isRightToLeft);
+  const hasOthers = names.some((it) => OTHER_LETTERS.test(withoutControls(it)));
   const notes = [...(hasOthers ? [OTHER_LETTERS_WORDS] : []), ...(hasTurned ? [RIGHT_TO_LEFT_WORDS] : [])];
   const comments = [...WORDS, ...notes, ...source].map(comment);
   return [

@@ -14,6 +14,7 @@ from oracle import MAJORITIES, Oracle, text_of
 from selenium.webdriver.common.keys import Keys
 from test_exports import DROP
 from test_kept import reopened
+from test_table_files import tex_table
 from test_said import SEVEN, exported_table, opened, sha256
 
 BROWSERS = EVERY
@@ -226,6 +227,22 @@ def test_copied_columns(page: Page, oracle: Oracle) -> None:
     heads = page.run('return [...document.querySelectorAll("#chair-table thead th")].map((it) => it.textContent);')
     assert "Share of power, simple majority, More, votes" in heads
     assert "Added, points, simple majority, More, votes less base" in heads
+
+
+def test_columns_for_latex(page: Page, oracle: Oracle) -> None:
+    # Catches: a scenario's name that LaTeX reads as a command, or a number under another scenario.
+    page.click("#tab-table")
+    keep(page, {"50 % & more": REFORMS["More votes"], "A_move": REFORMS["A move"]})
+    page.choose("#columns", "scenarios")
+    page.choose("#against", "before")
+    counted(page)
+    table = tex_table(page)
+    assert table.heads[1][2:10] == ["base", "50 % & more", "A_move", "base", "50 % & more", "added, points, less base",
+                                    "A_move", "added, points, less 50 % & more"]
+    moved = shares(oracle, REFORMS["A move"], "half")
+    place = table.heads[0].index("Share of power, simple majority (%)") + 3
+    assert table.heads[1][place] == "A_move"
+    assert [it[place] for it in table.rows] == [rounded(100 * moved[int(it[0])], 3) for it in table.rows]
 
 
 def test_charts_of_columns(page: Page, oracle: Oracle) -> None:

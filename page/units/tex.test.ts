@@ -19,12 +19,16 @@ test("marks that LaTeX takes for something else", () => {
 
 test("a table", () => {
   // Catches: a heading over other columns, a missing number that looks like a minus, a comment of two lines.
-  const words = ["Votes, base", "Votes, changed", "Share, base", "Share, changed", "Added, points", "Count"];
+  const head = (group: string, own: string) => ({ group, own });
+  const heads = [
+    head("Votes", "base"), head("Votes", "A & B"), head("Share", "base"), head("Share", "A & B"),
+    head("Share", "added, points"), head("Count", ""),
+  ];
   const rows = [
     { chair: 1, name: "Hills\n& Dales", note: " (new)", cells: ["", "1,234", "-", "50.0 %", "-1.5", "7"] },
     { chair: 2, name: "שלום", note: "", cells: ["9", "8", "1.0 %", "2.0 %", "+1.0", "8"] },
   ];
-  const lines = texTable(words, rows, ["table A\nB sha256 x"]).split("\n");
+  const lines = texTable(heads, rows, ["table A\nB sha256 x"]).split("\n");
   assert.ok(lines.some((it) => it.startsWith("% Names have letters that pdfLaTeX lacks")));
   assert.ok(lines.includes("% table A B sha256 x"));
   assert.deepEqual(lines.slice(lines.indexOf("\\providecommand{\\righttoleft}[1]{#1}") + 1), [
@@ -32,7 +36,7 @@ test("a table", () => {
     "\\toprule",
     "&  & \\multicolumn{2}{c}{Votes} & \\multicolumn{3}{c}{Share (\\%)} & \\multicolumn{1}{c}{Count} \\\\",
     "\\cmidrule(lr){3-4}\\cmidrule(lr){5-7}\\cmidrule(lr){8-8}",
-    "Chair & Name & base & changed & base & changed & added, points &  \\\\",
+    "Chair & Name & base & A \\& B & base & A \\& B & added, points &  \\\\",
     "\\midrule",
     "1 & Hills \\& Dales (new) &  & 1,234 & -- & 50.0 & $-$1.5 & 7 \\\\",
     "2 & \\righttoleft{שלום}",

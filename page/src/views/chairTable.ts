@@ -79,37 +79,55 @@ export function cellsOf(line: Line, columns: Columns, view: View): Cell[] {
   return [...weightCells(line), ...shareCells(line, columns, view), ...powers];
 }
 
-/** A heading of a column, and the mark of its numbers. */
-interface Head {
+/** The heading of a column. */
+export interface Head {
+  /** What the numbers are, which columns side by side have in common, and which of them the column has. */
+  readonly group: string;
+  readonly own: string;
+  /** Both, for a heading that stands alone. */
   readonly words: string;
   readonly mark: "counted" | "made here" | "given";
 }
 
-const counted = (words: string): Head => ({ words, mark: "counted" });
-const madeHere = (words: string): Head => ({ words, mark: "made here" });
-
-/** The headings of what is counted in the base, then counted or made here in each column with what is added. */
-function groupHeads(words: string, added: string, columns: Columns, view: View, mark: typeof counted): Head[] {
-  const rest = columns.list.flatMap((it, at) => {
-    const less = columns.isOne ? "" : `, ${isolated(it.label)} less ${isolated(comparedLabel(columns.list, at, view))}`;
-    return [mark(`${words}, ${isolated(it.label)}`), madeHere(`${added}${less}`)];
-  });
-  return [mark(`${words}, base`), ...rest];
+function head(group: string, own: string, mark: Head["mark"], words = `${group}, ${own}`): Head {
+  return { group, own, words, mark };
 }
 
+/** Columns of one thing: in the base, then in each column with what is added. */
+interface Things {
+  readonly group: string;
+  readonly mark: Head["mark"];
+  /** What is added, in words, and its unit. */
+  readonly added: string;
+  readonly unit: string;
+}
+
+function groupHeads({ group, mark, added, unit }: Things, { list, isOne }: Columns, view: View): Head[] {
+  const rest = list.flatMap((it, at) => {
+    const [label, other] = [isolated(it.label), isolated(comparedLabel(list, at, view))];
+    const own = isOne ? `added${unit}` : `added${unit}, less ${other}`;
+    const words = isOne ? added : `${added}, ${label} less ${other}`;
+    return [head(group, label, mark), head(group, own, "made here", words)];
+  });
+  return [head(group, "base", mark), ...rest];
+}
+
+/** The headings of all columns: the first two are the chair's number and its name. */
 export function headsOf(columns: Columns, view: View): Head[] {
   const { majorities, measure } = view;
   const unit = measure === "share" ? ", points" : "";
   const powers = majorities.flatMap((it) => {
-    const words = `${MEASURE[measure].label}, ${MAJORITY[it].label}`;
-    return groupHeads(words, `Added${unit}, ${MAJORITY[it].label}`, columns, view, counted);
+    const { label } = MAJORITY[it];
+    const group = `${MEASURE[measure].label}, ${label}`;
+    return groupHeads({ group, mark: "counted", added: `Added${unit}, ${label}`, unit }, columns, view);
   });
+  const share: Things = { group: "Share of votes", mark: "made here", added: "Added, points", unit: ", points" };
   return [
-    counted("Chair"),
-    { words: "Name", mark: "given" },
-    counted("Votes, base"),
-    ...columns.list.map((it) => counted(`Votes, ${isolated(it.label)}`)),
-    ...groupHeads("Share of votes", "Added, points", columns, view, madeHere),
+    head("", "Chair", "counted", "Chair"),
+    head("", "Name", "given", "Name"),
+    head("Votes", "base", "counted"),
+    ...columns.list.map((it) => head("Votes", isolated(it.label), "counted")),
+    ...groupHeads(share, columns, view),
     ...powers,
   ];
 }
