@@ -149,7 +149,7 @@ def test_csv_of_a_scenario_just_kept(page: Page, oracle: Oracle) -> None:
     page.at("#scenario-name").send_keys("More votes")
     keep = 'document.getElementById("scenario-keep").click();'
     csv = page.wait_for(keep + ACTS, "exported", "export-csv")
-    wanted = {"changed": ["votes,XAD,318104"], "More votes": ["votes,XAD,318104"]}
+    wanted = {"More votes": ["votes,XAD,318104"], "changed": ["votes,XAD,318104"]}
     assert table_of(csv) == table_of(oracle.study(wanted, shown_majorities(page)))
 
 
