@@ -116,23 +116,31 @@ def test_a_handler_that_uses_the_register() -> None:
     assert seen == ["another thread is using this register"] and register.accepted == 400_000
 
 
-def test_a_second_thread() -> None:
-    # Catches: two threads that tear a register.
+CALLS: list[Callable[[Register], object]] = [
+    lambda it: it.open(2), lambda it: it.members, lambda it: it.indices("half"), lambda it: it.publish(),
+    lambda it: it.undo(), lambda it: it.what_if(), lambda it: it.script(), lambda it: it.submit("open,2"),
+]
+
+
+def is_refused(call: Callable[[Register], object]) -> bool:
+    """Whether a call is refused while another thread has a long one; that one may end too early to tell."""
     register = Register({"AAA": 1})
-    text = "open,1\nclose,1\n" * 450_000
     with ThreadPoolExecutor(1) as pool:
-        running = pool.submit(register.submit, text)
+        running = pool.submit(register.submit, "open,1\nclose,1\n" * 200_000)
         while repr(register) != "Register(another thread is using it)" and not running.done():
             pass
-        calls: list[Callable[[], object]] = [
-            lambda: register.open(2), lambda: register.members, lambda: register.indices("half"), register.publish,
-            register.undo, register.what_if, register.script, lambda: register.submit("open,2"),
-        ]
-        for call in calls:
-            with pytest.raises(RuntimeError, match="^another thread is using this register$"):
-                call()
-        assert running.result() == 900_000
-    assert register.open(2) == 900_001
+        try:
+            call(register)
+        except RuntimeError as why:
+            assert str(why) == "another thread is using this register" and running.result() == 400_000
+            return register.open(2) == 400_001
+    return False
+
+
+@pytest.mark.parametrize("call", CALLS)
+def test_a_second_thread(call: Callable[[Register], object]) -> None:
+    # Catches: two threads that tear a register.
+    assert any(is_refused(call) for _ in range(20))
 
 
 def test_many_threads_on_a_register() -> None:
