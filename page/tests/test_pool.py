@@ -74,7 +74,7 @@ def swept(page: Page) -> tuple[object, list[str], str, str]:
     """All that a sweep of a chair on a changed board says: its table, its thresholds, its script and its CSV."""
     assert page.act("votes", "XAA", "+10%") and page.act("move", "XAB", "7")
     # It takes longer than the time after which further workers start.
-    sweep(page, "5", "changed", "0.5", "60", "0.2")
+    sweep(page, "5", "changed", "0.6", "60", "0.2")
     page.click("#panel summary")
     page.until(lambda: page.text("#sweep-script"), "the script")
     script = str(page.at("#sweep-script").get_property("textContent"))
