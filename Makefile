@@ -1,8 +1,8 @@
 # Proves, builds and tests: `make` builds the program, out/board, and `make help` lists the rest.
 #
-# A crate is proved over the statements of the crates that crates.txt lists for it, and again when one of its sources, or of a
-# crate below it, has changed. Crates start in the order of crates.txt, which therefore lists first the crates that most others
-# wait for. All results are in out/; `make clean` removes them.
+# A crate is proved over the statements of the crates that crates.txt lists for it, and again when one of its sources,
+# or of a crate below it, has changed. Crates start in the order of crates.txt, which therefore lists first the crates
+# that most others wait for. All results are in out/; `make clean` removes them.
 SHELL       := bash
 .SHELLFLAGS := -eu -o pipefail -c
 .ONESHELL:
@@ -14,7 +14,7 @@ SHELL       := bash
 O    := $(CURDIR)/out
 KIT  := $(patsubst %/bin/rt,%,$(realpath $(shell command -v rt)))
 # What needs no proof needs no rt.
-UNPROVED := portable docs lint clean help
+UNPROVED := portable docs lint style uninstall clean help
 ifneq ($(KIT),)
 # out/kit names the toolchain that made the results.
 $(shell mkdir -p $O; cmp -s $(KIT)/KIT-ID $O/kit || cp $(KIT)/KIT-ID $O/kit)
@@ -24,7 +24,8 @@ endif
 
 # Processes for one crate (more than four gain nothing), and crates proved in parallel, as far as memory allows.
 JOBS := $(shell n=$$(nproc); echo $$((n < 4 ? n : 4)))
-SIDE := $(shell awk -v jobs=$(JOBS) '/^MemTotal/ {n = int($$2 / 2e6 / jobs); print n < 1 ? 1 : n < jobs ? n : jobs}' /proc/meminfo)
+SIDE := $(shell awk -v jobs=$(JOBS) '/^MemTotal/ {n = int($$2 / 2e6 / jobs); print n < 1 ? 1 : n < jobs ? n : jobs}' \
+            /proc/meminfo)
 ifeq ($(MAKELEVEL)$(findstring -j,$(MAKEFLAGS)),0)
 MAKEFLAGS += -j$(SIDE)
 endif
@@ -59,17 +60,20 @@ PACKAGED      := $(LANGUAGES:%=$O/%.packaged)
 whole     = $(sort $1 $(foreach it,$(filter $(CRATES),$(uses_$1)),$(call whole,$(it))))
 below     = $(patsubst %,$O$2/%.proved,$(filter $(CRATES),$(uses_$1)))
 folder    = $(if $(filter $1,$(BENCH)),$O/bench/$1,crates/$1)
-sources   = $O/kit crates.txt $(shell find /dev/null $(wildcard $(addprefix crates/$1/,src specs proofs args stdin stdout)) -type f)
+sources   = $O/kit crates.txt \
+            $(shell find /dev/null $(wildcard $(addprefix crates/$1/,src specs proofs args stdin stdout)) -type f)
 # The crates that the goals need, for the count of those proved so far.
 needed    = $(if $(filter-out board,$(or $(MAKECMDGOALS),board)),$(CRATES),$(call whole,board))
 
 # The prover's arguments for a crate, and how the crate is built.
 extern    = --extern $1=$(if $(filter $1,$(CRATES)),$O$2,$(KIT)/rlibs)/$1.rlib
 over      = --crate-name $1 src/$(if $(filter $1,$(PROGRAMS) $(BENCH)),main,lib).rt \
-            $(foreach it,std $(uses_$1),$(call extern,$(it),$2)) -L dependency=$O$2 -L dependency=$(KIT)/rlibs --links $1= \
-            $(if $(filter $1,$(STATIC)),--crate-type staticlib) --antt-project $(KIT)/rattle/logic/antt-project.json
+            $(foreach it,std $(uses_$1),$(call extern,$(it),$2)) -L dependency=$O$2 -L dependency=$(KIT)/rlibs \
+            --links $1= $(if $(filter $1,$(STATIC)),--crate-type staticlib) \
+            --antt-project $(KIT)/rattle/logic/antt-project.json
 checked   := --logic-built $(KIT)/logic_built
-linked    = --toolchain $(if $(filter $1,$(STEPPED)),$O/$1.toolchain,$(KIT)/toolchain) --backend llvm $(if $(filter $1,$(TESTS)),--test) -o $O/$1.o
+linked    = --toolchain $(if $(filter $1,$(STEPPED)),$O/$1.toolchain,$(KIT)/toolchain) --backend llvm \
+            $(if $(filter $1,$(TESTS)),--test) -o $O/$1.o
 static    = --toolchain $O/$1.toolchain --backend llvm --incremental $O/$1.kept -o $O/lib$1.a
 how       = $(if $(filter $1,$(LINKED)),$(linked),$(if $(filter $1,$(STATIC)),$(static),--statements -o $O/$1.rlib))
 
@@ -94,12 +98,13 @@ $(if $(filter $1,$(PROGRAMS)),touch $O/empty; given() { [[ -f $$1 ]] && echo $$1
 xargs -d '\n' -a $$(given args) $O/$1 <$$(given stdin) | diff $$(given stdout) -)
 endef
 
-# Makes a toolchain like the kit's, whose clang also keeps the LLVM module that the prover passes to it. The prover starts clang
-# without an environment, so that file's name is written into the script.
+# Makes a toolchain like the kit's, whose clang also keeps the LLVM module that the prover passes to it. The prover
+# starts clang without an environment, so that file's name is written into the script.
 define toolchain
 mkdir -p $O/$1.toolchain/bin && ln -sfn $(KIT)/toolchain/lib $O/$1.toolchain/lib
 ln -sf $(KIT)/toolchain/bin/{ld.lld,llvm-ar,rattle-x64} $O/$1.toolchain/bin
-printf '#!/bin/sh -eu\ncp module.bc "%s"\nexec "%s" "$$@"\n' $O/$1.bc $(KIT)/toolchain/bin/clang >$O/$1.toolchain/bin/clang
+printf '#!/bin/sh -eu\ncp module.bc "%s"\nexec "%s" "$$@"\n' $O/$1.bc $(KIT)/toolchain/bin/clang \
+  >$O/$1.toolchain/bin/clang
 chmod +x $O/$1.toolchain/bin/clang
 endef
 
@@ -109,12 +114,12 @@ proves $(subst $O/$1.toolchain,$(KIT)/toolchain,$(subst lib$1.a,$1.wasm.a,$(stat
 $(KIT)/bin/rattle-link --target wasm64-unknown-unknown --toolchain $(KIT)/toolchain -o $O/$1.wasm $O/$1.wasm.a
 endef
 
-.PHONY: board portable all check gate module aarch64 one-file page release deep clean help
+.PHONY: board portable all check gate module aarch64 one-file page release install uninstall deep clean help
 board: $O/board.proved  ## the program, out/board
 portable: portable/out/board  ## the program from portable/board.c, portable/out/board: needs no rt, proves nothing
 portable/out/board: portable/board.c portable/board.h
 	@mkdir -p $(@D)
-	$(CC) -O2 -DBOARD_MAIN $< -o $@
+	$(CC) -O2 -fstack-protector-strong -DBOARD_MAIN $< -o $@
 all: $(CRATES:%=$O/%.proved)  ## proofs of all crates, and their tests
 	@mkdir -p $O/said; echo "$(words $(CRATES)) passed, 0 failed" | tee $O/said/$@
 check:  ## proofs and tests, worked examples on the program, and calls with memory refused
@@ -140,9 +145,8 @@ $O/%.checked: $$(call sources,$$*) $$(call below,$$*) $$(if $$(filter $$*,$(STAT
 	proves --incremental $O/$*.kept
 	mv $O/$*.begun-check $@
 $O/%.edits: $O/%.checked $$(wildcard crates/$$*/must-fail/*.edit) tools/edits.py
-	@mkdir -p $O/said
-	tools/edits.py crates/$* $O/$*.kept $(KIT)/bin/rattle check $(call over,$*) $(checked) | tee $O/said/edits-$*
-	touch $@
+	tools/edits.py crates/$* $O/$*.kept $(KIT)/bin/rattle check $(call over,$*) $(checked) | tee $O/$*.edited
+	mv $O/$*.edited $@
 
 # Deep checks: libraries with their proofs, then each crate with everything that it reads, trusting no earlier check.
 $(CRATES:%=$O/deep/%.proved): $O/deep/%.proved: $$(call sources,$$*) $$(call below,$$*,/deep)
@@ -159,33 +163,52 @@ deep: $(CRATES:%=$O/deep/%.checked)  ## each crate with everything that it reads
 
 # The WebAssembly modules, the library for aarch64, the page.
 modules := $(STATIC:%=$O/%.proved) tools/retarget
-module: wasm/out/board.wasm  ## the WebAssembly module, wasm/out/board.wasm
-wasm/out/board.wasm: $(modules) wasm/build wasm/heap.c
-	@wasm/build
-aarch64: aarch64/out/libboard.a  ## the library for aarch64
-aarch64/out/libboard.a: $(modules) aarch64/build aarch64/heap.c
-	@aarch64/build
+module: targets/wasm/out/board.wasm  ## the WebAssembly module, targets/wasm/out/board.wasm
+targets/wasm/out/board.wasm: $(modules) targets/wasm/build targets/wasm/heap.c
+	@targets/wasm/build
+aarch64: targets/aarch64/out/libboard.a  ## the library for aarch64
+targets/aarch64/out/libboard.a: $(modules) targets/aarch64/build targets/aarch64/heap.c
+	@targets/aarch64/build
 one-file: portable/out/board.c  ## the C file made again, portable/out/board.c
-portable/out/board.c: $(modules) aarch64/heap.c crates/board_c/board.h crates/board_c/names.c portable/build $(wildcard portable/src/*.c)
+portable/out/board.c: $(modules) targets/aarch64/heap.c crates/board_c/board.h crates/board_c/names.c portable/build
+portable/out/board.c: $(wildcard portable/src/*.c)
 	@portable/build
 page: module  ## the page, page/out/board.html
 	@page/build
 release: board module aarch64 page $(PACKAGED)  ## a release: out/board-VERSION-x86_64-linux.tar.gz, and -windows.zip
-	@./release
+	@tools/release/build
+PREFIX    ?= /usr/local
+INSTALLED  = $(DESTDIR)$(PREFIX)
+install: board $(STATIC:%=$O/%.proved)  ## program, manual and library for C into DESTDIR and PREFIX (/usr/local)
+	@umask 022 && mkdir -p "$(INSTALLED)"/bin "$(INSTALLED)"/share/man/man1
+	cp $O/board "$(INSTALLED)"/bin
+	tools/release/library "$(INSTALLED)"
+	tools/release/manual $O/board "$(INSTALLED)"/share/man/man1
+uninstall:  ## removes what `make install` put there
+	@cd "$(INSTALLED)"
+	rm -rf bin/board include/board.h lib/{libboard.*,pkgconfig/board.pc,cmake/board} share/man/man1/board{,-*}.1
 
 # The gate's parts. Each prints a line for each test and, last, 'N passed, M failed'; its output is kept in out/said.
-said = @mkdir -p $O/said; $1 2>&1 | tee $O/said/$@
+said = @tools/part $@ $1
 # Runs groups of parts one after another, and adds up their passed and failed counts.
 define judged
 rm -rf $O/said && mkdir -p $O/said && status=0
 for parts in $1; do $(MAKE) --keep-going $$parts || status=1; done
-tail -qn 1 $O/said/* | awk -v status=$$status '/^[0-9]+ passed, [0-9]+ failed$$/ {passed += $$1; failed += $$3; next} {failed++}
-  END {print passed + 0 " passed, " (status && !failed ? 1 : failed + 0) " failed"}'
-exit $$status
+for part in $(subst ",,$1); do
+  [[ -s $O/said/$$part ]] || echo "make $$part ran no test" | tee $O/said/$$part
+done
+tail -qn 1 $O/said/* | awk -v status=$$status '
+  /^[0-9]+ passed, [0-9]+ failed$$/ && $$1 + $$3 {passed += $$1; failed += $$3; next}
+  {failed++} END {failed += status && !failed; print passed + 0 " passed, " failed + 0 " failed"; exit failed > 0}'
 endef
-.PHONY: docs lint tools ci steps steps-tests edits cases independent memory register script stress recipes targets compilers $(LANGUAGES) tables page-units page-tests release-tests kit-gate
+# The groups of the gate's parts. The mutations take most of the memory.
+GATE_PARTS := "docs lint style tools" ci edits "steps steps-tests cases independent recipes memory register script" \
+              stress targets compilers "$(LANGUAGES)" "tables page-units" page-tests release-tests
+.PHONY: $(subst ",,$(GATE_PARTS)) kit-gate
 docs:  ## names, links and made parts of the documents
-	$(call said,docs/check)
+	$(call said,tools/check)
+style:  ## how files are written: shellcheck, black, mypy, tsc, clang-format, rustfmt, columns
+	$(call said,tools/style)
 lint:  ## what no clause can say of the sources
 	$(call said,tools/lint)
 ci: $O/kit  ## the kit's gate over a copy without the mutations; its proofs and builds are reused
@@ -202,35 +225,36 @@ ci: $O/kit  ## the kit's gate over a copy without the mutations; its proofs and 
 kit-gate:  ## the kit's gate with nothing left out, on a clean clone: it tests each mutation alone
 	@copy=$$(mktemp -d); trap 'rm -rf "$$copy"' EXIT
 	git clone --quiet . "$$copy/clone" && cd "$$copy/clone" && rt ci
-tools:  ## the code that decides whether a mutation was rejected
-	$(call said,tests/tools/run)
+tools:  ## when a mutation counts as rejected, what make proves again, how the gate judges its parts
+	$(call said,tests/run tests/tools)
 steps: $(patsubst %,$O/%.proved,$(STEPPED) $(STATIC))  ## the atomic steps, memory and writes of the compiled code
 	$(call said,tools/steps tools/steps.txt $(patsubst %,$O/%.bc,$(STEPPED) $(STATIC)))
 steps-tests: $O/memory_tests.proved  ## changes planted in the compiled code, which steps must refuse
-	$(call said,tests/steps/run $O/memory_tests.bc)
+	$(call said,tests/run tests/steps)
 edits: $(EDITED:%=$O/%.edits)  ## the mutations
+	$(call said,awk '/^[0-9]+ passed, 0 failed$$/ {passed += $$1} END {print passed + 0 " passed, 0 failed"}' $^)
 cases: board  ## worked examples, and the examples of the documents, on the program
-	$(call said,tests/cases/run $O/board)
+	$(call said,tests/run tests/cases)
 independent: board  ## the program against a Python reader written from the documents alone
-	$(call said,tests/independent/run $O/board)
+	$(call said,tests/run tests/independent)
 memory: $(patsubst %,$O/%.proved,board memory_tests board_replay)  ## each allocation refused in turn
-	$(call said,tests/memory/run)
+	$(call said,tests/run tests/memory)
 stress: $O/board_stress.proved  ## rounds of the running board and of serve in real threads, for 30 seconds
-	$(call said,tests/stress/run)
+	$(call said,tests/run tests/stress)
 register: $(STATIC:%=$O/%.proved) board  ## the register's calls from C, against the program and a model
-	$(call said,tests/register/run $O/board)
+	$(call said,tests/run tests/register -n 2)
 script: $(STATIC:%=$O/%.proved) board  ## scripts read as data from C, against the program and the independent reader
-	$(call said,tests/script/run $O/board)
+	$(call said,tests/run tests/script)
 recipes: board  ## the recipes of the documents
-	$(call said,tests/recipes/run $O/board)
+	$(call said,tests/run tests/recipes -n 2)
 targets: board module aarch64  ## the library, also for aarch64 and WebAssembly, against the program
-	$(call said,tests/targets/run $O/board)
+	$(call said,tests/run tests/targets -n $(JOBS))
 compilers: board one-file  ## the C file by each compiler and on each system, against the program
-	$(call said,tests/portable/run $O/board)
+	$(call said,tests/run tests/portable -n $(JOBS))
 # What the program answers to boards, scripts and commands, with which each package is compared.
 answers := $O/answers/register.txt
-$(answers): $O/board.proved tests/packages/answers.py $(wildcard tests/targets/*.py tests/cases/*)
-	@mkdir -p $(@D) && tests/packages/answers.py $O/board $(@D)
+$(answers): $O/board.proved tests/packages/answers.py $(wildcard tests/shared/*.py tests/cases/*)
+	@mkdir -p $(@D) && python3 -m tests.packages.answers $O/board $(@D)
 python: $(answers)  ## the package for Python: built, installed in fresh environments, and tested there
 r: $(answers)  ## the package for R
 rust: $(answers)  ## the crates for Rust
@@ -239,7 +263,8 @@ $(LANGUAGES):
 	$(call said,env -u MAKEFLAGS -u MFLAGS BOARD_ANSWERS=$O/answers bindings/$@/check)
 	touch $O/$@.packaged
 # The packages in out/packages, which are made when they are tested.
-$(PACKAGED): $O/%.packaged: $$(shell git ls-files bindings/$$* portable wasm board.html) $(answers) wasm/out/board.wasm
+$(PACKAGED): $O/%.packaged: $$(shell git ls-files bindings/$$* portable targets/wasm board.html) $(answers) \
+    targets/wasm/out/board.wasm
 	$(MAKE) $*
 tables:  ## the page's reader of tables over a corpus of cases, in Node
 	$(call said,tests/tables/run)
@@ -248,11 +273,12 @@ page-units: page  ## the page's modules, in Node
 page-tests: board page  ## board.html in Chromium and Firefox
 	$(call said,page/tests/run)
 release-tests: release $(answers)  ## a release, unpacked and run without the toolchain
-	$(call said,tests/release/run)
+	$(call said,tests/run tests/release -n $(JOBS))
 
+gate: export GATE := 1
 gate:  ## all that must pass before a change lands
-	+@$(call judged,"docs lint tools" ci "steps steps-tests edits cases independent recipes memory register script" stress targets compilers "$(LANGUAGES)" "tables page-units" page-tests release-tests)
+	+@$(call judged,$(GATE_PARTS))
 clean:  ## removes all results
-	@rm -rf $O {wasm,aarch64,page,portable}/out
+	@rm -rf $O {targets/wasm,targets/aarch64,page,portable}/out
 help:  ## this list
 	@sed -nE 's/^([a-z-]+):.*  ## (.*)/make \1\t\2/p' Makefile | expand -t 20

@@ -1,5 +1,6 @@
-//! The audit in plain Rust: one walk over the journal keeps the sheet of each cut, and each reader's sheets are compared with
-//! them in one walk. A line for each audit: commands, cuts, nanoseconds, whether it passed. `bench/run-audit` builds it.
+//! The audit in plain Rust: one walk over the journal keeps the sheet of each cut, and each reader's sheets are
+//! compared with them in one walk. A line for each audit: commands, cuts, nanoseconds, whether it passed.
+//! `bench/run-audit` builds it.
 use std::collections::HashMap;
 use std::hint::black_box;
 use std::time::Instant;

@@ -73,10 +73,7 @@ struct Evaluator {
 
 impl Evaluator {
     fn new() -> Evaluator {
-        Evaluator {
-            words: [0; 34],
-            board: Board::new(),
-        }
+        Evaluator { words: [0; 34], board: Board::new() }
     }
 
     fn set(&mut self, words: &Words) {
@@ -104,19 +101,14 @@ impl Evaluator {
             prevent: some(swings(place), winning),
             initiate: (swings(place), coalitions - winning),
         };
-        Indices {
-            quota,
-            cast: cast_of(&self.words),
-            winning,
-            coalitions,
-            rows: open.iter().map(row).collect(),
-        }
+        Indices { quota, cast: cast_of(&self.words), winning, coalitions, rows: open.iter().map(row).collect() }
     }
 }
 
 // ---------------------------------------------------------------- timing of the indices
 
-/// Sheets recounted in turn, so that branch prediction can't learn them, the sheets of a sweep, and rounds through all of them.
+/// Sheets recounted in turn, so that branch prediction can't learn them, the sheets of a sweep, and rounds through all
+/// of them.
 const SHEETS: usize = 16;
 const VALUES: u64 = 1_000;
 const ROUNDS: usize = 12;
@@ -152,8 +144,8 @@ fn digest(indices: &Indices) -> u64 {
     indices.rows.iter().fold(indices.winning, step)
 }
 
-/// The least nanoseconds of one sheet's recount by some majorities, over rounds through all sheets, and what was counted.
-/// If there is another sheet, the evaluator is given that before each recount, which isn't timed.
+/// The least nanoseconds of one sheet's recount by some majorities, over rounds through all sheets, and what was
+/// counted. If there is another sheet, the evaluator is given that before each recount, which isn't timed.
 fn least(sheets: &[Words], by: &[Majority], before: impl Fn(usize) -> Option<Words>) -> (u128, u64) {
     let mut evaluator = Evaluator::new();
     let (mut least, mut sum) = (u128::MAX, 0u64);
@@ -175,10 +167,10 @@ fn least(sheets: &[Words], by: &[Majority], before: impl Fn(usize) -> Option<Wor
     (least, sum)
 }
 
-/// Omega and the swings of every chair by a table over all vote totals below the quota, as other voting power programs count
-/// them (Mann and Shapley 1962; Brams and Affuso 1976): for each total the sets that have it, modulo 2^32, which they don't
-/// reach. Sets without a chair of w votes are all sets of t votes, less those of t - w, plus those of t - 2w, and so on, so
-/// that a chair's swings are an alternating sum of sums over w totals each.
+/// Omega and the swings of every chair by a table over all vote totals below the quota, as other voting power programs
+/// count them (Mann and Shapley 1962; Brams and Affuso 1976): for each total the sets that have it, modulo 2^32, which
+/// they don't reach. Sets without a chair of w votes are all sets of t votes, less those of t - w, plus those of t -
+/// 2w, and so on, so that a chair's swings are an alternating sum of sums over w totals each.
 fn by_table(words: &Words, quota: u64) -> (u64, Vec<u64>) {
     let quota = quota as usize;
     let open = words[..32].iter().filter(|&&word| word > 0);
@@ -243,9 +235,9 @@ fn print_counts(name: &str, words: &Words) {
     println!();
 }
 
-/// Times the recounts of sheets of `chairs` chairs, numbered from 1: all new; with the left half of the first sheet; held;
-/// held, by the quorum; with one chair's votes changed, by all four majorities; and, for 24 chairs, in a sweep of one chair's
-/// votes.
+/// Times the recounts of sheets of `chairs` chairs, numbered from 1: all new; with the left half of the first sheet;
+/// held; held, by the quorum; with one chair's votes changed, by all four majorities; and, for 24 chairs, in a sweep of
+/// one chair's votes.
 fn time_sheets(name: &str, chairs: usize, base: u64, span: u64) {
     let mut numbers = Numbers(0x9E37_79B9_7F4A_7C15);
     let sheets: Vec<Words> = (0..SHEETS).map(|turn| numbers.words(chairs, base + turn as u64, span)).collect();
@@ -266,7 +258,17 @@ fn time_sheets(name: &str, chairs: usize, base: u64, span: u64) {
     print("quorum", least(&sheets, &[Majority::Quorum], |place| Some(sheets[place])));
     print("one", least(&moved, &ALL, |place| Some(sheets[place])));
     if chairs == 24 {
-        let value = |value| totalled(from_fn(|place| if place == 0 { 1 + 400 * value } else if place < 32 { sheets[0][place] } else { 0 }));
+        let value = |value| {
+            totalled(from_fn(|place| {
+                if place == 0 {
+                    1 + 400 * value
+                } else if place < 32 {
+                    sheets[0][place]
+                } else {
+                    0
+                }
+            }))
+        };
         let sweep: Vec<Words> = (0..VALUES).map(value).collect();
         print("sweep", least(&sweep, &half, |_| None));
         time_table(name, &sheets[0]);
@@ -285,9 +287,7 @@ fn indices() {
 
 fn code(member: u64) -> String {
     let letter = |n: u64| (b'A' + (n % 26) as u8) as char;
-    [letter(member / 676), letter(member / 26), letter(member)]
-        .iter()
-        .collect()
+    [letter(member / 676), letter(member / 26), letter(member)].iter().collect()
 }
 
 /// A member list of 200, 32 chairs, and commands at random, with a publication and a reading every `every` records.
@@ -300,10 +300,7 @@ fn records(count: usize, every: usize) {
     while lines.len() < count {
         let line = match every - lines.len() % every {
             2 => "publish".to_string(),
-            1 => format!(
-                "read,1,{}",
-                ["half", "70", "85"][(numbers.next() % 3) as usize]
-            ),
+            1 => format!("read,1,{}", ["half", "70", "85"][(numbers.next() % 3) as usize]),
             _ => command(&mut numbers),
         };
         lines.push(line);
@@ -386,8 +383,9 @@ impl Register {
         let unless = |bad: bool, why: Refusal| if bad { Err(why) } else { Ok(()) };
         match command {
             Command::Open(chair) => unless(is_open(chair), CHAIR_OPEN),
-            Command::Close(chair) => unless(!is_open(chair), CHAIR_NOT_OPEN)
-                .and(unless(self.seated[chair - 1] > 0, CHAIR_HAS_MEMBERS)),
+            Command::Close(chair) => {
+                unless(!is_open(chair), CHAIR_NOT_OPEN).and(unless(self.seated[chair - 1] > 0, CHAIR_HAS_MEMBERS))
+            }
             Command::Move(code, to) => {
                 let member = self.member(code)?;
                 unless(member.suspended, MEMBER_SUSPENDED)?;
@@ -512,9 +510,7 @@ fn number(field: &[u8]) -> Option<u64> {
 }
 
 fn chair(field: &[u8]) -> Option<usize> {
-    number(field)
-        .filter(|n| (1..=32).contains(n))
-        .map(|n| n as usize)
+    number(field).filter(|n| (1..=32).contains(n)).map(|n| n as usize)
 }
 
 fn votes(field: &[u8]) -> Option<u64> {
@@ -619,19 +615,10 @@ fn opening(cutter: &mut Cutter, row: &mut Row) -> Result<Vec<(Code, u64)>, Fault
 }
 
 fn started(list: &[(Code, u64)], limit: usize) -> Result<Register, Fault> {
-    let mut register = Register {
-        members: HashMap::new(),
-        words: [0; 34],
-        seated: [0; 32],
-        journal: Vec::new(),
-        limit,
-    };
+    let mut register =
+        Register { members: HashMap::new(), words: [0; 34], seated: [0; 32], journal: Vec::new(), limit };
     for &(code, votes) in list {
-        let member = Member {
-            votes,
-            chair: None,
-            suspended: false,
-        };
+        let member = Member { votes, chair: None, suspended: false };
         if register.members.insert(code, member).is_some() {
             return Err(Fault::Reported(0, "DuplicateMember"));
         }
@@ -674,12 +661,7 @@ fn put_indices<W: Write>(
     Ok(())
 }
 
-fn run<W: Write>(
-    input: &[u8],
-    lines: &mut Lines<W>,
-    readers: u64,
-    limit: usize,
-) -> Result<(), Fault> {
+fn run<W: Write>(input: &[u8], lines: &mut Lines<W>, readers: u64, limit: usize) -> Result<(), Fault> {
     if !(1..=4).contains(&readers) || !(1..=1_000_000).contains(&limit) {
         return Err(Fault::Reported(0, "BadLimit"));
     }
@@ -715,10 +697,7 @@ fn run<W: Write>(
 }
 
 fn replay(readers: u64, limit: usize) -> bool {
-    let mut lines = Lines {
-        out: io::stdout().lock(),
-        line: String::new(),
-    };
+    let mut lines = Lines { out: io::stdout().lock(), line: String::new() };
     let mut input = Vec::new();
     let read = io::stdin().take(4_194_305).read_to_end(&mut input);
     let done = match read {

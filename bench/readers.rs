@@ -1,12 +1,13 @@
-//! Plain Rust to compare with the running board: two copies of 34 words with the board's own steps and orderings, and the
-//! other usual choices in Rust. One line for each: a name, and nanoseconds for a reading alone, a submit with its publication
-//! alone, and a reading by each of two readers while a writer publishes all the time; `-` where there is none.
+//! Plain Rust to compare with the running board: two copies of 34 words with the board's own steps and orderings, and
+//! the other usual choices in Rust. One line for each: a name, and nanoseconds for a reading alone, a submit with its
+//! publication alone, and a reading by each of two readers while a writer publishes all the time; `-` where there is
+//! none.
 //!
 //! `bench/run-readers` builds it, with arc-swap if Debian's crate is installed (`--cfg arc_swap`).
 use std::collections::HashMap;
 use std::hint::{black_box, spin_loop};
 use std::sync::atomic::Ordering::{Acquire, Relaxed, Release, SeqCst};
-use std::sync::atomic::{AtomicBool, AtomicU64, fence};
+use std::sync::atomic::{fence, AtomicBool, AtomicU64};
 use std::sync::{Mutex, RwLock};
 use std::time::Instant;
 
@@ -27,12 +28,7 @@ struct Register {
 
 impl Register {
     fn new() -> Self {
-        Register {
-            members: HashMap::from([(*b"AAA", (10, 0))]),
-            journal: Vec::new(),
-            weights: [0; 32],
-            total: 10,
-        }
+        Register { members: HashMap::from([(*b"AAA", (10, 0))]), journal: Vec::new(), weights: [0; 32], total: 10 }
     }
 
     fn submit(&mut self, code: [u8; 3], votes: u64) {
@@ -168,7 +164,13 @@ fn beside(read: &(impl Fn(usize) -> Words + Sync), publish: &(impl Fn(&Words) + 
             }
         });
         let readers: Vec<_> = (0..2)
-            .map(|r| scope.spawn(move || least(1, READS / 4, || { black_box(read(r)); })))
+            .map(|r| {
+                scope.spawn(move || {
+                    least(1, READS / 4, || {
+                        black_box(read(r));
+                    })
+                })
+            })
             .collect();
         let sum: f64 = readers.into_iter().map(|it| it.join().unwrap()).sum();
         stop.store(true, Relaxed);
@@ -177,7 +179,9 @@ fn beside(read: &(impl Fn(usize) -> Words + Sync), publish: &(impl Fn(&Words) + 
 }
 
 fn time(name: &str, read: impl Fn(usize) -> Words + Sync, publish: impl Fn(&Words) + Sync) {
-    let reading = least(5, READS / 4, || { black_box(read(0)); });
+    let reading = least(5, READS / 4, || {
+        black_box(read(0));
+    });
     let mut register = Register::new();
     let submit = least(5, SUBMITS, || {
         register.submit(black_box(*b"AAA"), black_box(10));
@@ -190,7 +194,9 @@ fn main() {
     // alone: a board of one reader, as the proved one is timed; beside (with a writer): one of two
     let one = TwoCopies::new(1);
     let two = TwoCopies::new(2);
-    let reading = least(5, READS / 4, || { black_box(one.read(0)); });
+    let reading = least(5, READS / 4, || {
+        black_box(one.read(0));
+    });
     let mut register = Register::new();
     let submit = least(5, SUBMITS, || {
         register.submit(black_box(*b"AAA"), black_box(10));

@@ -1,10 +1,10 @@
-/* Times the register's calls from C, and what they are compared with: the time of a replay of the same commands, and that
- * of the counts alone.
+/* Times the register's calls from C, and what they are compared with: the time of a replay of the same commands, and
+ * that of the counts alone.
  *
  *     register FILE      writes the script that it replays to a file
  *
- * bench/run-register compiles it. 190 members sit in 24 chairs, and commands set their votes. Prints for each measurement the
- * nanoseconds of the best round and a ratio. Nothing here is part of the checks. */
+ * bench/run-register compiles it. 190 members sit in 24 chairs, and commands set their votes. Prints a line for each
+ * measurement: its name, a tab, and the nanoseconds of the best round. Nothing here is part of the checks. */
 #include "board.h"
 #include <inttypes.h>
 #include <stdio.h>
@@ -74,7 +74,8 @@ static size_t write_input(unsigned commands, unsigned *written) {
 static size_t read_script(size_t len) {
     size_t members, count;
     uint32_t record;
-    need(board_script(input, len, 1, entries, MEMBERS, &members, items, sizeof items / sizeof *items, &count, &record) == BOARD_DONE);
+    need(board_script(input, len, 1, entries, MEMBERS, &members, items, sizeof items / sizeof *items, &count,
+                      &record) == BOARD_DONE);
     return count;
 }
 
@@ -85,17 +86,24 @@ static void replay(size_t len) {
 }
 
 /* The least time of some rounds of a statement. */
-#define LEAST(least, statement)                       \
-    uint64_t least = UINT64_MAX;                      \
-    for (int round = 0; round < ROUNDS; round++) {    \
-        uint64_t begun = now();                       \
-        statement;                                    \
-        uint64_t took = now() - begun;                \
-        if (took < least) least = took;               \
+#define LEAST(least, statement)                    \
+    uint64_t least = UINT64_MAX;                   \
+    for (int round = 0; round < ROUNDS; round++) { \
+        uint64_t begun = now();                    \
+        statement;                                 \
+        uint64_t took = now() - begun;             \
+        if (took < least) least = took;            \
     }
 
-static void print(const char *what, double ns, double ratio) {
-    printf(ratio > 0 ? "| %s | %.0f | %.3f |\n" : "| %s | %.0f | |\n", what, ns, ratio);
+/* Prints the nanoseconds of one of many. */
+static void print(const char *name, uint64_t ns, size_t many) { printf("%s\t%.2f\n", name, (double)ns / (double)many); }
+
+/* A replay of the members with one command. */
+static void short_replay(void) {
+    unsigned commands;
+    size_t len = write_input(1, &commands);
+    LEAST(replayed, replay(len));
+    print("short", replayed, commands);
 }
 
 static void reading(const char *name) {
@@ -106,20 +114,21 @@ static void reading(const char *name) {
     LEAST(replayed, replay(len));
     LEAST(read, read_script(len));
     need(read_script(len) == commands);
-    print("`board_replay`, a record of 4 MiB", (double)replayed / commands, 1);
-    print("`board_script`, the same", (double)read / commands, (double)read / (double)replayed);
+    print("replay", replayed, commands);
+    print("script", read, commands);
     struct board_register handle = {0};
     LEAST(applied, {
         board_register_free(&handle);
         need(board_register_start(entries, MEMBERS, BOARD_COMMANDS, &handle) == BOARD_DONE);
         for (unsigned at = 0; at < commands; at++) apply(&handle, items[at].command);
     });
-    print("`board_register_apply`, the same", (double)applied / commands, (double)applied / (double)replayed);
-    LEAST(checked, for (unsigned at = 0; at < commands; at++) need(board_register_check(&handle, &items[at].command) == BOARD_DONE));
-    print("`board_register_check`, the same", (double)checked / commands, (double)checked / (double)replayed);
+    print("apply", applied, commands);
+    LEAST(checked, for (unsigned at = 0; at < commands; at++)
+                       need(board_register_check(&handle, &items[at].command) == BOARD_DONE));
+    print("check", checked, commands);
     struct board_register copy = {0};
     LEAST(copied, need(board_register_copy(&handle, commands, &copy) == BOARD_DONE));
-    print("`board_register_copy`, a command", (double)copied / commands, (double)copied / (double)replayed);
+    print("copy", copied, commands);
     board_register_free(&copy);
     board_register_free(&handle);
 }
@@ -153,8 +162,8 @@ static void reforms(void) {
         }
     });
     need(sum == alone);
-    print("2,000 counts of 24 chairs alone, each", (double)counted / REFORMS, 1);
-    print("a register of 190 members, 2,000 reforms with a count after each", (double)both / REFORMS, (double)both / (double)counted);
+    print("counts", counted, REFORMS);
+    print("reforms", both, REFORMS);
     board_register_free(&handle);
 }
 
@@ -163,12 +172,13 @@ static void calls(void) {
     struct board_member_row row;
     uint64_t words[BOARD_SHEET_WORDS];
     LEAST(started, need(board_register_start(entries, MEMBERS, BOARD_COMMANDS, &handle) == BOARD_DONE));
-    print("`board_register_start`, 190 members", (double)started, 0);
+    print("start", started, 1);
     start(&handle);
-    LEAST(rows, for (size_t at = 0; at < MEMBERS; at++) need(board_register_member_at(&handle, at, &row) == BOARD_DONE));
-    print("`board_register_member_at`", (double)rows / MEMBERS, 0);
+    LEAST(rows,
+          for (size_t at = 0; at < MEMBERS; at++) need(board_register_member_at(&handle, at, &row) == BOARD_DONE));
+    print("member", rows, MEMBERS);
     LEAST(sheet, for (int at = 0; at < 1000; at++) need(board_register_sheet(&handle, words) == BOARD_DONE));
-    print("`board_register_sheet`", (double)sheet / 1000, 0);
+    print("sheet", sheet, 1000);
     board_register_free(&handle);
 }
 
@@ -176,7 +186,7 @@ int main(int many, char **words) {
     need(many == 2);
     for (unsigned at = 0; at < MEMBERS; at++)
         entries[at] = (struct board_entry){{(char)('A' + at / 26), (char)('A' + at % 26), 'A', 0}, draw() % 400000};
-    printf("| | ns | ratio |\n|---|---:|---:|\n");
+    short_replay();
     reading(words[1]);
     reforms();
     calls();

@@ -137,13 +137,13 @@ struct board_chair {
 
 /* The least weight and size that win on a board, and its coalitions: 824 bytes. */
 struct board_counts {
-    board_word quota;      /* the least weight that wins, in votes */
-    board_word least_size; /* the least number of chairs that wins; 0 if the majority requires none */
-    board_word cast;       /* the votes of all open chairs together */
-    board_word total;      /* the total voting power, in votes */
-    board_word chairs;     /* the number of open chairs */
-    board_word omega;      /* the number of winning coalitions */
-    board_word coalitions; /* the number of all coalitions: 2^chairs */
+    board_word quota;                      /* the least weight that can win, in votes */
+    board_word least_size;                 /* the least size that can win; 0 if the majority requires none */
+    board_word cast;                       /* the votes of all open chairs together */
+    board_word total;                      /* the total voting power, in votes */
+    board_word chairs;                     /* the number of open chairs */
+    board_word omega;                      /* the number of winning coalitions */
+    board_word coalitions;                 /* the number of all coalitions: 2^chairs */
     struct board_chair rows[BOARD_CHAIRS]; /* open chairs by number, then zeros */
 };
 
@@ -312,15 +312,16 @@ uint8_t board_register_counts(struct board_register *handle, uint32_t majority, 
 uint8_t board_register_all_counts(struct board_register *handle, struct board_room *room,
                                   struct board_all_counts *counts);
 
-/* The counts of the sheet that was published last, which is what a reader sees: before the first
- * board_register_publish that of the opening. Refused as board_register_counts. */
+/* The counts of the sheet after the published commands, which is what a reader sees: before the
+ * first board_register_publish that of the opening. Refused as board_register_counts. */
 uint8_t board_register_read(struct board_register *handle, uint32_t majority, struct board_room *room,
                             struct board_counts *counts);
 
 /* Puts a copy of the register as it was after its first `accepted` commands into another handle;
  * if it has accepted no more, a copy of the whole register. Those of its commands that are
- * published here are published there. A register that was in the other handle is freed. The copy
- * shares nothing with the register.
+ * published here are published there: if more than `accepted` are published here, all of them are
+ * published there, and board_register_read counts the copy after them. A register that was in the
+ * other handle is freed. The copy shares nothing with the register.
  *
  * Refused as BOARD_NO_REGISTER, or as BOARD_OUT_OF_MEMORY: *copy then has the register that it had
  * before, if it had one. */

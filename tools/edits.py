@@ -1,29 +1,39 @@
 #!/usr/bin/env python3
 """Tests the mutations of a crate: tools/edits.py FOLDER KEPT COMMAND..
 
-FOLDER is the crate's folder, KEPT holds the kept work of a check of it, and COMMAND runs such a check. Prints for each mutation
-whether the prover rejects it, and last 'N passed, M failed'. `make edits` calls it for each crate.
+FOLDER is the crate's folder, KEPT holds the kept work of a check of it, and COMMAND runs such a check. Prints for each
+mutation whether the prover rejects it, and last 'N passed, M failed'. `make edits` calls it for each crate.
 
-A mutation (an edit, in this file) changes the code of a crate. Since a proof uses only the contracts of other functions, mutations
-of different functions are tested in one check, and each is rejected if its own function isn't proved, for another reason than a
-missing name. If one check doesn't decide a mutation in this way, it is tested alone."""
+A mutation (an edit, in this file) changes the code of a crate. Since a proof uses only the contracts of other
+functions, mutations of different functions are tested in one check, and each is rejected if its own function isn't
+proved, for another reason than a missing name. If one check doesn't decide a mutation in this way, it is tested
+alone."""
+from __future__ import annotations
+
 import os
 import re
 import shutil
 import subprocess
 import sys
 import tempfile
+from collections.abc import Callable, Sequence
 from concurrent.futures import ThreadPoolExecutor
 from dataclasses import dataclass, field
 from functools import partial
 from pathlib import Path
 
 # The prover's errors for a proof that cites a name which the mutation removed: they show nothing about the contract.
-NAMES = re.compile(r"has no field|is not in scope|has no `|was not admitted|that depends on `[^`]*`, which was rejected")
+NAMES = re.compile(
+    r"has no field|is not in scope|has no `|was not admitted|that depends on `[^`]*`, which was rejected"
+)
+# The prover's statuses for a crate that is proved, and for one that isn't. Others say nothing about the crate.
+VERDICTS = (0, 1)
 # The greatest length of a reason that is printed.
 SHOWN = 160
 # The folders of a crate that the prover reads.
 READ = ["src", "specs", "proofs"]
+
+Function = tuple[str, str]
 
 
 class BadEdit(Exception):
@@ -32,27 +42,32 @@ class BadEdit(Exception):
 
 @dataclass
 class Edit:
-    """A mutation: its name, the texts of the changed files, and the changed functions, each with its file; None if a change is
-    in no function."""
+    """A mutation: its name, the texts of the changed files, and the changed functions, each with its file; None if a
+    change is in no function."""
 
     crate: str
     name: str
-    texts: dict = field(default_factory=dict)
-    functions: set | None = field(default_factory=set)
+    texts: dict[str, str] = field(default_factory=dict)
+    functions: set[Function] | None = field(default_factory=lambda: set[Function]())
 
-    def change(self, folder, path, old, new):
+    def change(self, folder: Path, path: str | None, old: str | None, new: str) -> None:
         """Replaces a text, which occurs once in a file, by another: one line for one line."""
         if not path or not old or not (folder / path).is_file():
             raise BadEdit(f"{self.crate}/{self.name}: a new text without an old one, or without a file")
         text = self.texts.get(path) or (folder / path).read_text()
         if text.count(old) != 1:
-            raise BadEdit(f"{self.crate}/{self.name}: the old text stands in {path} {text.count(old)} times, and not once")
+            raise BadEdit(
+                f"{self.crate}/{self.name}: the old text stands in {path} {text.count(old)} times, and not once"
+            )
         self.texts[path] = text.replace(old, new)
         function = function_at(text, text.index(old) + len(old)) if path.startswith("src/") else None
         self.functions = None if function is None or self.functions is None else {*self.functions, (path, function)}
 
 
-def function_at(text, at):
+Check = Callable[[list[Edit]], tuple[int, str]]
+
+
+def function_at(text: str, at: int) -> str | None:
     """The name of the function whose body contains a place of a formatted file, if any."""
     found = [*re.finditer(r"^( *)(?:[a-z]+(?:\([a-z]+\)| \"C\")? )*fn (\w+)", text[:at], re.MULTILINE)]
     if not found:
@@ -61,13 +76,15 @@ def function_at(text, at):
     return None if f"\n{last[1]}}}" in text[last.start() : at] else last[2]
 
 
-def read(folder):
+def read(folder: Path) -> list[Edit]:
     """The mutations of a crate's folder."""
     return [read_one(folder, file) for file in sorted((folder / "must-fail").glob("*.edit"))]
 
 
-def read_one(folder, file):
-    edit, path, old = Edit(folder.name, file.stem), None, None
+def read_one(folder: Path, file: Path) -> Edit:
+    edit = Edit(folder.name, file.stem)
+    path: str | None = None
+    old: str | None = None
     for line in file.read_text().splitlines():
         if line.startswith("file: "):
             path = line.removeprefix("file: ").strip()
@@ -81,22 +98,23 @@ def read_one(folder, file):
     return edit
 
 
-def together(edits):
+def together(edits: list[Edit]) -> list[list[Edit]]:
     """Lists of mutations to test in one check: those of one list change different functions."""
-    lists, taken = [], []
+    lists: list[list[Edit]] = []
+    taken: list[set[Function]] = []
     for edit in edits:
-        free = (at for at, functions in enumerate(taken) if edit.functions and functions and not edit.functions & functions)
-        at = next(free, None)
+        own = edit.functions or set()
+        at = next((at for at, functions in enumerate(taken) if own and functions and not own & functions), None)
         if at is None:
             lists.append([edit])
-            taken.append(edit.functions)
+            taken.append(own)
         else:
             lists[at].append(edit)
-            taken[at] = taken[at] | edit.functions
+            taken[at] = taken[at] | own
     return lists
 
 
-def apply(edits, folder):
+def apply(edits: list[Edit], folder: Path) -> None:
     """Applies mutations to a copy of their crate: no two change the same line."""
     for path in {path for edit in edits for path in edit.texts}:
         was = (folder / path).read_text().split("\n")
@@ -108,82 +126,97 @@ def apply(edits, folder):
         (folder / path).write_text("\n".join(lines))
 
 
-def path_of(function, crate):
+def path_of(function: Function, crate: str) -> tuple[list[str], str]:
     """The prover's path for a function of a file: the module's path, and the function's name."""
     file, name = function
     module = [it for it in re.sub(r"^src/|\.rt$", "", file).split("/") if it not in ("lib", "main", "mod")]
     return [crate, *module], name
 
 
-def not_proved(said):
+def not_proved(said: str) -> dict[str, str | None]:
     """The functions that failed by themselves, by their paths, each with a reason, or None if only names are missing.
 
     A function that only calls one that isn't proved is not included."""
-    found = {}
+    found: dict[str, str | None] = {}
     for path, what in re.findall(r"^fn (\S+): (.*)$", said, re.MULTILINE):
         of_search = re.search(r"`search` did not prove .*?(?=;|$)", what)
         folder = re.escape(f"./proofs/{'/'.join(path.split('::')[1:])}/")
         told = re.findall(rf"^{folder}\w+\.antt:\S+ error: .*$", said, re.MULTILINE)
         real = [it for it in told if not NAMES.search(it)]
         if real or of_search:
-            found[path] = (real or [of_search[0]])[0][:SHOWN]
+            found[path] = (real[0] if real else of_search[0] if of_search else "")[:SHOWN]
         elif what.startswith("not proved"):
             found[path] = None
     return found
 
 
-def is_of(path, function, crate):
+def is_of(path: str, function: Function, crate: str) -> bool:
     """Whether the prover's path is that of a function of a file, or of something inside it."""
     module, name = path_of(function, crate)
     words = path.split("::")
     return words[: len(module)] == module and name in words[len(module) :]
 
 
-def is_refused(status, said):
+def is_refused(status: int, said: str) -> bool:
     """Whether the prover reached the verdict that the crate isn't proved."""
-    return status == 1 and re.search(r"^logic=not-proved", said, re.MULTILINE)
+    return status == 1 and re.search(r"^logic=not-proved", said, re.MULTILINE) is not None
 
 
-def reasons(edits, status, said):
+def reasons(edits: list[Edit], status: int, said: str) -> dict[str, str]:
     """Why mutations were rejected in one check, by name, as far as the check decides that.
 
     If a function that none of them changes isn't proved either, nothing is decided."""
     failed = not_proved(said) if is_refused(status, said) else {}
-    by = {path: edit.name for path in failed for edit in edits if any(is_of(path, it, edit.crate) for it in edit.functions)}
+    by = {
+        path: edit.name
+        for path in failed
+        for edit in edits
+        if any(is_of(path, it, edit.crate) for it in edit.functions or ())
+    }
     return {by[path]: why for path, why in failed.items() if why} if by.keys() == failed.keys() else {}
 
 
-def reason_alone(status, said):
+def reason_alone(status: int, said: str) -> str | None:
     """Why a mutation tested alone was rejected, or None if it wasn't, or if only names are missing."""
-    told = re.findall(r"^\S+:\d+:\d+: error.*$|^fn .*`search` did not prove.*$", said, re.MULTILINE)
+    told: list[str] = re.findall(r"^\S+:\d+:\d+: error.*$|^fn .*`search` did not prove.*$", said, re.MULTILINE)
     return next((it[:SHOWN] for it in told if is_refused(status, said) and not NAMES.search(it)), None)
 
 
-def tried(edits, check):
-    """Tests mutations: returns each with the reason for its rejection, or None if it wasn't rejected. `check` returns the
-    prover's status and output."""
-    why = reasons(edits, *check(edits)) if len(edits) > 1 else {}
+def tried(edits: list[Edit], check: Check) -> list[tuple[Edit, str | None]]:
+    """Tests mutations: returns each with the reason for its rejection, or None if it wasn't rejected. `check` returns
+    the prover's status and output."""
+    why = reasons(edits, *check(edits)) if len(edits) > 1 else dict[str, str]()
     return [(edit, why.get(edit.name) or reason_alone(*check([edit]))) for edit in edits]
 
 
-def link(source, target):
+def link(source: str, target: str) -> None:
     """Links a file of kept work, which the prover replaces and never writes into; its notes are copied."""
-    (os.link if source.endswith(".oantt") else shutil.copy2)(source, target)
+    if source.endswith(".oantt"):
+        os.link(source, target)
+    else:
+        shutil.copy2(source, target)
 
 
-def check_edited(folder, kept, command, edits):
-    """Checks a crate with mutations applied, over a copy of its kept work: the prover's status and output."""
+def check_edited(folder: Path, kept: Path, command: Sequence[str], edits: list[Edit]) -> tuple[int, str]:
+    """Checks a crate with mutations applied, over a copy of its kept work: the prover's status and output.
+
+    A check that ends without a verdict is repeated once: it was killed, say, since other work took the memory."""
     with tempfile.TemporaryDirectory(prefix="edits-", dir=kept.parent) as place:
         for part in (it for it in READ if (folder / it).is_dir()):
             shutil.copytree(folder / part, Path(place, part))
         apply(edits, Path(place))
         own = shutil.copytree(kept, Path(place, "kept"), copy_function=link)
-        words = [*command, "--incremental", own, "--jobs", "1"]
-        ran = subprocess.run(words, cwd=place, capture_output=True, text=True, errors="replace", stdin=subprocess.DEVNULL)
-        return ran.returncode, ran.stderr + ran.stdout
+        words = [*command, "--incremental", str(own), "--jobs", "1"]
+        ran = partial(
+            subprocess.run, words, cwd=place, capture_output=True, text=True, errors="replace", stdin=subprocess.DEVNULL
+        )
+        found = ran()
+        if found.returncode not in VERDICTS:
+            found = ran()
+        return found.returncode, found.stderr + found.stdout
 
 
-def main(folder, kept, *command):
+def main(folder: str, kept: str, *command: str) -> int:
     """Tests a crate's mutations, several lists in parallel: returns the exit status."""
     passed = failed = 0
     lists = together(read(Path(folder)))

@@ -1,4 +1,5 @@
-"""What the documents take from the sources: the public calls of a crate with their contracts, and its modules of definitions."""
+"""What the documents take from the sources: the public calls of a crate with their contracts, and its modules of
+definitions."""
 from __future__ import annotations
 
 import re

@@ -70,21 +70,30 @@ class BuildLibrary(build_ext):
             words = os.environ["CC"].split()
             shared = [*words, "-shared", *(["-Wl,--no-insert-timestamp"] if self.system() == "win" else [])]
             compiler.set_executables(compiler_so=words, linker_so=shared)
-        # Debugging information would name the folder in which the library is made.
-        is_unix = compiler.compiler_type != "msvc"
-        position = ["-fPIC"] if is_unix and self.system() != "win" else []
+        compiled, linked = self.flags()
         objects = compiler.compile(
             [str(PORTABLE / "board.c")],
             output_dir=self.build_temp,
             include_dirs=[str(PORTABLE)],
-            extra_postargs=["-O2", "-g0", *position] if is_unix else ["/O2"],
+            extra_postargs=compiled,
         )
         compiler.link_shared_object(
             objects,
             str(made),
             export_symbols=sorted(set(re.findall(r"\b(board_\w+)\(", (PORTABLE / "board.h").read_text()))),
-            extra_postargs=["-s"] if is_unix and self.system() != "macosx" else [],
+            extra_postargs=linked,
         )
+
+    def flags(self) -> tuple[list[str], list[str]]:
+        """The words for the compiler and for the linker. Debugging information would name the folder of the build."""
+        compiler: Any = self.compiler
+        if compiler.compiler_type == "msvc":
+            return ["/O2"], []
+        if self.system() == "win":
+            return ["-O2", "-g0"], ["-s"]
+        if self.system() == "macosx":
+            return ["-O2", "-g0", "-fPIC"], []
+        return ["-O2", "-g0", "-fPIC", "-fstack-protector-strong"], ["-s", "-Wl,-z,relro", "-Wl,-z,now"]
 
 
 class BuildModules(build_py):

@@ -44,6 +44,4 @@ static const char *const names[] = {
 
 const char *board_version(void) { return BOARD_VERSION; }
 
-const char *board_refusal_name(uint32_t number) {
-    return number < sizeof names / sizeof *names ? names[number] : "";
-}
+const char *board_refusal_name(uint32_t number) { return number < sizeof names / sizeof *names ? names[number] : ""; }

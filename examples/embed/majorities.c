@@ -6,7 +6,7 @@
 static struct board_room room;
 
 static void print(const char *majority, const struct board_counts *counts) {
-    printf("%s: %" PRIu64 " votes win, %" PRIu64 " of %" PRIu64 " coalitions, swings", majority, counts->quota,
+    printf("%s: quota %" PRIu64 ", %" PRIu64 " of %" PRIu64 " coalitions win, swings", majority, counts->quota,
            counts->omega, counts->coalitions);
     for (uint64_t at = 0; at < counts->chairs; at++) printf(" %" PRIu64, counts->rows[at].swings);
     printf("\n");

@@ -7,10 +7,9 @@
 
 enum { ITEMS = 16 };
 
-static const char script[] =
-    "member,votes\nAAA,50\nBBB,49\nCCC,1\nscript\n"
-    "open,1\nopen,2\nopen,3\nmove,AAA,1\nmove,BBB,2\nmove,CCC,3\nopen,1\n"
-    "publish\nread,1,half\n";
+static const char script[] = "member,votes\nAAA,50\nBBB,49\nCCC,1\nscript\n"
+                             "open,1\nopen,2\nopen,3\nmove,AAA,1\nmove,BBB,2\nmove,CCC,3\nopen,1\n"
+                             "publish\nread,1,half\n";
 
 static struct board_room room;
 
@@ -45,7 +44,8 @@ int main(void) {
     size_t many, records;
     uint32_t record, accepted;
     if (board_script((const uint8_t *)script, strlen(script), 1, members, BOARD_MEMBERS, &many, items, ITEMS, &records,
-                     &record)) return 1;
+                     &record))
+        return 1;
     if (board_register_start(members, many, BOARD_COMMANDS, &board)) return 1;
     for (size_t at = 0; at < records; at++) carry_out(&board, &items[at]);
 

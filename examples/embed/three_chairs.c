@@ -13,7 +13,8 @@ int main(void) {
         fprintf(stderr, "refused as number %d\n", refusal);
         return 1;
     }
-    printf("%" PRIu64 " votes win, %" PRIu64 " of %" PRIu64 " coalitions\n", counts.quota, counts.omega, counts.coalitions);
+    printf("%" PRIu64 " votes win, %" PRIu64 " of %" PRIu64 " coalitions\n", counts.quota, counts.omega,
+           counts.coalitions);
     for (uint64_t at = 0; at < counts.chairs; at++) {
         const struct board_chair *row = &counts.rows[at];
         printf("chair %" PRIu64 ": weight %" PRIu64 ", swings %" PRIu64 "\n", row->chair, row->weight, row->swings);

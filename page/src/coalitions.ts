@@ -79,7 +79,7 @@ export function verdictOf(rule: Rule, coalition: ReadonlySet<number>): Verdict {
   };
 }
 
-/** The chairs that every winning coalition has; null if no coalition wins. */
+/** The chairs that have a veto: no coalition without them wins. Null if none wins at all. */
 export function vetoChairs(rule: Rule): number[] | null {
   const { chairs } = rule;
   return isWinning(rule, chairs) ? numbers(chairs.filter((it) => !isWinning(rule, without(chairs, it)))) : null;

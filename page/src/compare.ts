@@ -118,11 +118,21 @@ export function valueText(ratio: Ratio | null, measure: Measure, digits: number)
   return measure === "share" ? `${percent(ratio, digits)} %` : rounded(ratio, digits + 2);
 }
 
-/** The gain in a measure. Shares are in percentage points. */
+/** The unit of a gain in a measure, after a mark: percentage points for shares, and none for other measures. */
+export function gainUnit(measure: Measure, mark = " "): string {
+  return measure === "share" ? `${mark}points` : "";
+}
+
+/** The gain in a measure, without its unit: a column of gains has it in its heading. */
 export function gainText(gain: Ratio | null, measure: Measure, digits: number): string {
   if (gain === null) return "-";
   if (measure === "swings") return signed(grouped(gain.numerator / gain.denominator));
   return signed(measure === "share" ? percent(gain, digits) : rounded(gain, digits + 2));
+}
+
+/** The gain in a measure, with its unit. */
+export function gainWords(gain: Ratio, measure: Measure, digits: number): string {
+  return gainText(gain, measure, digits) + gainUnit(measure);
 }
 
 /** The chairs with the greatest gain or loss. */
@@ -167,7 +177,7 @@ function extreme(rows: readonly ChairRow[], view: View, majority: Majority, dire
   return {
     who: chairsWords(found.best),
     isOne: found.best.length === 1,
-    gain: gainText(found.gain, view.measure, view.digits),
+    gain: gainWords(found.gain, view.measure, view.digits),
     source: gainSource(first, majority, view.measure),
   };
 }
@@ -199,11 +209,10 @@ export function measureWords(measure: Measure): string {
 /** The sentence on the greatest gain and the greatest loss at a majority. */
 function gainSentence(rows: readonly ChairRow[], view: View, majority: Majority): Said {
   const [best, worst] = [extreme(rows, view, majority, 1), extreme(rows, view, majority, -1)];
-  const unit = view.measure === "share" ? " points" : "";
   const said = (found: typeof best, verb: string, none: string) => {
     if (!found) return none;
     const [chairs, each] = found.isOne ? ["chair", ""] : ["chairs", " each"];
-    return `${chairs} ${found.who} ${found.isOne ? `${verb}s` : verb} most (${found.gain}${unit}${each})`;
+    return `${chairs} ${found.who} ${found.isOne ? `${verb}s` : verb} most (${found.gain}${each})`;
   };
   const gains = said(best, "gain", "no chair gains");
   const loses = said(worst, "lose", "no chair loses");

@@ -15,7 +15,7 @@ export const FIRST_SWEEP: SweepAsked = {
 };
 
 export const STATEMENT_WORDS: Readonly<Record<Statement, string>> = {
-  prevents: "prevents everything",
+  prevents: "has a veto",
   carries: "carries everything alone",
   counts: "has any power",
   leads: "has more swings",
@@ -26,7 +26,7 @@ export function shareText(share: Ratio | null, digits: number): string {
   return share ? `${percent(share, digits)} % of the total` : "";
 }
 
-/** A threshold in words, such as "At 85 per cent it prevents everything from 847,524 votes (not at 847,523)". */
+/** A threshold in words, such as "At 85 per cent it has a veto from 847,524 votes (not at 847,523)". */
 export function thresholdWords(threshold: Threshold, digits: number, words = STATEMENT_WORDS[threshold.what]): string {
   const { majority, what, isFrom, votes, share } = threshold;
   const from = isFrom ? `${words} from` : `${words} up to`;

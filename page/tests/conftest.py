@@ -8,7 +8,6 @@ from collections.abc import Iterator
 from pathlib import Path
 
 import pytest
-from _pytest.terminal import TerminalReporter
 from chromium import EVERY, Page
 from firefox import FirefoxPage, firefox
 from oracle import TOP, Oracle
@@ -16,8 +15,6 @@ from oracle import TOP, Oracle
 BUILT = TOP / "page" / "out" / "board.html"
 # Chromium's words when a test leaves a page that would ask first, but that nobody has clicked on.
 LEFT = "Blocked attempt to show a 'beforeunload' confirmation panel"
-# Lines for the report's end.
-TIMES: list[str] = []
 
 
 @pytest.fixture(scope="session")
@@ -54,17 +51,3 @@ def page(browser: Page) -> Iterator[Page]:
     yield browser
     said = [it for it in browser.driver.get_log("browser") if LEFT not in it["message"]]
     assert not said, f"on the console: {said}"
-
-
-@pytest.fixture
-def times() -> list[str]:
-    return TIMES
-
-
-def pytest_unconfigure(config: pytest.Config) -> None:
-    """Prints the times, and as the last line the one that the gate adds up."""
-    reporter = config.pluginmanager.get_plugin("terminalreporter")
-    assert isinstance(reporter, TerminalReporter)
-    counts = {name: len(reporter.stats.get(name, [])) for name in ["passed", "failed", "error"]}
-    for line in [*TIMES, f"{counts['passed']} passed, {counts['failed'] + counts['error']} failed"]:
-        reporter.write_line(line)

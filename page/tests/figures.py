@@ -3,10 +3,10 @@ from __future__ import annotations
 
 from fractions import Fraction
 
-from board_python.replay_output import Chair, Ratio
-from board_python.rounding import exact
 from chromium import Page
 from oracle import MAJORITIES, Oracle
+from replay_output import Chair, Ratio
+from rounding import exact
 
 # For each row of the table of the chart, or on the tab Table: its chair, and its cells' texts and fractions.
 ROWS = """

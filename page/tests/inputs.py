@@ -16,6 +16,11 @@ def codes(many: int) -> list[str]:
     return ["".join(it) for it in islice(product(ascii_uppercase, repeat=3), many)]
 
 
+def user_codes(many: int) -> list[str]:
+    """Some of the codes that ISO 3166 leaves to users: XAA, XAB and on."""
+    return ["X" + "".join(it) for it in islice(product(ascii_uppercase, repeat=2), many)]
+
+
 # Five members with 100 votes in three chairs, one member in none.
 PLAIN = """code,name,votes,chair,chair_name
 AAA,Alland,40,1,
@@ -34,7 +39,9 @@ Director|Voting power|Member|ISO
 3|12,000|Delland|DDD
 |8,000|Elland|EEE
 |||
-""".replace("|", "\t")
+""".replace(
+    "|", "\t"
+)
 # The chair is in the first row of its members only.
 MERGED = """code,name,votes,chair
 AAA,Alland,40,1
@@ -80,7 +87,9 @@ Dresse|Belgium|65,567||
 1/ Votes as of today.
 2/ Per cent of all votes.
 3/ As the Fund calls it.
-""".replace("|", "\t")
+""".replace(
+    "|", "\t"
+)
 # Tables that are refused, since a guess could be another number, chair or member: the text, and words for each bad row.
 REFUSED: dict[str, tuple[str, dict[int, str]]] = {
     "three zeros behind a point": (
@@ -115,7 +124,7 @@ REFUSED: dict[str, tuple[str, dict[int, str]]] = {
 # Tables that are read: the text, the answers that are clicked, the summary, the records, and the choices.
 READ: dict[str, tuple[str, list[str], str, str, list[str]]] = {
     "marks, zeros and small letters": (
-        HEAD + "AAA,\"9,000\",1.0\nbbb,25000.00,2\nCCC,1'000,2\nDDD,7,1\n",
+        HEAD + 'AAA,"9,000",1.0\nbbb,25000.00,2\nCCC,1\'000,2\nDDD,7,1\n',
         [],
         "4 members, 35,007 votes; 2 chairs; every member is in a chair",
         "AAA,9000 BBB,25000 CCC,1000 DDD,7 script open,1 open,2 move,AAA,1 move,BBB,2 move,CCC,2 move,DDD,1",
@@ -260,14 +269,16 @@ def xlsx_of(
     )
     shared = "".join(f"<si><t>{escape(it)}</t></si>" for it in texts)
     formats = '<cellXfs><xf numFmtId="0"/><xf numFmtId="10"/><xf numFmtId="14"/></cellXfs>'
-    return zip_of({
-        "[Content_Types].xml": "<Types/>",
-        "xl/workbook.xml": f'<workbook xmlns="{MAIN}" xmlns:r="{OFFICE}"><sheets>{names}</sheets></workbook>',
-        "xl/_rels/workbook.xml.rels": f"<Relationships>{targets}</Relationships>",
-        "xl/sharedStrings.xml": f'<sst xmlns="{MAIN}">{shared}</sst>',
-        "xl/styles.xml": f'<styleSheet xmlns="{MAIN}">{formats}</styleSheet>',
-        **parts,
-    })
+    return zip_of(
+        {
+            "[Content_Types].xml": "<Types/>",
+            "xl/workbook.xml": f'<workbook xmlns="{MAIN}" xmlns:r="{OFFICE}"><sheets>{names}</sheets></workbook>',
+            "xl/_rels/workbook.xml.rels": f"<Relationships>{targets}</Relationships>",
+            "xl/sharedStrings.xml": f'<sst xmlns="{MAIN}">{shared}</sst>',
+            "xl/styles.xml": f'<styleSheet xmlns="{MAIN}">{formats}</styleSheet>',
+            **parts,
+        }
+    )
 
 
 # A workbook of two sheets, with a Director over merged cells, per cent and dates.

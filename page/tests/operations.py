@@ -6,19 +6,18 @@ from fractions import Fraction
 from random import Random
 
 from actions import Act, Change, Model, drawn_act, spelled
-from board_python.amounts import with_numbers
-from board_python.errors import BadInput
-from board_python.member_tables import MOST_VOTES
-from board_python.standing import Standing, standing_of
+from member_tables import MOST_VOTES, register_of
 from oracle import Oracle
+from voting_board import Register
+from voting_board.amounts import BadStudy, records_of
 
 MOST_CHAIRS = 32
 WORDS = ["merge", "dissolve", "split", "scale"]
 
 
-def seated(standing: Standing, chair: int) -> list[str]:
+def seated(register: Register, chair: int) -> list[str]:
     """The members of a chair in order of entry."""
-    return [code for code, place in standing.register.members.items() if place.chair == chair]
+    return [code for code, place in register.members.items() if place.chair == chair]
 
 
 def scaled(votes: int, percent: str) -> int:
@@ -26,24 +25,24 @@ def scaled(votes: int, percent: str) -> int:
     return round(votes * (1 + Fraction(percent.removesuffix("%")) / 100))
 
 
-def codes_of(standing: Standing, who: str) -> list[str]:
+def codes_of(register: Register, who: str) -> list[str]:
     """The members of a chair, or those whose codes are joined by `+`."""
-    return seated(standing, int(who)) if who.isdigit() else who.split("+")
+    return seated(register, int(who)) if who.isdigit() else who.split("+")
 
 
-def commands_of(standing: Standing, operation: str) -> list[str]:
+def commands_of(register: Register, operation: str) -> list[str]:
     """The commands of an operation on a register; none if it can't be carried out."""
     word, first, second = operation.split(",")
     if word in ("merge", "dissolve"):
-        return [*(f"move,{code},{second}" for code in seated(standing, int(first))), f"close,{first}"]
+        return [*(f"move,{code},{second}" for code in seated(register, int(first))), f"close,{first}"]
     if word == "split":
-        closed = [it for it in range(1, MOST_CHAIRS + 1) if it not in standing.register.chairs]
+        closed = [it for it in range(1, MOST_CHAIRS + 1) if it not in register.chairs]
         chair = closed[0] if first == "lowest" else int(first)
         return [f"open,{chair}", *(f"move,{code},{chair}" for code in second.split("+"))]
-    codes = codes_of(standing, first)
-    if not set(codes) <= set(standing.register.members):
+    codes = codes_of(register, first)
+    if not set(codes) <= set(register.members):
         return []
-    votes = {code: scaled(standing.register.members[code].votes, second) for code in codes}
+    votes = {code: scaled(register.members[code].votes, second) for code in codes}
     if not all(0 <= it <= MOST_VOTES for it in votes.values()):
         return []
     return [f"votes,{code},{it}" for code, it in votes.items()]
@@ -52,45 +51,45 @@ def commands_of(standing: Standing, operation: str) -> list[str]:
 class Walk(Model):
     """The list of changes with operations that the page must keep."""
 
-    def expanded(self, oracle: Oracle) -> tuple[list[str], Standing]:
+    def expanded(self, oracle: Oracle) -> tuple[list[str], Register]:
         """The commands of all changes that are on, and the register after them. Of a refused operation, all commands
         are left out; another refused command stays."""
-        standing, commands = standing_of(oracle.table), list[str]()
+        register, commands = register_of(oracle.table), list[str]()
         for change in self.changes:
             if not change.is_on:
                 continue
-            added, is_whole = added_by(standing, change)
+            added, is_whole = added_by(register, change)
             answers = oracle.answers([*commands, *added])[len(commands) :] if added else []
             accepted = [command for command, line in zip(added, answers) if line.startswith("accepted,")]
             if is_whole and accepted != added:
                 continue
             commands += added
             for command in accepted:
-                standing.take(command)
-        return commands, standing
+                register.submit(command)
+        return commands, register
 
 
-def added_by(standing: Standing, change: Change) -> tuple[list[str], bool]:
+def added_by(register: Register, change: Change) -> tuple[list[str], bool]:
     """The commands of a change, and whether it is an operation."""
     if change.command.split(",")[0] in WORDS:
-        return commands_of(standing, change.command), True
-    with suppress(BadInput):
-        return with_numbers(standing, spelled(change.command)), False
+        return commands_of(register, change.command), True
+    with suppress(BadStudy):
+        return records_of(register.members, spelled(change.command)), False
     return [], False
 
 
-def drawn_operation(some: Random, standing: Standing) -> Act:
+def drawn_operation(some: Random, register: Register) -> Act:
     """An operation, most often one that can be carried out."""
     # In order of entry, which is that of the list with ticks.
-    members = list(standing.register.members)
+    members = list(register.members)
     codes = sorted(some.sample(members, some.randint(1, 5)), key=members.index)
-    chair, other = some.sample(sorted(standing.register.chairs), 2)
+    chair, other = some.sample(sorted(register.chairs), 2)
     percent = f"{some.choice('+-')}{some.choice([0, 5, 33, 100])}{some.choice(['', '.5', '.125'])}%"
     drawn: list[Act] = [
         ["merge", str(chair), str(other)],
         ["dissolve", str(chair), some.choice(["none", str(other)])],
         ["split", some.choice(["lowest", str(some.randint(1, MOST_CHAIRS))]), "+".join(codes)],
-        ["split", "lowest", "+".join(seated(standing, chair)[:3] or codes)],
+        ["split", "lowest", "+".join(seated(register, chair)[:3] or codes)],
         ["scale", str(chair), percent],
         ["scale", "+".join(codes), percent],
     ]

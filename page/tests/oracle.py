@@ -6,8 +6,8 @@ from collections.abc import Callable
 from pathlib import Path
 from typing import Any
 
-from board_python.member_tables import MemberTable, input_lines, read_table
-from board_python.replay_output import Output, read_output
+from member_tables import MemberTable, input_lines, read_table
+from replay_output import Output, read_output
 from voting_board.scenarios import Scenario
 from voting_board.studies import study
 from voting_board.study_files import study_table

@@ -98,12 +98,13 @@ def test_contrast_of_what_is_refused(page: Page, scheme: str) -> None:
     check_names(page, "the menu")
 
 
-def test_width_of_a_phone(page: Page) -> None:
+@pytest.mark.parametrize("width", [NARROW, 360])
+def test_width_of_a_phone(page: Page, width: int) -> None:
     # Catches: a page that must be scrolled sideways on a phone, since something in it is wider than the screen.
-    page.show(NARROW, 844)
+    page.show(width, 844)
     for tab in TABS:
         page.click(tab)
-        assert not page.look("wide", NARROW), tab
+        assert not page.look("wide", width), tab
 
 
 def stops(page: Page) -> list[dict[str, Any]]:

@@ -4,11 +4,11 @@ from __future__ import annotations
 import random
 from fractions import Fraction
 
-from board_python.replay_output import read_output
-from board_python.rounding import exact, rounded
 from chromium import NARROW, Page
 from figures import gains, measure_of
 from oracle import Oracle, text_of
+from replay_output import read_output
+from rounding import exact, rounded
 from selenium.webdriver.common.keys import Keys
 from test_access import tab_to
 from test_kept import WEIGHTY
@@ -52,7 +52,7 @@ def words(of: Gains, names: dict[int, str], sign: int) -> tuple[str, str]:
     *first, last = who if len(who) < 4 else [*who[:3], f"{len(who) - 3} more"]
     joined = f"{', '.join(first)} and {last}" if first else last
     text = signed(rounded(100 * sign * most, 3))
-    return f"{joined} ({text})", f"made here: {sign * most}"
+    return f"{joined} ({text} points)", f"made here: {sign * most}"
 
 
 def change(of: Gains) -> Fraction:

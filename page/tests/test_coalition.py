@@ -9,15 +9,16 @@ from fractions import Fraction
 from random import Random
 
 import pytest
-from board_python.replay_output import Reading
 from chromium import EVERY, NARROW, Page
 from coalition_count import Board, Coalition, counted, large_by_size
 from inputs import MOST
 from oracle import MAJORITIES, Oracle
+from replay_output import Reading
 from selenium.webdriver.common.keys import Keys
 from test_exports import DROP
 from test_hands import Finger, focus, middle
 from test_said import ARABIC, HEAD, opened
+from tests.shared.commands import Say
 
 BROWSERS = EVERY
 # The tests drive Chromium's touch screen, and its print and console.
@@ -247,7 +248,7 @@ def example(oracle: Oracle) -> Board:
 
 
 def vetoes(page: Page) -> list[list[int]]:
-    """The numbers of the veto chairs at each majority; the example's names have no digits."""
+    """The numbers of the chairs with a veto at each majority; the example's names have no digits."""
     return [[int(it) for it in re.findall(r"\d+", text.split(":")[1])] for text in page.texts("#vetoes li")]
 
 
@@ -267,7 +268,7 @@ def test_example(page: Page, oracle: Oracle) -> None:
     check = "{} the sum equals the counted number of winning coalitions: {:,}."
     assert page.texts("#size-checks li") == [check.format(WORDS[it.majority], it.winning) for it in readings]
     assert not page.all(".alarm") and vetoes(page) == vetoes_of(readings) == [[], [], [], []]
-    # With more votes chair 1 is in every winning coalition at 85 per cent, and at 70 with many more.
+    # With more votes chair 1 has a veto at 85 per cent, and at 70 with many more.
     for votes, where in [("900000", [False, False, True, False]), ("5000000", [True, True, True, True])]:
         assert page.act("votes", "XAA", votes)
         wanted = vetoes_of(oracle.output([f"votes,XAA,{votes}"], MAJORITIES).readings)
@@ -305,16 +306,18 @@ def test_few_chairs(page: Page, chairs: int) -> None:
         assert not page.at("#export-svg").is_enabled()
 
 
-def test_most(page: Page, times: list[str]) -> None:
+def test_most(page: Page, record_property: Say) -> None:
     # Catches: sums of the most votes that aren't exact any more, and a tab that takes seconds.
     opened(page, MOST, "most")
     for majority in ["70", "quorum"]:
         page.click(f"#at-{majority}")
-    took = page.run("""
+    took = page.run(
+        """
       const begun = performance.now();
       document.getElementById("tab-coalition").click();
-      return performance.now() - begun;""")
-    times.append(f"tab Coalition: {took:.0f} ms, 32 chairs at 4 majorities")
+      return performance.now() - begun;"""
+    )
+    record_property("time", f"tab Coalition: {took:.0f} ms, 32 chairs at 4 majorities")
     assert len(page.texts("#size-checks li")) == 4 and not page.all(".alarm")
     *_, total, check = sizes(page)
     assert total[1:] == check[1:] and check[1] == f"{2**32:,}"
@@ -323,10 +326,12 @@ def test_most(page: Page, times: list[str]) -> None:
 def test_a_sum_that_does_not_hold(small: Page) -> None:
     # Catches: a wrong count that is shown without a word. Here all sums of the page begin with votes that no chair has.
     small.click("#tab-power")
-    small.run("""
+    small.run(
+        """
       window.Float64Array = new Proxy(Float64Array, {
         construct: (made, words) => (words[0] === 1 ? new made(1).fill(10) : new made(...words)),
-      });""")
+      });"""
+    )
     assert small.act("votes", "AAA", "31")
     small.click("#tab-coalition")
     alarms = small.all('#panel > .alarm[role="alert"]')

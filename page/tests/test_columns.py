@@ -7,15 +7,16 @@ from pathlib import Path
 from statistics import median
 
 import pytest
-from board_python.rounding import exact, rounded
 from chromium import ACTS, EVERY, NARROW, Page
 from figures import rows, shown_majorities
 from oracle import MAJORITIES, Oracle, text_of
+from rounding import exact, rounded
 from selenium.webdriver.common.keys import Keys
 from test_exports import DROP
 from test_kept import reopened
-from test_table_files import tex_table
 from test_said import SEVEN, exported_table, opened, sha256
+from test_table_files import tex_table
+from tests.shared.commands import Say
 
 BROWSERS = EVERY
 # Firefox's driver shows no phone.
@@ -103,7 +104,7 @@ def check_columns(page: Page, oracle: Oracle, lists: list[list[str]], is_chained
 
 
 @pytest.mark.parametrize("against", ["base", "before"])
-def test_scenarios_as_columns(page: Page, oracle: Oracle, times: list[str], against: str) -> None:
+def test_scenarios_as_columns(page: Page, oracle: Oracle, record_property: Say, against: str) -> None:
     # Catches: a column with another scenario's numbers, or with what is added to another column.
     keep(page, REFORMS)
     for it in ["70", "quorum"]:
@@ -114,7 +115,7 @@ def test_scenarios_as_columns(page: Page, oracle: Oracle, times: list[str], agai
     counted(page)
     compared = check_columns(page, oracle, list(REFORMS.values()), against == "before")
     assert compared > 700
-    times.append(f"{compared} numbers of scenarios less {against} are the program's")
+    record_property("time", f"{compared} numbers of scenarios less {against} are the program's")
     carry_out(page, ["votes,XAB,500000"])
     check_columns(page, oracle, [*REFORMS.values(), ["votes,XAB,500000"]], against == "before")
 
@@ -140,8 +141,10 @@ def test_chairs_that_are_opened_again(page: Page, oracle: Oracle) -> None:
     page.choose("#columns", "steps")
     page.click("#tab-table")
     counted(page)
-    kinds = page.run("""return [...document.querySelectorAll('#chair-table tr[data-chair="1"]')].map(
-        (row) => [row.dataset.kind, [...row.children].map((it) => it.title.split(" ")[0])]);""")
+    kinds = page.run(
+        """return [...document.querySelectorAll('#chair-table tr[data-chair="1"]')].map(
+        (row) => [row.dataset.kind, [...row.children].map((it) => it.title.split(" ")[0])]);"""
+    )
     assert [kind for kind, _ in kinds] == ["closed", "opened"]
     share = shares(oracle, ["move,XAA,2", "close,1", "open,1", "move,XAD,1"], "half")[1]
     assert fraction_of(share) in kinds[1][1] and fraction_of(share) not in kinds[0][1]
@@ -237,8 +240,16 @@ def test_columns_for_latex(page: Page, oracle: Oracle) -> None:
     page.choose("#against", "before")
     counted(page)
     table = tex_table(page)
-    assert table.heads[1][2:10] == ["base", "50 % & more", "A_move", "base", "50 % & more", "added, points, less base",
-                                    "A_move", "added, points, less 50 % & more"]
+    assert table.heads[1][2:10] == [
+        "base",
+        "50 % & more",
+        "A_move",
+        "base",
+        "50 % & more",
+        "added, points, less base",
+        "A_move",
+        "added, points, less 50 % & more",
+    ]
     moved = shares(oracle, REFORMS["A move"], "half")
     place = table.heads[0].index("Share of power, simple majority (%)") + 3
     assert table.heads[1][place] == "A_move"
@@ -310,7 +321,7 @@ def edit_time(page: Page) -> float:
     return float(median(all_times[-EDITS:]))
 
 
-def test_an_edit_beside_eight_scenarios(page: Page, times: list[str]) -> None:
+def test_an_edit_beside_eight_scenarios(page: Page, record_property: Say) -> None:
     # Catches: scenarios that are all counted or drawn again in a way that makes each edit wait for them.
     for it in ["70", "quorum"]:
         page.click(f"#at-{it}")
@@ -322,5 +333,7 @@ def test_an_edit_beside_eight_scenarios(page: Page, times: list[str]) -> None:
     page.choose("#columns", "scenarios")
     counted(page)
     beside = min(edit_time(page) for _ in range(ROUNDS))
-    times.append(f"an edit beside eight scenarios {beside:.0f} ms, {beside / alone:.1f} times one alone, 4 majorities")
+    record_property(
+        "time", f"an edit beside eight scenarios {beside:.0f} ms, {beside / alone:.1f} times one alone, 4 majorities"
+    )
     assert beside < MOST_TO_EDIT * alone

@@ -29,9 +29,12 @@ def wait(page: Page) -> None:
 @pytest.fixture
 def made(page: Page, tmp_path: Path) -> Path:
     """The folder of a study's files; its page is open."""
-    words = [word for label, commands in SCENARIOS.items() for word in ("--scenario", f"{label}: {'; '.join(commands)}")]
+    words = [
+        word for label, commands in SCENARIOS.items() for word in ("--scenario", f"{label}: {'; '.join(commands)}")
+    ]
     words += ["--sweep", SWEEP, "--title", "What if?", str(tmp_path / "it")]
-    subprocess.run([TOP / "commands" / "board-study", EXAMPLE, *words], check=True, stdout=subprocess.DEVNULL)
+    command = TOP / "bindings" / "python" / "commands" / "board-study"
+    subprocess.run([command, EXAMPLE, *words], check=True, stdout=subprocess.DEVNULL)
     page.open(tmp_path / "it.html")
     wait(page)
     return tmp_path

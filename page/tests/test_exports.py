@@ -10,10 +10,10 @@ import xml.etree.ElementTree as ElementTree
 from pathlib import Path
 
 import pytest
-from board_python.replay_output import read_output
 from chromium import Page
 from figures import BEFORE, EACH, check_figures, lowest, rows, shown_majorities
 from oracle import EXAMPLE, TOP, Oracle
+from replay_output import read_output
 from selenium.webdriver.common.keys import Keys
 from test_random import table_of
 
@@ -40,7 +40,7 @@ def check_provenance(text: str, page: Page, oracle: Oracle) -> None:
     starts = [next((it for it in lines if start in it), "") for start in PROVENANCE]
     assert all(starts) and re.search(r"counted by board \d+\.\d+\.\d+, commit [0-9a-f]{40}", starts[0]), lines[:9]
     script = oracle.script(COMMANDS, shown_majorities(page)).encode()
-    assert starts[1].endswith(sha256((TOP / "wasm" / "out" / "board.wasm").read_bytes()))
+    assert starts[1].endswith(sha256((TOP / "targets" / "wasm" / "out" / "board.wasm").read_bytes()))
     assert starts[2].endswith(sha256(EXAMPLE.read_bytes()))
     assert starts[3].endswith(sha256(script)) and starts[4].endswith(sha256(oracle.lines(script)))
 
@@ -71,7 +71,7 @@ def test_csv_of_the_script(study: Page, oracle: Oracle, tmp_path: Path) -> None:
     _, content = study.downloaded("#export-csv")
     words = ["examples/members.csv", str(tmp_path / "it")]
     words += ["--at", ",".join(shown_majorities(study)), "--scenario", f"changed: {'; '.join(COMMANDS)}"]
-    subprocess.run([TOP / "commands" / "board-study", *words], check=True, cwd=TOP)
+    subprocess.run([TOP / "bindings" / "python" / "commands" / "board-study", *words], check=True, cwd=TOP)
     assert table_of(content.decode()) == table_of((tmp_path / "it.csv").read_text())
 
 

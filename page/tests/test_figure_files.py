@@ -22,7 +22,9 @@ INCH = 25.4
 WIDTHS = {"single": 84.0, "double": 174.0, "slide": 254.0}
 # The generic family that ends each list, and the font that Debian has for it.
 FACES = {
-    "sans": ("sans-serif", "DejaVuSans"), "serif": ("serif", "DejaVuSerif"), "mono": ("monospace", "DejaVuSansMono"),
+    "sans": ("sans-serif", "DejaVuSans"),
+    "serif": ("serif", "DejaVuSerif"),
+    "mono": ("monospace", "DejaVuSansMono"),
 }
 SVG = "{http://www.w3.org/2000/svg}"
 # Draws a file's figure on the page and gives its texts that reach beyond it, or into another text of the same line.
@@ -286,7 +288,8 @@ def test_long_names(study: Page) -> None:
         """const [name, text] = arguments, dataTransfer = new DataTransfer();
         dataTransfer.items.add(new File([text], name, { type: "text/csv" }));
         document.body.dispatchEvent(new DragEvent("drop", { dataTransfer, bubbles: true, cancelable: true }));""",
-        f"{name}.csv", f"code,name,votes,chair,chair_name\nAAA,Alland,5,1,{name}\nBBB,Belland,4,2,Hills\n",
+        f"{name}.csv",
+        f"code,name,votes,chair,chair_name\nAAA,Alland,5,1,{name}\nBBB,Belland,4,2,Hills\n",
     )
     study.until(lambda: study.all("#table-take"), "the preview")
     study.at("#table-take").click()

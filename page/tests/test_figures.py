@@ -1,15 +1,20 @@
 """The figures in the middle: measures, majorities, order, sentences, digits."""
 from __future__ import annotations
 
+import re
+from fractions import Fraction
+
 import pytest
-from board_python.replay_output import Ratio
-from board_python.rounding import exact, rounded
 from chromium import Page
 from figures import BEFORE, EACH, check_figures, gains, lowest, measure_of, rows, shown_majorities
 from oracle import MAJORITIES, Oracle
+from replay_output import Ratio
+from rounding import exact, rounded
 
 COMMANDS = ["votes,XAD,318104", "move,XAA,2"]
 MEASURES = ["share", "banzhaf", "prevent", "initiate", "swings"]
+# A number of a row in words, as a decimal and as a fraction; some units are hundredths.
+EQUATION = re.compile(r": ([+-]?[0-9,]+)(\.\d+)?( %| points)? = (-?\d+(?:/\d+)?) \(.+\)")
 
 
 @pytest.fixture
@@ -91,15 +96,34 @@ def test_no_coalition_wins(page: Page, oracle: Oracle) -> None:
 
 def test_fraction_at_each_number(page: Page, oracle: Oracle) -> None:
     # Catches: a row of the chart whose exact numbers can't be seen.
-    page.run("""
+    page.run(
+        """
       const row = document.querySelector('.chart g[data-chair="5"]');
       row.dispatchEvent(new MouseEvent("pointerover", { bubbles: true }));
-    """)
+    """
+    )
     for reading in oracle.output([], shown_majorities(page)).readings:
         assert lowest(reading.chairs[4].share) in page.text("#readout")
     page.click("#tab-table")
     page.click("#toggle-fractions")
     assert rows(page)[5][BEFORE][0] == rows(page)[5][BEFORE][1]
+
+
+@pytest.mark.parametrize("measure", MEASURES)
+def test_each_decimal_equals_its_fraction(changed: Page, measure: str) -> None:
+    # Catches: a decimal in percentage points that is said to equal a fraction of 1.
+    changed.choose("#measure", measure)
+    changed.run(
+        """document.querySelector('.chart g[data-chair="5"]').dispatchEvent(
+      new MouseEvent("pointerover", { bubbles: true }));"""
+    )
+    found = changed.texts("#readout li")
+    assert len(found) == 5 + 3 * len(shown_majorities(changed))
+    for text in found:
+        [(whole, part, unit, fraction)] = EQUATION.findall(text)
+        decimal = Fraction(whole.replace(",", "") + part) / (100 if unit else 1)
+        half = Fraction(5, 10 ** max(1, len(part))) / (100 if unit else 1)
+        assert abs(decimal - Fraction(fraction)) <= half, text
 
 
 def test_published_total(page: Page, oracle: Oracle) -> None:

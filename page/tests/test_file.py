@@ -52,8 +52,8 @@ def sum_of(script: str) -> str:
 
 def other_tools() -> str:
     """The tools here that differ from those that made the committed page."""
-    look = "tools/made-with | diff tools/made-with.txt -"
-    return subprocess.run(["sh", "-c", look], cwd=TOP, stdout=subprocess.PIPE, text=True).stdout or "none"
+    done = subprocess.run([TOP / "tools" / "made-with", "--compare"], stdout=subprocess.PIPE, text=True)
+    return done.stdout or "none"
 
 
 def test_size(page: Page) -> None:
@@ -76,7 +76,7 @@ def test_no_way_to_a_folder(page: Page) -> None:
 def test_module(page: Page) -> None:
     # Catches: a page whose count isn't the proved program's, since another module was built into it.
     modules = part_of(text_of(BUILT), MODULE)
-    assert list(map(base64.b64decode, modules)) == [(TOP / "wasm" / "out" / "board.wasm").read_bytes()]
+    assert list(map(base64.b64decode, modules)) == [(TOP / "targets" / "wasm" / "out" / "board.wasm").read_bytes()]
 
 
 def test_committed(page: Page) -> None:

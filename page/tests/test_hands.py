@@ -391,8 +391,16 @@ def load(page: Page, text: str, name: str) -> None:
 @pytest.mark.parametrize(
     ("text", "codes"),
     [
-        ("Turkiye", ["TUR"]), ("lodz", ["POL"]), ("GROSSE AEGIR", ["DEU"]), ("isik", ["ISK"]), ("tur", ["TUR"]),
-        ("1", ["TUR", "POL"]), ("chair 12", ["DEU"]), ("oster", ["TUR", "POL"]), ("unal", ["DEU"]), ("xyz", []),
+        ("Turkiye", ["TUR"]),
+        ("lodz", ["POL"]),
+        ("GROSSE AEGIR", ["DEU"]),
+        ("isik", ["ISK"]),
+        ("tur", ["TUR"]),
+        ("1", ["TUR", "POL"]),
+        ("chair 12", ["DEU"]),
+        ("oster", ["TUR", "POL"]),
+        ("unal", ["DEU"]),
+        ("xyz", []),
     ],
 )
 def test_filter(page: Page, text: str, codes: list[str]) -> None:
@@ -509,9 +517,7 @@ def test_published_total(page: Page) -> None:
     assert page.text("#published-wrong") == "“504.90” has decimals: write a whole number, such as 504."
     assert page.at("#published").get_property("value") == "504.90" and page.text("#published-words") == same
     page.write("#published", "99999999999999999999")
-    assert page.text("#published-wrong") == (
-        "“99999999999999999999” is above the limit of 281,474,976,710,656."
-    )
+    assert page.text("#published-wrong") == ("“99999999999999999999” is above the limit of 281,474,976,710,656.")
     page.write("#published", Keys.BACKSPACE)
     assert page.text("#published-wrong") == page.text("#published-words") == ""
 
@@ -610,8 +616,10 @@ def test_paper(page: Page, tmp_path: Path) -> None:
         page.click(f"#at-{majority}")
     assert page.act("votes", "XAD", "+40%")
     page.click("#tab-table")
-    cells = page.run("""return [...document.querySelectorAll("#chair-table tbody tr")].map(
-      (row) => [...row.cells].map((it) => it.textContent));""")
+    cells = page.run(
+        """return [...document.querySelectorAll("#chair-table tbody tr")].map(
+      (row) => [...row.cells].map((it) => it.textContent));"""
+    )
     found = "".join(printed(page, tmp_path).split())
     assert len(cells) == 24 and len(cells[0]) == 19
     for row in cells:
@@ -692,10 +700,19 @@ def test_hands_in_firefox() -> None:
         drag_in(fox, "touch", [start, (start[0], start[1] + 20), end], round(1000 * HELD))
         words_in(fox, ["XAA Marenia: chair 1 → chair 3", "XAB Roswick: chair 2 → chair 4"])
         assert not fox.run('return document.querySelector("dialog, .ghost");')
-        keys = [{"type": kind, "value": key} for kind, key in [
-            ("keyDown", Keys.CONTROL), ("keyDown", "z"), ("keyUp", "z"), ("keyDown", "y"), ("keyUp", "y"),
-            ("keyDown", "z"), ("keyUp", "z"), ("keyUp", Keys.CONTROL),
-        ]]
+        keys = [
+            {"type": kind, "value": key}
+            for kind, key in [
+                ("keyDown", Keys.CONTROL),
+                ("keyDown", "z"),
+                ("keyUp", "z"),
+                ("keyDown", "y"),
+                ("keyUp", "y"),
+                ("keyDown", "z"),
+                ("keyUp", "z"),
+                ("keyUp", Keys.CONTROL),
+            ]
+        ]
         fox.run('document.getElementById("at-half").focus();')
         fox.send("WebDriver:PerformActions", actions=[{"type": "key", "id": "keys", "actions": keys}])
         words_in(fox, ["XAA Marenia: chair 1 → chair 3"])

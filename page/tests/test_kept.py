@@ -7,28 +7,27 @@ from pathlib import Path
 
 import pytest
 from actions import drawn_command, spelled
-from board_python.amounts import with_numbers
-from board_python.drawn_boards import codes
-from board_python.errors import BadInput
-from board_python.standing import standing_of
 from chromium import EVERY, Page
 from figures import check_figures
+from inputs import user_codes
+from member_tables import register_of
 from oracle import MAJORITIES, TOP, Oracle
 from test_exports import DROP
 from test_random import TEXTS, table_of
 from test_said import HEAD, opened
 from test_studies import ask
+from voting_board.amounts import BadStudy, records_of
 
 BROWSERS = EVERY
 SEED, PARTS, SCRIPTS = 20_260_103, 4, 10
 LONG = "n" * 3000
 PLACES = ["#changes .change-words", "#scenarios tr", "#thresholds li", "#sentences p", "#sweep-table tr"]
-NAMES = HEAD + f"AAA,{LONG},40,1,{LONG},\nBBB,\"quote \"\" </script> ,\",30,2,a\\b,\nCCC,é\u2028\U0001f600,20,3,,\n"
+NAMES = HEAD + f'AAA,{LONG},40,1,{LONG},\nBBB,"quote "" </script> ,",30,2,a\\b,\nCCC,é\u2028\U0001f600,20,3,,\n'
 # 208 members in 32 chairs, which take some milliseconds to count.
-WEIGHTY = HEAD + "".join(f"{code},,{10**9 + 7919 * at},{1 + at % 32},,\n" for at, code in enumerate(codes(208)))
+WEIGHTY = HEAD + "".join(f"{code},,{10**9 + 7919 * at},{1 + at % 32},,\n" for at, code in enumerate(user_codes(208)))
 
 # As many chairs as the independent count takes.
-MANY = HEAD + "".join(f"{code},,{1000 + 7 * at},{1 + at},,\n" for at, code in enumerate(codes(26)))
+MANY = HEAD + "".join(f"{code},,{1000 + 7 * at},{1 + at},,\n" for at, code in enumerate(user_codes(26)))
 
 
 def test_many_tables_that_were_opened(page: Page) -> None:
@@ -57,7 +56,7 @@ def test_any_study_can_be_saved(page: Page, way: str, tmp_path: Path) -> None:
     for act in [["votes", "AAA", "+12.5%"], ["move", "BBB", "none"], ["suspend", "CCC"], ["suspend", "CCC"]]:
         assert page.act(*act)
     page.write("#published", "281474976710656")
-    page.write("#scenario-name", "A \"name\"; ñ")
+    page.write("#scenario-name", 'A "name"; ñ')
     ask(page, "AAA", "changed", "10", "20", "5")
     page.until(lambda: page.all("#sweep-table"), "the sweep")
     page.until(lambda: "counting" not in page.text("#scenarios"), "the scenarios")
@@ -130,8 +129,9 @@ def test_scripts_in_odd_spellings(page: Page, oracle: Oracle, part: int) -> None
         commands: list[str] = []
         for _ in range(some.randint(0, 9)):
             try:
-                commands += with_numbers(standing_of(oracle.table), spelled(",".join(drawn_command(some, oracle))))
-            except BadInput:
+                drawn = spelled(",".join(drawn_command(some, oracle)))
+                commands += records_of(register_of(oracle.table).members, drawn)
+            except BadStudy:
                 continue
         clean = oracle.script(commands, majorities)
         odd = oddly(some, clean)

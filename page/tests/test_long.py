@@ -10,6 +10,7 @@ import pytest
 from chromium import ACTS, Page
 from oracle import Oracle, text_of
 from test_exports import DROP
+from tests.shared.commands import Say
 
 INPUT_BYTES = 4_194_304
 SEED, EDITS, ROUNDS = 20_260_102, 20, 4
@@ -64,7 +65,7 @@ def edits(page: Page) -> float:
     return float(median(all_times[-EDITS:]))
 
 
-def test_as_long_as_there_may_be(page: Page, oracle: Oracle, script: str, times: list[str]) -> None:
+def test_as_long_as_there_may_be(page: Page, oracle: Oracle, script: str, record_property: Say) -> None:
     # Catches: a page that replays the whole script at each edit, or lists hundreds of thousands of changes.
     of_example = edits(page)
     program, opened = replayed(oracle, script), []
@@ -77,6 +78,6 @@ def test_as_long_as_there_may_be(page: Page, oracle: Oracle, script: str, times:
     assert f"{int(total):,} votes" in page.text("#summary")
     of_long = edits(page)
     ratio = f"{min(opened) / program:.1f} times board replay"
-    times.append(f"{INPUT_BYTES:,} bytes opened in {min(opened):.0f} ms, {ratio}")
-    times.append(f"an edit after it {of_long:.0f} ms, {of_long / of_example:.1f} times one of the example")
+    record_property("time", f"{INPUT_BYTES:,} bytes opened in {min(opened):.0f} ms, {ratio}")
+    record_property("time", f"an edit after it {of_long:.0f} ms, {of_long / of_example:.1f} times one of the example")
     assert min(opened) < MOST_TO_OPEN * program and of_long < MOST_TO_EDIT * of_example

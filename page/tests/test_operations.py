@@ -6,14 +6,15 @@ import random
 from pathlib import Path
 
 import pytest
-from board_python.standing import standing_of
 from chromium import Page
 from figures import check_figures, shown_majorities
+from member_tables import register_of
 from operations import Walk, commands_of, drawn
 from oracle import Oracle
 from selenium.webdriver.common.keys import Keys
 from test_hands import Finger, changes, finger, focus, live, middle, says
 from test_random import TEXTS, table_of
+from tests.shared.commands import Say
 
 SEED, ACTS, EACH = 20_260_105, 100, 4
 # The fewest numbers that are compared, of one list of changes and in the walk.
@@ -158,10 +159,12 @@ def test_several_members(page: Page, oracle: Oracle) -> None:
     codes = ["XAA", *(it.code for it in oracle.table.members if it.chair == 10)]
     commands = expected(oracle, f"scale,{'+'.join(codes)},-10%")
     assert check(page, oracle, commands) >= FEWEST
-    page.run("""
+    page.run(
+        """
       const range = document.getElementById("slide-1");
       range.value = 25;
-      range.dispatchEvent(new Event("input", { bubbles: true }));""")
+      range.dispatchEvent(new Event("input", { bubbles: true }));"""
+    )
     page.settle()
     assert changes(page)[0].startswith("11 members: votes +25 % (XAA Marenia 650,549 → 813,186, ")
     check_figures(page, oracle, expected(oracle, f"scale,{'+'.join(codes)},+25%"))
@@ -279,7 +282,7 @@ def test_a_full_board(page: Page, oracle: Oracle) -> None:
     page.press(Keys.ESCAPE)
     assert page.act("merge", "10", "5") and page.act("split", "lowest", "XAE")
     opened = [f"open,{chair}" for chair in range(25, 33)]
-    moved = commands_of(standing_of(oracle.table), "merge,10,5")
+    moved = commands_of(register_of(oracle.table), "merge,10,5")
     check_figures(page, oracle, [*opened, *moved, "open,10", "move,XAE,10"])
 
 
@@ -334,7 +337,7 @@ def seats(oracle: Oracle, chair: int) -> list[str]:
 # Any operations.
 
 
-def test_a_random_walk(page: Page, oracle: Oracle, times: list[str]) -> None:
+def test_a_random_walk(page: Page, oracle: Oracle, record_property: Say) -> None:
     # Catches: any sequence of operations and changes after which the page shows other numbers than its script gives.
     some, walk, compared, taken = random.Random(SEED), Walk(), 0, 0
     page.show(height=200)
@@ -347,5 +350,5 @@ def test_a_random_walk(page: Page, oracle: Oracle, times: list[str]) -> None:
         taken += 1
         if taken % EACH == 0:
             compared += check(page, oracle, walk.expanded(oracle)[0])
-    times.append(f"operations: {compared} numbers of a walk of {ACTS} acts were compared with the program")
+    record_property("time", f"operations: {compared} numbers of a walk of {ACTS} acts were compared with the program")
     assert compared >= LEAST_COMPARED

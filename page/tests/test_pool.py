@@ -8,6 +8,7 @@ import inputs
 from chromium import Page
 from test_said import opened
 from test_studies import CELLS, ask, sweep
+from tests.shared.commands import Say
 
 SEED = 20_261_128
 # The part of one worker's time that four workers take at most, on a machine with nothing else to do. It is tried in
@@ -102,7 +103,7 @@ def milliseconds(page: Page, value: int) -> float:
     return found
 
 
-def test_several_workers_take_less_time(page: Page, times: list[str]) -> None:
+def test_several_workers_take_less_time(page: Page, record_property: Say) -> None:
     # Catches: workers that wait for one another, or a sweep that one of them counts alone.
     least, plain = {1: math.inf, 4: math.inf}, {1: math.inf, 4: math.inf}
     for at in range(ROUNDS):
@@ -115,6 +116,10 @@ def test_several_workers_take_less_time(page: Page, times: list[str]) -> None:
             break
     ratio, possible = least[4] / least[1], plain[4] / plain[1]
     words = "200 values at 32 chairs, 256 members and 4 majorities"
-    times.append(f"{words}: {least[1]:.0f} ms with one worker, {least[4]:.0f} ms with four, {ratio:.2f} of it")
-    times.append(f"a plain loop then: {plain[1]:.0f} ms with one worker, {plain[4]:.0f} ms with four, {possible:.2f}")
+    record_property(
+        "time", f"{words}: {least[1]:.0f} ms with one worker, {least[4]:.0f} ms with four, {ratio:.2f} of it"
+    )
+    record_property(
+        "time", f"a plain loop then: {plain[1]:.0f} ms with one worker, {plain[4]:.0f} ms with four, {possible:.2f}"
+    )
     assert ratio < max(AIM, TIMES_PLAIN * possible)

@@ -76,10 +76,12 @@ def test_a_chair_that_is_opened_again_is_new(page: Page, oracle: Oracle) -> None
     for code in seated:
         assert page.act("move", code, "none")
     assert page.act("close", "18") and page.act("open") and page.act("move", seated[0], "18")
-    found = page.run('return [...document.querySelectorAll(\'#chair-table tr[data-chair="18"]\')].length;')
+    found = page.run("return [...document.querySelectorAll('#chair-table tr[data-chair=\"18\"]')].length;")
     page.click("#tab-table")
-    kinds = page.run("""return [...document.querySelectorAll('#chair-table tr[data-chair="18"]')].map(
-      (row) => [row.dataset.kind, row.children[1].textContent]);""")
+    kinds = page.run(
+        """return [...document.querySelectorAll('#chair-table tr[data-chair="18"]')].map(
+      (row) => [row.dataset.kind, row.children[1].textContent]);"""
+    )
     old = oracle.table.chair_names[18]
     name = next(it.name for it in oracle.table.members if it.code == seated[0])
     assert found == 0 and kinds == [["closed", f"{old} (closed)"], ["opened", f"{name} (new)"]]
@@ -135,6 +137,9 @@ def test_sources_and_definitions_stand_where_they_are_used(page: Page) -> None:
     # Catches: terms that are nowhere defined, and shares that don't add up without a word.
     board = page.text("#board")
     assert "A coalition is a set of open chairs." in board and "Power to act: the winning coalitions over all" in board
+    title = "Share of power (normalised Banzhaf index)"
+    options = page.run('return [...document.getElementById("measure").options].map((it) => it.text);')
+    assert title in options and title in page.texts("#foot dt")
     page.click("#tab-table")
     assert "Numbers may not add up: each is rounded alone." in page.text("#panel")
     for measure, words in {"prevent": "by power to prevent action", "banzhaf": "by Banzhaf measure"}.items():

@@ -5,18 +5,17 @@ from typing import Any
 
 import inputs
 import pytest
-from board_python.amounts import with_numbers
-from board_python.member_tables import MOST_VOTES
-from board_python.replay_output import Chair, Ratio
-from board_python.rounding import exact, rounded
-from board_python.standing import standing_of
 from chromium import ACTS, Page
 from figures import check_figures, gains, lowest, shown_majorities
+from member_tables import MOST_VOTES, register_of
 from oracle import Oracle, least
+from replay_output import Chair, Ratio
+from rounding import exact, rounded
 from selenium.webdriver.common.action_chains import ActionChains
 from test_exports import DROP
 from test_random import table_of
 from test_tables import take
+from voting_board.amounts import records_of
 
 CELLS = """return [...document.querySelectorAll("#sweep-table tbody tr")].map(
   (row) => [...row.children].map((it) => it.title.split(" ")[0] || it.textContent));"""
@@ -61,7 +60,7 @@ def test_sweep_of_a_member(page: Page, oracle: Oracle) -> None:
     cells = page.run(CELLS)
     assert len(cells) == 59 and shown_majorities(page) == ["half", "85"]
     for value, votes, _, *shares in cells[::6]:
-        [command] = with_numbers(standing_of(oracle.table), f"votes,XAD,{value}% of total")
+        [command] = records_of(register_of(oracle.table).members, f"votes,XAD,{value}% of total")
         assert command == f"votes,XAD,{votes.replace(',', '')}"
         assert shares == [lowest(chair_at(oracle, [command], at, 4).share) for at in ("half", "85")]
 
@@ -70,7 +69,7 @@ def test_threshold(page: Page, oracle: Oracle) -> None:
     # Catches: a threshold that is read off the curve, or that is one vote too high or too low.
     sweep(page, "XAD", "base", "1", "30", "0.5")
     rest = sum(it.votes for it in oracle.table.members) - 227_217
-    for what, words in {"prevent": "prevents everything", "initiate": "carries everything alone"}.items():
+    for what, words in {"prevent": "has a veto", "initiate": "carries everything alone"}.items():
         for majority, at in {"85": "At 85 per cent", "half": "At a simple majority"}.items():
 
             def holds(votes: int) -> bool:
@@ -99,7 +98,7 @@ def test_sweep_of_a_chair_on_the_changed_board(page: Page, oracle: Oracle) -> No
         assert votes.replace(",", "") == value
         assert shares == [lowest(chair_at(oracle, others(int(value)), at, 5).share) for at in ("half", "85")]
     votes = least(lambda it: is_one(chair_at(oracle, others(it), "85", 5).prevent), 0, MOST_VOTES)
-    assert any(f"prevents everything from {votes:,} votes" in it for it in page.texts("#thresholds li"))
+    assert any(f"has a veto from {votes:,} votes" in it for it in page.texts("#thresholds li"))
 
 
 @pytest.mark.parametrize(("first", "last", "by"), [("10", "20", "5"), ("10", "20", "2.5"), ("7.5", "8", "0.25")])
@@ -134,7 +133,7 @@ def test_scenarios(page: Page, oracle: Oracle) -> None:
             of = gains(oracle, commands, majority)
             best, worst = max(of, key=lambda it: of[it]), min(of, key=lambda it: of[it])
             words = page.text(f'#scenarios tr[data-scenario="{name}"][data-majority="{majority}"]')
-            wanted = [f"{it} {names[it]} ({signed(rounded(100 * of[it], 3))})" for it in (best, worst)]
+            wanted = [f"{it} {names[it]} ({signed(rounded(100 * of[it], 3))} points)" for it in (best, worst)]
             assert " ".join(wanted) in words
     assert table_of(page.act("exported", "export-csv")) == table_of(oracle.study(kept, shown_majorities(page)))
     page.click('[aria-label="Show A move"]')
@@ -163,6 +162,7 @@ def test_best_move(page: Page, oracle: Oracle) -> None:
     rows = """return [...document.querySelectorAll("#best-table tbody tr")].map(
       (row) => [row.dataset.code, row.children[4].title.split(" ")[0]]);"""
     found = dict(page.run(rows))
+    assert "Added, points" in page.texts("#best-table th")
     elsewhere = [it.code for it in oracle.table.members if it.chair != 5]
     wanted = {code: chair_at(oracle, [f"move,{code},5"], "85", 5).share for code in elsewhere}
     assert found == {code: lowest(it) for code, it in wanted.items()}

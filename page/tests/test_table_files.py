@@ -10,11 +10,11 @@ from typing import Any
 
 import openpyxl  # type: ignore[import]
 import pytest
-from board_python.replay_output import Chair, Reading
-from board_python.rounding import exact
 from chromium import EVERY, NARROW, Page
 from figures import measure_of, shown_majorities
 from oracle import MAJORITIES, TOP, Oracle
+from replay_output import Chair, Reading
+from rounding import exact
 from selenium.webdriver.common.keys import Keys
 from test_exports import COMMANDS, sha256
 from test_hands import Finger, middle
@@ -26,14 +26,38 @@ BROWSERS = EVERY
 NOT_IN_FIREFOX = ["test_a_finger"]
 LABELS = {"half": "simple majority", "70": "70 per cent", "85": "85 per cent", "quorum": "quorum"}
 MEASURES = {
-    "share": "Share of power", "banzhaf": "Banzhaf measure", "prevent": "Power to prevent action",
-    "initiate": "Power to initiate action", "swings": "Swings",
+    "share": "Share of power",
+    "banzhaf": "Banzhaf measure",
+    "prevent": "Power to prevent action",
+    "initiate": "Power to initiate action",
+    "swings": "Swings",
 }
 # Names with every character that LaTeX, XML or a spreadsheet takes for something else.
 HOSTILE = [
-    "A & B", "100 % of it", "$x_1^2$", "#1", "{open", "close}", "~tilde~ ^hat^", "back\\slash\\\\", "\\input{x} \\end",
-    "<i>|`\"quote\"'", "=1+1", "+SUM(A1)", "-2", "@x", "%", "_x0041_ & _", "]]> & <![CDATA[", "Ünter 日本", DIRECTOR,
-    f"{DIRECTOR} & 50 %", "--", "\\", "a\\", "&amp;",
+    "A & B",
+    "100 % of it",
+    "$x_1^2$",
+    "#1",
+    "{open",
+    "close}",
+    "~tilde~ ^hat^",
+    "back\\slash\\\\",
+    "\\input{x} \\end",
+    '<i>|`"quote"\'',
+    "=1+1",
+    "+SUM(A1)",
+    "-2",
+    "@x",
+    "%",
+    "_x0041_ & _",
+    "]]> & <![CDATA[",
+    "Ünter 日本",
+    DIRECTOR,
+    f"{DIRECTOR} & 50 %",
+    "--",
+    "\\",
+    "a\\",
+    "&amp;",
 ]
 
 
@@ -136,11 +160,16 @@ def test_latex_fractions_and_order(study: Page, oracle: Oracle) -> None:
     study.choose("#order-at", "half")
     study.click("#tab-table")
     study.click("#toggle-fractions")
-    shown = study.run("""return [...document.querySelectorAll("#chair-table tbody tr")].map(
-      (row) => [...row.cells].map((it) => it.textContent));""")
+    shown = study.run(
+        """return [...document.querySelectorAll("#chair-table tbody tr")].map(
+      (row) => [...row.cells].map((it) => it.textContent));"""
+    )
     table, found = tex_table(study), pairs(oracle, MAJORITIES)
     assert table.rows == [[{"-": "--"}.get(it, it) for it in row] for row in shown]
     assert [int(it[0]) for it in table.rows] != sorted(int(it[0]) for it in table.rows)
+    # Catches: fractions under a heading that says points.
+    heads = study.texts("#chair-table thead th") + table.heads[1]
+    assert "Added, 85 per cent" in heads and not any("points" in it for it in heads)
     for chair, _, *cells in table.rows:
         values = [Fraction(it) for it in cells]
         for at, majority in enumerate(MAJORITIES):
@@ -221,9 +250,7 @@ def check_cells(row: dict[str, Any], wanted: dict[str, str]) -> int:
 def exact_values(row: dict[str, str], base: dict[str, str]) -> Iterator[tuple[str, Fraction]]:
     """The fractions of a row, and the differences from its row in the base."""
     for name in ["vote_share", "banzhaf", "power_share", "prevent", "initiate"]:
-        value, before = (
-            Fraction(int(it[f"{name}_numerator"]), int(it[f"{name}_denominator"])) for it in (row, base)
-        )
+        value, before = (Fraction(int(it[f"{name}_numerator"]), int(it[f"{name}_denominator"])) for it in (row, base))
         yield name, value
         yield f"{name}_difference", value - before
 
@@ -254,8 +281,10 @@ def test_workbook_source(study: Page, oracle: Oracle) -> None:
     book = workbook(study)[1]
     rows = [(row["what"], row["text"] or "") for row in rows_of(book["Source"])]
     script = "\n".join(text for what, text in rows if what == "script")
-    assert script == oracle.script(COMMANDS, MAJORITIES) == "\n".join(
-        text for what, text in rows if what == "script of scenario Kept"
+    assert (
+        script
+        == oracle.script(COMMANDS, MAJORITIES)
+        == "\n".join(text for what, text in rows if what == "script of scenario Kept")
     )
     source = [text for what, text in rows if what == "source"]
     assert f"script sha256 {sha256(script.encode())}" in source and ("majorities", ", ".join(MAJORITIES)) in rows
@@ -353,14 +382,17 @@ def test_copies_in_the_dialog(study: Page, oracle: Oracle) -> None:
 
 
 def test_citation(study: Page, oracle: Oracle) -> None:
-    # Catches: a citation without version, date or hash, with an address that doesn't exist, or that no export names.
+    # Catches: a citation without author, version, date or hash, with an address that doesn't exist, or that no export
+    # names.
+    [author] = re.findall("^  - name: (.*)$", (TOP / "CITATION.cff").read_text(), re.MULTILINE)
     version, date = re.findall(r"^## ([0-9.]+), ([0-9-]+)$", (TOP / "CHANGELOG.md").read_text(), re.MULTILINE)[0]
     study.click("#export")
     study.click("#export-cite")
     study.until(lambda: study.all("#cite-bibtex"), "the citation")
     text, bibtex = study.text("#cite-text"), study.text("#cite-bibtex")
     script = sha256(oracle.script(COMMANDS, MAJORITIES).encode())
-    assert f"board {version} ({date})" in text and f"script sha256 {script}" in text
+    assert f"{author}. board {version} ({date})" in text and f"script sha256 {script}" in text
+    assert f"author = {{{{{author}}}}}" in bibtex and f"year = {{{date[:4]}}}" in bibtex
     assert f"version = {{{version}}}" in bibtex and f"date = {{{date}}}" in bibtex and script in bibtex
     assert not re.search("https?:|doi|url", (text + bibtex).lower())
     study.at("#cite-bibtex-copy").send_keys(Keys.ENTER)

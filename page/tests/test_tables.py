@@ -8,9 +8,9 @@ from pathlib import Path
 
 import inputs
 import pytest
-from board_python.member_tables import Member, MemberTable
 from chromium import EVERY, NARROW, Page
 from figures import check_figures, shown_majorities
+from member_tables import Member, MemberTable
 from oracle import Oracle
 from selenium.webdriver.common.keys import Keys
 from test_exports import DROP
@@ -167,10 +167,13 @@ def test_as_the_fund_prints_it(page: Page) -> None:
     for words in ["'Dresse' in row 6", "'Kosovo 3/' in row 7", "Row 9", "rows 10 to 12", "rows 6 to 8"]:
         assert words in notices, notices
     take(page)
-    assert records(page) == (
-        "UNI,831401 JAP,309205 ARM,2743 BEL,65567 KOS,1232 NET,154209 script open,1 open,2 open,3 "
-        "move,UNI,1 move,JAP,2 move,ARM,3 move,BEL,3 move,KOS,3 move,NET,3"
-    ).split()
+    assert (
+        records(page)
+        == (
+            "UNI,831401 JAP,309205 ARM,2743 BEL,65567 KOS,1232 NET,154209 script open,1 open,2 open,3 "
+            "move,UNI,1 move,JAP,2 move,ARM,3 move,BEL,3 move,KOS,3 move,NET,3"
+        ).split()
+    )
 
 
 def test_faults_all_at_once(page: Page) -> None:
@@ -446,13 +449,13 @@ def test_odd_names(page: Page, oracle: Oracle, tmp_path: Path) -> None:
     page.run(DROP, "odd.csv", inputs.ODD)
     page.until(lambda: page.all("#table-dialog"), "the preview")
     take(page, "odd")
-    rows: list[Row] = [('AAA', 'A, "B" </script><b>&amp;', 40, 1), ("BBB", "Łódź", 26, 2), ("CCC", "日本", 15, 3)]
+    rows: list[Row] = [("AAA", 'A, "B" </script><b>&amp;', 40, 1), ("BBB", "Łódź", 26, 2), ("CCC", "日本", 15, 3)]
     small = with_rows(oracle, rows, {1: '=1+1, "C" --> <i>', 2: "Ünter & Söhne; 'x'", 3: "%20"})
     assert page.act("votes", "AAA", "30") and not page.all("#page b, #page i")
     check_figures(page, small, ["votes,AAA,30"])
     wanted = small.study({"changed": ["votes,AAA,30"]}, shown_majorities(page))
     # A cell that a spreadsheet would take for a formula begins with an apostrophe.
-    assert table_of(page.act("exported", "export-csv")) == table_of(wanted.replace('"=1+1', '"\'=1+1'))
+    assert table_of(page.act("exported", "export-csv")) == table_of(wanted.replace('"=1+1', "\"'=1+1"))
     assert "Łódź" not in wanted and "Ünter & Söhne" in wanted
     picture = ElementTree.fromstring(page.act("exported", "export-svg"))
     assert any('1 =1+1, "C"' in (it.text or "") for it in picture.iter())

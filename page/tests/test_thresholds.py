@@ -5,12 +5,12 @@ import hashlib
 from collections.abc import Callable
 
 import pytest
-from board_python.member_tables import MOST_VOTES
-from board_python.replay_output import Ratio
-from board_python.rounding import exact, rounded
 from chromium import EVERY, NARROW, Page
 from figures import open_menu
+from member_tables import MOST_VOTES
 from oracle import MAJORITIES, Oracle, least
+from replay_output import Ratio
+from rounding import exact, rounded
 from selenium.webdriver.common.keys import Keys
 from test_access import tab_to
 from test_studies import is_one
@@ -163,7 +163,7 @@ def test_on_a_phone(page: Page) -> None:
     said = page.texts("#find-sentences li")
     assert len(said) == 6 and all(said) and not page.at("#find-table").is_displayed()
     assert not page.look("wide", NARROW)
-    wanted = "At 85 per cent it prevents everything from "
+    wanted = "At 85 per cent it has a veto from "
     [line] = [it for it in said if it.startswith(wanted)]
     assert "% of the total (not at " in line and line.endswith(" more than now.")
 

@@ -6,6 +6,7 @@ from statistics import median
 from chromium import Page
 from oracle import MAJORITIES
 from test_studies import sweep
+from tests.shared.commands import Say
 
 EDITS = 100
 SLIDE = """
@@ -17,10 +18,10 @@ SLIDE = """
 """
 
 
-def test_times(page: Page, times: list[str]) -> None:
+def test_times(page: Page, record_property: Say) -> None:
     # Catches: nothing. It prints the times, for developers of the page.
     first = page.run('const [it] = performance.getEntriesByName("edit to numbers"); return it.startTime + it.duration;')
-    times.append(f"opened to first numbers: {first:.0f} ms")
+    record_property("time", f"opened to first numbers: {first:.0f} ms")
     for majority in ["70", "quorum"]:
         page.click(f"#at-{majority}")
     assert page.act("votes", "XAD", "300000")
@@ -28,6 +29,6 @@ def test_times(page: Page, times: list[str]) -> None:
         page.wait_for(SLIDE, 300_001 + step)
     all_times = page.run('return performance.getEntriesByName("edit to numbers").map((it) => it.duration);')
     what = f"190 members in 24 chairs at {len(MAJORITIES)} majorities"
-    times.append(f"edit to numbers: {median(all_times[-EDITS:]):.0f} ms, median of {EDITS}; {what}")
+    record_property("time", f"edit to numbers: {median(all_times[-EDITS:]):.0f} ms, median of {EDITS}; {what}")
     sweep(page, "XAD", "base", "0.1", "20", "0.1")
-    times.append(f"{page.text('#sweep-words')}")
+    record_property("time", f"{page.text('#sweep-words')}")

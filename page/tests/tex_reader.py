@@ -5,8 +5,13 @@ import re
 from dataclasses import dataclass
 
 WORDS = {
-    "textbackslash": "\\", "textasciitilde": "~", "textasciicircum": "^", "textless": "<", "textgreater": ">",
-    "textbar": "|", "textasciigrave": "`",
+    "textbackslash": "\\",
+    "textasciitilde": "~",
+    "textasciicircum": "^",
+    "textless": "<",
+    "textgreater": ">",
+    "textbar": "|",
+    "textasciigrave": "`",
 }
 # What stands for one character, for a sign, or for itself; a bare special character is none of these.
 TOKEN = re.compile(

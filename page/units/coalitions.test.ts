@@ -146,7 +146,7 @@ test("a sum that isn't the counted number", () => {
   assert.deepEqual(checkOf(11, [0, 1, 10]), { sum: 11, holds: true });
 });
 
-test("veto chairs", () => {
+test("chairs with a veto", () => {
   // Catches: a veto by a chair that is only large, or by every chair of a board on which nothing wins.
   for (const { board, majority } of EACH) {
     const winning = all(board).filter((it) => isWinning(board, majority, it));

@@ -14,7 +14,9 @@ test("widths and resolutions as people type them", () => {
   // Catches: centimetres as millimetres, a comma that is lost, a size that no printer has.
   const widths: Record<string, number> = { "84": 84, "84 mm": 84, "8.4 cm": 84, "8,4CM": 84, " 120.5mm ": 120.5 };
   for (const [text, value] of Object.entries(widths)) assert.deepEqual(widthOf(text), { value }, text);
-  for (const text of ["", "12 in", "1e2", "-84", "74", "501", "8 4", "0.84 m"]) assert.ok("wrong" in widthOf(text), text);
+  for (const text of ["", "12 in", "1e2", "-84", "74", "501", "8 4", "0.84 m"]) {
+    assert.ok("wrong" in widthOf(text), text);
+  }
   assert.deepEqual(resolutionOf("600"), { value: 600 });
   for (const text of ["", "71", "1201", "300.5", "300 dpi"]) assert.ok("wrong" in resolutionOf(text), text);
   assert.equal(pointsOf(84, 300), 992);

@@ -1,5 +1,6 @@
 /** Tests of how the page's modules import one another, from what esbuild says of a bundle of them. */
 import assert from "node:assert/strict";
+import { execFileSync } from "node:child_process";
 import { readFileSync } from "node:fs";
 import { test } from "node:test";
 
@@ -26,6 +27,15 @@ test("no module imports itself, directly or through others", () => {
   // Catches: two modules that can't be read or tested one without the other.
   assert.ok(Object.keys(inputs).length > 60);
   assert.deepEqual(inCycles(), []);
+});
+
+test("the versions of all modules of Debian's in the page are recorded", () => {
+  // Catches: a module whose next version changes the bytes of the page, while tools/made-with names no difference.
+  const recorded = readFileSync("../../tools/made-with.txt", "utf8");
+  const folders = new Set(Object.keys(inputs).flatMap((it) => /\/usr\/share\/nodejs\/[^/]+/.exec(it) ?? []));
+  const packages = execFileSync("dpkg", ["--search", ...folders], { encoding: "utf8" }).trim().split("\n");
+  assert.ok(packages.length > 10);
+  for (const it of packages) assert.ok(recorded.includes(`\n${it.replace(/:.*/, "")} `), it);
 });
 
 test("the reader of tables, and what counts, need no page", () => {

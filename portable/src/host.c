@@ -33,10 +33,10 @@ enum { STACK_ALIGNMENT = 16 };
 #endif
 
 /* Begins a call whose deepest chain of functions takes these bytes of stack. If it traps, it returns `otherwise`. */
-#define BEGIN(bytes, otherwise)                                                            \
-    u64 stack[(bytes) / sizeof(u64) + STACK_ALIGNMENT / sizeof(u64)];                      \
-    struct call call;                                                                      \
-    call.stack = (ADDRESS(stack) + sizeof stack) / STACK_ALIGNMENT * STACK_ALIGNMENT;      \
+#define BEGIN(bytes, otherwise)                                                       \
+    u64 stack[(bytes) / sizeof(u64) + STACK_ALIGNMENT / sizeof(u64)];                 \
+    struct call call;                                                                 \
+    call.stack = (ADDRESS(stack) + sizeof stack) / STACK_ALIGNMENT * STACK_ALIGNMENT; \
     if (setjmp(call.trapped)) return otherwise
 
 /* Ends a call that has come to what is proved to be out of reach. */
@@ -67,16 +67,16 @@ static inline u32 ones_of(u32 x) {
 }
 
 /* An address need not be aligned, so a number is copied as bytes, which compilers turn into one instruction. */
-#define LOAD(name, stored, loaded)                                                  \
-    static inline loaded host_##name(u64 at, u64 offset) {                          \
-        stored value;                                                               \
-        memcpy(&value, (const void *)(uintptr_t)(at + offset), sizeof value);       \
-        return (loaded)value;                                                       \
+#define LOAD(name, stored, loaded)                                            \
+    static inline loaded host_##name(u64 at, u64 offset) {                    \
+        stored value;                                                         \
+        memcpy(&value, (const void *)(uintptr_t)(at + offset), sizeof value); \
+        return (loaded)value;                                                 \
     }
-#define STORE(name, stored, given)                                                  \
-    static inline void host_##name(u64 at, given value, u64 offset) {               \
-        stored kept = (stored)value;                                                \
-        memcpy((void *)(uintptr_t)(at + offset), &kept, sizeof kept);               \
+#define STORE(name, stored, given)                                    \
+    static inline void host_##name(u64 at, given value, u64 offset) { \
+        stored kept = (stored)value;                                  \
+        memcpy((void *)(uintptr_t)(at + offset), &kept, sizeof kept); \
     }
 LOAD(i32_load, uint32_t, u32)
 LOAD(i32_load8_u, uint8_t, u32)
@@ -107,7 +107,9 @@ static inline void host_free(u64 at) { free((void *)(uintptr_t)at); }
 
 /* A constant of 64 bits that is the address of a byte of the constants. */
 #if UINTPTR_MAX < UINT64_MAX
-#define POINTER(name) const unsigned char *name; u32 high_of_##name;
+#define POINTER(name)          \
+    const unsigned char *name; \
+    u32 high_of_##name;
 #define POINTS_TO(byte) (const unsigned char *)&constants + (byte), 0,
 #else
 #define POINTER(name) const unsigned char *name;

@@ -70,10 +70,13 @@ def cases_of(file: Path) -> list[Case]:
 
 
 def readme_cases(top: Path) -> list[Case]:
-    """The example of README.md: its records and the file that it names, and the lines on its right."""
+    """The example of README.md: its records and the file that it names, and the lines on its right. The README.md of a
+    release has none."""
     text = (top / "README.md").read_text()
     block = re.search(r"^    member,votes .*\n(?:    .*\n)+", text, re.MULTILINE)
-    lines = block[0].splitlines() if block else []
+    if not block:
+        return []
+    lines = block[0].splitlines()
     records = "".join(f"{line.split()[0]}\n" for line in lines if line[4] != " ")
     answers = [line.partition("-> ")[2] if line[4] != " " else line for line in lines]
     printed = "".join(f"{answer.split()[0]}\n" for answer in answers if answer)

@@ -8,7 +8,7 @@ import re
 from collections.abc import Iterator
 from dataclasses import dataclass, field
 
-from counts import CLAUSES, counts, quota
+from tests.independent.counts import CLAUSES, counts, quota
 
 MOST_BYTES = 4_194_304
 MOST_MEMBERS = 256

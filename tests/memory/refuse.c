@@ -1,17 +1,18 @@
-/* Refuses growth on demand, for tests. Loaded before the C library (LD_PRELOAD); it changes nothing for a program that uses
- * none of the requests below.
+/* Refuses growth on demand, for tests. Loaded before the C library (LD_PRELOAD); it changes nothing for a program that
+ * uses none of the requests below.
  *
  * A growth is a call of malloc, calloc or realloc between the beginning and the end of main, by the program or by the C
- * library on its behalf, as for a new thread. A realloc counts even if it asks for no more than before. Memory that the C
- * library takes from the kernel by itself, as a thread's stack, is no growth, and nor is memory requested before main.
+ * library on its behalf, as for a new thread. A realloc counts even if it asks for no more than before. Memory that the
+ * C library takes from the kernel by itself, as a thread's stack, is no growth, and nor is memory requested before
+ * main.
  *
  * - After a request for 77,000,000 + N bytes, N from 1 to 2,000, the Nth growth is refused, once.
  * - If the environment has REFUSE_GROWTH=N, the Nth growth of the whole run is refused, once.
  *
  * A refusal writes a line to descriptor 99, if it is open.
  *
- * If the environment has COUNT_KEPT, standard error gets a line at the end of main: the number of blocks given minus those
- * given back since main began. */
+ * If the environment has COUNT_KEPT, standard error gets a line at the end of main: the number of blocks given minus
+ * those given back since main began. */
 #define _GNU_SOURCE
 #include <dlfcn.h>
 #include <errno.h>

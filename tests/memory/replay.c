@@ -1,6 +1,6 @@
-/* Replays standard input by the library, or traces it after the word `trace`, for tests/memory/run. The text goes to standard
- * output, and the answer is the status. After OutOfMemory the same call is made again: if it doesn't return BOARD_DONE, the
- * status is FAILED_AGAIN. The program requests no memory itself. */
+/* Replays standard input by the library, or traces it after the word `trace`, for tests/memory/run. The text goes to
+ * standard output, and the answer is the status. After OutOfMemory the same call is made again: if it doesn't return
+ * BOARD_DONE, the status is FAILED_AGAIN. The program requests no memory itself. */
 #include <string.h>
 #include <unistd.h>
 

@@ -1,15 +1,14 @@
-#!/usr/bin/env python3
 """Writes the program's answers to random boards, scripts and commands, which the tests of each package compare with
 the package's.
 
-    tests/packages/answers.py PROGRAM FOLDER
+    python3 -m tests.packages.answers PROGRAM FOLDER
 
 FOLDER/boards.txt has, for each board, `board,TOTAL,WEIGHT..`, then for each majority
 `MAJORITY,CHAIRS,QUOTA,CAST,TOTAL,WINNING,COALITIONS` and the lines `chair,..` of the reading. FOLDER/scripts.txt has,
 for each script, `READERS,JOURNAL,STATUS,INPUT,TEXT`: the limits, the status of the program, and the bytes of the input
-and of the output, each byte as two hexadecimal digits. FOLDER/register.csv is a script of random commands, with readings
-after each few of them, and FOLDER/register.txt has its lines: one for each record of the script, and below a reading
-those of its chairs."""
+and of the output, each byte as two hexadecimal digits. FOLDER/register.csv is a script of random commands, with
+readings after each few of them, and FOLDER/register.txt has its lines: one for each record of the script, and below a
+reading those of its chairs."""
 from __future__ import annotations
 
 import random
@@ -20,9 +19,8 @@ from concurrent.futures import ThreadPoolExecutor
 from itertools import islice
 from pathlib import Path
 
-sys.path.insert(0, str(Path(__file__).resolve().parents[1] / "targets"))
-from boards import weights_of  # noqa: E402
-from inputs import Call, mutated, of_cases  # noqa: E402
+from tests.shared.boards import weights_of
+from tests.shared.inputs import Call, mutated, of_cases
 
 SEED = 20_261_126
 BOARDS = 2_000

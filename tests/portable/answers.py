@@ -1,25 +1,33 @@
 """The inputs of the tests, and what the program and the libraries that are proved answer to them."""
 from __future__ import annotations
 
-import fcntl
-import pickle
 import random
 import struct
-from collections.abc import Callable
 from functools import cache
 from hashlib import sha256
 from pathlib import Path
-from typing import TypeVar
 
-from boards import boards
-from compilers import native
-from inputs import CHANGES, JOURNAL, OFTEN, READERS, Call, at_limits, mutated, of_cases, put_records, replays
-from runs import Run, all_by_program, printed
+from tests.shared.boards import boards
+from tests.shared.commands import TOP, printed
+from tests.shared.inputs import (
+    CHANGES,
+    JOURNAL,
+    OFTEN,
+    READERS,
+    Call,
+    at_limits,
+    mutated,
+    of_cases,
+    put_records,
+    replays,
+)
+from tests.shared.kept import Kept
+from tests.shared.libraries import over_libraries
+from tests.shared.runs import Run, all_by_program
 
 SEED = 20_260_101
 INPUTS, SCHEDULES, BOARDS = 3_000, 1_000, 1_500
 EVENTS = b"writer,N reader,1,N reader,1,N publish submit,open,1 submit,move,AAA,1 submit,votes,AAA,N".split()
-T = TypeVar("T")
 
 
 def put_events(some: random.Random, text: bytes) -> bytes:
@@ -66,27 +74,18 @@ def batch(calls: list[Call]) -> bytes:
 
 
 class Answers:
-    """Answers, each kept in a folder: the worker that needs it first makes it, and the others wait."""
+    """What the program and the libraries that are proved answer."""
 
-    def __init__(self, program: Path, work: Path) -> None:
-        self.program, self.work = program, work
-        work.mkdir(exist_ok=True)
-
-    def kept(self, name: str, make: Callable[[], T]) -> T:
-        path = self.work / name
-        with open(self.work / f"{name}.lock", "w") as lock:
-            fcntl.flock(lock, fcntl.LOCK_EX)
-            if not path.exists():
-                path.write_bytes(pickle.dumps(make()))
-        found: T = pickle.loads(path.read_bytes())
-        return found
+    def __init__(self, program: Path, kept: Kept) -> None:
+        self.program, self.kept = program, kept
 
     def native(self, source: str, words: list[str], given: bytes, *flags: str) -> bytes:
         """What a program in C of the other tests writes over the libraries."""
         stem = Path(source).stem
-        program = self.kept(stem, lambda: native(source, self.work, *flags))
+        made = self.kept.folder / f"{stem}.native"
+        program = self.kept(stem, lambda: over_libraries(TOP / "tests" / source, made, *flags))
         name = "-".join([stem, *words, sha256(given).hexdigest()[:16]])
-        return self.kept(name, lambda: printed([*program, *words], given))
+        return self.kept(name, lambda: printed([program, *words], given))
 
     def runs(self, calls: list[Call]) -> list[Run]:
         """The runs of the program."""

@@ -1,5 +1,5 @@
-/* Linked with programs for Windows: their standard streams pass on all bytes as they are. Windows has no open_memstream,
- * which a program of tests/register calls for several inputs, and not for one. */
+/* Linked with programs for Windows: their standard streams pass on all bytes as they are. Windows has no
+ * open_memstream, which a program of tests/register calls for several inputs, and not for one. */
 #include <fcntl.h>
 #include <io.h>
 #include <stdio.h>

@@ -7,22 +7,17 @@ from pathlib import Path
 from typing import TypeVar
 
 import pytest
-from inputs import TOP
-from runs import Words, printed
+from tests.shared.commands import TOP, Words, printed
 
 HERE = Path(__file__).resolve().parent
 TESTS = HERE.parent
 PORTABLE = TOP / "portable"
-CRATES = ["board_c", "board_register", "board_script", "board_replay"]
 # In board.c a warning is an error. The programs that call it are checked by the tests that they come from.
 STRICT = ["-Wall", "-Wextra", "-Werror", "-pedantic"]
 OPTIMIZED = ["-O2"]
 # Code that a sanitizer has changed takes long to optimize, and needs more stack.
 CHANGED = ["-O0", "-g", "-fno-sanitize-recover=all", "-DSTACK_TIMES=64"]
 SANITIZED, RACED = [*CHANGED, "-fsanitize=address,undefined"], [*CHANGED, "-fsanitize=thread"]
-# For programs that refuse memory.
-REFUSING = ["-Wl,--wrap=malloc,--wrap=realloc,--wrap=free"]
-SECONDS = 600
 # One in this many inputs is tried under a sanitizer.
 FEW = 20
 T = TypeVar("T")
@@ -148,28 +143,3 @@ class Built:
         objects = [self.object_of_c(TESTS / source), self.object()]
         objects += [self.object_of_c(HERE / "binary.c")] if self.compiler.is_windows else []
         return self.linked(objects, *flags)
-
-
-def native(source: str, work: Path, *flags: str) -> Words:
-    """The command of a program in C of the other tests, over the libraries that are proved."""
-    kit = Path(printed(["rt", "doc"]).decode().strip()).parent
-    libraries = [*(f"{TOP}/out/lib{it}.a" for it in CRATES), f"{kit}/c/liblibc_c.a"]
-    header = TOP / "crates" / "board_c"
-    made = work / f"{Path(source).stem}.native"
-    words = ["gcc", "-std=gnu11", *OPTIMIZED, f"-I{header}", '-DBOARD_VERSION="of tests"', *flags]
-    printed([*words, str(TESTS / source), str(header / "names.c"), *libraries, "-o", str(made)])
-    return [str(made)]
-
-
-@dataclass(frozen=True)
-class Ended:
-    """How a command ended: its status, and what it wrote."""
-
-    status: int
-    output: bytes
-    complaint: bytes
-
-
-def ended(words: Words, given: bytes = b"") -> Ended:
-    done = subprocess.run(words, input=given, capture_output=True, timeout=SECONDS)
-    return Ended(done.returncode, done.stdout, done.stderr)

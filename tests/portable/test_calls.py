@@ -4,11 +4,12 @@ from __future__ import annotations
 from pathlib import Path
 
 import pytest
-from answers import Answers, batch, boards_drawn, inputs
-from compilers import AARCH64, CLANG, CPLUSPLUS, GCC, I686, MUSL, REFUSING, RISCV64, SANITIZERS, SYSTEMS, THREADED
-from compilers import HERE, WINDOWS, Built, on
-from inputs import TOP
-from runs import by_c, check_same, printed
+from tests.portable.answers import Answers, batch, boards_drawn, inputs
+from tests.portable.compilers import AARCH64, CLANG, CPLUSPLUS, GCC, I686, MUSL, RISCV64, SANITIZERS, SYSTEMS, THREADED
+from tests.portable.compilers import HERE, WINDOWS, Built, on
+from tests.shared.commands import TOP, printed
+from tests.shared.libraries import REFUSING
+from tests.shared.runs import by_c, check_same
 
 EXAMPLE = (TOP / "examples" / "twenty-four-chairs.csv").read_bytes()
 # The seeds of tests/register: each has registers and limits of another kind.

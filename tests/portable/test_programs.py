@@ -4,10 +4,10 @@ from __future__ import annotations
 from pathlib import Path
 
 import pytest
-from case_files import Case, all_cases
-from compilers import GCC, SANITIZERS, SYSTEMS, Built, Ended, ended, on
-from inputs import TOP, at_limits, of_cases
-from runs import Words
+from tests.cases.case_files import Case, all_cases
+from tests.portable.compilers import GCC, SANITIZERS, SYSTEMS, Built, on
+from tests.shared.commands import TOP, Ended, Words, ended
+from tests.shared.inputs import at_limits, of_cases
 
 REFUSED = 2
 COMMANDS = ["replay", "trace"]

@@ -4,7 +4,7 @@
 
 enum { DEEP = 20, TIMES = 3, FRAME = 256, OTHERWISE = 77 };
 
-/* Goes down so many functions, each of which takes some of the stack, and may trap there. */
+/* Calls itself `depth` times, takes some of the stack at each call, and may trap in the last one. */
 static void go_down(struct call *call, int depth, int traps) {
     u64 at = call->stack -= FRAME;
     host_i64_store(at, (u64)depth, 0);

@@ -4,7 +4,7 @@
 
 #include "model.h"
 
-/* What a seed draws from: so many members at first, the limit of the journal, codes and chairs. */
+/* What a seed draws from: the number of members at first, the limit of the journal, codes and chairs. */
 struct draw {
     uint64_t state;
     size_t entries;
@@ -60,10 +60,22 @@ static void draw_entries(struct draw *draw, struct board_entry *entries) {
 
 /* Puts a bad part into a command. */
 static void spoil(struct draw *draw, struct board_command *command) {
-    static const char codes[][4] = {"", "A", "AB", "ABa", "AB1", "aBC", "A\0C", "[AA", "A@A", "AA\xC3",
-                                    {'A', 'A', 'A', 'A'}, {'A', 'A', 'A', ' '}, {'\0', 'A', 'A', 'A'}};
-    static const uint64_t chairs[] = {0, BOARD_CHAIRS + 1, 255, 256, 257, ((uint64_t)1 << 32) + 1,
-                                      ((uint64_t)1 << 40) + 1, (uint64_t)1 << 63, UINT64_MAX};
+    static const char codes[][4] = {"",
+                                    "A",
+                                    "AB",
+                                    "ABa",
+                                    "AB1",
+                                    "aBC",
+                                    "A\0C",
+                                    "[AA",
+                                    "A@A",
+                                    "AA\xC3",
+                                    {'A', 'A', 'A', 'A'},
+                                    {'A', 'A', 'A', ' '},
+                                    {'\0', 'A', 'A', 'A'}};
+    static const uint64_t chairs[] = {
+        0,         BOARD_CHAIRS + 1, 255, 256, 257, ((uint64_t)1 << 32) + 1, ((uint64_t)1 << 40) + 1, (uint64_t)1 << 63,
+        UINT64_MAX};
     static const uint32_t kinds[] = {BOARD_PUBLISH, BOARD_READ, 10, 255, 256, 1u << 31, UINT32_MAX};
     switch (lot(draw, 4)) {
     case 0: command->kind = kinds[lot(draw, sizeof kinds / sizeof *kinds)]; break;
@@ -75,10 +87,10 @@ static void spoil(struct draw *draw, struct board_command *command) {
 
 /* A command. The parts that its kind doesn't have are at random too. */
 static struct board_command draw_command(struct draw *draw) {
-    static const uint8_t kinds[] = {
-        BOARD_OPEN,    BOARD_OPEN,    BOARD_CLOSE,   BOARD_MOVE,  BOARD_MOVE,  BOARD_MOVE,
-        BOARD_MOVE,    BOARD_MOVE,    BOARD_VOTES,   BOARD_VOTES, BOARD_SUSPEND, BOARD_RESTORE,
-        BOARD_RESTORE, BOARD_ADMIT,   BOARD_ADMIT,   BOARD_ADMIT, BOARD_WITHDRAW, BOARD_WITHDRAW};
+    static const uint8_t kinds[] = {BOARD_OPEN,    BOARD_OPEN,     BOARD_CLOSE,   BOARD_MOVE,  BOARD_MOVE,
+                                    BOARD_MOVE,    BOARD_MOVE,     BOARD_MOVE,    BOARD_VOTES, BOARD_VOTES,
+                                    BOARD_SUSPEND, BOARD_RESTORE,  BOARD_RESTORE, BOARD_ADMIT, BOARD_ADMIT,
+                                    BOARD_ADMIT,   BOARD_WITHDRAW, BOARD_WITHDRAW};
     struct board_command command = {.kind = kinds[lot(draw, sizeof kinds)]};
     put_code(command.code, lot(draw, draw->codes));
     command.chair = command.kind == BOARD_MOVE && lot(draw, 3) == 0 ? 0 : 1 + lot(draw, draw->chairs);

@@ -6,7 +6,7 @@
  * It is linked with -Wl,--wrap=malloc,--wrap=realloc,--wrap=free. */
 #include "draws.h"
 
-enum { MAJORITIES = 4, NEVER = -1 };
+enum { NEVER = -1 };
 
 /* How many more allocations succeed before one is refused, how many were asked for, and the blocks not freed. */
 static long left = NEVER, asked, blocks;
@@ -170,8 +170,8 @@ static void read_script(const uint8_t *input, size_t len) {
     static struct board_item items[ITEMS], some_items[ITEMS];
     size_t members_count, items_count, some_members_count, some_items_count;
     uint32_t record, some_record;
-    uint8_t wanted = board_script(input, len, 1, members, BOARD_MEMBERS, &members_count, items, ITEMS, &items_count,
-                                  &record);
+    uint8_t wanted =
+        board_script(input, len, 1, members, BOARD_MEMBERS, &members_count, items, ITEMS, &items_count, &record);
     if (wanted != BOARD_DONE || items_count > ITEMS) stop("no script", wanted);
     long before = blocks;
     for (long number = 0;; number++) {

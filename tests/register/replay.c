@@ -37,12 +37,12 @@ static struct script script_of(const uint8_t *input, size_t len, uint32_t reader
     struct script found;
     size_t again;
     struct end *end = &found.end;
-    end->fault = board_script(input, len, readers, members, BOARD_MEMBERS, &found.members, NULL, 0, &found.items,
-                              &end->record);
+    end->fault =
+        board_script(input, len, readers, members, BOARD_MEMBERS, &found.members, NULL, 0, &found.items, &end->record);
     found.list = block_of(found.items * sizeof *found.list);
     struct end first = *end;
-    end->fault = board_script(input, len, readers, NULL, 0, &found.members, found.list, found.items, &again,
-                              &end->record);
+    end->fault =
+        board_script(input, len, readers, NULL, 0, &found.members, found.list, found.items, &again, &end->record);
     if (again != found.items || end->fault != first.fault || end->record != first.record) exit(99);
     return found;
 }

@@ -3,7 +3,8 @@
  *
  *     threads SEED MANY < SCRIPT
  *
- * Each thread has the stack that board.h asks for, times STACK_TIMES, or the least that the system has, if that is more. */
+ * Each thread has the stack that board.h asks for, times STACK_TIMES, or the least that the system has, if that is
+ * more. */
 #define _POSIX_C_SOURCE 200809L
 #include <pthread.h>
 #include <unistd.h>
@@ -98,7 +99,8 @@ static void *read_script(void *given) {
     struct script *script = given;
     uint32_t record;
     if (board_script(script->input, script->len, 1, script->entries, BOARD_MEMBERS, &script->members, NULL, 0,
-                     &script->items, &record) != BOARD_DONE) stop("no script", record);
+                     &script->items, &record) != BOARD_DONE)
+        stop("no script", record);
     if (board_replay_length(script->input, script->len, 1, BOARD_COMMANDS, &script->length, &record) != BOARD_DONE)
         stop("no length", record);
     return NULL;

@@ -71,8 +71,7 @@ static int are_counts(const struct board *board, uint32_t majority, const struct
         const struct board_chair *row = &counts->rows[at];
         if (at < board->chairs)
             same &= row->chair == board->numbers[at] && row->weight == board->weights[at] && row->swings == swings[at];
-        else
-            same &= row->chair == 0 && row->weight == 0 && row->swings == 0;
+        else same &= row->chair == 0 && row->weight == 0 && row->swings == 0;
     }
     return same;
 }

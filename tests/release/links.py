@@ -1,8 +1,8 @@
 #!/usr/bin/env python3
 """The links of an unpacked release that lead nowhere: tests/release/links.py FOLDER
 
-Goes through all .md and .html files: each link, picture and anchor that isn't elsewhere in the network leads to a file of
-the release, and to a heading or an element of it. Ends with 1 if one doesn't."""
+Goes through all .md and .html files: each link, picture and anchor that isn't elsewhere in the network leads to a file
+of the release, and to a heading or an element of it. Ends with 1 if one doesn't."""
 from __future__ import annotations
 
 import re

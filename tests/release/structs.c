@@ -35,9 +35,8 @@ IS_SIZE(board_command, BOARD_COMMAND_BYTES);
 IS_SIZE(board_member_row, BOARD_MEMBER_ROW_BYTES);
 IS_SIZE(board_item, BOARD_ITEM_BYTES);
 
-static const char script[] =
-    "member,votes\nAAA,50\nBBB,49\nCCC,1\nscript\n"
-    "open,1\nopen,2\nopen,3\nmove,AAA,1\nmove,BBB,2\nmove,CCC,3\npublish\nread,1,half\n";
+static const char script[] = "member,votes\nAAA,50\nBBB,49\nCCC,1\nscript\n"
+                             "open,1\nopen,2\nopen,3\nmove,AAA,1\nmove,BBB,2\nmove,CCC,3\npublish\nread,1,half\n";
 
 /* Carries out the records of a script, and returns how many were refused. */
 static int carry_out(board_register *handle, const board_item *items, size_t many, board_room *room,

@@ -23,30 +23,26 @@ void __real_free(void *at);
 /* How many requests for memory succeed before all fail (-1: all succeed), how many were made, and the blocks in use. */
 static long granted = -1, asked, blocks;
 
-static int is_refused(void)
-{
+static int is_refused(void) {
     asked++;
     if (granted > 0) granted--;
     else if (granted == 0) return 1;
     return 0;
 }
 
-void *__wrap_malloc(size_t size)
-{
+void *__wrap_malloc(size_t size) {
     if (is_refused()) return NULL;
     blocks++;
     return __real_malloc(size);
 }
 
-void *__wrap_realloc(void *at, size_t size)
-{
+void *__wrap_realloc(void *at, size_t size) {
     if (is_refused()) return NULL;
     blocks += at == NULL;
     return __real_realloc(at, size);
 }
 
-void __wrap_free(void *at)
-{
+void __wrap_free(void *at) {
     blocks -= at != NULL;
     __real_free(at);
 }
@@ -62,41 +58,33 @@ static struct board_entry members[BOARD_MEMBERS], some_members[BOARD_MEMBERS + G
 static struct board_item *items, *some_items;
 static uint8_t *input;
 
-static void fail(const char *what)
-{
+static void fail(const char *what) {
     printf("WRONG %s\n", what);
     exit(1);
 }
 
 /* Entries and items have padding, so they are compared by their parts. */
-static int same_entry(const struct board_entry *a, const struct board_entry *b)
-{
+static int same_entry(const struct board_entry *a, const struct board_entry *b) {
     return !memcmp(a->code, b->code, sizeof a->code) && a->votes == b->votes;
 }
 
-static int same_item(const struct board_item *a, const struct board_item *b)
-{
+static int same_item(const struct board_item *a, const struct board_item *b) {
     return a->command.kind == b->command.kind && !memcmp(a->command.code, b->command.code, sizeof a->command.code) &&
            a->command.chair == b->command.chair && a->command.votes == b->command.votes && a->number == b->number &&
            a->reader == b->reader && a->majority == b->majority && a->from == b->from && a->to == b->to;
 }
 
-static size_t least(size_t a, size_t b)
-{
-    return a < b ? a : b;
-}
+static size_t least(size_t a, size_t b) { return a < b ? a : b; }
 
 static struct result read_into(uint32_t readers, size_t len, struct board_entry *ms, size_t ms_len,
-                               struct board_item *is, size_t is_len)
-{
+                               struct board_item *is, size_t is_len) {
     struct result it = {99, 99, 99, 99};
     it.answer = board_script(input, len, readers, ms, ms_len, &it.members, is, is_len, &it.items, &it.record);
     return it;
 }
 
 /* The same call with room for fewer, and with what it leaves of a pattern. */
-static void check_room(uint32_t readers, size_t len, size_t ms, size_t is, struct result whole)
-{
+static void check_room(uint32_t readers, size_t len, size_t ms, size_t is, struct result whole) {
     struct board_entry entry;
     struct board_item item;
     memset(&entry, 0xA5, sizeof entry);
@@ -114,8 +102,7 @@ static void check_room(uint32_t readers, size_t len, size_t ms, size_t is, struc
 }
 
 /* The same call with all memory refused after each number of requests that succeed. */
-static void check_refusals(uint32_t readers, size_t len, long needed, struct result whole)
-{
+static void check_refusals(uint32_t readers, size_t len, long needed, struct result whole) {
     for (long at = 0; at < needed; at++) {
         granted = at;
         struct result it = read_into(readers, len, some_members, BOARD_MEMBERS, some_items, whole.items);
@@ -130,8 +117,7 @@ static void check_refusals(uint32_t readers, size_t len, long needed, struct res
     }
 }
 
-static void print_result(struct result it, long needed)
-{
+static void print_result(struct result it, long needed) {
     printf("%u %u %zu %zu %ld\n", it.answer, it.record, it.members, it.items, needed);
     for (size_t i = 0; i < it.members; i++) {
         if (members[i].code[3]) fail("the end of a member's code");
@@ -147,8 +133,7 @@ static void print_result(struct result it, long needed)
     }
 }
 
-static void batch(void)
-{
+static void batch(void) {
     uint32_t head[2];
     long count = 0;
     while (fread(head, sizeof head, 1, stdin) == 1) {
@@ -170,15 +155,13 @@ static void batch(void)
     printf("end %ld\n", count);
 }
 
-static double now(void)
-{
+static double now(void) {
     struct timespec at;
     clock_gettime(CLOCK_MONOTONIC, &at);
     return at.tv_sec * 1e9 + at.tv_nsec;
 }
 
-static void measure(const char *name, int times)
-{
+static void measure(const char *name, int times) {
     FILE *file = fopen(name, "rb");
     size_t len = file ? fread(input, 1, INPUT, file) : 0;
     uint8_t *out = malloc(OUT);
@@ -203,8 +186,7 @@ static void measure(const char *name, int times)
            replay / 1e3, replay / records, reading / replay);
 }
 
-int main(int argc, char **argv)
-{
+int main(int argc, char **argv) {
     static char in[65536], out[65536]; /* so that the C library allocates none, and all blocks are those of the calls */
     items = calloc(ITEMS + GUARD, sizeof *items);
     some_items = calloc(ITEMS + GUARD, sizeof *items);

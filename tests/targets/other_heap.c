@@ -2,7 +2,7 @@
 #include <stdint.h>
 #include <stdio.h>
 
-#include "../../aarch64/heap.c"
+#include "../../targets/aarch64/heap.c"
 
 static int must(int is_so, const char *what) {
     if (!is_so) fprintf(stderr, "other_heap: %s\n", what);

@@ -33,9 +33,10 @@ int main(int many, char **words) {
         uint32_t readers = (uint32_t)given[1], journal = (uint32_t)given[2];
         if (fread(input, 1, len, stdin) != len) exit(1);
         memset(around, UNTOUCHED, MARGIN + room + MARGIN);
-        uint8_t fault = (traces ? board_trace : board_replay)(input, len, readers, journal, out, room, &written, &record);
-        uint8_t its_fault = (traces ? board_trace_length : board_replay_length)(input, len, readers, journal, &length,
-                                                                                &its_record);
+        uint8_t fault =
+            (traces ? board_trace : board_replay)(input, len, readers, journal, out, room, &written, &record);
+        uint8_t its_fault =
+            (traces ? board_trace_length : board_replay_length)(input, len, readers, journal, &length, &its_record);
         if (length != room || its_fault != fault || its_record != record) exit(1);
         if (!are_untouched(around, MARGIN) || !are_untouched(out + written, room - written + MARGIN)) exit(1);
         putchar(fault);

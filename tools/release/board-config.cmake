@@ -1,5 +1,5 @@
-# The library for C, wherever the release is unpacked: find_package(board @minor@ REQUIRED), with the release's folder in
-# CMAKE_PREFIX_PATH.
+# The library for C, wherever the release is unpacked: find_package(board @minor@ REQUIRED), with the release's folder
+# in CMAKE_PREFIX_PATH.
 #
 # Then target_link_libraries(PROGRAM board::board) compiles and links with the library: the static one, if
 # find_package asks for COMPONENTS static or there is no other for the processor, else the shared one.

@@ -30,9 +30,9 @@ export interface ChairIndices {
 /** The winning coalitions of a board by a majority, and the voting power of its chairs. */
 export interface Indices {
   readonly majority: Majority;
-  /** The least number of votes that wins. */
+  /** The least number of votes that can win. */
   readonly quota: number;
-  /** The least number of chairs that wins; 0 if the majority requires none. */
+  /** The least number of chairs that can win; 0 if the majority requires none. */
   readonly leastSize: number;
   /** The votes of the open chairs together. */
   readonly cast: number;

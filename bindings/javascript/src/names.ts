@@ -1,4 +1,4 @@
-/** The names, limits and sentences of the library. Made by tools/names from the sources: do not edit. */
+/** The names, limits and sentences of the library. Made by tools/made from the sources: do not edit. */
 
 /** The version of the package and of its module. */
 export const VERSION = "0.10.0";
@@ -82,6 +82,44 @@ export const REFUSALS: readonly (readonly [name: string, reason: string])[] = Ob
   ["NoRegister", "the handle has no register"],
   ["BadIndex", "there is no item at this index"],
 ] as const);
+export const CHAIR_OPEN = 1;
+export const CHAIR_NOT_OPEN = 2;
+export const CHAIR_HAS_MEMBERS = 3;
+export const UNKNOWN_MEMBER = 4;
+export const MEMBER_SUSPENDED = 5;
+export const ALREADY_THERE = 6;
+export const ALREADY_SUSPENDED = 7;
+export const NOT_SUSPENDED = 8;
+export const JOURNAL_FULL = 9;
+export const OUT_OF_MEMORY = 10;
+export const DUPLICATE_MEMBER = 11;
+export const TOO_MANY_MEMBERS = 12;
+export const BAD_LIMIT = 13;
+export const BAD_CHAIR = 14;
+export const BAD_MEMBER = 15;
+export const VOTES_TOO_LARGE = 16;
+export const BAD_RECORD = 17;
+export const NO_ENTRY = 18;
+export const READ_FAULT = 19;
+export const WRITE_FAULT = 20;
+export const BAD_HEADER = 21;
+export const BAD_READER = 22;
+export const BUSY = 23;
+export const MISMATCH = 24;
+export const MEMBER_EXISTS = 25;
+export const MEMBER_SEATED = 26;
+export const GATE_CLOSED = 27;
+export const NO_SCRIPT = 28;
+export const TOO_LONG = 29;
+export const BAD_JOURNAL = 30;
+export const BAD_CUTS = 31;
+export const BAD_SHEET = 32;
+export const TOO_MANY_CHAIRS = 33;
+export const NO_REGISTER = 34;
+export const BAD_INDEX = 35;
+
+/** The columns of a table of members. */
+export const COLUMNS: readonly string[] = ["code", "name", "votes", "chair", "chair_name", "suspended"];
 
 /** What is allowed for a value. */
 export const ALLOWED = Object.freeze({

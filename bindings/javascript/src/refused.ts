@@ -1,18 +1,10 @@
 /** Refusals: what a call throws, and their messages. */
 import { REFUSALS } from "./names.js";
 
-export const OUT_OF_MEMORY = 10;
-export const DUPLICATE_MEMBER = 11;
-export const TOO_MANY_MEMBERS = 12;
-export const BAD_LIMIT = 13;
-export const BAD_CHAIR = 14;
-export const BAD_MEMBER = 15;
-export const VOTES_TOO_LARGE = 16;
-export const BAD_RECORD = 17;
-export const WRITE_FAULT = 20;
-export const BAD_SHEET = 32;
-export const NO_REGISTER = 34;
-export const BAD_INDEX = 35;
+export {
+  BAD_CHAIR, BAD_INDEX, BAD_LIMIT, BAD_MEMBER, BAD_RECORD, BAD_SHEET, DUPLICATE_MEMBER, NO_REGISTER,
+  OUT_OF_MEMORY, TOO_MANY_MEMBERS, VOTES_TOO_LARGE, WRITE_FAULT,
+} from "./names.js";
 
 /** Where a refusal belongs to. */
 export interface Place {

@@ -356,7 +356,7 @@ export class Register {
     return this.#handle.indicesOfAll(this.#names);
   }
 
-  /** The voting power as of the last publication: what readers see. */
+  /** The voting power after the published commands, which is what readers see: at first that of the opening. */
   read(majority: Majority): Indices {
     return this.#handle.indices("read", majority, this.#names);
   }
@@ -414,8 +414,9 @@ export class Register {
   }
 
   /**
-   * Goes back to the first `to` commands; without it, the last command is undone. Those of them that are published stay
-   * published. Another number is `Refused` as BadIndex (35). Returns the number of accepted commands.
+   * Goes back to the first `to` commands; without it, the last command is undone. Those of them that were published
+   * stay published: if more than `to` were, all that are left are published, and `read` counts the register after them.
+   * Another number is `Refused` as BadIndex (35). Returns the number of accepted commands.
    */
   undo(to: Whole = this.accepted - 1): number {
     const { accepted } = this;

@@ -1,6 +1,6 @@
 /** Tables of members: a row or a list of each column, by the columns' names. */
 import { LARGEST } from "./memory.js";
-import { ALLOWED, CHAIRS } from "./names.js";
+import { ALLOWED, CHAIRS, COLUMNS } from "./names.js";
 import { BAD_CHAIR, BAD_MEMBER, BAD_RECORD, BAD_SHEET, DUPLICATE_MEMBER, Refused } from "./refused.js";
 import { isList, isWhole, shown, text, whole, wrongType, type Whole } from "./values.js";
 
@@ -37,7 +37,6 @@ export interface Row {
   readonly suspended: boolean;
 }
 
-const COLUMNS = ["code", "name", "votes", "chair", "chair_name", "suspended"];
 /** The columns that a table must have, and the numbers by which its values are refused. */
 const WANTED = {
   board: { columns: ["votes", "chair"], votes: BAD_SHEET, votesAllowed: ALLOWED.weight, chair: BAD_SHEET },

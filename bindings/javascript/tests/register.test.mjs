@@ -345,6 +345,8 @@ test("a copy changes on its own, and undo goes back", () => {
   deepEqual(shownOf(copy), before);
   equal(copy.undo(2n), 2);
   deepEqual([copy.published, copy.chairs], [2, { 1: [], 2: [] }]);
+  // Catches: readers that see commands that were taken back, or none of those that stay.
+  deepEqual(copy.read("half"), copy.indices("half"));
   equal(copy.undo(0), 0);
   const message = (to) => `the length is ${to}: a whole number from 0 to the number of accepted commands, 0`;
   for (const to of [1, -1, 0.5]) deepEqual(refused(() => copy.undo(to)), ["BadIndex", 35, message(to)]);

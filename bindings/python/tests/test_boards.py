@@ -7,7 +7,6 @@ import pickle
 import pydoc
 from dataclasses import FrozenInstanceError, fields
 from fractions import Fraction
-from itertools import combinations
 from typing import Any
 
 import pytest
@@ -15,6 +14,7 @@ from hypothesis import given
 from hypothesis import strategies as st
 
 import voting_board
+from tests.independent.counts import by_coalitions, rule_of
 from voting_board import (
     MAJORITIES,
     MEANINGS,
@@ -31,34 +31,14 @@ from voting_board import (
 BOARD = indices([50, 49, 1], "half")
 
 
-def wins(majority: Majority, votes: int, size: int, cast: int, total: int, chairs: int) -> bool:
-    """Whether these votes of this number of chairs win."""
-    return {
-        "half": 2 * votes > cast,
-        "70": votes >= 1 and 10 * votes >= 7 * total,
-        "85": votes >= 1 and 20 * votes >= 17 * total,
-        "quorum": 2 * size > chairs and 2 * votes >= total,
-    }[majority]
-
-
-def counted(weights: list[int], total: int, majority: Majority) -> tuple[int, tuple[int, ...]]:
-    """The number of winning coalitions and the swings of each chair: each set of chairs is tried."""
-    chairs, cast = range(len(weights)), sum(weights)
-
-    def does_win(some: tuple[int, ...]) -> bool:
-        return wins(majority, sum(weights[it] for it in some), len(some), cast, total, len(weights))
-
-    coalitions = [it for size in range(len(weights) + 1) for it in combinations(chairs, size)]
-    losing = [it for it in coalitions if not does_win(it)]
-    swings = (sum(chair not in it and does_win((*it, chair)) for it in losing) for chair in chairs)
-    return len(coalitions) - len(losing), tuple(swings)
-
-
-@pytest.mark.parametrize("weights, majority, quota, omega, swings", [
-    ([31, 31, 28, 21, 2, 2], "half", 58, 32, (16, 16, 16, 0, 0, 0)),
-    ([4, 4, 4, 2, 2, 1], "70", 12, 14, (10, 10, 10, 6, 6, 0)),
-    ([7] * 5 + [1] * 10, "85", 39, 848, (848,) * 5 + (84,) * 10),
-])
+@pytest.mark.parametrize(
+    "weights, majority, quota, omega, swings",
+    [
+        ([31, 31, 28, 21, 2, 2], "half", 58, 32, (16, 16, 16, 0, 0, 0)),
+        ([4, 4, 4, 2, 2, 1], "70", 12, 14, (10, 10, 10, 6, 6, 0)),
+        ([7] * 5 + [1] * 10, "85", 39, 848, (848,) * 5 + (84,) * 10),
+    ],
+)
 def test_published_games(weights: list[int], majority: Majority, quota: int, omega: int, swings: Any) -> None:
     # The figures and their sources are in docs/VALIDATION.md.
     board = indices(weights, majority)
@@ -76,7 +56,8 @@ def test_all_coalitions(weights: list[int], spare: int) -> None:
     rows = [*map(Member, weights, range(1, 33)), Member(spare)]
     for majority in MAJORITIES:
         board = indices(weights, majority, total=total)
-        assert (board.omega, board.swings) == counted(weights, total, majority)
+        found = by_coalitions(tuple(weights), rule_of(tuple(weights), total, majority))
+        assert (board.omega, board.swings) == (found.winning, found.swings)
         assert (board.cast, board.total, board.coalitions) == (sum(weights), total, 2 ** len(weights))
         assert board == every[majority] == many[majority] == indices_of_members(rows, majority)
         assert board.act == Fraction(board.omega, board.coalitions)
@@ -85,7 +66,11 @@ def test_all_coalitions(weights: list[int], spare: int) -> None:
 def test_fractions() -> None:
     first, second, _ = BOARD.chairs
     assert (first.banzhaf, first.share, first.prevent, first.initiate) == (
-        Fraction(3, 4), Fraction(3, 5), Fraction(1), Fraction(3, 5))
+        Fraction(3, 4),
+        Fraction(3, 5),
+        Fraction(1),
+        Fraction(3, 5),
+    )
     assert second.share is not None and first.share is not None and second.share < first.share
     nothing = indices([0], "half").chairs[0]
     assert (nothing.banzhaf, nothing.share, nothing.prevent, nothing.initiate) == (0, None, None, 0)
@@ -146,15 +131,23 @@ def test_reprs() -> None:
     assert repr(BOARD.chairs[0]) == "Chair(chair=1, name=None, weight=50, swings=3)"
     assert repr(BOARD).startswith("Indices(majority='half', quota=51, least_size=0, cast=100, total=100, omega=3, ")
     assert repr(Member(5, 1)) == "Member(votes=5, chair=1, suspended=False)"
-    assert repr(RUN) == ("Replay(readers=1, journal=1000000, fault=Fault(record=8, number=17, name='BadRecord', "
-                         "reason='a record is not well formed'))")
+    assert repr(RUN) == (
+        "Replay(readers=1, journal=1000000, fault=Fault(record=8, number=17, name='BadRecord', "
+        "reason='a record is not well formed'))"
+    )
     assert set(MEANINGS) == set(MAJORITIES)
 
 
 def test_records() -> None:
     assert BOARD.records()[0] == {
-        "chair": 1, "weight": 50, "swings": 3, "banzhaf": Fraction(3, 4), "share": Fraction(3, 5),
-        "prevent": Fraction(1), "initiate": Fraction(3, 5)}
+        "chair": 1,
+        "weight": 50,
+        "swings": 3,
+        "banzhaf": Fraction(3, 4),
+        "share": Fraction(3, 5),
+        "prevent": Fraction(1),
+        "initiate": Fraction(3, 5),
+    }
     assert json.loads(json.dumps(BOARD.records(floats=True)))[0]["share"] == 0.6
     assert indices([0], "half").records(floats=True)[0]["share"] is None
     assert BOARD.values("share") == [0.6, 0.2, 0.2] and str(indices([0], "half").values("prevent")) == "[nan]"

@@ -55,9 +55,11 @@ def test_files_of_a_study(table: Path, tmp_path: Path) -> None:
     text, page, script = ((tmp_path / it).read_text() for it in ("out.csv", "out.html", "it.csv"))
     assert {it.name for it in tmp_path.iterdir()} == {"members.csv", "out.csv", "out.html", "it.csv"}
     assert table.read_bytes() == before[table]
-    for wanted in (f"# table members.csv sha256 {sha256(TABLE.encode()).hexdigest()}",
-                   f"# script sha256 {sha256(script.encode()).hexdigest()}",
-                   f"# lines sha256 {sha256(replay_text(script)[0].encode()).hexdigest()}"):
+    for wanted in (
+        f"# table members.csv sha256 {sha256(TABLE.encode()).hexdigest()}",
+        f"# script sha256 {sha256(script.encode()).hexdigest()}",
+        f"# lines sha256 {sha256(replay_text(script)[0].encode()).hexdigest()}",
+    ):
         assert wanted in text.splitlines()
     assert str(tmp_path) not in text + page + script and "--replay=it.csv" in text
     lines = [it for it in text.splitlines(keepends=True) if not it.startswith("# ")]
@@ -80,31 +82,42 @@ def test_page_of_a_study(table: Path, tmp_path: Path) -> None:
     assert found["base"]["names"]["AAA"] == "</script>" and found["base"]["hash"] == sha256(TABLE.encode()).hexdigest()
     assert found["base"]["script"].splitlines()[-1] == "move,CCC,2" and found["base"]["script"].endswith("\n")
     assert found["sweep"] == {
-        "who": {"kind": "chair", "chair": 2}, "on": "base", "unit": "percent", "from": "10", "to": "20", "by": "2.5",
+        "who": {"kind": "chair", "chair": 2},
+        "on": "base",
+        "unit": "percent",
+        "from": "10",
+        "to": "20",
+        "by": "2.5",
     }
     assert [it["what"] for it in found["scenarios"][0]["changes"]] == [
         {"kind": "percent", "of": "own", "code": "AAA", "percent": "+12.5"},
         {"kind": "move", "code": "DDD", "chair": 2},
     ]
     assert [it["what"] for it in found["scenarios"][1]["changes"]] == [
-        {"kind": "votes", "code": "BBB", "votes": 13}, {"kind": "votes", "code": "CCC", "votes": 8},
-        {"kind": "open", "chair": 3}, {"kind": "move", "code": "AAA", "chair": 3}, {"kind": "suspend", "code": "AAA"},
+        {"kind": "votes", "code": "BBB", "votes": 13},
+        {"kind": "votes", "code": "CCC", "votes": 8},
+        {"kind": "open", "chair": 3},
+        {"kind": "move", "code": "AAA", "chair": 3},
+        {"kind": "suspend", "code": "AAA"},
     ]
     ids = [it["id"] for one in found["scenarios"] for it in one["changes"]]
     assert ids == list(range(1, 8))
 
 
-@pytest.mark.parametrize("words, said", [
-    (["--scenario", "A: close,1"], "scenario 'A': refused 'close,1': ChairHasMembers (3)"),
-    (["--total", "91"], "members.csv: row 1: the votes below add up to 90, and the published total is 91"),
-    (["--scenarios", "lost.toml"], "lost.toml: No such file or directory"),
-    (["--replay", "members.csv"], "two files would have the place of members.csv"),
-    (["--replay", "lost/it.csv"], "lost/it.csv: there is no folder lost"),
-    (["--replay", "folder"], "folder is there already and is no file"),
-    (["--replay", "pipe"], "pipe is there already and is no file"),
-    (["--replay", "notes.txt"], "notes.txt is there already and isn't such a file: choose another name"),
-    (["--figures", "lost"], "--figures: there is no folder lost"),
-])
+@pytest.mark.parametrize(
+    "words, said",
+    [
+        (["--scenario", "A: close,1"], "scenario 'A': refused 'close,1': ChairHasMembers (3)"),
+        (["--total", "91"], "members.csv: row 1: the votes below add up to 90, and the published total is 91"),
+        (["--scenarios", "lost.toml"], "lost.toml: No such file or directory"),
+        (["--replay", "members.csv"], "two files would have the place of members.csv"),
+        (["--replay", "lost/it.csv"], "lost/it.csv: there is no folder lost"),
+        (["--replay", "folder"], "folder is there already and is no file"),
+        (["--replay", "pipe"], "pipe is there already and is no file"),
+        (["--replay", "notes.txt"], "notes.txt is there already and isn't such a file: choose another name"),
+        (["--figures", "lost"], "--figures: there is no folder lost"),
+    ],
+)
 def test_refused(table: Path, tmp_path: Path, words: list[str], said: str, monkeypatch: pytest.MonkeyPatch) -> None:
     # Catches: a traceback, a wait for a pipe, a foreign file that is replaced, and files of a study that is wrong.
     if "--figures" in words:

@@ -66,14 +66,24 @@ def test_series() -> None:
         Register(pandas.Series([5, 4]))
 
 
-@pytest.mark.parametrize("frame", [
-    FRAME, FRAME.astype({"chair": "Int64"}), FRAME.astype({"votes": "uint8", "code": "string"}),
-    FRAME.astype({"votes": float, "code": "category"}), FRAME[["chair", "votes", "code"]],
-    FRAME.set_index("code", drop=False),
-    FRAME.assign(suspended=numpy.array([False] * 3)), FRAME.assign(suspended=pandas.array([False] * 3, "boolean")),
-    FRAME.assign(chair_name=["North", None, numpy.nan]), FRAME.to_dict("list"), FRAME.to_dict("records"),
-    list(FRAME.itertuples(index=False)), list(FRAME[["chair", "votes", "code"]].itertuples(index=False)),
-])
+@pytest.mark.parametrize(
+    "frame",
+    [
+        FRAME,
+        FRAME.astype({"chair": "Int64"}),
+        FRAME.astype({"votes": "uint8", "code": "string"}),
+        FRAME.astype({"votes": float, "code": "category"}),
+        FRAME[["chair", "votes", "code"]],
+        FRAME.set_index("code", drop=False),
+        FRAME.assign(suspended=numpy.array([False] * 3)),
+        FRAME.assign(suspended=pandas.array([False] * 3, "boolean")),
+        FRAME.assign(chair_name=["North", None, numpy.nan]),
+        FRAME.to_dict("list"),
+        FRAME.to_dict("records"),
+        list(FRAME.itertuples(index=False)),
+        list(FRAME[["chair", "votes", "code"]].itertuples(index=False)),
+    ],
+)
 def test_tables(frame: Any) -> None:
     # Catches: members that are read by position, and chairs that pandas has as floats.
     register = Register(frame)
@@ -149,6 +159,13 @@ def test_many_as_a_table() -> None:
     assert table.groupby(["board", "majority"])["share"].sum().tolist() == [1.0] * 4
     assert many[0]["half"].names == ("North", "South")
     assert list(indices_of_many([], ["half"]).to_dataframe().columns) == ["board", "majority", *COLUMNS]
+    # Catches: fractions that were rounded on their way, and a majority without swings that has a share.
+    exact = indices_of_many([[50, 49, 1], [0]], ["half"]).to_dataframe(floats=False)
+    assert list(exact["share"]) == [Fraction(3, 5), Fraction(1, 5), Fraction(1, 5), None]
+    assert list(exact.columns) == ["board", "majority", *COLUMNS]
+    for name in ("banzhaf", "share", "prevent", "initiate"):
+        own = [getattr(chair, name) for counts in many for it in counts.values() for chair in it.chairs]
+        assert list(many.to_dataframe(floats=False)[name]) == own
     assert many.floats("share").dtype == "float64" and many.floats("share").shape == (2, 2, 2)
 
 

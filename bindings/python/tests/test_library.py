@@ -48,7 +48,8 @@ def test_names_of_refusals() -> None:
     call.restype, call.argtypes = library.ctypes.c_char_p, [library.c_uint32]
     names = {number: call(number).decode() for number in range(300) if call(number)}
     assert {number: name for number, name in names.items() if number in REFUSALS} == {
-        number: name for number, (name, _) in REFUSALS.items()}
+        number: name for number, (name, _) in REFUSALS.items()
+    }
 
 
 def test_another_library(tmp_path: Path) -> None:
@@ -100,12 +101,14 @@ def test_a_processor_below_the_level(tmp_path: Path) -> None:
     copied = tmp_path / "voting_board"
     shutil.copytree(Path(library.__file__).parent, copied)
     (copied / "x86-64-v2").touch()
-    found = run(f"""
+    found = run(
+        f"""
         import sys, pathlib
         sys.path.insert(0, {str(tmp_path)!r})
         pathlib.Path.read_text = lambda self: {V2.replace("popcnt", "")!r}
         import voting_board
-    """)
+    """
+    )
     sentence = "this processor lacks x86-64-v2 (SSE4.2, POPCNT): use a package built from board.c"
     assert import_error(found) == f"voting_board: {sentence}"
 
@@ -131,7 +134,8 @@ def test_trapped(monkeypatch: pytest.MonkeyPatch) -> None:
 
 def test_out_of_memory() -> None:
     # Catches: another exception than MemoryError, and a register that is left in between.
-    found = run("""
+    found = run(
+        """
         import resource
         from pathlib import Path
         from voting_board import Register, indices, replay, replay_text
@@ -155,13 +159,15 @@ def test_out_of_memory() -> None:
         print(fails(lambda: replay_text(script)), fails(lambda: replay(script)), fails(lambda: run.register()))
         limit(None)
         print(register.accepted, register.open(2), indices([50, 49, 1], "half").swings)
-    """)
+    """
+    )
     assert (found.stderr, found.stdout) == ("", "True True\nTrue\nTrue True True\n500000 500001 (3, 1, 1)\n")
 
 
 def test_registers_are_freed() -> None:
     # Catches: handles that are never given back.
-    found = run("""
+    found = run(
+        """
         import gc
         from pathlib import Path
         from voting_board import Register
@@ -175,5 +181,6 @@ def test_registers_are_freed() -> None:
                 gc.collect()
                 before = size()
         print((size() - before) * 4096 < 20_000_000)
-    """)
+    """
+    )
     assert (found.stderr, found.stdout) == ("", "True\n")

@@ -75,8 +75,24 @@ def test_cuts(size: int, monkeypatch: pytest.MonkeyPatch) -> None:
 
 
 RECORDS = [
-    "open,1", '"open",2', "open,12", "move,AAA,12", 'mo""ve,AAA,1', "close,12", "publish", '"pub"lish', "votes,AAA,12",
-    'votes,"AA"A,"0"001', "suspend,AAA", "restore,AAA", 'open,"3', '"open', '""', "read,1,half", "opne", '"op\nen",1',
+    "open,1",
+    '"open",2',
+    "open,12",
+    "move,AAA,12",
+    'mo""ve,AAA,1',
+    "close,12",
+    "publish",
+    '"pub"lish',
+    "votes,AAA,12",
+    'votes,"AA"A,"0"001',
+    "suspend,AAA",
+    "restore,AAA",
+    'open,"3',
+    '"open',
+    '""',
+    "read,1,half",
+    "opne",
+    '"op\nen",1',
 ]
 LINES = st.tuples(st.sampled_from(RECORDS), st.sampled_from(["\n", "\r\n", "\r", "\n\n", "\n\r\n\n"]))
 
@@ -135,9 +151,7 @@ def test_longest_inputs() -> None:
     assert replay_text(text + "\n") == ("fault,0,TooLong\n", fault)
 
 
-READINGS = "".join(
-    [HEAD, *(f"open,{chair}\n" for chair in range(1, 33)), "publish\n", "read,1,70\n" * 300_000]
-)
+READINGS = "".join([HEAD, *(f"open,{chair}\n" for chair in range(1, 33)), "publish\n", "read,1,70\n" * 300_000])
 LIMITED = """
     import resource, sys
     from voting_board import replay

@@ -30,9 +30,16 @@ def check(many: ManyIndices) -> None:
             assert str(shares[at][place]) == str([*one.values("share"), *[float("nan")] * (4 - len(row))])
 
 
-@pytest.mark.parametrize("majorities", [
-    MAJORITIES, ["quorum", "half"], ["85"], ["quorum", "85", "half", "70"], ["quorum", "85", "half", "70", "half"],
-])
+@pytest.mark.parametrize(
+    "majorities",
+    [
+        MAJORITIES,
+        ["quorum", "half"],
+        ["85"],
+        ["quorum", "85", "half", "70"],
+        ["quorum", "85", "half", "70", "half"],
+    ],
+)
 @pytest.mark.parametrize("processors", [None, 1, 2])
 def test_rows(majorities: list[Majority], processors: int | None) -> None:
     check(indices_of_many(ROWS, majorities, processors=processors))

@@ -65,9 +65,14 @@ def test_source_package(source: Path) -> None:
     assert (source / "src/voting_board/py.typed").exists() and (source / "setup.py").exists()
 
 
-@pytest.mark.parametrize("platform, library", [
-    ("manylinux_2_17_x86_64", "libboard.so"), ("manylinux_2_17_aarch64", "libboard.so"), ("win_amd64", "board.dll"),
-])
+@pytest.mark.parametrize(
+    "platform, library",
+    [
+        ("manylinux_2_17_x86_64", "libboard.so"),
+        ("manylinux_2_17_aarch64", "libboard.so"),
+        ("win_amd64", "board.dll"),
+    ],
+)
 def test_wheels(packages: Path, platform: str, library: str) -> None:
     with ZipFile(packages / f"{WHEEL}{platform}.whl") as wheel:
         names = {it for it in wheel.namelist() if it.startswith("voting_board/")}
@@ -95,6 +100,14 @@ def test_glibc(packages: Path, tmp_path: Path) -> None:
         library = unpacked(packages / f"{WHEEL}manylinux_2_17_{platform}.whl", tmp_path / platform)
         needed = re.findall(r"\(GLIBC_([\d.]+)\)", ran(tool, "-T", library))
         assert needed and max(tuple(map(int, it.split("."))) for it in needed) <= (2, 17)
+
+
+def test_hardened(packages: Path, tmp_path: Path) -> None:
+    # Catches: a library in which what the loader has bound can be overwritten.
+    for platform in ("x86_64", "aarch64"):
+        library = unpacked(packages / f"{WHEEL}manylinux_2_17_{platform}.whl", tmp_path / platform)
+        said = ran("readelf", "--program-headers", "--dynamic", "--wide", library)
+        assert "GNU_RELRO" in said and "BIND_NOW" in said
 
 
 def unpacked(wheel: Path, folder: Path) -> Path:

@@ -52,11 +52,20 @@ def test_publications() -> None:
     assert register.submit("restore,AAA\npublish\nopen,9") == 9 and register.published == 8
 
 
-@pytest.mark.parametrize("command, number, name", [
-    ("open,1", 1, "ChairOpen"), ("close,4", 2, "ChairNotOpen"), ("close,1", 3, "ChairHasMembers"),
-    ("suspend,ZZZ", 4, "UnknownMember"), ("move,AAA,1", 6, "AlreadyThere"), ("move,AAA,9", 2, "ChairNotOpen"),
-    ("restore,AAA", 8, "NotSuspended"), ("admit,AAA,1", 25, "MemberExists"), ("withdraw,AAA", 26, "MemberSeated"),
-])
+@pytest.mark.parametrize(
+    "command, number, name",
+    [
+        ("open,1", 1, "ChairOpen"),
+        ("close,4", 2, "ChairNotOpen"),
+        ("close,1", 3, "ChairHasMembers"),
+        ("suspend,ZZZ", 4, "UnknownMember"),
+        ("move,AAA,1", 6, "AlreadyThere"),
+        ("move,AAA,9", 2, "ChairNotOpen"),
+        ("restore,AAA", 8, "NotSuspended"),
+        ("admit,AAA,1", 25, "MemberExists"),
+        ("withdraw,AAA", 26, "MemberSeated"),
+    ],
+)
 def test_refused(command: str, number: int, name: str) -> None:
     # Catches: a refused command that changes something, and one that is refused without its record.
     register = opened()
@@ -95,14 +104,26 @@ def test_commands_with_no_fault() -> None:
     assert register.submit('"move","AAA",5\r"mo"ve,BBB,none') == 13
 
 
-@pytest.mark.parametrize("records, record, command, byte", [
-    ("opne,9", 1, "opne,9", 0), ("open,9\n\nclose,9\n open,1\n", 3, " open,1", 16), ("open,9,", 1, "open,9,", 0),
-    ("read,1,half", 1, "read,1,half", 0), ("open,9\nread,3,85\nx", 2, "read,3,85", 7), ("open,33", 1, "open,33", 0),
-    ("read,5,half", 1, "read,5,half", 0), ("suspend,aaa", 1, "suspend,aaa", 0), ("script", 1, "script", 0),
-    ('open,9\r\n"open,1', 2, '"open,1', 8), ("\ufeffopen,9", 1, "\ufeffopen,9", 0),
-    ("votes,AAA,1.0", 1, "votes,AAA,1.0", 0),
-    ("member,votes", 1, "member,votes", 0), ("open,9;open,10", 1, "open,9;open,10", 0), ("\0", 1, "\0", 0),
-])
+@pytest.mark.parametrize(
+    "records, record, command, byte",
+    [
+        ("opne,9", 1, "opne,9", 0),
+        ("open,9\n\nclose,9\n open,1\n", 3, " open,1", 16),
+        ("open,9,", 1, "open,9,", 0),
+        ("read,1,half", 1, "read,1,half", 0),
+        ("open,9\nread,3,85\nx", 2, "read,3,85", 7),
+        ("open,33", 1, "open,33", 0),
+        ("read,5,half", 1, "read,5,half", 0),
+        ("suspend,aaa", 1, "suspend,aaa", 0),
+        ("script", 1, "script", 0),
+        ('open,9\r\n"open,1', 2, '"open,1', 8),
+        ("\ufeffopen,9", 1, "\ufeffopen,9", 0),
+        ("votes,AAA,1.0", 1, "votes,AAA,1.0", 0),
+        ("member,votes", 1, "member,votes", 0),
+        ("open,9;open,10", 1, "open,9;open,10", 0),
+        ("\0", 1, "\0", 0),
+    ],
+)
 def test_bad_records(records: str, record: int, command: str, byte: int) -> None:
     # Catches: a bad record that is passed over, one with a wrong number, and half of a list that is carried out.
     register = opened()
@@ -148,8 +169,15 @@ def test_journal_limit() -> None:
 
 
 def test_table() -> None:
-    register = Register({"code": ["BBB", "AAA", "CCC"], "votes": [1, 2, 3], "chair": [9, 2, None],
-                         "suspended": [True, False, True], "chair_name": ["Hills", None, None]})
+    register = Register(
+        {
+            "code": ["BBB", "AAA", "CCC"],
+            "votes": [1, 2, 3],
+            "chair": [9, 2, None],
+            "suspended": [True, False, True],
+            "chair_name": ["Hills", None, None],
+        }
+    )
     wanted = ["open,2", "open,9", "move,BBB,9", "move,AAA,2", "suspend,BBB", "suspend,CCC"]
     assert [str(it) for it in register.journal] == wanted
     assert register.indices("half").names == (None, "Hills")
@@ -181,6 +209,9 @@ def test_undo() -> None:
     register = opened()
     register.publish()
     assert (register.undo(), register.published, register.members["CCC"].chair) == (5, 5, None)
+    assert register.undo(2) == 2
+    # Catches: readers that see commands that were taken back, or none of those that stay.
+    assert register.published == 2 and register.read("half") == register.indices("half")
     assert (register.undo(0), register.chairs, register.journal) == (0, {}, ())
     for to in (1, -1, None):
         with pytest.raises(Refused, match="a whole number from 0 to the number of accepted commands") as caught:
@@ -194,8 +225,10 @@ def test_scripts() -> None:
     assert "publish" not in register.script()
     register.submit("publish\nsuspend,AAA")
     text = register.script()
-    assert text == ("member,votes\nAAA,50\nBBB,49\nCCC,1\nscript\nopen,1\nopen,2\nopen,3\n"
-                    "move,AAA,1\nmove,BBB,2\nmove,CCC,3\npublish\nsuspend,AAA\n")
+    assert text == (
+        "member,votes\nAAA,50\nBBB,49\nCCC,1\nscript\nopen,1\nopen,2\nopen,3\n"
+        "move,AAA,1\nmove,BBB,2\nmove,CCC,3\npublish\nsuspend,AAA\n"
+    )
     assert state(Register.from_script(text)) == state(register)
     assert replay(text).fault is None and not replay(text).refused
 
@@ -215,17 +248,33 @@ def test_from_script(tmp_path: Path) -> None:
         Register.from_script(5)  # type: ignore[arg-type]
 
 
-@pytest.mark.parametrize("script, number, record, message", [
-    ("", 21, None, "BadHeader (21), the first record is not 'member,votes'"),
-    (SCRIPT + "open,1\n", 1, 10, "refused record 10, 'open,1': ChairOpen (1), the chair is open already"),
-    (SCRIPT + "\n\nopen,33\nopen,5", 17, 10,
-     "refused record 10, 'open,33': BadRecord (17), a record is not well formed"),
-    (SCRIPT + "read,5,half", 22, 10,
-     "refused record 10, 'read,5,half': BadReader (22), there is no reader of this number"),
-    ("member,votes\nAAA,x\n", 17, 2, "refused record 2: BadRecord (17), a record is not well formed"),
-    ("member,votes\nAAA,1\n", 28, None, "NoScript (28), the input ends before the record 'script'"),
-    ("member,votes\nAAA,1\nAAA,2\nscript\n", 11, None, "DuplicateMember (11), two members have the same code: 'AAA'"),
-])
+@pytest.mark.parametrize(
+    "script, number, record, message",
+    [
+        ("", 21, None, "BadHeader (21), the first record is not 'member,votes'"),
+        (SCRIPT + "open,1\n", 1, 10, "refused record 10, 'open,1': ChairOpen (1), the chair is open already"),
+        (
+            SCRIPT + "\n\nopen,33\nopen,5",
+            17,
+            10,
+            "refused record 10, 'open,33': BadRecord (17), a record is not well formed",
+        ),
+        (
+            SCRIPT + "read,5,half",
+            22,
+            10,
+            "refused record 10, 'read,5,half': BadReader (22), there is no reader of this number",
+        ),
+        ("member,votes\nAAA,x\n", 17, 2, "refused record 2: BadRecord (17), a record is not well formed"),
+        ("member,votes\nAAA,1\n", 28, None, "NoScript (28), the input ends before the record 'script'"),
+        (
+            "member,votes\nAAA,1\nAAA,2\nscript\n",
+            11,
+            None,
+            "DuplicateMember (11), two members have the same code: 'AAA'",
+        ),
+    ],
+)
 def test_scripts_with_faults(script: str, number: int, record: int | None, message: str) -> None:
     with pytest.raises(Refused) as caught:
         Register.from_script(script)

@@ -80,15 +80,21 @@ def test_limits() -> None:
     assert fault == Fault(10, 22, "BadReader", "there is no reader of this number")
 
 
-@pytest.mark.parametrize("script, fault", [
-    (b"", (0, 21, "BadHeader")),
-    (b"member,votes\nAAA,1\n", (0, 28, "NoScript")),
-    (b"member,votes\nAAA,1\nAAA,2\nscript\nopen,1\n", (0, 11, "DuplicateMember")),
-    (b"member,votes\nAAA,1\nBBB\n", (3, 17, "BadRecord")),
-    (b"member,votes\n" + b"".join(b"%c%cA,1\n" % (65 + at // 26, 65 + at % 26) for at in range(257)),
-     (0, 12, "TooManyMembers")),
-    (b"\xff" * 4_194_305, (0, 29, "TooLong")),
-], ids=["BadHeader", "NoScript", "DuplicateMember", "BadRecord", "TooManyMembers", "TooLong"])
+@pytest.mark.parametrize(
+    "script, fault",
+    [
+        (b"", (0, 21, "BadHeader")),
+        (b"member,votes\nAAA,1\n", (0, 28, "NoScript")),
+        (b"member,votes\nAAA,1\nAAA,2\nscript\nopen,1\n", (0, 11, "DuplicateMember")),
+        (b"member,votes\nAAA,1\nBBB\n", (3, 17, "BadRecord")),
+        (
+            b"member,votes\n" + b"".join(b"%c%cA,1\n" % (65 + at // 26, 65 + at % 26) for at in range(257)),
+            (0, 12, "TooManyMembers"),
+        ),
+        (b"\xff" * 4_194_305, (0, 29, "TooLong")),
+    ],
+    ids=["BadHeader", "NoScript", "DuplicateMember", "BadRecord", "TooManyMembers", "TooLong"],
+)
 def test_faults_of_the_opening(script: bytes, fault: tuple[int, int, str]) -> None:
     run = replay(script)
     assert run.fault is not None and (run.fault.record, run.fault.number, run.fault.name) == fault

@@ -46,8 +46,16 @@ def rows_of(table: StrictTable) -> list[str]:
         return '"' + text.replace('"', '""') + '"' if re.search('[",\r\n]', text) else text
 
     return [
-        ",".join([it.code, cell(it.name), str(it.votes), str(it.chair or ""), cell(table.names.get(it.chair or 0, "")),
-                  str(it.suspended).lower()])
+        ",".join(
+            [
+                it.code,
+                cell(it.name),
+                str(it.votes),
+                str(it.chair or ""),
+                cell(table.names.get(it.chair or 0, "")),
+                str(it.suspended).lower(),
+            ]
+        )
         for it in table.members
     ]
 
@@ -77,23 +85,29 @@ def said_of(text: str, **how: object) -> list[str]:
 def test_register() -> None:
     register = read_table(PLAIN.encode(), total=90).register()
     assert {code: (it.votes, it.chair) for code, it in register.members.items()} == {
-        "AAA": (40, 1), "BBB": (25, 2), "CCC": (16, 2), "DDD": (9, None),
+        "AAA": (40, 1),
+        "BBB": (25, 2),
+        "CCC": (16, 2),
+        "DDD": (9, None),
     }
     assert said_of(PLAIN, total=91) == ["row 1: the votes below add up to 90, and the published total is 91"]
 
 
-@pytest.mark.parametrize("old, new, said", [
-    ("AAA,40", "AAA,40.0", "row 2: the votes '40.0' isn't a whole number"),
-    ("AAA,40", "AAA,040", "row 2: the votes '040' isn't"),
-    ("AAA,40", "aaa,40", "row 2: the code 'aaa' isn't three letters"),
-    ("BBB,25,2", "BBB,25,33", "row 3: the chair '33' isn't a whole number from 1 to 32"),
-    ("BBB,25,2", "BBB,25", "row 3: 2 cells, and 3 columns: 'BBB'"),
-    ("BBB,25", "AAA,25", "row 3: the code 'AAA' is in row 2 already"),
-    ("DDD,9", "DDD,81", "row 5: the 81 votes of 'DDD' equal the sum of all others"),
-    ("CCC,16,2", "CCC,16,", "row 4: 'CCC' has no chair, below a row that has one"),
-    ("code,votes", "code,Votes", "row 1: the column 'Votes' is unknown"),
-    ("code,votes", "kode,votes", "row 1: the column 'kode' is unknown"),
-])
+@pytest.mark.parametrize(
+    "old, new, said",
+    [
+        ("AAA,40", "AAA,40.0", "row 2: the votes '40.0' isn't a whole number"),
+        ("AAA,40", "AAA,040", "row 2: the votes '040' isn't"),
+        ("AAA,40", "aaa,40", "row 2: the code 'aaa' isn't three letters"),
+        ("BBB,25,2", "BBB,25,33", "row 3: the chair '33' isn't a whole number from 1 to 32"),
+        ("BBB,25,2", "BBB,25", "row 3: 2 cells, and 3 columns: 'BBB'"),
+        ("BBB,25", "AAA,25", "row 3: the code 'AAA' is in row 2 already"),
+        ("DDD,9", "DDD,81", "row 5: the 81 votes of 'DDD' equal the sum of all others"),
+        ("CCC,16,2", "CCC,16,", "row 4: 'CCC' has no chair, below a row that has one"),
+        ("code,votes", "code,Votes", "row 1: the column 'Votes' is unknown"),
+        ("code,votes", "kode,votes", "row 1: the column 'kode' is unknown"),
+    ],
+)
 def test_refused(old: str, new: str, said: str) -> None:
     # Catches: a cell that is mended, or a total or merged cells that make another register.
     assert any(it.startswith(said) for it in said_of(PLAIN.replace(old, new)))

@@ -2,6 +2,9 @@
 from __future__ import annotations
 
 import random
+import signal
+import threading
+import time
 from fractions import Fraction
 from pathlib import Path
 
@@ -53,8 +56,8 @@ def test_example() -> None:
         "chair 23 Steppes loses most, -0.226 percentage points."
     ]
     assert found.sweeps[0].answers() == [
-        "At 85 per cent, from 847,524 votes of XAA on, 14.886 per cent of the total voting power: chair 1 Harbours can "
-        "prevent every decision alone. With 847,523 votes it is not so."
+        "At 85 per cent, from 847,524 votes of XAA on, 14.886 per cent of the total voting power: chair 1 Harbours has "
+        "a veto. With 847,523 votes it is not so."
     ]
     text, fault = replay_text(found.script())
     assert fault is None and len(found.hashes()["lines"]) == 64 and text.count("reading,") == 25
@@ -76,7 +79,10 @@ def test_thresholds_are_exact() -> None:
 def commands() -> list[str]:
     codes, chairs = ["AAA", "BBB", "CCC", "DDD", "EEE", "ZZZ"], ["1", "2", "3", "4", "none"]
     return [f"{kind},{code}" for kind in ("suspend", "restore", "withdraw") for code in codes] + [
-        *(f"move,{code},{chair}" for code in codes for chair in chairs), "admit,ZZZ,7", "votes,AAA,3", "votes,ZZZ,9",
+        *(f"move,{code},{chair}" for code in codes for chair in chairs),
+        "admit,ZZZ,7",
+        "votes,AAA,3",
+        "votes,ZZZ,9",
         *(f"{kind},{chair}" for kind in ("open", "close") for chair in "1234"),
     ]
 
@@ -105,29 +111,35 @@ def test_shared_out(votes: int, weights: list[int]) -> None:
     assert all(abs(part - Fraction(votes * own, sum(weights))) < 1 for part, own in zip(parts.values(), weights))
 
 
-@pytest.mark.parametrize("command, records", [
-    ("votes,EEE,+25%", ["votes,EEE,10"]),
-    ("votes,EEE,-31.25%", ["votes,EEE,6"]),
-    ("votes,BBB,+2%", ["votes,BBB,26"]),
-    ("votes,AAA,50% of total", ["votes,AAA,61"]),
-    ("votes,chair 2,+100%", ["votes,BBB,50", "votes,CCC,32"]),
-    ("votes,BBB+CCC,3", ["votes,BBB,2", "votes,CCC,1"]),
-])
+@pytest.mark.parametrize(
+    "command, records",
+    [
+        ("votes,EEE,+25%", ["votes,EEE,10"]),
+        ("votes,EEE,-31.25%", ["votes,EEE,6"]),
+        ("votes,BBB,+2%", ["votes,BBB,26"]),
+        ("votes,AAA,50% of total", ["votes,AAA,61"]),
+        ("votes,chair 2,+100%", ["votes,BBB,50", "votes,CCC,32"]),
+        ("votes,BBB+CCC,3", ["votes,BBB,2", "votes,CCC,1"]),
+    ],
+)
 def test_amounts(command: str, records: list[str]) -> None:
     assert records_of(Register(SMALL).members, command) == records
 
 
-@pytest.mark.parametrize("scenario, said", [
-    ("Moved: move,AAA,9", "scenario 'Moved': refused 'move,AAA,9': ChairNotOpen (2), the chair is not open"),
-    ("Half: votes,AAA,50%", "scenario 'Half': '50%' has two meanings: write 50% of total for a share of the total"),
-    ("Who: votes,QQQ,+5%", "scenario 'Who': 'votes,QQQ,+5%': no member has the code QQQ"),
-    ("Twice: votes,AAA+AAA,5", "scenario 'Twice': 'votes,AAA+AAA,5': AAA+AAA names a member twice"),
-    ("Less: votes,AAA,-150%", "scenario 'Less': 'votes,AAA,-150%': AAA would have -20 votes, and votes are from 0"),
-    ("Read: read,1,half", "scenario 'Read': 'read,1,half' is no command of a scenario: these are open, close,"),
-    ("base: open,9", "two scenarios have the label 'base'"),
-    ("open,9", "'open,9' isn't of the form 'LABEL: command; command'"),
-    ("Nothing: ;", "the scenario 'Nothing' has no command"),
-])
+@pytest.mark.parametrize(
+    "scenario, said",
+    [
+        ("Moved: move,AAA,9", "scenario 'Moved': refused 'move,AAA,9': ChairNotOpen (2), the chair is not open"),
+        ("Half: votes,AAA,50%", "scenario 'Half': '50%' has two meanings: write 50% of total for a share of the total"),
+        ("Who: votes,QQQ,+5%", "scenario 'Who': 'votes,QQQ,+5%': no member has the code QQQ"),
+        ("Twice: votes,AAA+AAA,5", "scenario 'Twice': 'votes,AAA+AAA,5': AAA+AAA names a member twice"),
+        ("Less: votes,AAA,-150%", "scenario 'Less': 'votes,AAA,-150%': AAA would have -20 votes, and votes are from 0"),
+        ("Read: read,1,half", "scenario 'Read': 'read,1,half' is no command of a scenario: these are open, close,"),
+        ("base: open,9", "two scenarios have the label 'base'"),
+        ("open,9", "'open,9' isn't of the form 'LABEL: command; command'"),
+        ("Nothing: ;", "the scenario 'Nothing' has no command"),
+    ],
+)
 def test_refused_scenarios(scenario: str, said: str) -> None:
     # Catches: a scenario that is counted without one of its commands.
     with pytest.raises(BadStudy) as why:
@@ -135,31 +147,37 @@ def test_refused_scenarios(scenario: str, said: str) -> None:
     assert str(why.value).startswith(said) and "\n" not in str(why.value)
 
 
-@pytest.mark.parametrize("sweep, said", [
-    ("AAA 10..20 by 3 %", "whole steps lead from FROM to TO"),
-    ("AAA 20..10 by 1 %", "whole steps lead from FROM to TO"),
-    ("AAA 0..99 by 0.01 %", "has more than 1001 steps"),
-    ("AAA 1..2", "isn't of the form"),
-    ("EEE 1..2 by 1 %", "EEE sits in no chair"),
-    ("chair 9 1..2 by 1 %", "chair 9 has no member whose votes count"),
-    ("from Lost: AAA 1..2 by 1 %", "no scenario has the label 'Lost'"),
-])
+@pytest.mark.parametrize(
+    "sweep, said",
+    [
+        ("AAA 10..20 by 3 %", "whole steps lead from FROM to TO"),
+        ("AAA 20..10 by 1 %", "whole steps lead from FROM to TO"),
+        ("AAA 0..99 by 0.01 %", "has more than 1001 steps"),
+        ("AAA 1..2", "isn't of the form"),
+        ("EEE 1..2 by 1 %", "EEE sits in no chair"),
+        ("chair 9 1..2 by 1 %", "chair 9 has no member whose votes count"),
+        ("from Lost: AAA 1..2 by 1 %", "no scenario has the label 'Lost'"),
+    ],
+)
 def test_refused_sweeps(sweep: str, said: str) -> None:
     with pytest.raises(BadStudy, match=said):
         study(SMALL, sweeps=[sweep])
 
 
-@pytest.mark.parametrize("name, text, said", [
-    ("a.toml", "x = " + "[" * 3000, "a.toml: no TOML of scenarios: it is nested too deeply"),
-    ("a.toml", "x = " + "1" * 5000, "a.toml: no TOML"),
-    ("a.toml", "[[scenario]]\nlabel = 1\ncommands = 2", "a.toml: scenario 1: the label is a text"),
-    ("a.toml", "scenario = 5", "a.toml: no TOML of scenarios: it has a table [[scenario]] for each"),
-    ("a.csv", "label,commands\nA,votes,AAA,5\n", "a.csv: row 2: a scenario has a label and commands"),
-    ("a.csv", "label\nA\n", "a.csv: row 1: the header of scenarios is label,commands"),
-    ("a.csv", "label,commands\n", "a.csv: there is no scenario in the file"),
-    ("a.csv", 'label,commands\n"A', "a.csv: no CSV: unexpected end of data"),
-    ("a.csv", "label,commands\nA,\udcff\n", "a.csv: no UTF-8 at byte 17"),
-])
+@pytest.mark.parametrize(
+    "name, text, said",
+    [
+        ("a.toml", "x = " + "[" * 3000, "a.toml: no TOML of scenarios: it is nested too deeply"),
+        ("a.toml", "x = " + "1" * 5000, "a.toml: no TOML"),
+        ("a.toml", "[[scenario]]\nlabel = 1\ncommands = 2", "a.toml: scenario 1: the label is a text"),
+        ("a.toml", "scenario = 5", "a.toml: no TOML of scenarios: it has a table [[scenario]] for each"),
+        ("a.csv", "label,commands\nA,votes,AAA,5\n", "a.csv: row 2: a scenario has a label and commands"),
+        ("a.csv", "label\nA\n", "a.csv: row 1: the header of scenarios is label,commands"),
+        ("a.csv", "label,commands\n", "a.csv: there is no scenario in the file"),
+        ("a.csv", 'label,commands\n"A', "a.csv: no CSV: unexpected end of data"),
+        ("a.csv", "label,commands\nA,\udcff\n", "a.csv: no UTF-8 at byte 17"),
+    ],
+)
 def test_refused_files(name: str, text: str, said: str) -> None:
     # Catches: a traceback.
     if name.endswith("toml"):
@@ -233,3 +251,24 @@ def test_sweep_of_a_group() -> None:
     assert sweep_of("AAA+BBB 1..2 by 0.25 %").percents == ["1.00", "1.25", "1.50", "1.75", "2.00"]
     found = study(Register({"AAA": votes, "BBB": 60}), at="half")
     assert found.results["base"].answers() == ["At a simple majority no coalition wins."]
+
+
+@pytest.mark.parametrize("processors", [1, 2, 5])
+def test_processors(small: Study, processors: int, monkeypatch: pytest.MonkeyPatch) -> None:
+    # Catches: results in the order in which threads end, and counts of another result's register.
+    monkeypatch.setattr("voting_board.studies.all_processors", lambda: processors)
+    found = study(SMALL, scenarios=SCENARIOS, sweeps=SWEEPS)
+    assert list(found.results) == list(small.results)
+    assert found.records() == small.records() and found.script() == small.script()
+    assert [it.thresholds for it in found.sweeps] == [it.thresholds for it in small.sweeps]
+
+
+def test_interrupt() -> None:
+    # Catches: a study that counts to its end after Ctrl-C.
+    codes = [f"A{tens}{ones}" for tens in "AB" for ones in "ABCDEFGHIJKLMNOP"]
+    rows = [{"code": code, "votes": 2**30 + at, "chair": at} for at, code in enumerate(codes, 1)]
+    threading.Timer(0.7, signal.raise_signal, [signal.SIGINT]).start()
+    start = time.monotonic()
+    with pytest.raises(KeyboardInterrupt):
+        study(rows, sweeps=["AAA 1..91 by 0.1 %"])
+    assert time.monotonic() - start < 10

@@ -117,8 +117,14 @@ def test_a_handler_that_uses_the_register() -> None:
 
 
 CALLS: list[Callable[[Register], object]] = [
-    lambda it: it.open(2), lambda it: it.members, lambda it: it.indices("half"), lambda it: it.publish(),
-    lambda it: it.undo(), lambda it: it.what_if(), lambda it: it.script(), lambda it: it.submit("open,2"),
+    lambda it: it.open(2),
+    lambda it: it.members,
+    lambda it: it.indices("half"),
+    lambda it: it.publish(),
+    lambda it: it.undo(),
+    lambda it: it.what_if(),
+    lambda it: it.script(),
+    lambda it: it.submit("open,2"),
 ]
 
 
@@ -192,7 +198,9 @@ def test_others_run_during_counts() -> None:
     # Catches: a count that holds the interpreter's lock.
     register = Register.from_script(f"member,votes\nAAA,1\nscript\n{CHAIRS}publish\n")
     calls: list[Callable[[], object]] = [
-        lambda: indices(LARGEST, "quorum"), lambda: register.indices("quorum"), lambda: register.read("quorum"),
+        lambda: indices(LARGEST, "quorum"),
+        lambda: register.indices("quorum"),
+        lambda: register.read("quorum"),
         lambda: replay_text(f"member,votes\nAAA,1\nscript\n{CHAIRS}publish\n" + "read,1,quorum\n" * 9),
     ]
     for call in calls:
@@ -210,4 +218,3 @@ def test_others_run_during_counts() -> None:
             time.sleep(0)
         thread.join()
         assert ticks > 500
-

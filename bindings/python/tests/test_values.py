@@ -123,8 +123,11 @@ def test_limits_of_boards() -> None:
         says(call, 32, "the total is 281474976710657: at most 281474976710656")
     for call in of_weights([2**64], total=5):
         says(call, 32, "the total is 5: at least the sum of the weights, 18446744073709551616")
-    says(lambda: indices_of_many([[1], [2, 3]], ["half"], totals=[1, 4]), 32,
-         "board 2: the total is 4: at least the sum of the weights, 5")
+    says(
+        lambda: indices_of_many([[1], [2, 3]], ["half"], totals=[1, 4]),
+        32,
+        "board 2: the total is 4: at least the sum of the weights, 5",
+    )
     assert indices([2**43] * 32, "half").total == 2**48
     for call in of_weights([10**5000]):
         says(call, 32, "the total is a number of 16610 bits: at most 281474976710656")
@@ -143,13 +146,17 @@ def test_limits_of_registers() -> None:
         says(lambda: Register(table), 14, f"row 1: the chair is {chair}: {CHAIR}")
         board = {"votes": [1], "chair": [chair]}
         says(lambda: indices_of_members(board, "half"), 32, f"row 1: the chair is {chair}: {CHAIR}")
-        says(lambda: indices_of_members(board | {"chair": [1]}, "half", open_chairs=[3, chair]), 32,
-             f"open chair 2 is {chair}: {CHAIR}")
+        says(
+            lambda: indices_of_members(board | {"chair": [1]}, "half", open_chairs=[3, chair]),
+            32,
+            f"open chair 2 is {chair}: {CHAIR}",
+        )
     for journal in (0, 1_000_001):
         says(lambda: Register({}, journal=journal), 13, f"the journal is {journal}: a whole number from 1 to 1000000")
     for readers in (0, 5):
-        says(lambda: replay(b"", readers=readers), 13,
-             f"the number of readers is {readers}: a whole number from 1 to 4")
+        says(
+            lambda: replay(b"", readers=readers), 13, f"the number of readers is {readers}: a whole number from 1 to 4"
+        )
     many = {f"{chr(65 + at // 26)}{chr(65 + at % 26)}A": 1 for at in range(257)}
     says(lambda: Register(many), 12, "TooManyMembers (12), there are more than 256 members")
 
@@ -159,8 +166,11 @@ def test_codes(code: str) -> None:
     message = f"the code is {code!r}: a code is three ASCII capitals"
     register = Register({"AAA": 1})
     for call in [
-        lambda: Register({code: 1}), lambda: register.suspend(code), lambda: register.move(code, 1),
-        lambda: register.admit(code, 1), lambda: register.submit(Command("restore", code)),
+        lambda: Register({code: 1}),
+        lambda: register.suspend(code),
+        lambda: register.move(code, 1),
+        lambda: register.admit(code, 1),
+        lambda: register.submit(Command("restore", code)),
     ]:
         says(call, 15, message)
     for rows in [{"code": ["AAA", code], "votes": [1, 2]}, {"code": ["AAA", code], "votes": [1, 2], "chair": [1, 1]}]:
@@ -182,9 +192,13 @@ def test_majorities() -> None:
     register = Register({})
     for majority in ("HALF", " half", "70%", "", "seventy", "half\n"):
         message = f"no majority {majority!r}: half, 70, 85 or quorum"
-        for call in (lambda: indices([1], majority), lambda: register.indices(majority),
-                     lambda: indices_of_many([[1]], ["half", majority]), lambda: register.read(majority),
-                     lambda: indices_of_members([Member(1, 1)], majority)):
+        for call in (
+            lambda: indices([1], majority),
+            lambda: register.indices(majority),
+            lambda: indices_of_many([[1]], ["half", majority]),
+            lambda: register.read(majority),
+            lambda: indices_of_members([Member(1, 1)], majority),
+        ):
             says(call, 17, message)  # type: ignore[arg-type]
     for value in (70, 0, 0.7, None, True, b"half", ["half"]):
         shown = f"the majority is {value!r} ({type(value).__name__}): half, 70, 85 or quorum"
@@ -231,10 +245,16 @@ def test_columns() -> None:
         wrong(lambda: Register(rows), f"unknown column {name!r}: {columns}", ValueError)
     assert Register(table | {"name": ["Alland", None]}).members == Register(table).members
     wrong(lambda: Register(table | {"name": ["Alland", 5]}), "row 2: the name is 5 (int): a name is text")
-    wrong(lambda: Register({"votes": [1]}), f"no column 'code': a register needs code and votes, and {columns}",
-          ValueError)
-    wrong(lambda: indices_of_members({"votes": [1]}, "half"),
-          f"no column 'chair': a board needs votes and chair, and {columns}", ValueError)
+    wrong(
+        lambda: Register({"votes": [1]}),
+        f"no column 'code': a register needs code and votes, and {columns}",
+        ValueError,
+    )
+    wrong(
+        lambda: indices_of_members({"votes": [1]}, "half"),
+        f"no column 'chair': a board needs votes and chair, and {columns}",
+        ValueError,
+    )
     wrong(lambda: Register(table | {"votes": [1]}), "columns of unequal length: code 2, votes 1, chair 2", ValueError)
     for empty in ([], {"code": [], "votes": []}, iter([])):
         wrong(lambda: Register(empty), "the table has no rows", ValueError)  # type: ignore[arg-type]
@@ -257,10 +277,16 @@ def test_cells() -> None:
         bad = table | {"chair": [1, value, 2]}
         wrong(lambda: Register(bad), f"row 2: the chair is {value!r} ({type(value).__name__}): {CHAIR}")
     says(lambda: Register(table | {"chair": [1, 1.5, 2]}), 14, f"row 2: the chair is 1.5: {CHAIR}")
-    says(lambda: indices_of_members(table | {"votes": [1, 2, 2**64], "suspended": [False, False, True]}, "half"), 32,
-         "row 3: the votes are 18446744073709551616: at most 281474976710656")
-    says(lambda: indices_of_members(table | {"votes": [2**48, 1, 0]}, "half"), 32,
-         "the total is 281474976710657: at most 281474976710656")
+    says(
+        lambda: indices_of_members(table | {"votes": [1, 2, 2**64], "suspended": [False, False, True]}, "half"),
+        32,
+        "row 3: the votes are 18446744073709551616: at most 281474976710656",
+    )
+    says(
+        lambda: indices_of_members(table | {"votes": [2**48, 1, 0]}, "half"),
+        32,
+        "the total is 281474976710657: at most 281474976710656",
+    )
 
 
 def test_duplicates() -> None:
@@ -276,8 +302,13 @@ def test_chair_names() -> None:
     named = table | {"chair_name": ["Hills", None, "Lakes"]}
     register = Register(named)
     assert register.names == {2: "Hills", 7: "Lakes"}
-    for board in (register.indices("half"), register.read("half"), register.indices_of_all()["70"],
-                  register.what_if().indices("half"), indices_of_members(named, "half")):
+    for board in (
+        register.indices("half"),
+        register.read("half"),
+        register.indices_of_all()["70"],
+        register.what_if().indices("half"),
+        indices_of_members(named, "half"),
+    ):
         assert board.names in (("Hills", "Lakes"), ())
     assert register.indices("half").chairs[1].name == "Lakes"
     twice = table | {"chair_name": ["Hills", "Mills", None]}
@@ -312,7 +343,13 @@ def test_refused() -> None:
     why = refused(lambda: Register({"code": ["AAA", "b"], "votes": [1, 2]}))
     other = pickle.loads(pickle.dumps(why))
     assert [getattr(other, it) for it in ("number", "name", "command", "record", "row", "args")] == [
-        15, "BadMember", None, None, 2, why.args]
+        15,
+        "BadMember",
+        None,
+        None,
+        2,
+        why.args,
+    ]
     again = refused(lambda: Register({"AAA": 1}).move("AAA", 3))
     assert (again.command, again.name, again.record) == ("move,AAA,3", "ChairNotOpen", None)
     assert str(again) == "refused 'move,AAA,3': ChairNotOpen (2), the chair is not open"

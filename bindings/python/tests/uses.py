@@ -58,6 +58,7 @@ half: Indices = many[0]["half"]
 omega: int = int(many.omega.sum())
 difference = many.swings - many.swings
 wins: list[int] = [it["85"].omega for it in many]
+many.to_dataframe(floats=False)
 indices_of_members([Member(5, 1), Named(1, 2)], "half", open_chairs=[3])
 indices_of_members({"votes": [5], "chair": [None]}, "half")
 register = Register({"AAA": 50})
@@ -87,6 +88,7 @@ register.submit(5)  # wrong
 replay(5)  # wrong
 many["half"]  # wrong
 many[0]["70%"]  # wrong
+many.to_dataframe(False)  # wrong
 board.omega = 5  # wrong
 board.chairs[0].swings = 5  # wrong
 Command("opne")  # wrong

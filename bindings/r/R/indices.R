@@ -82,7 +82,8 @@ open_of <- function(open_chairs) {
 
 # Many boards.
 
-board_indices_of_many <- function(rows, majorities = c("half", "70", "85", "quorum"), totals = NULL) {
+board_indices_of_many <- function(rows, majorities = c("half", "70", "85", "quorum"), totals = NULL,
+                                  processors = NULL) {
   boards <- boards_of(rows)
   weights <- lapply(seq_along(boards), function(at) weights_of(boards[[at]], paste0("board ", at, ": ")))
   sums <- totals_of(totals, weights)
@@ -90,7 +91,7 @@ board_indices_of_many <- function(rows, majorities = c("half", "70", "85", "quor
     wrong_type("the majorities are", majorities, ALLOWED[["majority"]])
   }
   numbers <- vapply(majorities, majority_number, 0L, USE.NAMES = FALSE)
-  many <- .Call(C_many, weights, sums, numbers)
+  many <- .Call(C_many, weights, sums, numbers, threads_of(processors))
   names(weights) <- names(boards)
   arrays_of(many, weights, majorities)
 }
@@ -108,6 +109,15 @@ boards_of <- function(rows) {
   }
   if (!is.list(rows)) wrong_type("the boards are", rows, "a matrix of numbers, a row each, or a list of vectors")
   rows
+}
+
+# How many threads count: 0 for one on each processor.
+threads_of <- function(processors) {
+  if (is.null(processors)) return(0)
+  allowed <- "a whole number from 1"
+  threads <- one_number(processors, "processors is", allowed)
+  if (!is_whole(threads, 1, .Machine$integer.max)) type_error("processors is ", shown(threads), ": ", allowed)
+  threads
 }
 
 totals_of <- function(totals, weights) {

@@ -1,4 +1,4 @@
-# The names, limits and sentences of the library. Made by tools/names from the sources: do not edit.
+# The names, limits and sentences of the library. Made by tools/made from the sources: do not edit.
 
 VERSION <- "0.10.0"
 CHAIRS <- 32
@@ -70,6 +70,8 @@ REFUSALS <- c(
   NoRegister = "the handle has no register",
   BadIndex = "there is no item at this index"
 )
+TRAPPED <- 255L
+IMPOSSIBLE <- "the library came to a point that its proof rules out: the compiler or the machine is at fault"
 
 # What is allowed for a value.
 ALLOWED <- c(

@@ -18,7 +18,7 @@ type_error <- function(...) {
 # The refusal of a number that the library returned, where R has checked the values before.
 refuse_number <- function(number, ...) {
   if (number == TRAPPED) {
-    stop("the library came to a point that its proof rules out: the compiler or the machine is at fault", call. = FALSE)
+    stop(IMPOSSIBLE, call. = FALSE)
   }
   name <- names(REFUSALS)[number]
   refuse(name, ..., name, " (", number, "), ", REFUSALS[[name]])

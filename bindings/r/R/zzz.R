@@ -1,5 +1,3 @@
-# The result of a call that came to what its proof rules out.
-TRAPPED <- 255L
 # In place of the number of a majority: all of them.
 ALL <- length(MAJORITIES)
 

@@ -54,9 +54,10 @@ board_undo(r, to = board_accepted(r) - 1)
 \code{board_submit} carries out records, all or none. \code{board_check} only says what would refuse them.
 \code{board_attempt} carries them out, and returns a refusal in place of raising it.
 
-\code{board_publish} publishes all accepted commands: \code{\link{board_read}} sees them from then on.
+\code{board_publish} publishes all accepted commands: \code{\link{board_read}} counts the register after them.
 
-\code{board_undo} takes back all commands but the first ones, and their publication.
+\code{board_undo} takes back all commands but the first ones. Those of them that were published stay published: if
+more than \code{to} were, all that are left are published, and \code{\link{board_read}} counts the register after them.
 }
 \value{
 The commands and \code{board_submit} return the number of accepted commands, \code{board_publish} that of published
@@ -65,9 +66,9 @@ ones, and \code{board_undo} that of those that stay, all of them invisibly. \cod
 }
 \section{Conditions}{
 \link{board_refused}: a command that the register refuses changes nothing. A list is refused with the number and the
-text of its first refused record. Where memory runs out
-while a list is taken back, the records before that one stay carried out. A record \code{read} is refused, since it is
-no command.
+text of its first refused record. A record \code{read} is refused, since it is no command. Where memory runs out,
+\code{OutOfMemory} refuses the command, the whole list, or \code{board_undo}, and the register stays as it is; but if it
+runs out while the records of a list are taken back, those before the refused one stay carried out.
 }
 \examples{
 r <- board_register(c(AAA = 50, BBB = 49, CCC = 1))

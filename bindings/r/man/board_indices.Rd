@@ -24,9 +24,14 @@ board_indices_of_all(x, ...)
 \item{x, object}{The weights of chairs 1, 2 and so on, in votes: at most 32 numbers, whose names, if there are any, are
   the chairs' names. Or a table of members, see Details. Or a register (\code{\link{board_register}}), which is counted
   as it stands. Of the methods: what \code{board_indices} returned.}
-\item{majority}{\code{"half"}: more than half of the votes cast, if all open chairs vote. \code{"70"} and \code{"85"}:
-  at least one vote, and at least 70 or 85 per cent of the total. \code{"quorum"}: more than half of the open chairs,
-  with at least half of the total. It is always given.}
+\item{majority}{By which coalitions win; it is always given.
+  % made: meanings
+  \code{"half"}: more than half of the votes cast, if all open chairs vote.
+  \code{"70"}: at least one vote, and at least 70 per cent of the total.
+  \code{"85"}: at least one vote, and at least 85 per cent of the total.
+  \code{"quorum"}: more than half of the open chairs, with at least half of the total.
+  % end
+}
 \item{...}{\code{total}, with weights alone: the total voting power in votes, at least the sum of the weights, which it
   is unless given, and at most 2^48. \code{open_chairs}, with a table alone: the numbers of chairs that are open even if
   no member sits in them. Of \code{print} and \code{plot}: arguments of \code{\link{print.data.frame}} and
@@ -48,8 +53,8 @@ A swing of a chair is a set of other open chairs that loses, and wins once the c
 \code{board_indices_of_all} returns a list of four by the names of the majorities. \code{board_indices} returns a
 list of class \code{"board_indices"}:
 \item{majority}{the majority}
-\item{quota}{the least weight that wins, in votes}
-\item{least_size}{the least number of chairs that wins, or 0 if the majority requires none}
+\item{quota}{the least weight that can win, in votes}
+\item{least_size}{the least number of chairs that can win, or 0 if the majority requires none}
 \item{cast}{the votes of all open chairs}
 \item{total}{the total voting power, in votes}
 \item{omega}{the number of winning coalitions}
@@ -59,9 +64,9 @@ list of class \code{"board_indices"}:
   names; \code{weight}, in votes; \code{swings}; and four fractions of the swings: \code{banzhaf}, the Banzhaf
   measure, of half of the coalitions; \code{share}, the normalised Banzhaf index, of the swings of all chairs;
   \code{prevent} and \code{initiate}, Coleman's powers to prevent and to initiate action, of the winning and of the
-  losing coalitions. A fraction of 0 is \code{NA}.}
-All numbers are doubles and exact: none is above 2^48. \code{summary} has each chair's share of the votes cast beside
-its share of power.
+  losing coalitions. Where the divisor is 0, a fraction is \code{NA}.}
+Votes and counts are whole numbers up to 2^48, which doubles hold exactly; fractions are rounded. \code{summary} has
+each chair's share of the votes cast beside its share of power.
 }
 \section{Conditions}{
 Values that are no votes, no chair or no majority are refused by a condition of class \code{"board_refused"}, values

@@ -4,10 +4,11 @@
 \alias{print.board_indices_of_many}
 \title{The voting power on many boards}
 \description{
-Counts many boards by some majorities. All boards are checked before one is counted.
+Counts many boards by some majorities, on all processors. All boards are checked before one is counted.
 }
 \usage{
-board_indices_of_many(rows, majorities = c("half", "70", "85", "quorum"), totals = NULL)
+board_indices_of_many(rows, majorities = c("half", "70", "85", "quorum"), totals = NULL,
+                      processors = NULL)
 
 \method{as.data.frame}{board_indices_of_many}(x, row.names = NULL, optional = FALSE, ...)
 }
@@ -16,8 +17,11 @@ board_indices_of_many(rows, majorities = c("half", "70", "85", "quorum"), totals
   list of vectors, which may differ in length.}
 \item{majorities}{Some of the majorities of \code{\link{board_indices}}.}
 \item{totals}{The total of each board, in votes, at least the sum of its weights, which it is unless given.}
+\item{processors}{How many threads count, at most 64; by default one for each processor that R may use. Results are the
+  same for any number. Built for Windows, where the package wasn't tried, it counts on one.}
 \item{x}{What \code{board_indices_of_many} returned.}
-\item{row.names, optional, ...}{Not used.}
+\item{row.names, optional}{Not used.}
+\item{...}{Refused: there are no other arguments.}
 }
 \value{
 A list of class \code{"board_indices_of_many"}. By board: \code{cast}, \code{total}, \code{coalitions}. By board and

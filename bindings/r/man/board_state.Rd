@@ -40,8 +40,8 @@ board_read(r, majority)
   \code{chair}, \code{votes}. A part that the kind hasn't, and no chair, are \code{NA}. \code{as.character} gives the
   records as text, and \code{\link{board_submit}} takes it.}
 \item{board_accepted, board_published}{the numbers of accepted and of published commands}
-\item{board_read}{the counts of what was published last, of class \code{"board_indices"}. Before the first publication
-  that is the opening, in which no chair is open.}
+\item{board_read}{the counts of the register after its published commands, of class \code{"board_indices"}. Before the
+  first publication that is the opening, in which no chair is open.}
 }
 \section{Conditions}{
 \link{board_refused}: a register that is gone, or a majority that isn't known.

@@ -11,5 +11,5 @@
 The counts, the register and the reading of scripts are calls of a C library, which is made from code that is proved.
 What this package does around these calls, such as the conversion of values and the fractions, is tested and not proved.
 
-\code{vignette("votingboard")} is an introduction.
+\code{vignette("votingboard")} is an introduction, if the package was installed from its source package.
 }

@@ -2,6 +2,7 @@
  * 2^53 exactly, and no count is above 2^48. The functions in R check values and make the messages. The checks here keep
  * any call within its memory. Nothing here is proved. */
 #include "board.h"
+#include "many.h"
 
 #include <R.h>
 #include <R_ext/Rdynload.h>
@@ -11,7 +12,9 @@
 #include <stdlib.h>
 #include <string.h>
 
-enum { MAJORITIES = 4, NUMBERS = 7, COLUMNS = 3, CODE = 3, OFTEN = 4096 };
+enum { MAJORITIES = 4, NUMBERS = 7, COLUMNS = 3, CODE = 3, OFTEN = 4096, MANY_COLUMNS = 7 };
+/* Boards that are counted between two looks for an interrupt. */
+enum { PART = 128 };
 static const double ABOVE_WORDS = 18446744073709551616.0; /* 2^64 */
 
 /* R makes one call at a time, so one room is enough. */
@@ -101,8 +104,7 @@ static void set_fractions(SEXP to, const double *swings, double all) {
 
 /* The data frame of the chairs of some counts. */
 static SEXP chairs_of(const double *head, SEXP names) {
-    static const char *const named[] = {"chair",   "name",  "weight",  "swings",
-                                        "banzhaf", "share", "prevent", "initiate"};
+    static const char *const named[] = {"chair", "name", "weight", "swings", "banzhaf", "share", "prevent", "initiate"};
     static const char *const unnamed[] = {"chair", "weight", "swings", "banzhaf", "share", "prevent", "initiate"};
     int is_named = names != R_NilValue, chairs = (int)head[6], at = 0;
     const double *rows = head + NUMBERS, *swings = rows + 2 * chairs;
@@ -253,39 +255,79 @@ static R_xlen_t most_chairs(SEXP boards, SEXP majorities) {
     return most;
 }
 
-/* Many boards by some majorities: matrices by board and majority, vectors by board, and the swings by board, majority
- * and chair, which are NA for chairs that a board has not. */
-static SEXP r_many(SEXP boards, SEXP totals, SEXP majorities) {
-    static const char *const parts[] = {"quota", "least_size", "omega", "cast", "total", "coalitions", "swings"};
-    struct board_all_counts all;
-    uint64_t sheet[BOARD_SHEET_WORDS];
-    double *to[7];
-    R_xlen_t len = XLENGTH(boards);
-    check_vector(boards, VECSXP, len);
-    check_vector(totals, REALSXP, len);
-    R_xlen_t most = most_chairs(boards, majorities), kinds = XLENGTH(majorities);
-    const R_xlen_t lengths[] = {len * kinds, len * kinds, len * kinds, len, len, len, len * kinds * most};
-    SEXP list = PROTECT(named_list(7, parts));
-    for (int at = 0; at < 7; at++) to[at] = REAL(new_item(list, at, REALSXP, lengths[at]));
-    for (R_xlen_t board = 0; board < len; board++) {
-        SEXP weights = VECTOR_ELT(boards, board);
-        put_sheet(sheet, REAL(weights), XLENGTH(weights), REAL(totals)[board]);
-        uint8_t refusal = board_all_counts_of_sheet(sheet, BOARD_SHEET_WORDS, &room, &all);
-        if (refusal != BOARD_DONE) error("board %.0f is refused: %d", (double)board + 1, refusal);
-        to[3][board] = (double)all.half.cast;
-        to[4][board] = (double)all.half.total;
-        to[5][board] = (double)all.half.coalitions;
-        for (R_xlen_t kind = 0; kind < kinds; kind++) {
-            const struct board_counts *found = by_majority(&all, (uint32_t)INTEGER(majorities)[kind]);
-            R_xlen_t at = board + len * kind;
-            to[0][at] = (double)found->quota;
-            to[1][at] = (double)found->least_size;
-            to[2][at] = (double)found->omega;
-            for (R_xlen_t chair = 0; chair < most; chair++) {
-                double *swings = &to[6][at + len * kinds * chair];
-                *swings = chair < XLENGTH(weights) ? (double)found->rows[chair].swings : NA_REAL;
-            }
+/* Many boards: their weights and totals, some majorities, and columns for what is found: by board and majority the
+ * quota, the least size and omega; by board the votes cast, the total and the coalitions; the swings by board, majority
+ * and chair. */
+struct many {
+    SEXP boards, majorities;
+    const double *totals;
+    R_xlen_t len, kinds, chairs;
+    double *columns[MANY_COLUMNS];
+};
+
+/* Makes the list of the columns; the caller protects it. */
+static SEXP new_columns(struct many *many) {
+    static const char *const names[] = {"quota", "least_size", "omega", "cast", "total", "coalitions", "swings"};
+    R_xlen_t both = many->len * many->kinds;
+    const R_xlen_t lengths[] = {both, both, both, many->len, many->len, many->len, both * many->chairs};
+    SEXP list = PROTECT(named_list(MANY_COLUMNS, names));
+    for (int at = 0; at < MANY_COLUMNS; at++) many->columns[at] = REAL(new_item(list, at, REALSXP, lengths[at]));
+    UNPROTECT(1);
+    return list;
+}
+
+/* Puts the counts of a board into the columns. The swings are NA for chairs that it has not. */
+static void put_counts(const struct many *many, R_xlen_t board, const struct board_all_counts *all) {
+    double *const *to = many->columns;
+    R_xlen_t chairs = XLENGTH(VECTOR_ELT(many->boards, board));
+    to[3][board] = (double)all->half.cast;
+    to[4][board] = (double)all->half.total;
+    to[5][board] = (double)all->half.coalitions;
+    for (R_xlen_t kind = 0; kind < many->kinds; kind++) {
+        const struct board_counts *found = by_majority(all, (uint32_t)INTEGER(many->majorities)[kind]);
+        R_xlen_t at = board + many->len * kind;
+        to[0][at] = (double)found->quota;
+        to[1][at] = (double)found->least_size;
+        to[2][at] = (double)found->omega;
+        for (R_xlen_t chair = 0; chair < many->chairs; chair++) {
+            double *swings = &to[6][at + many->len * many->kinds * chair];
+            *swings = chair < chairs ? (double)found->rows[chair].swings : NA_REAL;
         }
+    }
+}
+
+/* Counts the `len` boards that begin with the board `first`. */
+static void count_part(const struct many *many, R_xlen_t first, R_xlen_t len, struct board_room *rooms, int threads) {
+    uint64_t sheets[PART][BOARD_SHEET_WORDS];
+    static struct counted found[PART];
+    for (R_xlen_t at = 0; at < len; at++) {
+        SEXP weights = VECTOR_ELT(many->boards, first + at);
+        put_sheet(sheets[at], REAL(weights), XLENGTH(weights), many->totals[first + at]);
+    }
+    count_sheets((const uint64_t(*)[BOARD_SHEET_WORDS])sheets, found, (size_t)len, rooms, threads);
+    for (R_xlen_t at = 0; at < len; at++) {
+        if (found[at].refusal != BOARD_DONE)
+            error("board %.0f is refused: %d", (double)(first + at) + 1, found[at].refusal);
+        put_counts(many, first + at, &found[at].all);
+    }
+}
+
+/* Counts many boards by some majorities, on some threads at a time, or on one for each processor if `processors` is 0.
+ * R sees an interrupt after each PART of boards. */
+static SEXP r_many(SEXP boards, SEXP totals, SEXP majorities, SEXP processors) {
+    struct many many = {.boards = boards, .majorities = majorities, .len = XLENGTH(boards)};
+    check_vector(boards, VECSXP, many.len);
+    check_vector(totals, REALSXP, many.len);
+    many.totals = REAL(totals);
+    many.chairs = most_chairs(boards, majorities);
+    many.kinds = XLENGTH(majorities);
+    uint32_t asked = one_number(processors);
+    int threads = asked == 0 ? most_threads() : asked < MOST_THREADS ? (int)asked : MOST_THREADS;
+    if (threads > many.len) threads = many.len < 1 ? 1 : (int)many.len;
+    struct board_room *rooms = (struct board_room *)R_alloc((size_t)threads, sizeof *rooms);
+    SEXP list = PROTECT(new_columns(&many));
+    for (R_xlen_t first = 0; first < many.len; first += PART) {
+        count_part(&many, first, many.len - first < PART ? many.len - first : PART, rooms, threads);
         R_CheckUserInterrupt();
     }
     UNPROTECT(1);
@@ -492,9 +534,9 @@ enum { OPENING_BYTES = sizeof OPENING - 1, OPENING_RECORDS = 2, LEAST_RECORD = 6
 struct script {
     const uint8_t *text;
     size_t len;
-    size_t at;        /* the pieces up to here are read */
-    size_t piece_at;  /* where this piece begins in the text */
-    size_t opening;   /* the bytes in front of this piece: those of OPENING, or none */
+    size_t at;       /* the pieces up to here are read */
+    size_t piece_at; /* where this piece begins in the text */
+    size_t opening;  /* the bytes in front of this piece: those of OPENING, or none */
     uint8_t *piece;
     struct board_item *items;
     size_t items_len;
@@ -841,13 +883,14 @@ static SEXP r_processor(void) {
 #endif
 }
 
-#define CALL(name, arguments) {#name, (DL_FUNC)&r_##name, arguments}
+#define CALL(name, arguments) \
+    { #name, (DL_FUNC)&r_##name, arguments }
 static const R_CallMethodDef CALLS[] = {
-    CALL(indices, 3),  CALL(weights, 4), CALL(members, 6),     CALL(many, 3),        CALL(is_there, 1),
-    CALL(start, 3),    CALL(apply, 5),   CALL(publish, 1),     CALL(counts, 4),      CALL(state, 1),
-    CALL(sheet, 1),    CALL(rows, 1),    CALL(entries, 1),     CALL(commands, 1),    CALL(copy, 2),
-    CALL(undo, 2),     CALL(submit, 2),  CALL(check, 2),       CALL(from_script, 2), CALL(replay, 3),
-    CALL(replay_text, 3), CALL(words, 1), CALL(version, 0),    CALL(processor, 0),   {NULL, NULL, 0}};
+    CALL(indices, 3),     CALL(weights, 4), CALL(members, 6), CALL(many, 4),        CALL(is_there, 1),
+    CALL(start, 3),       CALL(apply, 5),   CALL(publish, 1), CALL(counts, 4),      CALL(state, 1),
+    CALL(sheet, 1),       CALL(rows, 1),    CALL(entries, 1), CALL(commands, 1),    CALL(copy, 2),
+    CALL(undo, 2),        CALL(submit, 2),  CALL(check, 2),   CALL(from_script, 2), CALL(replay, 3),
+    CALL(replay_text, 3), CALL(words, 1),   CALL(version, 0), CALL(processor, 0),   {NULL, NULL, 0}};
 
 void R_init_votingboard(DllInfo *library) {
     R_registerRoutines(library, NULL, CALLS, NULL, NULL);

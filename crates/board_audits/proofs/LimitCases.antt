@@ -8,7 +8,7 @@ use Rattle.council_core.specs.declared.refusals.Refusal.TheVariants.{DuplicateMe
 use Rattle.council_core.specs.Sheets.{front_of}
 use Rattle.council_core.specs.declared.commands.Command.TheVariants.{Open, Close}
 use Rattle.council_core.specs.Sequential.{AreCuts, AreLegalRecords, AreRecords, IsCutSheet, IsRecordFrom}
-use Rattle.board_audits.specs.Audits.{audit_of}
+use Rattle.board_audits.specs.Audits.{audit_of, ledger_at}
 use Rattle.board_audits.specs.AuditLaws.{AuditLaw, CutsFaultLaw, IsFirstBreach, IsFirstMismatch, ReadingsFaultLaw, StartFaultLaw}
 use Rattle.board_audits.specs.AuditWalks.{FrontsAscend, Meets, kept_at}
 use Rattle.board_audits.specs.declared.audits.AuditFault.TheVariants.{BadJournal, BadCuts, Mismatch, OutOfMemory}
@@ -20,6 +20,13 @@ cuts_in_order = (refl, refl)
 
 pub cuts_out_of_order : (audit_of one_member seated (2 ∷ 1 ∷ []) [] ≡ Err (BadCuts 2)) × (audit_of one_member seated (3 ∷ []) [] ≡ Err (BadCuts 1)) × (audit_of one_member [] (0 ∷ 1 ∷ []) [] ≡ Err (BadCuts 2)) × (audit_of one_member seated (1 ∷ 0 ∷ 3 ∷ []) [] ≡ Err (BadCuts 2))
 cuts_out_of_order = (refl, refl, refl, refl)
+
+-- a journal is audited under a limit of a million commands, its first commands alone
+audited_under : (ledger_at one_member seated 1).limit ≡ 1000000
+audited_under = refl
+
+audited_so_far : ((ledger_at one_member seated 0).journal ≡ []) × ((ledger_at one_member seated 1).journal ≡ Open 1 ∷ [])
+audited_so_far = (refl, refl)
 
 -- the first command that is refused
 pub first_command_refused : (audit_of one_member (Close 1 ∷ Close 1 ∷ []) [] [] ≡ Err (BadJournal 1)) × (audit_of one_member (Open 1 ∷ Close 1 ∷ Close 1 ∷ []) [] [] ≡ Err (BadJournal 3))

@@ -11,7 +11,7 @@ use council_core::{CHAIRS, MAX_TOTAL, Refusal, SHEET_WORDS, Sheet, TOTAL};
 
 /// A member, as `struct board_member` in `board.h`.
 #[repr(C)]
-#[derive(Clone, Copy)]
+#[derive(Clone, Copy, Debug, PartialEq, Eq)]
 pub struct BoardMember {
     /// The member's votes.
     pub votes: u64,

@@ -11,7 +11,7 @@ use Rattle.board_replay.specs.Shown.{ShowsOutOfMemory, Shows}
 use Rattle.board_replay.specs.declared.kinds.Kind.TheVariants as kind
 use Rattle.board_replay.specs.declared.TheConstants.{DONE}
 use Rattle.board_text.specs.Lines.{fault_line}
-use Rattle.board_text.proofs.PlayFacts.{text-after}
+use Rattle.board_text.proofs.RunFacts.{text-after}
 use Rattle.board_replay.proofs.KindFacts.{kind-ends}
 use Rattle.board_replay.proofs.TextFacts.{shows-done, shows-place}
 

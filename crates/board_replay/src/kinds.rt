@@ -2,7 +2,7 @@
 ghost use Rattle.std.specs.Prelude.{◌≡◌, ℕ, List};
 ghost use Rattle.recording_io.specs.Tapes.{OfInput};
 ghost use Rattle.board_text.specs.Text.{run_limits};
-ghost use Rattle.board_runs.specs.Ended.{Replays};
+ghost use Rattle.board_runs.specs.Ended.{WritesOutput};
 ghost use Rattle.board_runs.specs.Replays.{run_of};
 ghost use Rattle.board_runs.specs.Traces.{trace_of};
 ghost use Rattle.board_replay.specs.Kinds.{run_as};
@@ -30,7 +30,7 @@ fn run_replay<R: Read + Drop, W: Write>(
     limits: Limits,
 ) -> Result<(), Fault>
     ensures wrote { OfInput input.old input.new
-        (λ bytes. Replays (W.contents out.old) (W.contents out.new) result (run_of limits bytes)) }
+        (λ bytes. WritesOutput (W.contents out.old) (W.contents out.new) result (run_of limits bytes)) }
 {
     replay(alloc, input, out, limits)
 }
@@ -44,7 +44,7 @@ fn run_trace<R: Read + Drop, W: Write>(
     limits: Limits,
 ) -> Result<(), Fault>
     ensures wrote { OfInput input.old input.new
-        (λ bytes. Replays (W.contents out.old) (W.contents out.new) result (trace_of limits bytes)) }
+        (λ bytes. WritesOutput (W.contents out.old) (W.contents out.new) result (trace_of limits bytes)) }
 {
     trace(alloc, input, out, limits)
 }
@@ -58,7 +58,7 @@ pub(crate) fn carry_out<R: Read + Drop, W: Write>(
     limits: Limits,
 ) -> Result<(), Fault>
     ensures wrote { OfInput input.old input.new
-        (λ bytes. Replays (W.contents out.old) (W.contents out.new) result (run_as kind limits bytes)) }
+        (λ bytes. WritesOutput (W.contents out.old) (W.contents out.new) result (run_as kind limits bytes)) }
 {
     match kind {
         Kind::Replay => run_replay(alloc, input, out, limits),

@@ -10,22 +10,22 @@ use Rattle.board_text.specs.Lines.{fault_name}
 use Rattle.board_text.specs.Output.{AppendsFront}
 use Rattle.board_text.specs.Text.{run_limits}
 use Rattle.board_text.specs.declared.faults.Fault.{Fault}
-use Rattle.board_runs.specs.Ended.{Replays}
+use Rattle.board_runs.specs.Ended.{WritesOutput}
 use Rattle.board_runs.specs.Replays.{run_of}
 use Rattle.board_runs.specs.Traces.{trace_of}
 use Rattle.board_serve.specs.Plans.{plan_of}
-use Rattle.board_serve.specs.Serving.{Serves}
+use Rattle.board_serve.specs.Serving.{WritesServeOutput}
 use Rattle.board_serve.specs.declared.serving.Served.{Served}
 
 -- the call over these bytes ended in this result, and its lines were written
 abbrev pub CallEnds : Invocation → List ℕ → Option (List ℕ) → Option (List ℕ) → Result ⊤ Fault → Type 0
 CallEnds (Replay readers journal) bytes old new ended =
-    Replays old new ended (run_of (run_limits readers journal) bytes)
+    WritesOutput old new ended (run_of (run_limits readers journal) bytes)
 CallEnds (Trace readers journal) bytes old new ended =
-    Replays old new ended (trace_of (run_limits readers journal) bytes)
+    WritesOutput old new ended (trace_of (run_limits readers journal) bytes)
 CallEnds (Serve journal) bytes old new (Ok done) =
-    (served : Served) × Serves old new (Ok served) (plan_of journal bytes)
-CallEnds (Serve journal) bytes old new (Err f) = Serves old new (Err f) (plan_of journal bytes)
+    (served : Served) × WritesServeOutput old new (Ok served) (plan_of journal bytes)
+CallEnds (Serve journal) bytes old new (Err f) = WritesServeOutput old new (Err f) (plan_of journal bytes)
 
 -- the text on standard error for a fault with this number
 abbrev pub failure_text : ℕ → List ℕ

@@ -123,8 +123,8 @@ fn run<T: Threads + Wait + Sync, R: Read + Drop, W: Write>(
 /// If the arguments ask for a call, the text written and the status are those of `replay`, `trace`
 /// or `serve` with the limits of the arguments. If clap finds a fault in them or is asked for the
 /// help or the version, one of the two output streams gets its text, the other is unchanged, and
-/// the input is not read. Of these texts and of the line on standard error the contract promises
-/// less: of the line a prefix, perhaps empty, and of clap's texts nothing.
+/// the input is not read. The contract does not say what clap's texts are, and of the line on
+/// standard error it promises a prefix, which may be empty.
 ///
 /// At most `READS` reads of the input are made, and none after the read that reported its end or
 /// failed. At most `INTERRUPTIONS` interrupted reads are retried.

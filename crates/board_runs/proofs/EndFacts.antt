@@ -12,7 +12,7 @@ use Rattle.council_core.specs.declared.refusals.Refusal.TheVariants.{BadHeader, 
 use Rattle.board_text.specs.Lines.{LineBytes}
 use Rattle.board_text.specs.Requests.{Row, request_of, is_mark, is_header, member_of}
 use Rattle.board_text.specs.Schedules.{act_of, is_scheduled}
-use Rattle.board_text.specs.Text.{Begun, Opened, Run, begun_of, run_begun_with, in_range, is_served, member_then, opened_of, opening_of, started_with, valid_or_refused}
+use Rattle.board_text.specs.Text.{Begun, Opened, Run, begun_of, run_begun_with, before_mark, in_range, is_served, opened_of, opening_of, started_with, unless_bad, valid_or_refused}
 use Rattle.board_text.specs.declared.bounds.Limits.{Limits}
 use Rattle.board_text.specs.declared.faults.Fault.{Fault}
 use Rattle.board_runs.specs.Replays.{replay_start, replay_step, reply_to, run_of}
@@ -38,21 +38,17 @@ either : {A : Type 0} (b : Bool) (x y : Result A Fault) → ErrsByInput x → Er
 either true x y p q = p
 either false x y p q = q
 
-member-errs : (k : ℕ) (m : Option (List ℕ × ℕ)) (more : List ℕ × ℕ → Result Opened Fault) → ((x : List ℕ × ℕ) → ErrsByInput (more x)) → ErrsByInput (member_then k m more)
-member-errs k None more p = refl
-member-errs k (Some m) more p = p m
+unless-errs : (bad : Option ℕ) (more : Result Opened Fault) → ErrsByInput more → ErrsByInput (unless_bad bad more)
+unless-errs None more p = p
+unless-errs (Some number) more p = refl
 
-opening-errs : (members : Opening) (k : ℕ) (rs : List Row) → ErrsByInput (opening_of members k rs)
+opening-errs : (rs : List Row) → ErrsByInput (opening_of rs)
 unfolding opening_of
-opening-errs members k [] = refl
-opening-errs members k (r ∷ rs) =
-    either (is_mark r) _ _ tt
-    (either (length members == 256) _ _ refl
-    (member-errs k (member_of r) _ (λ m. opening-errs (members ++ m ∷ []) (k + 1) rs)))
+opening-errs rs = unless-errs _ _ (either (nat_lt MAX_MEMBERS (length (before_mark rs))) _ _ refl (either (list_any is_mark rs) _ _ tt refl))
 
 opened-errs : (rs : List Row) → ErrsByInput (opened_of rs)
 opened-errs [] = refl
-opened-errs (r ∷ rs) = either (is_header r) _ _ (opening-errs [] 2 rs) refl
+opened-errs (r ∷ rs) = either (is_header r) _ _ (opening-errs rs) refl
 
 -- why a register isn't started is the input's fault
 abbrev refusal_of : Bool → Bool → Bool → Result ⊤ Refusal

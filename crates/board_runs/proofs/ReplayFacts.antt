@@ -7,28 +7,28 @@ use Rattle.council_core.specs.declared.refusals.Refusal.TheVariants as why
 use Rattle.board_text.specs.Lines.{fault_line}
 use Rattle.board_text.specs.Text.{Run, end_lines, fault_at, output, text_of}
 use Rattle.two_copy_steps.specs.Lawful.{IsPrefix}
-use Rattle.board_text.specs.Output.{AppendsFront, AppendsLines, Ends, EndsRun, EndsStopped, IsBroken, Plays, StopsIn, fault_of}
-use Rattle.board_runs.specs.Ended.{EndsIn, Replays}
+use Rattle.board_text.specs.Output.{AppendsFront, AppendsLines, Ends, EndsRun, EndsStopped, IsBroken, WritesRun, WritesUntilStop, fault_of}
+use Rattle.board_runs.specs.Ended.{WritesUntilFault, WritesOutput}
 use Rattle.board_text.specs.declared.faults.Fault.{Fault}
 use Rattle.board_text.specs.declared.stops.Stop.{Stop}
 use Rattle.board_text.specs.declared.stops.Stop.TheVariants as stop
-use Rattle.board_text.proofs.PlayFacts.{appends-same, front-before, text-after}
-use Rattle.board_text.proofs.PlayFacts.{front-then, line-then}
+use Rattle.board_text.proofs.RunFacts.{appends-same, front-before, text-after}
+use Rattle.board_text.proofs.RunFacts.{front-then, line-then}
 
 -- a run cut by the writer
-cut-run : (a b : Option (List ℕ)) (run : Run) → StopsIn a b stop.WriteFault run → EndsIn a b (fault_at why.WriteFault 0) run
+cut-run : (a b : Option (List ℕ)) (run : Run) → WritesUntilStop a b stop.WriteFault run → WritesUntilFault a b (fault_at why.WriteFault 0) run
 cut-run a b run p =
     let P : List ℕ → Type 0 = λ t. IsPrefix p.0 t in
     let front = subst P (sym (text-after run.lines (end_lines run.end))) (front-before p.0 (text_of run.lines) (text_of (end_lines run.end)) p.1) in
     inr (inr (refl, (output run, inl refl, (p.0, front, p.2))))
 
-broken-ends : (a b c : Option (List ℕ)) (f g : Fault) (run : Run) → IsBroken f → AppendsLines a b run.lines → Ends b c f g → EndsIn a c g run
+broken-ends : (a b c : Option (List ℕ)) (f g : Fault) (run : Run) → IsBroken f → AppendsLines a b run.lines → Ends b c f g → WritesUntilFault a c g run
 broken-ends a b c f g run broken p (inl e) =
     rw e.0 (inr (inl (broken, (text_of (p.0 ++ fault_line f ∷ []), (p.0, p.1, refl), line-then a b c p.0 (fault_line f) p.2 e.1))))
 broken-ends a b c f g run broken p (inr e) =
     inr (inr (e.0, (text_of (p.0 ++ fault_line f ∷ []), inr (f, broken, (p.0, p.1, refl)), front-then a b c p.0 (fault_line f) p.2 e.1)))
 
-reported-ends : (a b c : Option (List ℕ)) (f g : Fault) (run : Run) → run.end ≡ Some f → Appends a b (text_of run.lines) → Ends b c f g → EndsIn a c g run
+reported-ends : (a b c : Option (List ℕ)) (f g : Fault) (run : Run) → run.end ≡ Some f → Appends a b (text_of run.lines) → Ends b c f g → WritesUntilFault a c g run
 reported-ends a b c f g run reported p (inl e) =
     let same : output run ≡ text_of (run.lines ++ fault_line f ∷ []) = ap (λ x. text_of (run.lines ++ end_lines x)) reported in
     rw e.0 (inl (reported, appends-same a c _ _ (sym same) (line-then a b c run.lines (fault_line f) p e.1)))
@@ -38,7 +38,7 @@ reported-ends a b c f g run reported p (inr e) =
     inr (inr (e.0, (output run, inl refl, subst P (sym same) (front-then a b c run.lines (fault_line f) p e.1))))
 
 -- a run that was stopped, and the line of its fault
-stopped-run : {A : Type 0} (a b c : Option (List ℕ)) (s : Stop) (r : Result A Fault) (run : Run) → StopsIn a b s run → EndsStopped b c (fault_of s) r → Replays a c r run
+stopped-run : {A : Type 0} (a b c : Option (List ℕ)) (s : Stop) (r : Result A Fault) (run : Run) → WritesUntilStop a b s run → EndsStopped b c (fault_of s) r → WritesOutput a c r run
 stopped-run a b c stop.OutOfMemory (Err g) run p e = broken-ends a b c _ g run (inl refl) p e
 stopped-run a b c stop.ReadFault (Err g) run p e = broken-ends a b c _ g run (inr refl) p e
 stopped-run a b c stop.WriteFault (Err g) run p e = rw (e.0, e.1) (cut-run a b run p)
@@ -48,16 +48,16 @@ stopped-run a b c stop.ReadFault (Ok u) run p e = absurd e
 stopped-run a b c stop.WriteFault (Ok u) run p e = absurd e
 stopped-run a b c (stop.Input h) (Ok u) run p e = absurd e
 
-whole-run : {A : Type 0} (a b c : Option (List ℕ)) (u : A) (r : Result A Fault) (run : Run) → Plays a b (Ok u) run → EndsRun b c (Ok u) r → Replays a c r run
+whole-run : {A : Type 0} (a b c : Option (List ℕ)) (u : A) (r : Result A Fault) (run : Run) → WritesRun a b (Ok u) run → EndsRun b c (Ok u) r → WritesOutput a c r run
 whole-run a b c u r run p e =
     let same : output run ≡ text_of run.lines = ap (λ x. text_of (run.lines ++ end_lines x)) p.0 ∙ ap text_of (append-nil run.lines) in
     rw (e.0, e.1) (p.0, appends-same a b _ _ (sym same) p.1)
 
-ended-run : {A : Type 0} (a b c : Option (List ℕ)) (carried : Result A Stop) (r : Result A Fault) (run : Run) → Plays a b carried run → EndsRun b c carried r → Replays a c r run
+ended-run : {A : Type 0} (a b c : Option (List ℕ)) (carried : Result A Stop) (r : Result A Fault) (run : Run) → WritesRun a b carried run → EndsRun b c carried r → WritesOutput a c r run
 ended-run a b c (Ok u) r run p e = whole-run a b c u r run p e
 ended-run a b c (Err s) r run p e = stopped-run a b c s r run p e
 
 -- a run of an input that ended
 pub replayed : {A : Type 0} (from to : Giving) (a b c : Option (List ℕ)) (carried : Result A Stop) (r : Result A Fault) (run : List ℕ → Run)
-    → OfInput from to (λ bytes. Plays a b carried (run bytes)) → EndsRun b c carried r → OfInput from to (λ bytes. Replays a c r (run bytes))
+    → OfInput from to (λ bytes. WritesRun a b carried (run bytes)) → EndsRun b c carried r → OfInput from to (λ bytes. WritesOutput a c r (run bytes))
 replayed from to a b c carried r run p e = λ bytes is. ended-run a b c carried r (run bytes) (p bytes is) e

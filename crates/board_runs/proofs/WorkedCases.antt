@@ -10,7 +10,7 @@ use Rattle.board_text.specs.Output.{IsBroken}
 use Rattle.board_text.specs.Scripts.{script_run}
 use Rattle.board_text.specs.Text.{Run, begun_of, fault_at, opening_of, printed_run, run_limits, stopped_run, text_of}
 use Rattle.board_text.specs.declared.faults.Fault.{Fault}
-use Rattle.board_runs.specs.Ended.{BreaksOff, CutsOff, EndsAsReported, IsBrokenOff, IsOutputOf, Replays}
+use Rattle.board_runs.specs.Ended.{WritesSomeLines, WritesSomeBytes, WritesAllLines, IsBrokenOff, IsOutputOf, WritesOutput}
 use Rattle.board_runs.specs.Replays.{run_of}
 use Rattle.board_runs.specs.Traces.{trace_of}
 
@@ -39,25 +39,25 @@ at : (n : ℕ) {a b : List ℕ} → a ≡ b → get_or a n 0 ≡ get_or b n 0
 at n e = ap (λ (bytes : List ℕ). get_or bytes n 0) e
 
 -- Ok is a run without a fault, whose lines are all written
-one_line_replayed : Replays {A = Unit {0}} (Some []) (Some its_text) (Ok tt) one_line
+one_line_replayed : WritesOutput {A = Unit {0}} (Some []) (Some its_text) (Ok tt) one_line
 one_line_replayed = (refl, refl)
 
-faulty_run_ends_well : (text : List ℕ) → Replays {A = Unit {0}} (Some []) (Some text) (Ok tt) (stopped_run bad_record) → ⊥
+faulty_run_ends_well : (text : List ℕ) → WritesOutput {A = Unit {0}} (Some []) (Some text) (Ok tt) (stopped_run bad_record) → ⊥
 faulty_run_ends_well text h = let e = h.0 in cc e
 
-line_left_out : Replays {A = Unit {0}} (Some []) (Some []) (Ok tt) one_line → ⊥
+line_left_out : WritesOutput {A = Unit {0}} (Some []) (Some []) (Ok tt) one_line → ⊥
 line_left_out h = let e = h.1 in cc e
 
 -- a fault of the input is the run's own, and its line is written
-fault_of_a_good_run : (old new : Option (List ℕ)) → EndsAsReported old new bad_record one_line → ⊥
+fault_of_a_good_run : (old new : Option (List ℕ)) → WritesAllLines old new bad_record one_line → ⊥
 fault_of_a_good_run old new h = let e = h.0 in cc e
 
-fault_of_another_record : (old new : Option (List ℕ)) → EndsAsReported old new (fault_at BadRecord 6) (stopped_run bad_record) → ⊥
+fault_of_another_record : (old new : Option (List ℕ)) → WritesAllLines old new (fault_at BadRecord 6) (stopped_run bad_record) → ⊥
 fault_of_another_record old new h =
     let same : bad_record ≡ fault_at BadRecord 6 = let e = h.0 in cc e in
     absurd (omega (arith, place same))
 
-fault_without_its_line : EndsAsReported (Some []) (Some []) bad_record (stopped_run bad_record) → ⊥
+fault_without_its_line : WritesAllLines (Some []) (Some []) bad_record (stopped_run bad_record) → ⊥
 unfolding digits
 fault_without_its_line h = let e = h.1 in cc e
 
@@ -70,14 +70,14 @@ broken_by_a_record : (number : ℕ) → IsBroken (fault_at BadRecord number) →
 broken_by_a_record number (inl e) = absurd (omega (arith, code e))
 broken_by_a_record number (inr e) = absurd (omega (arith, code e))
 
-breaks_off : BreaksOff (Some []) (Some (line_of_no_record (codes "ReadFault"))) (fault_at ReadFault 0) one_line
+breaks_off : WritesSomeLines (Some []) (Some (line_of_no_record (codes "ReadFault"))) (fault_at ReadFault 0) one_line
 unfolding digits
 breaks_off = (inr refl, (_, ([], (_, refl), refl), refl))
 
-breaks_off_by_a_record : (old new : Option (List ℕ)) (run : Run) → BreaksOff old new (fault_at BadRecord 0) run → ⊥
+breaks_off_by_a_record : (old new : Option (List ℕ)) (run : Run) → WritesSomeLines old new (fault_at BadRecord 0) run → ⊥
 breaks_off_by_a_record old new run h = broken_by_a_record 0 h.0
 
-breaks_off_at_a_record : (old new : Option (List ℕ)) (run : Run) → BreaksOff old new (fault_at ReadFault 5) run → ⊥
+breaks_off_at_a_record : (old new : Option (List ℕ)) (run : Run) → WritesSomeLines old new (fault_at ReadFault 5) run → ⊥
 breaks_off_at_a_record old new run (inl e, rest) = absurd (omega (arith, place e))
 breaks_off_at_a_record old new run (inr e, rest) = absurd (omega (arith, place e))
 
@@ -110,7 +110,7 @@ broken_off_by_a_record (inr (f, inr same, off)) =
 abbrev seven : List ℕ
 seven = 7 ∷ []
 
-cuts_off_for_a_record : (old new : Option (List ℕ)) (run : Run) → CutsOff old new (fault_at BadRecord 0) run → ⊥
+cuts_off_for_a_record : (old new : Option (List ℕ)) (run : Run) → WritesSomeBytes old new (fault_at BadRecord 0) run → ⊥
 cuts_off_for_a_record old new run h = absurd (omega (arith, code h.0))
 
 begins_with_seven : (text front rest : List ℕ) → text ≡ front ++ rest → seven ≡ front → text ≡ 7 ∷ rest
@@ -120,17 +120,17 @@ no_text_with_seven : (text rest : List ℕ) → IsOutputOf (printed_run []) text
 no_text_with_seven text rest (inl e) s = cc (e, s)
 no_text_with_seven text rest (inr (f, broken, off)) s = let e = sym (broken_off_as f text off) ∙ s in cc e
 
-cuts_off_to_seven : CutsOff (Some []) (Some seven) (fault_at WriteFault 0) (printed_run []) → ⊥
+cuts_off_to_seven : WritesSomeBytes (Some []) (Some seven) (fault_at WriteFault 0) (printed_run []) → ⊥
 cuts_off_to_seven (reported, (text, written, (front, whole, new))) =
     no_text_with_seven text whole.0 written (begins_with_seven text front whole.0 whole.1 new)
 
-replays_to_seven : Replays {A = Unit {0}} (Some []) (Some seven) (Err (fault_at WriteFault 0)) (printed_run []) → ⊥
+replays_to_seven : WritesOutput {A = Unit {0}} (Some []) (Some seven) (Err (fault_at WriteFault 0)) (printed_run []) → ⊥
 replays_to_seven (inl reported) = let e = reported.0 in cc e
 replays_to_seven (inr (inl broken)) = broken_by_a_write broken.0
 replays_to_seven (inr (inr cut)) = cuts_off_to_seven cut
 
 -- a failed write in the middle of a line
-cuts_off : CutsOff (Some []) (Some (codes "beg")) (fault_at WriteFault 0) one_line
+cuts_off : WritesSomeBytes (Some []) (Some (codes "beg")) (fault_at WriteFault 0) one_line
 cuts_off = (refl, (its_text, inl refl, (codes "beg", (codes "an" ++ 10 ∷ [], refl), refl)))
 
 -- member,votes / AAA,1 / script / writer,1

@@ -18,25 +18,26 @@ IsBrokenOff run f text =
 abbrev pub IsOutputOf : Run → List ℕ → Type 0
 IsOutputOf run text = (text ≡ output run) ⊎ ((f : Fault) × IsBroken f × IsBrokenOff run f text)
 
--- after out of memory or a failed read: a prefix of the lines, each whole, then the line of the
+-- after out of memory or a failed read, a run has written a prefix of its lines, each whole, then the line of that
 -- fault, at 0
-abbrev pub BreaksOff : Option (List ℕ) → Option (List ℕ) → Fault → Run → Type 0
-BreaksOff old new f run = IsBroken f × ((text : List ℕ) × IsBrokenOff run f text × Appends old new text)
+abbrev pub WritesSomeLines : Option (List ℕ) → Option (List ℕ) → Fault → Run → Type 0
+WritesSomeLines old new f run = IsBroken f × ((text : List ℕ) × IsBrokenOff run f text × Appends old new text)
 
--- after a failed write: a prefix, in bytes, of the text that the run would have written
-abbrev pub CutsOff : Option (List ℕ) → Option (List ℕ) → Fault → Run → Type 0
-CutsOff old new f run = (f ≡ fault_at why.WriteFault 0)
+-- after a failed write, a run has written a prefix, in bytes, of the text that it would have written
+abbrev pub WritesSomeBytes : Option (List ℕ) → Option (List ℕ) → Fault → Run → Type 0
+WritesSomeBytes old new f run = (f ≡ fault_at why.WriteFault 0)
     × ((text : List ℕ) × IsOutputOf run text × AppendsFront old new text)
 
--- a fault of the input: the whole text of the run
-abbrev pub EndsAsReported : Option (List ℕ) → Option (List ℕ) → Fault → Run → Type 0
-EndsAsReported old new f run = (run.end ≡ Some f) × Appends old new (output run)
+-- at a fault of the input, a run has written its whole text, with the line of that fault
+abbrev pub WritesAllLines : Option (List ℕ) → Option (List ℕ) → Fault → Run → Type 0
+WritesAllLines old new f run = (run.end ≡ Some f) × Appends old new (output run)
 
--- the three ends of a run in a fault
-abbrev pub EndsIn : Option (List ℕ) → Option (List ℕ) → Fault → Run → Type 0
-EndsIn old new f run = EndsAsReported old new f run ⊎ BreaksOff old new f run ⊎ CutsOff old new f run
+-- what a run has written that ends in a fault
+abbrev pub WritesUntilFault : Option (List ℕ) → Option (List ℕ) → Fault → Run → Type 0
+WritesUntilFault old new f run =
+    WritesAllLines old new f run ⊎ WritesSomeLines old new f run ⊎ WritesSomeBytes old new f run
 
--- the text that `replay` wrote and its result
-abbrev pub Replays : {A : Type 0} → Option (List ℕ) → Option (List ℕ) → Result A Fault → Run → Type 0
-Replays old new (Ok _) run = (run.end ≡ None) × Appends old new (output run)
-Replays old new (Err f) run = EndsIn old new f run
+-- what a run has written, by its result: its whole text, or its text until a fault
+abbrev pub WritesOutput : {A : Type 0} → Option (List ℕ) → Option (List ℕ) → Result A Fault → Run → Type 0
+WritesOutput old new (Ok _) run = (run.end ≡ None) × Appends old new (output run)
+WritesOutput old new (Err f) run = WritesUntilFault old new f run

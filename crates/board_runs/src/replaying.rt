@@ -3,8 +3,8 @@ ghost use Rattle.std.specs.Prelude.{◌≡◌, ◌≤◌, ◌+◌, map, false, O
 ghost use Rattle.council_core.specs.Sequential.{response_to, published_sheet};
 ghost use Rattle.board_text.specs.Lines.{chair_line, reading_lines, reply_lines};
 ghost use Rattle.board_text.specs.Inputs.{RunRetriesAtMost, WastesAtMost};
-ghost use Rattle.board_text.specs.Output.{IsBadLimit, Plays};
-ghost use Rattle.board_runs.specs.Ended.{Replays};
+ghost use Rattle.board_text.specs.Output.{IsBadLimit, WritesRun};
+ghost use Rattle.board_runs.specs.Ended.{WritesOutput};
 ghost use Rattle.board_text.specs.Sinks.{GoesOn};
 ghost use Rattle.board_text.specs.Requests.{call_of};
 ghost use Rattle.board_text.specs.Text.{in_range, printed_run};
@@ -26,7 +26,7 @@ use std::io::{Read, Write};
 
 // Writes the lines of these chairs.
 fn write_chairs<W: Write>(rows: &[ChairPower], out: &mut Output<'_, W>) -> Result<(), Stop>
-    ensures wrote { Plays out.old.held out.new.held result (printed_run (map chair_line rows.now)) }
+    ensures wrote { WritesRun out.old.held out.new.held result (printed_run (map chair_line rows.now)) }
     ensures continues { GoesOn out.old out.new }
 {
     for row in rows {
@@ -42,7 +42,7 @@ fn write_reading<W: Write>(
     majority: Majority,
     out: &mut Output<'_, W>,
 ) -> Result<(), Stop>
-    ensures wrote { Plays out.old.held out.new.held result
+    ensures wrote { WritesRun out.old.held out.new.held result
         (printed_run (reading_lines reader majority (published_sheet desk.old))) }
     ensures state { desk.new ≡ desk.old }
     ensures continues { GoesOn out.old out.new }
@@ -60,7 +60,7 @@ fn replay_request<W: Write>(
     request: Request,
     out: &mut Output<'_, W>,
 ) -> Result<(), Stop>
-    ensures wrote { Plays out.old.held out.new.held result
+    ensures wrote { WritesRun out.old.held out.new.held result
         (printed_run (reply_lines request (response_to desk.old (call_of request)).1)) }
     ensures state { OnOk result (desk.new ≡ (response_to desk.old (call_of request)).0) }
     ensures continues { GoesOn out.old out.new }
@@ -138,7 +138,7 @@ pub fn replay<R: Read + Drop, W: Write>(
     limits: Limits,
 ) -> Result<(), Fault>
     ensures wrote { OfInput input.old input.new
-        (λ bytes. Replays (W.contents out.old) (W.contents out.new) result (run_of limits bytes)) }
+        (λ bytes. WritesOutput (W.contents out.old) (W.contents out.new) result (run_of limits bytes)) }
     ensures limits_first { in_range limits ≡ false → IsBadLimit result × (input.new ≡ input.old) }
     ensures asks { input.new.asks ≤ input.old.asks + READS }
     ensures vain { WastesAtMost 1 input.old input.new }

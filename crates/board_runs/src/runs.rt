@@ -5,7 +5,7 @@ ghost use Rattle.board_text.specs.Inputs.{RunRetriesAtMost, WastesAtMost};
 ghost use Rattle.board_text.specs.Output.{IsBadLimit};
 ghost use Rattle.board_text.specs.Scripts.{interpreted_run};
 ghost use Rattle.board_text.specs.Text.{in_range};
-ghost use Rattle.board_runs.specs.Ended.{Replays};
+ghost use Rattle.board_runs.specs.Ended.{WritesOutput};
 
 use board_text::{Fault, INTERRUPTIONS, Interpreter, Limits, Output, READS, end_run, interpret};
 use recording_io::RecordingReader;
@@ -20,7 +20,7 @@ pub(crate) fn run<I: Interpreter, R: Read + Drop, W: Write>(
     limits: Limits,
 ) -> Result<(), Fault>
     ensures wrote { OfInput input.old input.new
-        (λ bytes. Replays (W.contents out.old) (W.contents out.new) result
+        (λ bytes. WritesOutput (W.contents out.old) (W.contents out.new) result
         (interpreted_run I.opened I.step limits bytes)) }
     ensures limits_first { in_range limits ≡ false → IsBadLimit result × (input.new ≡ input.old) }
     ensures asks { input.new.asks ≤ input.old.asks + READS }

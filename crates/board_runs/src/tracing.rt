@@ -3,8 +3,8 @@ ghost use Rattle.std.specs.Prelude.{◌≡◌, ◌≤◌, ◌+◌, true, false, 
 ghost use Rattle.two_copy_steps.specs.Transitions.{state_after_events, transition};
 ghost use Rattle.board_text.specs.Lines.{note_lines};
 ghost use Rattle.board_text.specs.Inputs.{RunRetriesAtMost, WastesAtMost};
-ghost use Rattle.board_text.specs.Output.{IsBadLimit, Plays};
-ghost use Rattle.board_runs.specs.Ended.{Replays};
+ghost use Rattle.board_text.specs.Output.{IsBadLimit, WritesRun};
+ghost use Rattle.board_runs.specs.Ended.{WritesOutput};
 ghost use Rattle.board_text.specs.Sinks.{GoesOn};
 ghost use Rattle.board_text.specs.Text.{in_range, printed_run};
 ghost use Rattle.recording_io.specs.Tapes.{OfInput};
@@ -25,7 +25,7 @@ use two_copy_steps::{Event, Machine, Note};
 
 // Writes the line of an output of the machine, if it has one.
 fn write_note<W: Write>(note: Note, out: &mut Output<'_, W>) -> Result<(), Stop>
-    ensures wrote { Plays out.old.held out.new.held result (printed_run (note_lines note)) }
+    ensures wrote { WritesRun out.old.held out.new.held result (printed_run (note_lines note)) }
     ensures continues { GoesOn out.old out.new }
 {
     match line_of_note(note) {
@@ -36,7 +36,8 @@ fn write_note<W: Write>(note: Note, out: &mut Output<'_, W>) -> Result<(), Stop>
 
 // Takes the machine through one event.
 fn take<W: Write>(machine: &mut Machine, event: Event, out: &mut Output<'_, W>) -> Result<(), Stop>
-    ensures wrote { Plays out.old.held out.new.held result (printed_run (note_lines (transition machine.old event).1)) }
+    ensures wrote { WritesRun out.old.held out.new.held result
+        (printed_run (note_lines (transition machine.old event).1)) }
     ensures state { OnOk result (machine.new ≡ (transition machine.old event).0) }
     ensures continues { GoesOn out.old out.new }
 {
@@ -50,7 +51,7 @@ fn take_all<W: Write>(
     count: u32,
     out: &mut Output<'_, W>,
 ) -> Result<(), Stop>
-    ensures wrote { Plays out.old.held out.new.held result
+    ensures wrote { WritesRun out.old.held out.new.held result
         (printed_run (output_lines machine.old (replicate count event.now))) }
     ensures state { OnOk result (machine.new ≡ state_after_events machine.old (replicate count event.now)) }
     ensures continues { GoesOn out.old out.new }
@@ -69,7 +70,8 @@ fn act_on<W: Write>(
     out: &mut Output<'_, W>,
 ) -> Result<(), Stop>
     requires known { is_scheduled limits act ≡ true }
-    ensures wrote { Plays out.old.held out.new.held result (printed_run (output_lines machine.old (events_of act))) }
+    ensures wrote { WritesRun out.old.held out.new.held result
+        (printed_run (output_lines machine.old (events_of act))) }
     ensures state { OnOk result (machine.new ≡ state_after_events machine.old (events_of act)) }
     ensures continues { GoesOn out.old out.new }
 {
@@ -146,7 +148,7 @@ pub fn trace<R: Read + Drop, W: Write>(
     limits: Limits,
 ) -> Result<(), Fault>
     ensures wrote { OfInput input.old input.new
-        (λ bytes. Replays (W.contents out.old) (W.contents out.new) result (trace_of limits bytes)) }
+        (λ bytes. WritesOutput (W.contents out.old) (W.contents out.new) result (trace_of limits bytes)) }
     ensures limits_first { in_range limits ≡ false → IsBadLimit result × (input.new ≡ input.old) }
     ensures asks { input.new.asks ≤ input.old.asks + READS }
     ensures vain { WastesAtMost 1 input.old input.new }

@@ -60,17 +60,11 @@ module _ (lim : Limits) (bytes : List ℕ) where
   unfolding begun_of
   begun-out_of_range e = rw e refl
 
-  pub members-out_of_range : in_range lim ≡ false → members_of lim bytes ≡ []
-  members-out_of_range e = rw e refl
-
   module _ (fits : in_range lim ≡ true) where
     -- more bytes than are read
     pub begun-too_long : INPUT_LIMIT < length bytes → begun_of lim bytes ≡ Err (fault_at TooLong 0)
     unfolding begun_of
     begun-too_long h = rw (fits, lt-leb _ _ h) refl
-
-    pub members-too_long : INPUT_LIMIT < length bytes → members_of lim bytes ≡ []
-    members-too_long h = rw (fits, lt-leb _ _ h) refl
 
     module _ (short : length bytes ≤ INPUT_LIMIT) where
       abbrev rows : List Row

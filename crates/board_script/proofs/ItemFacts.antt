@@ -91,9 +91,6 @@ read-none text lim first at rows old count zero left is =
       numbered = left.counted;
     }
 
-pub at-within : (text : List ℕ) (lim : Limits) (first : ℕ) (rows : List Row) (number at : ℕ) (left : List Row) (old now : List BoardItem) (count : ℕ) → ReadSo text lim first rows number at left old now count → at ≤ length text
-at-within text lim first rows number at left old now count so = so.here.inside
-
 module _ (text : List ℕ) (lim : Limits) (first : ℕ) (rows : List Row) (number at : ℕ) (left : List Row) (old now : List BoardItem) (count : ℕ) (so : ReadSo text lim first rows number at left old now count) where
   -- no record is left
   pub items-end : left ≡ [] → ReadItems {T = Unit {0}} (Ok tt) text (items_from lim first rows) count old now

@@ -1,5 +1,5 @@
 -- The header, the mark, a member's record and a request's contain no line end.
-use Rattle.std.proofs.Common.{if◌then◌else◌, ◌≡◌, ◌⊎◌, inl, inr, ◌==◌, ◌+◌, ◌-◌, ◌*◌, ◌≤◌, ◌&&◌, ℕ, Bool, true, false, List, [], ◌∷◌, ◌++◌, length, Option, Some, None, Result, Ok, refl, sym, ap, ◌∙◌, subst, arith}
+use Rattle.std.proofs.Common.{if◌then◌else◌, ◌≡◌, ◌⊎◌, inl, inr, ◌==◌, ◌+◌, ◌-◌, ◌*◌, ◌≤◌, ◌&&◌, ℕ, zero, suc, Bool, true, false, List, [], ◌∷◌, ◌++◌, length, Option, Some, None, Result, Ok, refl, sym, ap, ◌∙◌, subst, arith}
 use Rattle.std.proofs.lemmas.Bool.{eqb-true, leb-true, ne_eqb}
 use Rattle.std.specs.Prelude.{codes, nat_eq, nat_le, nat_lt, option_map}
 use Rattle.std.specs.Char.{is_ascii_digit}
@@ -15,11 +15,13 @@ use Rattle.majority_rule.specs.declared.majorities.Majority.{Majority}
 use Rattle.majority_rule.specs.declared.majorities.Majority.TheVariants.{Half, Seventy, EightyFive, Quorum}
 use Rattle.board_text.specs.Numbers.{number_from, number_of_digits}
 use Rattle.board_text.specs.Requests.{Row, command_of_one, command_of_two, first_some, is_header, is_mark, member_of, reading_of, request_of, submission}
-use Rattle.board_text.specs.Text.{Opened, is_served, member_then, opened_of, opening_of, request_within, valid_or_refused}
-use Rattle.board_text.specs.Words.{chair_of, code_of_member, majority_of, pair_of, target_chair, votes_of, number_within}
+use Rattle.board_text.specs.Text.{Opened, is_served, opened_of, request_within, valid_or_refused}
+use Rattle.board_text.specs.Words.{chair_of, code_of_member, pair_of, target_chair, votes_of, number_within}
+use Rattle.majority_rule.specs.Majorities.{majority_of}
 use Rattle.board_text.specs.declared.bounds.Limits.{Limits}
 use Rattle.board_text.specs.declared.faults.Fault.{Fault}
 use Rattle.board_text.specs.declared.requests.Request.{Request}
+use Rattle.board_text.proofs.OpeningFacts.{opening-bad, opening-ends, opening-full, opening-mark, opening-member, opening-starts, opening_after}
 use Rattle.board_script.specs.Places.{is_in_line, is_one_line, input_rows}
 use Rattle.board_script.specs.TextLines.{IsLeft, is_plain}
 use Rattle.board_script.proofs.LineFacts.{and-left, and-right}
@@ -213,22 +215,27 @@ takes-mark members r rs k o p whole is e =
       counted = omega arith;
     }
 
-takes-member : (k : ℕ) (found : Option (List ℕ × ℕ)) (more : List ℕ × ℕ → Result Opened Fault) (o : Opened) (G : Type 0) → ((m : List ℕ × ℕ) → found ≡ Some m → more m ≡ Ok o → G) → member_then k found more ≡ Ok o → G
-takes-member k None more o G f e = cc
-takes-member k (Some m) more o G f e = f m refl e
+takes-member : (members : Opening) (room k : ℕ) (r : Row) (rs : List Row) (o : Opened) → is_mark r ≡ false → opening_after members room k (r ∷ rs) ≡ Ok o
+    → ((ms : Opening) (left : ℕ) → opening_after ms left (k + 1) rs ≡ Ok o → Takes rs (k + 1) o) → Takes (r ∷ rs) k o
+takes-member members zero k r rs o mark e rest = let full = sym (opening-full members 0 k _ r rs refl mark refl) ∙ e in cc full
+takes-member members (suc left) k r rs o mark e rest =
+    elim (member_of r) as (λ found. member_of r ≡ found → Takes (r ∷ rs) k o) [
+      | None ↦ λ none. let bad = sym (opening-bad members (suc left) k _ r rs refl left mark refl none) ∙ e in cc bad
+      | Some m ↦ λ found. takes-more r rs k o (member-row-plain r m found)
+          (rest (members ++ m ∷ []) left (sym (opening-member members (suc left) k _ r rs refl left mark refl m found) ∙ e))
+    ] refl
 
-takes : (members : Opening) (k : ℕ) (rows : List Row) (o : Opened) → opening_of members k rows ≡ Ok o → Takes rows k o
-unfolding opening_of
-takes members k [] o e = cc
-takes members k (r ∷ rs) o e =
-    from-if (is_mark r) (Ok (members, k + 1, rs)) _ (Ok o) _ (λ t same. takes-mark members r rs k o (mark-plain r t) (Ok (members, k + 1, rs)) refl same)
-    (λ e2. from-if (length members == MAX_MEMBERS) _ _ (Ok o) _ (λ t none. cc none)
-    (λ e3. takes-member k (member_of r) _ o _
-    (λ m found next. takes-more r rs k o (member-row-plain r m found) (takes (members ++ m ∷ []) (k + 1) rs o next)) e3) e2) e
+takes : (members : Opening) (room k : ℕ) (rows : List Row) (o : Opened) → opening_after members room k rows ≡ Ok o → Takes rows k o
+takes members room k [] o e = let none = sym (opening-ends members room k [] refl) ∙ e in cc none
+takes members room k (r ∷ rs) o e =
+    elim (is_mark r) as (λ b. is_mark r ≡ b → Takes (r ∷ rs) k o) [
+      | true ↦ λ mark. takes-mark members r rs k o (mark-plain r mark) _ (opening-mark members room k _ r rs refl mark) e
+      | false ↦ λ mark. takes-member members room k r rs o mark e (λ ms left. takes ms left (k + 1) rs o)
+    ] refl
 
 takes-all : (rows : List Row) (o : Opened) → opened_of rows ≡ Ok o → Takes rows 1 o
 takes-all [] o e = cc
-takes-all (r ∷ rs) o e = from-if (is_header r) _ _ (Ok o) _ (λ t next. takes-more r rs 1 o (header-plain r t) (takes [] 2 rs o next)) (λ none. cc none) e
+takes-all (r ∷ rs) o e = from-if (is_header r) _ _ (Ok o) _ (λ t next. takes-more r rs 1 o (header-plain r t) (takes [] 256 2 rs o (sym (opening-starts rs) ∙ next))) (λ none. cc none) e
 
 -- the records behind an opening
 pub left-of : (input : List ℕ) (rows : List Row) (o : Opened) → rows ≡ input_rows input → opened_of rows ≡ Ok o → IsLeft input o.1 o.2

@@ -33,7 +33,7 @@ unfolding fault_from
 fault = refl
 
 -- the members before a record with a fault
-pub members : members_before [] ((codes "ABC" ∷ codes "7" ∷ []) ∷ (codes "abc" ∷ codes "7" ∷ []) ∷ (codes "script" ∷ []) ∷ [])
+pub members : members_before ((codes "ABC" ∷ codes "7" ∷ []) ∷ (codes "abc" ∷ codes "7" ∷ []) ∷ (codes "script" ∷ []) ∷ [])
     ≡ (65 ∷ 66 ∷ 67 ∷ [], 7) ∷ []
 unfolding members_before
 members = refl

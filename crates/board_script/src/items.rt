@@ -11,7 +11,7 @@ use council_core::Order;
 /// What a record of a script asks for, and where it stands, as `struct board_item` in `board.h`. A
 /// part that the record doesn't have is 0.
 #[repr(C)]
-#[derive(Clone, Copy)]
+#[derive(Clone, Copy, Debug, PartialEq, Eq)]
 pub struct BoardItem {
     /// The command, as `board_register_apply` takes it; or of kind `PUBLISH` or `READ`, with all
     /// other parts 0.

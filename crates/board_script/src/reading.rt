@@ -72,10 +72,10 @@ pub(crate) fn read_input(
     ensures end { EndsReading result (run_of (run_limits readers MAX_COMMANDS) input.now).end }
 {
     let Some(limits) = limits_of(readers) else {
-        return Err(Stop::of_fault(Refusal::BadLimit, 0));
+        return Err(Stop::at(Refusal::BadLimit, 0));
     };
     if INPUT_LIMIT < input.len() {
-        return Err(Stop::of_fault(Refusal::TooLong, 0));
+        return Err(Stop::at(Refusal::TooLong, 0));
     }
     read_text(alloc, input, limits, members, items, count)
 }

@@ -20,7 +20,7 @@ use Rattle.std.proofs.lemmas.List.{length-append}
 use Rattle.board_text.specs.declared.requests.Request.TheVariants as ask
 use Rattle.board_serve.specs.Outcomes.{IsServed, ServedLegalRecords, sheets_of}
 use Rattle.board_serve.specs.Plans.{Planned, Shares, add_at, no_shares, plan_of, plan_over, record_count, with_request}
-use Rattle.board_serve.specs.Serving.{Differs, EndsAfter, ServesTo, ServesWhole, StopsServe, count_lines, lines_of_work, work_lines}
+use Rattle.board_serve.specs.Serving.{Differs, EndsAfter, EndsBroken, EndsInInputFault, WritesServeRun, WritesAllOfServe, WritesServeUntilStop, count_lines, lines_of_work, work_lines}
 use Rattle.board_serve.specs.declared.serving.Served.{Served}
 use Rattle.board_serve.proofs.WorkedCases.{one_reading}
 
@@ -64,12 +64,12 @@ unfolding digits
 worked = refl
 
 -- a run that serves to its end has taken the reading that was asked for, and its records are legal
-served_whole : (old new : Option (List ℕ)) (s : Served) → ServesWhole old new s (Ok one_reading) → map length (sheets_of s) ≡ 1 ∷ 0 ∷ []
+served_whole : (old new : Option (List ℕ)) (s : Served) → WritesAllOfServe old new s (Ok one_reading) → map length (sheets_of s) ≡ 1 ∷ 0 ∷ []
 served_whole old new s h =
     let same : one_reading ≡ h.0 = cc h.1 in
     (subst (λ (p : Planned). IsServed p s) (sym same) h.2).counts
 
-served_legally : (old new : Option (List ℕ)) (s : Served) → ServesWhole old new s (Ok one_reading) → IsLegal one_reading.start.ledger.opening s.journal.items
+served_legally : (old new : Option (List ℕ)) (s : Served) → WritesAllOfServe old new s (Ok one_reading) → IsLegal one_reading.start.ledger.opening s.journal.items
 served_legally old new s h =
     let same : one_reading ≡ h.0 = cc h.1 in
     subst (λ (p : Planned). IsLegal p.start.ledger.opening s.journal.items) (sym same) h.3.legal
@@ -82,31 +82,31 @@ differs_served (s, served, other) = (s, served.counts, other)
 abbrev bad : Fault
 bad = fault_at BadRecord 2
 
-good_run_stopped : StopsServe (Some []) (Some []) (Some bad) (printed_run []) → ⊥
+good_run_stopped : WritesServeUntilStop (Some []) (Some []) (Some bad) (printed_run []) → ⊥
 good_run_stopped h = let e = h.0 in cc e
 
-byte_before_the_fault : StopsServe (Some []) (Some (7 ∷ [])) (Some bad) (stopped_run bad) → ⊥
+byte_before_the_fault : WritesServeUntilStop (Some []) (Some (7 ∷ [])) (Some bad) (stopped_run bad) → ⊥
 byte_before_the_fault h = let e = h.1 in cc e
 
-byte_after_a_failure : StopsServe (Some []) (Some (7 ∷ [])) None (printed_run []) → ⊥
+byte_after_a_failure : WritesServeUntilStop (Some []) (Some (7 ∷ [])) None (printed_run []) → ⊥
 byte_after_a_failure ([], whole, new) = let e = new in cc e
 byte_after_a_failure (byte ∷ front, whole, new) = let e = whole.1 in cc e
 
 -- an input with a fault stops no run by another
-stopped_by_another : ServesTo (Some []) (Some []) (Err (stop.Input (fault_at BadHeader 0))) (Err bad) → ⊥
+stopped_by_another : WritesServeRun (Some []) (Some []) (Err (stop.Input (fault_at BadHeader 0))) (Err bad) → ⊥
 stopped_by_another (run, is, stops) = by_end run.lines run.end is stops.0
   where
     code : {f g : Fault} → f ≡ g → f.code ≡ g.code
     code e = ap (λ (f : Fault). f.code) e
 
-    other : (f : Fault) → f.code ≡ 21 → (f ≡ bad) ⊎ IsBroken f → ⊥
-    other f header (inl e) = omega (arith, header, code e)
-    other f header (inr (inl e)) = omega (arith, header, code e)
-    other f header (inr (inr e)) = omega (arith, header, code e)
+    other : (lines : List LineBytes) (f : Fault) → f.code ≡ 21 → EndsInInputFault bad lines f ⊎ EndsBroken lines f → ⊥
+    other lines f header (inl (none, e)) = omega (arith, header, code e)
+    other lines f header (inr (none, inl e)) = omega (arith, header, code e)
+    other lines f header (inr (none, inr e)) = omega (arith, header, code e)
 
     by_end : (lines : List LineBytes) (end : Option Fault) → EndsAfter (Err bad) lines end → end ≡ Some (fault_at BadHeader 0) → ⊥
     by_end lines None e is = e
-    by_end lines (Some f) e is = let same : f ≡ fault_at BadHeader 0 = cc is in other f (code same) e.1
+    by_end lines (Some f) e is = let same : f ≡ fault_at BadHeader 0 = cc is in other lines f (code same) e
 
 -- a run that ends well ends with the audit's line
 ends_without_the_audit : EndsAfter (Ok one_reading) [] None → ⊥

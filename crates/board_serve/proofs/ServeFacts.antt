@@ -7,17 +7,17 @@ use Rattle.council_core.specs.Sequential.{Reply, answered}
 use Rattle.council_core.specs.declared.refusals.Refusal.TheVariants as why
 use Rattle.board_text.specs.Lines.{LineBytes, audit_line, fault_line, reply_line}
 use Rattle.two_copy_steps.specs.Lawful.{IsPrefix}
-use Rattle.board_text.specs.Output.{AppendsFront, AppendsLines, Ends, EndsRun, EndsStopped, IsBroken, Plays, StopsIn, Writes, fault_of}
+use Rattle.board_text.specs.Output.{AppendsFront, AppendsLines, Ends, EndsRun, EndsStopped, IsBroken, WritesRun, WritesUntilStop, Writes, fault_of}
 use Rattle.board_text.specs.Text.{Run, end_lines, fault_at, line_text, output, printed_run, stopped_run, text_of, with_lines}
 use Rattle.board_text.specs.declared.faults.Fault.{Fault}
 use Rattle.council_core.specs.declared.calls.Answer.{Answer}
 use Rattle.board_text.specs.declared.stops.Stop.{Stop}
 use Rattle.board_text.specs.declared.stops.Stop.TheVariants as stop
-use Rattle.board_text.proofs.PlayFacts.{appends-same, front-before, front-none, front-then, line-then, plays-after, plays-more, plays-passed, plays-spelled, text-after}
+use Rattle.board_text.proofs.RunFacts.{appends-same, front-before, front-none, front-then, line-then, writes-after, writes-more, writes-passed, writes-spelled, text-after}
 use Rattle.board_text.proofs.RecordFacts.{fault_in, is-fault}
 use Rattle.board_serve.specs.Outcomes.{IsServed, ServedLegalRecords, reported_by}
 use Rattle.board_serve.specs.Plans.{Planned}
-use Rattle.board_serve.specs.Serving.{Differs, IsReportStop, IsServeRun, Serves, ServesTo, StopsServe, audited_run, count_lines, lines_of_work, work_lines}
+use Rattle.board_serve.specs.Serving.{Differs, IsReportStop, IsServeRun, WritesServeOutput, WritesServeRun, WritesServeUntilStop, audited_run, count_lines, lines_of_work, work_lines}
 use Rattle.board_serve.specs.Work.{IsHeldUp}
 use Rattle.board_serve.specs.declared.serving.Served.{Served}
 
@@ -44,36 +44,36 @@ module _ (answers : List Answer) (counts : List ℕ) (legal : Bool) where
       ap run (sym (append_assoc (map answer_line answers) (count_lines 1 counts) tail.lines)
       ∙ ap (λ (ls : List LineBytes). (ls ++ count_lines 1 counts) ++ tail.lines) (sym (mapped answers)))
 
-  as-parts : (a b : Option (List ℕ)) (r : Result (Unit {0}) Stop) → Plays a b r (with_lines (map answer_line answers) counted) → Plays a b r report_run
-  as-parts a b r p = let P : Run → Type 0 = λ run. Plays a b r run in subst P in-parts p
+  as-parts : (a b : Option (List ℕ)) (r : Result (Unit {0}) Stop) → WritesRun a b r (with_lines (map answer_line answers) counted) → WritesRun a b r report_run
+  as-parts a b r p = let P : Run → Type 0 = λ run. WritesRun a b r run in subst P in-parts p
 
   -- a line of the answers was stopped
-  pub answers-stop : (a b : Option (List ℕ)) (e d : Stop) → d ≡ e → StopsIn a b e (printed_run (map answer_line answers)) → StopsIn a b d report_run
-  answers-stop a b e d same p = plays-passed a b e d report_run same (as-parts a b (Err e) (plays-more a b e (map answer_line answers) counted p))
+  pub answers-stop : (a b : Option (List ℕ)) (e d : Stop) → d ≡ e → WritesUntilStop a b e (printed_run (map answer_line answers)) → WritesUntilStop a b d report_run
+  answers-stop a b e d same p = writes-passed a b e d report_run same (as-parts a b (Err e) (writes-more a b e (map answer_line answers) counted p))
 
   -- a line of the counts was stopped
-  pub counts-stop : (a b c : Option (List ℕ)) (u : Unit {0}) (e d : Stop) → d ≡ e → Plays a b (Ok u) (printed_run (map answer_line answers)) → StopsIn b c e (printed_run (count_lines 1 counts))
-      → StopsIn a c d report_run
+  pub counts-stop : (a b c : Option (List ℕ)) (u : Unit {0}) (e d : Stop) → d ≡ e → WritesRun a b (Ok u) (printed_run (map answer_line answers)) → WritesUntilStop b c e (printed_run (count_lines 1 counts))
+      → WritesUntilStop a c d report_run
   counts-stop a b c u e d same p q =
-      plays-passed a c e d report_run same
-      (as-parts a c (Err e) (plays-after {A = Unit {0}} a b c (map answer_line answers) (Err e) counted p.1 (plays-more b c e (count_lines 1 counts) (audited_run legal) q)))
+      writes-passed a c e d report_run same
+      (as-parts a c (Err e) (writes-after {A = Unit {0}} a b c (map answer_line answers) (Err e) counted p.1 (writes-more b c e (count_lines 1 counts) (audited_run legal) q)))
 
   -- all lines before the result of the audit were written
-  pub audit-then : (a b c z : Option (List ℕ)) (u v : Unit {0}) (r : Result (Unit {0}) Stop) → Plays a b (Ok u) (printed_run (map answer_line answers)) → Plays b c (Ok v) (printed_run (count_lines 1 counts))
-      → Plays c z r (audited_run legal) → Plays a z r report_run
-  audit-then a b c z u v r p q s = as-parts a z r (plays-after a b z (map answer_line answers) r counted p.1 (plays-after b c z (count_lines 1 counts) r (audited_run legal) q.1 s))
+  pub audit-then : (a b c z : Option (List ℕ)) (u v : Unit {0}) (r : Result (Unit {0}) Stop) → WritesRun a b (Ok u) (printed_run (map answer_line answers)) → WritesRun b c (Ok v) (printed_run (count_lines 1 counts))
+      → WritesRun c z r (audited_run legal) → WritesRun a z r report_run
+  audit-then a b c z u v r p q s = as-parts a z r (writes-after a b z (map answer_line answers) r counted p.1 (writes-after b c z (count_lines 1 counts) r (audited_run legal) q.1 s))
 
 -- the result of the audit: a mismatch, or its line
-pub mismatch-plays : (a : Option (List ℕ)) (legal : Bool) (e : Stop) → legal ≡ false → e ≡ stop.Input (fault_at why.Mismatch 0) → StopsIn a a e (audited_run legal)
+pub mismatch-plays : (a : Option (List ℕ)) (legal : Bool) (e : Stop) → legal ≡ false → e ≡ stop.Input (fault_at why.Mismatch 0) → WritesUntilStop a a e (audited_run legal)
 mismatch-plays a legal e broken same = rw (broken, same) (refl, Appends-nil a)
 
-pub audit-plays : (a b : Option (List ℕ)) (legal : Bool) (r : Result (Unit {0}) Stop) (line : LineBytes) → legal ≡ true → line ≡ audit_line → Writes a b r (line_text line) → Plays a b r (audited_run legal)
-audit-plays a b legal r line sound spelled w = rw sound (plays-spelled a b r line audit_line spelled w)
+pub audit-plays : (a b : Option (List ℕ)) (legal : Bool) (r : Result (Unit {0}) Stop) (line : LineBytes) → legal ≡ true → line ≡ audit_line → Writes a b r (line_text line) → WritesRun a b r (audited_run legal)
+audit-plays a b legal r line sound spelled w = rw sound (writes-spelled a b r line audit_line spelled w)
 
 -- out of memory, or a failed read, before anything is written
 broken-run : (spec : Result Planned Fault) (f : Fault) → IsBroken f → IsServeRun spec (stopped_run f)
-broken-run (Err g) f h = (refl, inr h)
-broken-run (Ok p) f h = inl (refl, inl h)
+broken-run (Err g) f h = inr (refl, h)
+broken-run (Ok p) f h = inl (refl, h)
 
 front-of-none : {A : Type 0} (front rest : List A) → [] ≡ front ++ rest → front ≡ []
 front-of-none [] rest is = refl
@@ -81,34 +81,34 @@ front-of-none (x ∷ front) rest is = cc is
 
 -- lines before a fault that is out of memory or a failed read: none, where the run has none
 no-lines-before : (a b : Option (List ℕ)) (f : Fault) (run : Run) (spec : Result Planned Fault) → IsBroken f → run.lines ≡ [] → AppendsLines a b run.lines
-    → (r : Run) × IsServeRun spec r × StopsServe a b (Some f) r
+    → (r : Run) × IsServeRun spec r × WritesServeUntilStop a b (Some f) r
 no-lines-before a b f run spec broken none p =
     let front : p.0 ≡ [] = front-of-none p.0 p.1.0 (sym none ∙ p.1.1) in
     (stopped_run f, broken-run spec f broken, (refl, appends-same a b _ _ (ap text_of front) p.2))
 
 -- the input gave no plan, and its run has no lines
-pub fails-serve : (a b : Option (List ℕ)) (e d : Stop) (run : Run) (spec : Result Planned Fault) → d ≡ e → run.lines ≡ [] → run.end ≡ fault_in spec → StopsIn a b e run → ServesTo a b (Err d) spec
+pub fails-serve : (a b : Option (List ℕ)) (e d : Stop) (run : Run) (spec : Result Planned Fault) → d ≡ e → run.lines ≡ [] → run.end ≡ fault_in spec → WritesUntilStop a b e run → WritesServeRun a b (Err d) spec
 fails-serve a b stop.OutOfMemory d run spec same none end p = rw same (no-lines-before a b _ run spec (inl refl) none p)
 fails-serve a b stop.ReadFault d run spec same none end p = rw same (no-lines-before a b _ run spec (inr refl) none p)
 fails-serve a b stop.WriteFault d run spec same none end p =
     let front : p.0 ≡ [] = front-of-none p.0 p.1.0 (sym (ap text_of none) ∙ p.1.1) in
     rw same (stopped_run (fault_at why.OutOfMemory 0), broken-run spec _ (inl refl), ([], front-none _, appends-same a b _ _ front p.2))
 fails-serve a b (stop.Input f) d run spec same none end p =
-    rw (same, is-fault spec f (sym end ∙ p.0)) (stopped_run f, (refl, inl refl), (refl, appends-same a b _ _ (ap text_of none) p.1))
+    rw (same, is-fault spec f (sym end ∙ p.0)) (stopped_run f, inl (refl, refl), (refl, appends-same a b _ _ (ap text_of none) p.1))
 
 -- nothing was written before
-pub after-nothing : (a b c : Option (List ℕ)) (r : Result Served Stop) (spec : Result Planned Fault) → Appends a b [] → ServesTo b c r spec → ServesTo a c r spec
+pub after-nothing : (a b c : Option (List ℕ)) (r : Result Served Stop) (spec : Result Planned Fault) → Appends a b [] → WritesServeRun b c r spec → WritesServeRun a c r spec
 after-nothing a b c (Ok s) spec nothing p = (p.0, p.1, p.2, p.3, Appends-trans a b c [] _ nothing p.4)
 after-nothing a b c (Err e) spec nothing p = (p.0, p.1, stops-on (fault_of e) p.2)
   where
-    stops-on : (f : Option Fault) → StopsServe b c f p.0 → StopsServe a c f p.0
+    stops-on : (f : Option Fault) → WritesServeUntilStop b c f p.0 → WritesServeUntilStop a c f p.0
     stops-on None t = (t.0, t.1, Appends-trans a b c [] _ nothing t.2)
     stops-on (Some f) t = (t.0, Appends-trans a b c [] _ nothing t.1)
 
 -- a thread was held up
-pub held-serve : (a : Option (List ℕ)) (e d : Stop) (p : Planned) → d ≡ e → IsHeldUp e → ServesTo a a (Err d) (Ok p)
-held-serve a e d p same (inl memory) = rw (same, memory) (stopped_run (fault_at why.OutOfMemory 0), inl (refl, inl (inl refl)), (refl, Appends-nil a))
-held-serve a e d p same (inr closed) = rw (same, closed) (stopped_run (fault_at why.GateClosed 0), inl (refl, inr refl), (refl, Appends-nil a))
+pub held-serve : (a : Option (List ℕ)) (e d : Stop) (p : Planned) → d ≡ e → IsHeldUp e → WritesServeRun a a (Err d) (Ok p)
+held-serve a e d p same (inl memory) = rw (same, memory) (stopped_run (fault_at why.OutOfMemory 0), inl (refl, inl refl), (refl, Appends-nil a))
+held-serve a e d p same (inr closed) = rw (same, closed) (stopped_run (fault_at why.GateClosed 0), inr (inl (refl, refl)), (refl, Appends-nil a))
 
 -- the run of a plan that was carried out
 abbrev pub done_run : Planned → Bool → Run
@@ -116,7 +116,7 @@ done_run p legal = with_lines (work_lines p) (audited_run legal)
 
 is-run : (p : Planned) (legal : Bool) → (legal ≡ false → Differs p) → IsServeRun (Ok p) (done_run p legal)
 is-run p true differs = refl
-is-run p false differs = inr (append-nil (work_lines p), refl, differs refl)
+is-run p false differs = inr (inr (append-nil (work_lines p), refl, differs refl))
 
 -- a prefix of the lines is a prefix of the output
 cut-output : (a b : Option (List ℕ)) (run : Run) → AppendsFront a b (text_of run.lines) → AppendsFront a b (output run)
@@ -125,12 +125,12 @@ cut-output a b run t =
     (t.0, subst P (sym (text-after run.lines (end_lines run.end))) (front-before t.0 (text_of run.lines) (text_of (end_lines run.end)) t.1), t.2)
 
 -- the report was written
-whole : (a b : Option (List ℕ)) (legal : Bool) (u : Unit {0}) (p : Planned) (s : Served) → IsServed p s → (legal ≡ true → ServedLegalRecords p s) → Plays a b (Ok u) (done_run p legal) → ServesTo a b (Ok s) (Ok p)
+whole : (a b : Option (List ℕ)) (legal : Bool) (u : Unit {0}) (p : Planned) (s : Served) → IsServed p s → (legal ≡ true → ServedLegalRecords p s) → WritesRun a b (Ok u) (done_run p legal) → WritesServeRun a b (Ok s) (Ok p)
 whole a b true u p s served records t = (p, refl, served, records refl, t.1)
 whole a b false u p s served records t = cc t.0
 
 -- the report was stopped, or found a mismatch
-report-serve : (a b : Option (List ℕ)) (legal : Bool) (e : Stop) (p : Planned) → IsReportStop e → (legal ≡ false → Differs p) → StopsIn a b e (done_run p legal) → ServesTo a b (Err e) (Ok p)
+report-serve : (a b : Option (List ℕ)) (legal : Bool) (e : Stop) (p : Planned) → IsReportStop e → (legal ≡ false → Differs p) → WritesUntilStop a b e (done_run p legal) → WritesServeRun a b (Err e) (Ok p)
 report-serve a b legal stop.WriteFault p causes differs t = (done_run p legal, is-run p legal differs, cut-output a b (done_run p legal) t)
 report-serve a b legal (stop.Input f) p causes differs t = (done_run p legal, is-run p legal differs, t)
 report-serve a b legal stop.OutOfMemory p (inl e) differs t = cc e
@@ -147,18 +147,18 @@ pub record Audited (p : Planned) (s : Served) (legal : Bool) (answers : List Ans
   pub counted : counts ≡ map length p.shares.asked
 
 module _ (a b : Option (List ℕ)) (p : Planned) (s : Served) (legal : Bool) (answers : List Answer) (counts : List ℕ) (done : Audited p s legal answers counts) where
-  as-done : (r : Result (Unit {0}) Stop) → Plays a b r (report_run answers counts legal) → Plays a b r (done_run p legal)
+  as-done : (r : Result (Unit {0}) Stop) → WritesRun a b r (report_run answers counts legal) → WritesRun a b r (done_run p legal)
   as-done r t =
-      let P : List LineBytes → Type 0 = λ ls. Plays a b r (with_lines ls (audited_run legal)) in
+      let P : List LineBytes → Type 0 = λ ls. WritesRun a b r (with_lines ls (audited_run legal)) in
       subst P (ap (λ (rs : List Reply). lines_of_work rs counts) done.replies ∙ ap (lines_of_work (reported_by p)) done.counted) t
 
-  pub stopped-serve : (e d : Stop) → d ≡ e → IsReportStop e → StopsIn a b e (report_run answers counts legal) → ServesTo a b (Err d) (Ok p)
+  pub stopped-serve : (e d : Stop) → d ≡ e → IsReportStop e → WritesUntilStop a b e (report_run answers counts legal) → WritesServeRun a b (Err d) (Ok p)
   stopped-serve e d same causes t = rw same (report-serve a b legal e p causes (λ broken. (s, done.served, done.differs broken)) (as-done (Err e) t))
 
-  pub whole-serve : (u : Unit {0}) → Plays a b (Ok u) (report_run answers counts legal) → ServesTo a b (Ok s) (Ok p)
+  pub whole-serve : (u : Unit {0}) → WritesRun a b (Ok u) (report_run answers counts legal) → WritesServeRun a b (Ok s) (Ok p)
   whole-serve u t = whole a b legal u p s done.served done.records (as-done (Ok u) t)
 
-ended : (a b c : Option (List ℕ)) (f g : Fault) (spec : Result Planned Fault) (run : Run) → IsServeRun spec run → StopsServe a b (Some f) run → Ends b c f g → Serves a c (Err g) spec
+ended : (a b c : Option (List ℕ)) (f g : Fault) (spec : Result Planned Fault) (run : Run) → IsServeRun spec run → WritesServeUntilStop a b (Some f) run → Ends b c f g → WritesServeOutput a c (Err g) spec
 ended a b c f g spec run is t (inl h) =
     let P : Option Fault → Type 0 = λ end. Appends a c (text_of (run.lines ++ end_lines end)) in
     rw h.0 (run, is, inl (t.0, subst P (sym t.0) (line-then a b c run.lines (fault_line f) t.1 h.1)))
@@ -167,12 +167,12 @@ ended a b c f g spec run is t (inr h) =
     (run, is, inr (h.0, subst P (sym t.0) (front-then a b c run.lines (fault_line f) t.1 h.1)))
 
 -- the end of a run that was stopped, after what was written
-ended-stop : (a b c : Option (List ℕ)) (f : Option Fault) (r : Result Served Fault) (spec : Result Planned Fault) (run : Run) → IsServeRun spec run → StopsServe a b f run → EndsStopped b c f r → Serves a c r spec
+ended-stop : (a b c : Option (List ℕ)) (f : Option Fault) (r : Result Served Fault) (spec : Result Planned Fault) (run : Run) → IsServeRun spec run → WritesServeUntilStop a b f run → EndsStopped b c f r → WritesServeOutput a c r spec
 ended-stop a b c None (Err g) spec run is t e = let P : Option (List ℕ) → Type 0 = λ x. AppendsFront a x (output run) in (run, is, inr (e.0, subst P (sym e.1) t))
 ended-stop a b c (Some f) (Err g) spec run is t e = ended a b c f g spec run is t e
 ended-stop a b c None (Ok s) spec run is t e = absurd e
 ended-stop a b c (Some f) (Ok s) spec run is t e = absurd e
 
-pub ended-serve : (a b c : Option (List ℕ)) (carried : Result Served Stop) (r : Result Served Fault) (spec : Result Planned Fault) → ServesTo a b carried spec → EndsRun b c carried r → Serves a c r spec
+pub ended-serve : (a b c : Option (List ℕ)) (carried : Result Served Stop) (r : Result Served Fault) (spec : Result Planned Fault) → WritesServeRun a b carried spec → EndsRun b c carried r → WritesServeOutput a c r spec
 ended-serve a b c (Ok s) r spec p e = rw (e.0, e.1) p
 ended-serve a b c (Err d) r spec p e = ended-stop a b c (fault_of d) r spec p.0 p.1 p.2 e

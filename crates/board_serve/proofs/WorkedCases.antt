@@ -1,5 +1,6 @@
 -- Which faults may end a run of the threads, and after which lines; and what the definitions exclude.
 use Rattle.std.proofs.Common.{◌≡◌, ◌++◌, ◌∙◌, ◌⊎◌, inl, inr, ℕ, true, false, List, [], ◌∷◌, length, map, replicate, Option, Some, None, Ok, Err, refl, sym, ap, arith, ⊎_elim, All, get_or, subst}
+use Rattle.std.proofs.lemmas.List.{length-append}
 use Rattle.std.proofs.lemmas.List.Elements.{recursion_from_All}
 use Rattle.std.specs.Io.KnownBytes.{Appends}
 use Rattle.council_core.specs.Rolls.{IsLegal}
@@ -11,13 +12,13 @@ use Rattle.majority_rule.specs.declared.majorities.Majority.TheVariants.{Half}
 use Rattle.board_audits.specs.declared.audits.AuditFault.TheVariants as found
 use Rattle.board_share.specs.Readers.{IsLegalSheet}
 use Rattle.board_text.specs.Lines.{LineBytes, audit_line}
-use Rattle.board_text.specs.Output.{AppendsFront, IsBroken, Plays}
+use Rattle.board_text.specs.Output.{AppendsFront, IsBroken, WritesRun}
 use Rattle.board_text.specs.Text.{fault_at, output, stopped_run, text_of}
 use Rattle.board_text.specs.declared.faults.Fault.{Fault}
 use Rattle.board_text.specs.declared.stops.Stop.TheVariants as stop
 use Rattle.board_serve.specs.Outcomes.{CanBeFound, IsOutcome, IsServed, ServedLegalRecords, omegas_by, sheets_of, winning_of}
 use Rattle.board_serve.specs.Plans.{Planned}
-use Rattle.board_serve.specs.Serving.{Differs, EndsAfter, Serves, ServesWhole, audited_run, work_lines}
+use Rattle.board_serve.specs.Serving.{Differs, EndsAfter, WritesServeOutput, WritesAllOfServe, audited_run, work_lines}
 use Rattle.board_serve.specs.declared.serving.Served.{Served}
 use Rattle.board_serve.specs.Work.{IsHeldUp, IsRising, cuts_of}
 use Rattle.board_serve.specs.declared.plan.TheConstants.{SERVED_READERS}
@@ -42,34 +43,47 @@ other_fault a b apart e = apart (ap (λ (f : Fault). f.code) e)
 
 -- a mismatch comes after the lines of the work, and where readings differ
 no_mismatch_at_first : EndsAfter (Ok one_reading) [] (Some (fault_at why.Mismatch 0)) → ⊥
-no_mismatch_at_first h =
-    ⊎_elim
-    (λ t. ⊎_elim (⊎_elim (other_fault 24 10 (λ e. omega (arith, e))) (other_fault 24 19 (λ e. omega (arith, e)))) (other_fault 24 27 (λ e. omega (arith, e))) t.1)
-    (λ t. has_lines (sym t.0)) h
+no_mismatch_at_first (inl (none, inl e)) = other_fault 24 10 (λ e. omega (arith, e)) e
+no_mismatch_at_first (inl (none, inr e)) = other_fault 24 19 (λ e. omega (arith, e)) e
+no_mismatch_at_first (inr (inl closed)) = other_fault 24 27 (λ e. omega (arith, e)) closed.1
+no_mismatch_at_first (inr (inr other)) = has_lines (sym other.0)
 
 mismatch_differs : EndsAfter (Ok one_reading) (work_lines one_reading) (Some (fault_at why.Mismatch 0)) → Differs one_reading
-mismatch_differs h = ⊎_elim (λ t. absurd (has_lines t.0)) (λ t. t.2) h
+mismatch_differs (inl broken) = absurd (has_lines broken.0)
+mismatch_differs (inr (inl closed)) = absurd (has_lines closed.0)
+mismatch_differs (inr (inr other)) = other.2
 
 -- after the lines of the work no gate closes, and memory doesn't run out
+nothing_behind : (f : Fault) → (f ≡ fault_at why.Mismatch 0 → ⊥) → EndsAfter (Ok one_reading) (work_lines one_reading) (Some f) → ⊥
+nothing_behind f apart (inl broken) = has_lines broken.0
+nothing_behind f apart (inr (inl closed)) = has_lines closed.0
+nothing_behind f apart (inr (inr other)) = apart other.1
+
 no_gate_behind : EndsAfter (Ok one_reading) (work_lines one_reading) (Some (fault_at why.GateClosed 0)) → ⊥
-no_gate_behind h = ⊎_elim (λ t. has_lines t.0) (λ t. other_fault 27 24 (λ e. omega (arith, e)) t.1) h
+no_gate_behind = nothing_behind (fault_at why.GateClosed 0) (other_fault 27 24 (λ e. omega (arith, e)))
 
 no_memory_behind : EndsAfter (Ok one_reading) (work_lines one_reading) (Some (fault_at why.OutOfMemory 0)) → ⊥
-no_memory_behind h = ⊎_elim (λ t. has_lines t.0) (λ t. other_fault 10 24 (λ e. omega (arith, e)) t.1) h
+no_memory_behind = nothing_behind (fault_at why.OutOfMemory 0) (other_fault 10 24 (λ e. omega (arith, e)))
+
+-- a run that ends well has all its lines
+no_audit_line : EndsAfter (Ok one_reading) (work_lines one_reading) None → ⊥
+no_audit_line h = let e = ap length h in omega (arith, e, length-append (work_lines one_reading) (audit_line ∷ []))
 
 -- an input with a fault ends in that fault, before any line
 no_other_fault : EndsAfter (Err (fault_at why.BadRecord 2)) [] (Some (fault_at why.BadHeader 1)) → ⊥
-no_other_fault h =
-    ⊎_elim (other_fault 21 17 (λ e. omega (arith, e))) (⊎_elim (other_fault 21 10 (λ e. omega (arith, e))) (other_fault 21 19 (λ e. omega (arith, e)))) h.1
+no_other_fault (inl input) = other_fault 21 17 (λ e. omega (arith, e)) input.1
+no_other_fault (inr (none, inl e)) = other_fault 21 10 (λ e. omega (arith, e)) e
+no_other_fault (inr (none, inr e)) = other_fault 21 19 (λ e. omega (arith, e)) e
 
 no_lines_before : EndsAfter (Err (fault_at why.BadRecord 2)) (work_lines one_reading) (Some (fault_at why.BadRecord 2)) → ⊥
-no_lines_before h = has_lines h.0
+no_lines_before (inl input) = has_lines input.0
+no_lines_before (inr broken) = has_lines broken.0
 
 -- readings that differ do not pass as legal, nor legal ones as a mismatch
-differing_not_passed : (old new : Option (List ℕ)) → Plays {A = Unit {0}} old new (Ok tt) (audited_run false) → ⊥
+differing_not_passed : (old new : Option (List ℕ)) → WritesRun {A = Unit {0}} old new (Ok tt) (audited_run false) → ⊥
 differing_not_passed old new h = cc h.0
 
-legal_not_refused : (old new : Option (List ℕ)) → Plays {A = Unit {0}} old new (Err (stop.Input (fault_at why.Mismatch 0))) (audited_run true) → ⊥
+legal_not_refused : (old new : Option (List ℕ)) → WritesRun {A = Unit {0}} old new (Err (stop.Input (fault_at why.Mismatch 0))) (audited_run true) → ⊥
 legal_not_refused old new h = cc h.0
 
 -- the audit of a legal journal finds no fault of members, journal or cuts
@@ -110,7 +124,17 @@ no_seven f w =
     let first : 102 ≡ 7 = ap (λ (bytes : List ℕ). get_or bytes 0 0) (w.1.1 ∙ ap (λ (front : List ℕ). front ++ w.1.0) (sym w.2)) in
     omega (arith, first)
 
-no_other_byte : Serves (Some []) seven (Err (fault_at why.WriteFault 0)) (Err bad) → ⊥
+-- the fault of an input comes before any line, and isn't a failed write
+no_line : (f : Fault) (lines : List LineBytes) → EndsAfter (Err bad) lines (Some f) → lines ≡ []
+no_line f lines (inl input) = input.0
+no_line f lines (inr broken) = broken.0
+
+no_write : (f : Fault) → f.code ≡ 20 → (lines : List LineBytes) → EndsAfter (Err bad) lines (Some f) → ⊥
+no_write f twenty lines (inl (none, is)) = let other : f.code ≡ 17 = ap (λ (g : Fault). g.code) is in omega (arith, twenty, other)
+no_write f twenty lines (inr (none, inl is)) = let other : f.code ≡ 10 = ap (λ (g : Fault). g.code) is in omega (arith, twenty, other)
+no_write f twenty lines (inr (none, inr is)) = let other : f.code ≡ 19 = ap (λ (g : Fault). g.code) is in omega (arith, twenty, other)
+
+no_other_byte : WritesServeOutput (Some []) seven (Err (fault_at why.WriteFault 0)) (Err bad) → ⊥
 no_other_byte h = by_end h.0.lines h.0.end h.1 h.2
   where
     by_end : (lines : List LineBytes) (end : Option Fault) → EndsAfter (Err bad) lines end
@@ -119,17 +143,13 @@ no_other_byte h = by_end h.0.lines h.0.end h.1 h.2
     by_end lines None e t = e
     by_end lines (Some f) e (inl t) =
         let twenty : f.code ≡ 20 = ap code_in t.0 in
-        ⊎_elim
-        (λ is. let other : f.code ≡ 17 = ap (λ (g : Fault). g.code) is in omega (arith, twenty, other))
-        (⊎_elim
-        (λ is. let other : f.code ≡ 10 = ap (λ (g : Fault). g.code) is in omega (arith, twenty, other))
-        (λ is. let other : f.code ≡ 19 = ap (λ (g : Fault). g.code) is in omega (arith, twenty, other))) e.1
+        no_write f twenty lines e
     by_end lines (Some f) e (inr t) =
         let P : List LineBytes → Type 0 = λ ls. AppendsFront (Some []) seven (output (record { lines = ls; end = Some f })) in
-        no_seven f (subst P e.0 t.1)
+        no_seven f (subst P (no_line f lines e) t.1)
 
 -- nor does the run that ends in the fault leave another byte
-no_other_line : Serves (Some []) seven (Err bad) (Err bad) → ⊥
+no_other_line : WritesServeOutput (Some []) seven (Err bad) (Err bad) → ⊥
 no_other_line h = by_end h.0.lines h.0.end h.1 h.2
   where
     by_end : (lines : List LineBytes) (end : Option Fault) → EndsAfter (Err bad) lines end
@@ -138,13 +158,13 @@ no_other_line h = by_end h.0.lines h.0.end h.1 h.2
     by_end lines None e t = e
     by_end lines (Some f) e (inl t) =
         let P : List LineBytes → Type 0 = λ ls. Appends (Some []) seven (output (record { lines = ls; end = Some f })) in
-        let is : 7 ∷ [] ≡ output (stopped_run f) = subst P e.0 t.1 in
+        let is : 7 ∷ [] ≡ output (stopped_run f) = subst P (no_line f lines e) t.1 in
         let first : 7 ≡ 102 = ap (λ (bytes : List ℕ). get_or bytes 0 0) is in
         omega (arith, first)
     by_end lines (Some f) e (inr t) = other_fault 17 20 (λ e. omega (arith, e)) t.0
 
 -- a run that serves to its end writes its lines
-no_silence : (s : Served) → ServesWhole (Some []) (Some []) s (Ok one_reading) → ⊥
+no_silence : (s : Served) → WritesAllOfServe (Some []) (Some []) s (Ok one_reading) → ⊥
 no_silence s h =
     let same : one_reading ≡ h.0 = cc h.1 in
     let is : [] ≡ text_of (work_lines one_reading ++ audit_line ∷ []) = h.4 ∙ ap (λ (p : Planned). text_of (work_lines p ++ audit_line ∷ [])) (sym same) in

@@ -40,41 +40,53 @@ IsReportStop e = (e ≡ stop.WriteFault) ⊎ (e ≡ stop.Input (fault_at why.Mis
 abbrev pub Differs : Planned → Type 0
 Differs p = (s : Served) × IsServed p s × (ServedLegalRecords p s → ⊥)
 
--- the lines of a run, and its fault, if any: the input's faults, out of memory, a failed read and a
--- closed gate come after no line, and a mismatch of readings that differ comes after the lines of
--- the work
+-- a fault of the input ends a run before any line
+abbrev pub EndsInInputFault : Fault → List LineBytes → Fault → Type 0
+EndsInInputFault g front f = (front ≡ []) × (f ≡ g)
+
+-- out of memory or a failed read ends a run before any line
+abbrev pub EndsBroken : List LineBytes → Fault → Type 0
+EndsBroken front f = (front ≡ []) × IsBroken f
+
+-- a closed gate ends a run before any line
+abbrev pub EndsClosed : List LineBytes → Fault → Type 0
+EndsClosed front f = (front ≡ []) × (f ≡ fault_at why.GateClosed 0)
+
+-- a mismatch of readings that differ ends a run after the lines of the work
+abbrev pub EndsMismatched : Planned → List LineBytes → Fault → Type 0
+EndsMismatched p front f = (front ≡ work_lines p) × (f ≡ fault_at why.Mismatch 0) × Differs p
+
+-- the lines of a run, and the fault that ends it, if any
 abbrev pub EndsAfter : Result Planned Fault → List LineBytes → Option Fault → Type 0
 EndsAfter (Err g) front None = ⊥
-EndsAfter (Err g) front (Some f) = (front ≡ []) × ((f ≡ g) ⊎ IsBroken f)
+EndsAfter (Err g) front (Some f) = EndsInInputFault g front f ⊎ EndsBroken front f
 EndsAfter (Ok p) front None = front ≡ work_lines p ++ audit_line ∷ []
-EndsAfter (Ok p) front (Some f) =
-    ((front ≡ []) × (IsBroken f ⊎ (f ≡ fault_at why.GateClosed 0)))
-    ⊎ ((front ≡ work_lines p) × (f ≡ fault_at why.Mismatch 0) × Differs p)
+EndsAfter (Ok p) front (Some f) = EndsBroken front f ⊎ EndsClosed front f ⊎ EndsMismatched p front f
 
 -- a run that a plan, or the fault of the input, allows
 abbrev pub IsServeRun : Result Planned Fault → Run → Type 0
 IsServeRun spec run = EndsAfter spec run.lines run.end
 
--- the whole text was written, and the result is that of the plan
-abbrev pub ServesWhole : Option (List ℕ) → Option (List ℕ) → Served → Result Planned Fault → Type 0
-ServesWhole old new s spec =
+-- `serve` has written its whole text, and the result is that of the plan
+abbrev pub WritesAllOfServe : Option (List ℕ) → Option (List ℕ) → Served → Result Planned Fault → Type 0
+WritesAllOfServe old new s spec =
     (p : Planned) × (spec ≡ Ok p) × IsServed p s × ServedLegalRecords p s
     × Appends old new (text_of (work_lines p ++ audit_line ∷ []))
 
--- before the line of a fault: the lines of a run that ends in it, or a prefix of the output of a
+-- before the line of a fault, `serve` has written the lines of a run that ends in it, or a prefix of the output of a
 -- run if the fault has no line
-abbrev pub StopsServe : Option (List ℕ) → Option (List ℕ) → Option Fault → Run → Type 0
-StopsServe old new None run = AppendsFront old new (output run)
-StopsServe old new (Some f) run = (run.end ≡ Some f) × Appends old new (text_of run.lines)
+abbrev pub WritesServeUntilStop : Option (List ℕ) → Option (List ℕ) → Option Fault → Run → Type 0
+WritesServeUntilStop old new None run = AppendsFront old new (output run)
+WritesServeUntilStop old new (Some f) run = (run.end ≡ Some f) × Appends old new (text_of run.lines)
 
--- the text written before the line of a fault
-abbrev pub ServesTo : Option (List ℕ) → Option (List ℕ) → Result Served Stop → Result Planned Fault → Type 0
-ServesTo old new (Ok s) spec = ServesWhole old new s spec
-ServesTo old new (Err e) spec = (run : Run) × IsServeRun spec run × StopsServe old new (fault_of e) run
+-- what `serve` has written before the line of a fault
+abbrev pub WritesServeRun : Option (List ℕ) → Option (List ℕ) → Result Served Stop → Result Planned Fault → Type 0
+WritesServeRun old new (Ok s) spec = WritesAllOfServe old new s spec
+WritesServeRun old new (Err e) spec = (run : Run) × IsServeRun spec run × WritesServeUntilStop old new (fault_of e) run
 
--- the text that `serve` wrote and its result
-abbrev pub Serves : Option (List ℕ) → Option (List ℕ) → Result Served Fault → Result Planned Fault → Type 0
-Serves old new (Ok s) spec = ServesWhole old new s spec
-Serves old new (Err f) spec = (run : Run) × IsServeRun spec run
+-- what `serve` has written, by its result
+abbrev pub WritesServeOutput : Option (List ℕ) → Option (List ℕ) → Result Served Fault → Result Planned Fault → Type 0
+WritesServeOutput old new (Ok s) spec = WritesAllOfServe old new s spec
+WritesServeOutput old new (Err f) spec = (run : Run) × IsServeRun spec run
     × (((run.end ≡ Some f) × Appends old new (output run))
     ⊎ ((f ≡ fault_at why.WriteFault 0) × AppendsFront old new (output run)))

@@ -8,14 +8,14 @@ ghost use Rattle.council_core.specs.Sequential.{AreCuts, AreLegalRecords, answer
 ghost use Rattle.council_core.specs.declared.refusals.Refusal.TheVariants as why;
 ghost use Rattle.board_text.specs.Inputs.{RetriesAtMost, RunRetriesAtMost, WastesAtMost};
 ghost use Rattle.board_text.specs.Lines.{reply_line};
-ghost use Rattle.board_text.specs.Output.{IsBadLimit, Plays};
+ghost use Rattle.board_text.specs.Output.{IsBadLimit, WritesRun};
 ghost use Rattle.board_text.specs.Sinks.{GoesOn};
 ghost use Rattle.board_text.specs.Text.{fault_at, in_range, printed_run, with_lines};
 ghost use Rattle.board_text.specs.declared.stops.Stop.TheVariants as stop;
 ghost use Rattle.board_audits.specs.declared.audits.AuditFault.TheVariants.{OutOfMemory as LacksMemory};
 ghost use Rattle.board_serve.specs.Outcomes.{CanBeFound, IsOutcome, IsServed, ServedLegalRecords, sheets_of};
 ghost use Rattle.board_serve.specs.Plans.{plan_of, record_count, two_readers};
-ghost use Rattle.board_serve.specs.Serving.{IsReportStop, Serves, ServesTo, audited_run, count_lines, lines_of_work};
+ghost use Rattle.board_serve.specs.Serving.{IsReportStop, WritesServeOutput, WritesServeRun, audited_run, count_lines, lines_of_work};
 ghost use Rattle.board_serve.specs.Work.{IsHeldUp};
 
 use crate::gates::Gate;
@@ -48,8 +48,8 @@ pub struct Served {
     pub winning: Vec<Vec<u64>>,
 }
 
-// The result of an audit fault for records whose journal is legal and whose cuts are in order: not
-// legal, or out of memory.
+// What a fault of the audit means here: the journal is legal and the cuts are in order, so that only
+// a reading can be illegal. `Ok(false)`: a reading is; `Err`: memory ran out.
 fn is_mismatch(fault: AuditFault) -> Result<bool, Stop>
     requires { CanBeFound fault }
     ensures legal { IfOk result (λ legal. legal ≡ false) }
@@ -115,7 +115,7 @@ fn perform<G: Gate, R: Threads + Wait + Sync>(
 
 // Writes the lines of these answers.
 fn write_answers<W: Write>(out: &mut Output<'_, W>, answers: &[Answer]) -> Result<(), Stop>
-    ensures wrote { Plays out.old.held out.new.held result
+    ensures wrote { WritesRun out.old.held out.new.held result
         (printed_run (map (λ a. reply_line (answered a)) answers.now)) }
     ensures continues { GoesOn out.old out.new }
     ensures only { IsOkUnless result stop.WriteFault }
@@ -128,7 +128,7 @@ fn write_answers<W: Write>(out: &mut Output<'_, W>, answers: &[Answer]) -> Resul
 
 // Writes the number of readings of each reader.
 fn write_counts<W: Write>(out: &mut Output<'_, W>, counts: (u64, u64)) -> Result<(), Stop>
-    ensures wrote { Plays out.old.held out.new.held result
+    ensures wrote { WritesRun out.old.held out.new.held result
         (printed_run (count_lines 1 (counts.0 ∷ counts.1 ∷ []))) }
     ensures continues { GoesOn out.old out.new }
     ensures only { IsOkUnless result stop.WriteFault }
@@ -144,7 +144,7 @@ fn report<W: Write>(
     counts: (u64, u64),
     legal: bool,
 ) -> Result<(), Stop>
-    ensures wrote { Plays out.old.held out.new.held result
+    ensures wrote { WritesRun out.old.held out.new.held result
         (with_lines (lines_of_work (map answered answers.now) (counts.0 ∷ counts.1 ∷ [])) (audited_run legal)) }
     ensures causes { IfErr result IsReportStop }
     ensures continues { GoesOn out.old out.new }
@@ -152,7 +152,7 @@ fn report<W: Write>(
     write_answers(out, answers)?;
     write_counts(out, counts)?;
     if !legal {
-        return Err(Stop::of_fault(Refusal::Mismatch, 0));
+        return Err(Stop::at(Refusal::Mismatch, 0));
     }
     out.write_line(line_of_audit())
 }
@@ -166,7 +166,7 @@ fn serve_plan<G: Gate, T: Threads + Wait + Sync, W: Write>(
     out: &mut Output<'_, W>,
 ) -> Result<Served, Stop>
     requires bound { record_count plan.shares < 2 ^ 32 }
-    ensures wrote { ServesTo out.old.held out.new.held result (Ok plan) }
+    ensures wrote { WritesServeRun out.old.held out.new.held result (Ok plan) }
     ensures continues { GoesOn out.old out.new }
 {
     let counts = plan.counts();
@@ -185,7 +185,7 @@ fn serve_to<G: Gate, T: Threads + Wait + Sync, R: Read + Drop, W: Write>(
     journal_limit: u32,
 ) -> Result<Served, Stop>
     ensures wrote { OfInput input.old input.new
-        (λ bytes. ServesTo out.old.held out.new.held result (plan_of journal_limit bytes)) }
+        (λ bytes. WritesServeRun out.old.held out.new.held result (plan_of journal_limit bytes)) }
     ensures limits_first { in_range (two_readers journal_limit) ≡ false
         → IsErrOf result (Stop.Input (fault_at why.BadLimit 0)) × (input.new ≡ input.old) }
     ensures asks { input.new.asks ≤ input.old.asks + READS }
@@ -240,7 +240,7 @@ pub fn serve<G: Gate, T: Threads + Wait + Sync, R: Read + Drop, W: Write>(
     journal_limit: u32,
 ) -> Result<Served, Fault>
     ensures wrote { OfInput input.old input.new
-        (λ bytes. Serves (W.contents out.old) (W.contents out.new) result (plan_of journal_limit bytes)) }
+        (λ bytes. WritesServeOutput (W.contents out.old) (W.contents out.new) result (plan_of journal_limit bytes)) }
     ensures limits_first { in_range (two_readers journal_limit) ≡ false
         → IsBadLimit result × (input.new ≡ input.old) }
     ensures asks { input.new.asks ≤ input.old.asks + READS }

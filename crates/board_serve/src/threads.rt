@@ -90,7 +90,7 @@ pub(crate) fn seat_all(alloc: Global, register: Register, records: Records) -> R
     })
 }
 
-// The writer's thread returns its work, done.
+// The promise of the writer's thread: it returns the writer's work, carried out.
 #[derive(Drop)]
 struct WillWrite(Snapshot<WriterWork>);
 
@@ -98,7 +98,7 @@ impl Promise<Result<WriterWork, Stop>> for WillWrite {
     ghost kept_by = { λ p r. HasWritten p.0.value r };
 }
 
-// A reader's thread returns its work, done.
+// The promise of a reader's thread: it returns the reader's work, carried out.
 #[derive(Drop)]
 struct WillAsk(Snapshot<ReaderWork>);
 

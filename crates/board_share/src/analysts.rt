@@ -55,7 +55,7 @@ impl Analyst {
     }
 
     /// Takes one reading, as by `Reader::read`, and returns the indices of its sheet at this
-    /// majority.
+    /// majority, in the time of `Evaluator::set` and `Evaluator::evaluate`.
     ///
     /// ```rust
     /// let indices = analyst.ask(Majority::Half);

@@ -65,13 +65,14 @@ fn by_an_analyst(
 }
 
 fn read_one(alloc: Global, reader: Reader, draws: &mut Draws) -> Result<(Reader, Sheet), Refusal> {
-    match draws.below(16) {
-        0 => by_an_analyst(alloc, reader, Majority::Half),
-        1 => by_an_analyst(alloc, reader, Majority::Seventy),
-        2 => by_an_analyst(alloc, reader, Majority::EightyFive),
-        3 => by_an_analyst(alloc, reader, Majority::Quorum),
-        4..=9 => by_steps(reader, draws),
-        _ => at_once(reader),
+    let drawn = draws.below(16);
+    if let Some(majority) = Majority::ALL.get(drawn as usize) {
+        return by_an_analyst(alloc, reader, *majority);
+    }
+    if drawn < 10 {
+        by_steps(reader, draws)
+    } else {
+        at_once(reader)
     }
 }
 

@@ -6,31 +6,31 @@ use Rattle.recording_io.specs.Tapes.{Giving, OfInput}
 use Rattle.board_text.specs.Lines.{LineBytes}
 use Rattle.board_text.specs.Text.{Begun, Run, begun_of, run_begun_with, in_range, opened_of}
 use Rattle.board_text.specs.Scripts.{begun_end, begun_run}
-use Rattle.board_text.specs.Output.{AppendsLines, Fails, Plays, StopsIn}
+use Rattle.board_text.specs.Output.{AppendsLines, Fails, WritesRun, WritesUntilStop}
 use Rattle.board_text.specs.declared.bounds.Limits.{Limits}
 use Rattle.board_text.specs.declared.faults.Fault.{Fault}
 use Rattle.board_text.specs.declared.stops.Stop.{Stop}
 use Rattle.board_text.specs.declared.stops.Stop.TheVariants as stop
-use Rattle.board_text.proofs.PlayFacts.{front-none}
+use Rattle.board_text.proofs.RunFacts.{front-none}
 use Rattle.board_text.proofs.BeginningFacts.{begun-records}
 
 nothing-written : (a : Option (List ℕ)) (lines : List LineBytes) → AppendsLines a a lines
 nothing-written a lines = ([], front-none lines, Appends-nil a)
 
-fails-stop : (a : Option (List ℕ)) (e : Stop) (interpret : Begun → Run) (spec : Result Begun Fault) → Fails e spec → StopsIn a a e (begun_run interpret spec)
+fails-stop : (a : Option (List ℕ)) (e : Stop) (interpret : Begun → Run) (spec : Result Begun Fault) → Fails e spec → WritesUntilStop a a e (begun_run interpret spec)
 fails-stop a stop.OutOfMemory interpret spec p = nothing-written a _
 fails-stop a stop.ReadFault interpret spec p = nothing-written a _
 fails-stop a stop.WriteFault interpret spec p = absurd p
 fails-stop a (stop.Input f) interpret spec p = rw p (refl, Appends-nil a)
 
 -- where nothing came of the input, nothing was written
-pub plays-failed : (a : Option (List ℕ)) (e d : Stop) (interpret : Begun → Run) (spec : Result Begun Fault) → d ≡ e → Fails e spec → StopsIn a a d (begun_run interpret spec)
-plays-failed a e d interpret spec same p = let P : Stop → Type 0 = λ s. StopsIn a a s (begun_run interpret spec) in subst P (sym same) (fails-stop a e interpret spec p)
+pub writes-failed : (a : Option (List ℕ)) (e d : Stop) (interpret : Begun → Run) (spec : Result Begun Fault) → d ≡ e → Fails e spec → WritesUntilStop a a d (begun_run interpret spec)
+writes-failed a e d interpret spec same p = let P : Stop → Type 0 = λ s. WritesUntilStop a a s (begun_run interpret spec) in subst P (sym same) (fails-stop a e interpret spec p)
 
 -- the same of an input
-pub plays-failed_input : (from to : Giving) (a : Option (List ℕ)) (e d : Stop) (lim : Limits) (interpret : Begun → Run) → d ≡ e
-    → OfInput from to (λ bytes. Fails e (begun_of lim bytes)) → OfInput from to (λ bytes. StopsIn a a d (begun_run interpret (begun_of lim bytes)))
-plays-failed_input from to a e d lim interpret same p = λ bytes is. plays-failed a e d interpret (begun_of lim bytes) same (p bytes is)
+pub writes-failed_input : (from to : Giving) (a : Option (List ℕ)) (e d : Stop) (lim : Limits) (interpret : Begun → Run) → d ≡ e
+    → OfInput from to (λ bytes. Fails e (begun_of lim bytes)) → OfInput from to (λ bytes. WritesUntilStop a a d (begun_run interpret (begun_of lim bytes)))
+writes-failed_input from to a e d lim interpret same p = λ bytes is. writes-failed a e d interpret (begun_of lim bytes) same (p bytes is)
 
 -- a text that was read: an input that is not too long, where the limits are in range
 pub record TextRead (lim : Limits) (text : List ℕ) : Type 0 where
@@ -41,8 +41,8 @@ pub record TextRead (lim : Limits) (text : List ℕ) : Type 0 where
 
 -- the text that was read is the input
 pub interpreted-input : {A : Type 0} (from to : Giving) (a b : Option (List ℕ)) (r : Result A Stop) (lim : Limits) (interpret : Begun → Run) (text : List ℕ) (read : TextRead lim text)
-    → OfInput from to (λ bytes. read.input ≡ bytes) → Plays a b r (begun_run interpret (run_begun_with lim (opened_of (records default_config (strip_bom text)))))
-    → OfInput from to (λ bytes. Plays a b r (begun_run interpret (begun_of lim bytes)))
+    → OfInput from to (λ bytes. read.input ≡ bytes) → WritesRun a b r (begun_run interpret (run_begun_with lim (opened_of (records default_config (strip_bom text)))))
+    → OfInput from to (λ bytes. WritesRun a b r (begun_run interpret (begun_of lim bytes)))
 interpreted-input from to a b r lim interpret text read whole p = λ bytes is.
     rw (← whole bytes is, begun-records lim read.input read.fits read.short, ← read.same) p
 

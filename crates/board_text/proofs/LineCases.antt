@@ -1,8 +1,7 @@
 -- The lines of worked examples, computed; and what the definitions of reading, starting and writing exclude.
-use Rattle.std.proofs.Common.{◌≡◌, ◌+◌, ◌++◌, ◌∷◌, ◌⊎◌, inl, inr, ℕ, true, false, List, [], length, replicate, Option, Some, None, Result, Ok, Err, refl, ap, subst, arith}
+use Rattle.std.proofs.Common.{◌≡◌, ◌++◌, ◌∷◌, inl, inr, ℕ, false, List, [], replicate, Some, None, Ok, Err, refl, ap, subst, arith}
 use Rattle.std.specs.Prelude.{codes}
 use Rattle.std.specs.Fmt.{digits}
-use Rattle.std.specs.Io.KnownBytes.{Appends}
 use Rattle.council_core.specs.Ledgers.{Ledger, start_verdict}
 use Rattle.council_core.specs.Rolls.{Opening}
 use Rattle.council_core.specs.declared.commands.Command.TheVariants.{Open}
@@ -11,19 +10,17 @@ use Rattle.council_core.specs.declared.calls.Answer.TheVariants as answer
 use Rattle.council_core.specs.declared.calls.Order.TheVariants as order
 use Rattle.council_core.specs.declared.refusals.Refusal.TheVariants.{BadHeader, BadIndex, BadLimit, BadRecord, ChairOpen, DuplicateMember, OutOfMemory, ReadFault, WriteFault}
 use Rattle.majority_rule.specs.declared.majorities.Majority.TheVariants.{Half, Seventy, EightyFive, Quorum}
-use Rattle.power_index.specs.declared.indices.Fraction.{Fraction}
-use Rattle.power_index.specs.Indices.{indices_of}
+use Rattle.power_index.specs.Indices.{fraction}
 use Rattle.recording_io.specs.Tapes.{Giving}
 use Rattle.two_copy_steps.specs.declared.events.Note.TheVariants as note
 use Rattle.board_text.specs.Inputs.{Reads}
-use Rattle.board_text.specs.Lines.{audit_line, fault_line, fault_name, fraction, fraction_if_any, note_lines, reader_line, reading_line, reading_lines, reply_line, reply_lines}
-use Rattle.board_text.specs.Output.{Ends, EndsRun, Plays, ReadTo, Starts, StartsRun, Writes, WritesSome, at_record, fault_of, stop_of}
-use Rattle.board_text.specs.Text.{fault_at, ledger_at_start, line_text, output, printed_run, run_limits, stopped_run, text_of, with_lines}
-use Rattle.board_text.specs.Words.{word_of_majority}
+use Rattle.board_text.specs.Lines.{audit_line, fault_line, fault_name, fraction_if_any, note_lines, reader_line, reading_lines, reply_line, reply_lines}
+use Rattle.board_text.specs.Output.{Ends, EndsRun, WritesRun, ReadTo, Starts, StartsRun, Writes, WritesSome, at_record, fault_of, stop_of}
+use Rattle.board_text.specs.Text.{fault_at, ledger_at_start, output, printed_run, run_limits, stopped_run, text_of, with_lines}
+use Rattle.majority_rule.specs.Majorities.{word_of_majority}
 use Rattle.board_text.specs.declared.beginning.RunStart.{RunStart}
 use Rattle.board_text.specs.declared.faults.Fault.{Fault}
 use Rattle.board_text.specs.declared.requests.Request.TheVariants as ask
-use Rattle.board_text.specs.declared.stops.Stop.{Stop}
 use Rattle.board_text.specs.declared.stops.Stop.TheVariants as stop
 
 -- chair 1 with 60 of 100 votes, after two commands
@@ -127,17 +124,17 @@ some_of_another (failed, ([], whole, new)) = let e = new in cc e
 some_of_another (failed, (byte ∷ front, whole, new)) = omega (arith, ap first_of whole.1, ap first_of new)
 
 -- a run that stops has written the lines before the fault, or some of them where memory ran out
-fault_in_a_good_run : Plays {A = Unit {0}} (Some []) (Some []) (Err (stop.Input (fault_at BadRecord 5))) (printed_run []) → ⊥
+fault_in_a_good_run : WritesRun {A = Unit {0}} (Some []) (Some []) (Err (stop.Input (fault_at BadRecord 5))) (printed_run []) → ⊥
 fault_in_a_good_run h = let e = h.0 in cc e
 
-line_before_a_fault_left_out : Plays {A = Unit {0}} (Some []) (Some []) (Err (stop.Input (fault_at BadRecord 5))) (with_lines (codes "began" ∷ []) (stopped_run (fault_at BadRecord 5))) → ⊥
+line_before_a_fault_left_out : WritesRun {A = Unit {0}} (Some []) (Some []) (Err (stop.Input (fault_at BadRecord 5))) (with_lines (codes "began" ∷ []) (stopped_run (fault_at BadRecord 5))) → ⊥
 line_before_a_fault_left_out h = let e = h.1 in cc e
 
-line_made_up : Plays {A = Unit {0}} (Some []) (Some seven) (Err stop.OutOfMemory) (printed_run []) → ⊥
+line_made_up : WritesRun {A = Unit {0}} (Some []) (Some seven) (Err stop.OutOfMemory) (printed_run []) → ⊥
 line_made_up ([], whole, new) = let e = new in cc e
 line_made_up (line ∷ front, whole, new) = let e = whole.1 in cc e
 
-byte_made_up : Plays {A = Unit {0}} (Some []) (Some seven) (Err stop.WriteFault) (printed_run []) → ⊥
+byte_made_up : WritesRun {A = Unit {0}} (Some []) (Some seven) (Err stop.WriteFault) (printed_run []) → ⊥
 byte_made_up ([], whole, new) = let e = new in cc e
 byte_made_up (byte ∷ front, whole, new) = let e = whole.1 in cc e
 

@@ -1,16 +1,19 @@
 -- The members of an input, one record at a time.
-use Rattle.std.proofs.Common.{◌≡◌, ◌≢◌, ◌==◌, ◌⊎◌, inl, inr, ◌+◌, ℕ, Bool, true, false, List, [], ◌∷◌, ◌++◌, length, Option, Some, None, Result, Err, IfOk, refl, sym, ◌∙◌, append_assoc, append-nil, eq-eqb, if◌then◌else◌}
-use Rattle.council_core.specs.declared.limits.TheConstants.{MAX_MEMBERS}
-use Rattle.std.proofs.lemmas.Bool.{ne_eqb}
+use Rattle.std.proofs.Common.{◌≡◌, ◌⊎◌, inl, inr, ◌≤◌, ◌+◌, ℕ, zero, suc, Bool, true, false, not, List, [], ◌∷◌, ◌++◌, length, take, Option, Some, None, Result, Ok, Err, IfOk, refl, sym, ap, ◌∙◌, arith, append_assoc, append-nil, if◌then◌else◌, nat_lt}
+use Rattle.std.specs.Prelude.{filter_map}
+use Rattle.std.specs.List.{after_first, before_first, list_any, position_from}
+use Rattle.std.proofs.lemmas.Bool.{ltb-false}
+use Rattle.std.proofs.lemmas.List.{take_all}
+use Rattle.std.proofs.lemmas.List.Sums.{take_while-cons}
 use Rattle.council_core.specs.Rolls.{Opening}
 use Rattle.two_copy_steps.specs.Lawful.{IsPrefix}
 use Rattle.board_text.specs.Requests.{Row, is_header, is_mark, member_of}
-use Rattle.board_text.specs.Text.{Opened, member_then, opened_of, opening_of}
+use Rattle.board_text.specs.Text.{Opened, before_mark, is_no_member, members_before, members_in, opened_of, opening_of, unless_bad}
 use Rattle.board_text.specs.declared.faults.Fault.{Fault}
 use Rattle.board_text.specs.declared.stops.Stop.{Stop}
 use Rattle.board_text.specs.declared.stops.Stop.TheVariants as stop
-use Rattle.board_text.specs.Text.{member_or, members_before, members_in}
 use Rattle.board_text.specs.Output.{ReadTo}
+use Rattle.board_text.proofs.OpeningFacts.{front-more}
 
 pub front-whole : {A : Type 0} (xs : List A) → IsPrefix xs xs
 front-whole xs = ([], sym (append-nil xs))
@@ -18,84 +21,100 @@ front-whole xs = ([], sym (append-nil xs))
 pub front-none : {A : Type 0} (xs : List A) → IsPrefix [] xs
 front-none xs = (xs, refl)
 
-pub front-less : {A : Type 0} (xs : List A) (x : A) (ys : List A) → IsPrefix (xs ++ x ∷ []) ys → IsPrefix xs ys
-front-less xs x ys h = (x ∷ h.0, h.1 ∙ append_assoc xs (x ∷ []) h.0)
+-- the members read in all, after `members` were read and at most `room` more are allowed
+unfoldable pub members_after : Opening → ℕ → List Row → Opening
+members_after members room rows = members ++ filter_map member_of (before_first is_no_member (take room (before_mark rows)))
 
-module _ (members : Opening) (rs : List Row) where
-  pub before-ends : rs ≡ [] → members_before members rs ≡ members
-  unfolding members_before
-  before-ends e = rw e refl
+pub members-start : (rs : List Row) → members_before rs ≡ members_after [] 256 rs
+unfolding members_before members_after
+members-start rs = refl
+
+none-before : (members : Opening) (room : ℕ) → members ++ filter_map member_of (before_first is_no_member (take room [])) ≡ members
+none-before members zero = append-nil members
+none-before members (suc room) = append-nil members
+
+-- the records before the first that is no member's, where the first is a member's
+good-more : (r : Row) (rs : List Row) → is_no_member r ≡ false → before_first is_no_member (r ∷ rs) ≡ r ∷ before_first is_no_member rs
+good-more r rs good = take_while-cons (λ row. not (is_no_member row)) r rs ∙ rw good refl
+
+module _ (members : Opening) (room : ℕ) (rs : List Row) where
+  pub before-ends : rs ≡ [] → members_after members room rs ≡ members
+  unfolding members_after
+  before-ends e = rw e (none-before members room)
 
   module _ (r : Row) (ss : List Row) (next : rs ≡ r ∷ ss) where
-    pub before-mark : is_mark r ≡ true → members_before members rs ≡ members
-    unfolding members_before
-    before-mark mark = rw (next, mark) refl
+    pub before-mark : is_mark r ≡ true → members_after members room rs ≡ members
+    unfolding members_after
+    before-mark mark = rw (next, mark) (none-before members room)
 
-    pub before-full : is_mark r ≡ false → length members ≡ MAX_MEMBERS → members_before members rs ≡ members
-    unfolding members_before
-    before-full mark full = rw (next, mark, eq-eqb (length members) MAX_MEMBERS full) refl
+    pub before-full : room ≡ 0 → members_after members room rs ≡ members
+    unfolding members_after
+    before-full full = rw full (append-nil members)
 
-    pub before-bad : is_mark r ≡ false → length members ≢ MAX_MEMBERS → member_of r ≡ None → members_before members rs ≡ members
-    unfolding members_before
-    before-bad mark full bad = rw (next, mark, ne_eqb (length members) MAX_MEMBERS full, bad) refl
+    module _ (left : ℕ) (mark : is_mark r ≡ false) (more : room ≡ suc left) where
+      pub before-bad : member_of r ≡ None → members_after members room rs ≡ members
+      unfolding members_after
+      before-bad bad = rw (next, more, front-more r ss mark, bad) (append-nil members)
 
-    pub before-member : (m : List ℕ × ℕ) → is_mark r ≡ false → length members ≢ MAX_MEMBERS → member_of r ≡ Some m → members_before members rs ≡ members_before (members ++ m ∷ []) ss
-    unfolding members_before
-    before-member m mark full found = rw (next, mark, ne_eqb (length members) MAX_MEMBERS full, found) refl
-
-either : (ms : Opening) (b : Bool) (x y : Opening) → IsPrefix ms x → IsPrefix ms y → IsPrefix ms (if b then x else y)
-either ms true x y p q = p
-either ms false x y p q = q
-
-or-front : (ms : Opening) (o : Option (List ℕ × ℕ)) (more : List ℕ × ℕ → Opening) → ((m : List ℕ × ℕ) → IsPrefix ms (more m)) → IsPrefix ms (member_or ms o more)
-or-front ms None more p = front-whole ms
-or-front ms (Some m) more p = p m
+      pub before-member : (m : List ℕ × ℕ) → member_of r ≡ Some m → members_after members room rs ≡ members_after (members ++ m ∷ []) left ss
+      unfolding members_after
+      before-member m found =
+          let good : is_no_member r ≡ false = rw found refl in
+          rw (next, more, front-more r ss mark, good-more r (take left (before_mark ss)) good, found) (sym (append_assoc members (m ∷ []) _))
 
 -- the members so far are the first of all
-pub before-front : (ms : Opening) (rs : List Row) → IsPrefix ms (members_before ms rs)
-unfolding members_before
-before-front ms [] = front-whole ms
-before-front ms (r ∷ rs) =
-    either ms (is_mark r) _ _ (front-whole ms)
-    (either ms (length ms == MAX_MEMBERS) _ _ (front-whole ms)
-    (or-front ms (member_of r) _ (λ m. front-less ms m _ (before-front (ms ++ m ∷ []) rs))))
+pub before-front : (members : Opening) (room : ℕ) (rs : List Row) → IsPrefix members (members_after members room rs)
+unfolding members_after
+before-front members room rs = (filter_map member_of (before_first is_no_member (take room (before_mark rs))), refl)
 
 -- where memory ran out, the members so far are a part
 broken-stop : (e : Stop) (ms all : Opening) → IsPrefix ms all → (e ≡ stop.OutOfMemory) ⊎ (e ≡ stop.ReadFault) → ReadTo {T = ℕ} (Err e) ms all
 broken-stop e ms all front (inl is) = rw is front
 broken-stop e ms all front (inr is) = rw is front
 
-pub front-broken : (e d : Stop) (ms : Opening) (rs : List Row) (all : Opening) → (e ≡ stop.OutOfMemory) ⊎ (e ≡ stop.ReadFault) → d ≡ e → all ≡ members_before ms rs → ReadTo {T = ℕ} (Err d) ms all
-front-broken e d ms rs all causes same is = rw (same, is) (broken-stop e ms _ (before-front ms rs) causes)
+pub front-broken : (e d : Stop) (ms : Opening) (room : ℕ) (rs : List Row) (all : Opening) → (e ≡ stop.OutOfMemory) ⊎ (e ≡ stop.ReadFault) → d ≡ e → all ≡ members_after ms room rs → ReadTo {T = ℕ} (Err d) ms all
+front-broken e d ms room rs all causes same is = rw (same, is) (broken-stop e ms _ (before-front ms room rs) causes)
 
-pub front-memory : (d : Stop) (ms : Opening) (rs : List Row) (all : Opening) → d ≡ stop.OutOfMemory → all ≡ members_before ms rs → ReadTo {T = ℕ} (Err d) ms all
-front-memory d ms rs all same is = rw (same, is) (before-front ms rs)
+pub front-memory : (d : Stop) (ms : Opening) (room : ℕ) (rs : List Row) (all : Opening) → d ≡ stop.OutOfMemory → all ≡ members_after ms room rs → ReadTo {T = ℕ} (Err d) ms all
+front-memory d ms room rs all same is = rw (same, is) (before-front ms room rs)
 
 -- where memory ran out before the first, none were read
 pub none-broken : (e d : Stop) (ms all : Opening) → (e ≡ stop.OutOfMemory) ⊎ (e ≡ stop.ReadFault) → d ≡ e → ms ≡ [] → ReadTo {T = ℕ} (Err d) ms all
 none-broken e d ms all causes same none = rw (same, none) (broken-stop e [] all (front-none all) causes)
 
+-- where each record is a member's, all stand before the first that is none's
+none-bad : (k : ℕ) (rs : List Row) → position_from is_no_member k rs ≡ None → before_first is_no_member rs ≡ rs
+none-bad k [] none = refl
+none-bad k (r ∷ rs) none =
+    elim (is_no_member r) as (λ b. is_no_member r ≡ b → before_first is_no_member (r ∷ rs) ≡ r ∷ rs) [
+      | true ↦ λ bad. absurd (let e = rw bad at none in cc e)
+      | false ↦ λ good. good-more r rs good ∙ ap (λ (xs : List Row). r ∷ xs) (none-bad (k + 1) rs (rw good at none))
+    ] refl
+
 -- where the opening was read, its members are those
 abbrev Same : Opening → Result Opened Fault → Type 0
 Same got r = IfOk r (λ o. got ≡ o.0)
 
-same-either : (b : Bool) (x y : Opening) (p q : Result Opened Fault) → Same x p → Same y q → Same (if b then x else y) (if b then p else q)
-same-either true x y p q h i = h
-same-either false x y p q h i = i
+same-unless : (got : Opening) (bad : Option ℕ) (more : Result Opened Fault) → (bad ≡ None → Same got more) → Same got (unless_bad bad more)
+same-unless got None more same = same refl
+same-unless got (Some number) more same = tt
 
-same-or : (ms : Opening) (k : ℕ) (o : Option (List ℕ × ℕ)) (more : List ℕ × ℕ → Opening) (next : List ℕ × ℕ → Result Opened Fault)
-    → ((m : List ℕ × ℕ) → Same (more m) (next m)) → Same (member_or ms o more) (member_then k o next)
-same-or ms k None more next h = tt
-same-or ms k (Some m) more next h = h m
+same-either : (got : Opening) (b : Bool) (p q : Result Opened Fault) → (b ≡ true → Same got p) → (b ≡ false → Same got q) → Same got (if b then p else q)
+same-either got true p q h i = h refl
+same-either got false p q h i = i refl
 
-same-before : (ms : Opening) (k : ℕ) (rs : List Row) → Same (members_before ms rs) (opening_of ms k rs)
+same-before : (rs : List Row) → Same (members_before rs) (opening_of rs)
 unfolding members_before opening_of
-same-before ms k [] = tt
-same-before ms k (r ∷ rs) =
-    same-either (is_mark r) _ _ _ _ refl
-    (same-either (length ms == MAX_MEMBERS) _ _ _ _ tt
-    (same-or ms k (member_of r) _ _ (λ m. same-before (ms ++ m ∷ []) (k + 1) rs)))
+same-before rs =
+    same-unless _ _ _ (λ none.
+    same-either _ (nat_lt 256 (length (before_mark rs))) _ _ (λ full. tt) (λ fits.
+    same-either _ (list_any is_mark rs) _ _ (λ marked. ap (filter_map member_of)
+    (none-bad 2 _ none ∙ take_all 256 (before_mark rs) (ltb-false 256 _ fits))) (λ unmarked. tt)))
+
+same-begun : (b : Bool) (rs : List Row) (f : Fault) → Same (if b then members_before rs else []) (if b then opening_of rs else Err f)
+same-begun true rs f = same-before rs
+same-begun false rs f = tt
 
 pub members-opened : (rs : List Row) → IfOk (opened_of rs) (λ o. members_in rs ≡ o.0)
 members-opened [] = tt
-members-opened (r ∷ rs) = same-either (is_header r) _ _ _ _ (same-before [] 2 rs) tt
+members-opened (r ∷ rs) = same-begun (is_header r) rs _

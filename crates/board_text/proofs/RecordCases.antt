@@ -1,5 +1,5 @@
 -- Numbers, words and records at their limits and one beside them, computed; and the first fault before a script.
-use Rattle.std.proofs.Common.{◌≡◌, ◌∙◌, ◌+◌, ◌++◌, ◌^◌, ◌<◌, ℕ, Bool, true, false, List, [], ◌∷◌, length, replicate, Option, Some, None, Ok, Err, refl}
+use Rattle.std.proofs.Common.{◌≡◌, ◌∙◌, ◌++◌, ℕ, true, false, List, [], ◌∷◌, length, replicate, Some, None, Ok, Err, refl}
 use Rattle.std.proofs.lemmas.List.{length-replicate}
 use Rattle.std.specs.Prelude.{codes}
 use Rattle.council_core.specs.declared.commands.Command.TheVariants.{Open, Close, Move, SetVotes, Suspend, Restore, Admit, Withdraw}
@@ -9,10 +9,11 @@ use Rattle.council_core.specs.Sequential.{ordered, read}
 use Rattle.csv.specs.Reading.{default_config, records, strip_bom}
 use Rattle.majority_rule.specs.declared.majorities.Majority.TheVariants.{Half, Seventy, EightyFive, Quorum}
 use Rattle.board_text.specs.Numbers.{number_of_digits}
-use Rattle.board_text.specs.Requests.{Row, call_of, command_of, is_header, is_mark, is_publish, member_of, reading_of, request_of, submission}
+use Rattle.board_text.specs.Requests.{Row, call_of, command_of, is_header, is_mark, member_of, reading_of, request_of}
 use Rattle.board_text.specs.Schedules.{act_of, act_within, count_of}
 use Rattle.board_text.specs.Text.{begun_of, fault_at, in_range, is_reader, ledger_at_start, members_before, members_in, opened_of, opening_of, request_within, run_begun_with, run_limits, unpublished_register}
-use Rattle.board_text.specs.Words.{chair_of, code_of_member, majority_of, target_chair, votes_of}
+use Rattle.majority_rule.specs.Majorities.{majority_of}
+use Rattle.board_text.specs.Words.{chair_of, code_of_member, target_chair, votes_of}
 use Rattle.board_text.specs.declared.bounds.Limits.{Limits}
 use Rattle.board_text.specs.declared.input.TheConstants.{INPUT_LIMIT}
 use Rattle.board_text.specs.declared.requests.Request.TheVariants as ask
@@ -161,12 +162,12 @@ faults_before_a_script = (refl, refl, refl, refl, refl)
 abbrev largest_board : List Row
 largest_board = replicate 256 member
 
-after_256_members : (opening_of [] 2 (largest_board ++ mark ∷ []) ≡ Ok (replicate 256 (AAA, 1), 259, [])) × (opening_of [] 2 (largest_board ++ member ∷ mark ∷ []) ≡ Err (fault_at TooManyMembers 0)) × (opening_of [] 2 (largest_board ++ no_member ∷ []) ≡ Err (fault_at TooManyMembers 0))
+after_256_members : (opening_of (largest_board ++ mark ∷ []) ≡ Ok (replicate 256 (AAA, 1), 259, [])) × (opening_of (largest_board ++ member ∷ mark ∷ []) ≡ Err (fault_at TooManyMembers 0)) × (opening_of (largest_board ++ no_member ∷ []) ≡ Err (fault_at TooManyMembers 0))
 unfolding opening_of
 after_256_members = (refl, refl, refl)
 
 -- the members that are read, also where they meet a fault
-members_read : (members_in (header ∷ member ∷ no_member ∷ member ∷ mark ∷ []) ≡ (AAA, 1) ∷ []) × (members_in (header ∷ member ∷ []) ≡ (AAA, 1) ∷ []) × (members_in (header ∷ mark ∷ member ∷ []) ≡ []) × (members_in (member ∷ member ∷ []) ≡ []) × (members_before [] (largest_board ++ member ∷ []) ≡ replicate 256 (AAA, 1))
+members_read : (members_in (header ∷ member ∷ no_member ∷ member ∷ mark ∷ []) ≡ (AAA, 1) ∷ []) × (members_in (header ∷ member ∷ []) ≡ (AAA, 1) ∷ []) × (members_in (header ∷ mark ∷ member ∷ []) ≡ []) × (members_in (member ∷ member ∷ []) ≡ []) × (members_before (largest_board ++ member ∷ []) ≡ replicate 256 (AAA, 1))
 unfolding members_before
 members_read = (refl, refl, refl, refl, refl)
 

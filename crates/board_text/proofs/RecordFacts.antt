@@ -8,20 +8,20 @@ use Rattle.board_text.specs.declared.bounds.Limits.{Limits}
 use Rattle.board_text.specs.declared.faults.Fault.{Fault}
 use Rattle.board_text.specs.Scripts.{Turn, begun_end, begun_run, end_of_script, run_of_script, run_step, script_end, script_run, step_run, turn_of, turn_then}
 use Rattle.board_text.specs.Lines.{LineBytes}
-use Rattle.board_text.specs.Output.{StopsIn, Plays, at_record}
+use Rattle.board_text.specs.Output.{WritesUntilStop, WritesRun, at_record}
 use Rattle.board_text.specs.declared.stops.Stop.{Stop}
 use Rattle.board_text.specs.declared.stops.Stop.TheVariants as stop
 use Rattle.council_core.specs.declared.refusals.Refusal.{Refusal}
-use Rattle.board_text.proofs.PlayFacts.{PlayedTo, plays-more}
+use Rattle.board_text.proofs.RunFacts.{WrittenTo, writes-more}
 
 -- the error of a record's run stops the run
-pub step-stops : {S : Type 0} (a b : Option (List ℕ)) (e : Stop) (k : ℕ) (st : Turn S) (more : S → Run) → StopsIn a b e (step_run k st) → StopsIn a b e (run_step k st more)
+pub step-stops : {S : Type 0} (a b : Option (List ℕ)) (e : Stop) (k : ℕ) (st : Turn S) (more : S → Run) → WritesUntilStop a b e (step_run k st) → WritesUntilStop a b e (run_step k st more)
 step-stops a b e k (Err code) more p = p
-step-stops a b e k (Ok q) more p = plays-more a b e q.0 (more q.1) p
+step-stops a b e k (Ok q) more p = writes-more a b e q.0 (more q.1) p
 
 -- a record's run was written, and the run from there is left
 pub step-goes : {S : Type 0} (a b : Option (List ℕ)) (u : Unit {0}) (k : ℕ) (st : Turn S) (more : S → Run) (t : S)
-    → Plays a b (Ok u) (step_run k st) → IfOk st (λ p. t ≡ p.1) → PlayedTo a b (run_step k st more) (more t)
+    → WritesRun a b (Ok u) (step_run k st) → IfOk st (λ p. t ≡ p.1) → WrittenTo a b (run_step k st more) (more t)
 step-goes a b u k (Err code) more t p s = cc p.0
 step-goes a b u k (Ok q) more t p s = record { lines = q.0; written = p.1; goes_on = ap (λ x. with_lines q.0 (more x)) (sym s) }
 
@@ -35,7 +35,7 @@ script-goes step s k rs ss r e = rw e refl
 
 -- the state after a record's run is that of its turn
 pub end-on : {S : Type 0} (a b : Option (List ℕ)) (u : Unit {0}) (k : ℕ) (st : Turn S) (more : S → Result S Fault) (t : S)
-    → Plays a b (Ok u) (step_run k st) → IfOk st (λ p. t ≡ p.1) → turn_then k st more ≡ more t
+    → WritesRun a b (Ok u) (step_run k st) → IfOk st (λ p. t ≡ p.1) → turn_then k st more ≡ more t
 end-on a b u k (Err code) more t p s = cc p.0
 end-on a b u k (Ok q) more t p s = ap more (sym s)
 
@@ -81,6 +81,6 @@ module _ {S A : Type 0} (k : ℕ) (effect : A → List LineBytes × S) where
   turn-valid (Err why) a is = cc is
 
   -- a record that is refused stops the run, and nothing is written
-  pub turn-refused : (r : Result A Refusal) (held : Option (List ℕ)) (e d : Stop) → Err e ≡ at_record k r → d ≡ e → StopsIn held held d (step_run k (turn_of effect r))
+  pub turn-refused : (r : Result A Refusal) (held : Option (List ℕ)) (e d : Stop) → Err e ≡ at_record k r → d ≡ e → WritesUntilStop held held d (step_run k (turn_of effect r))
   turn-refused (Ok b) held e d is same = cc is
   turn-refused (Err why) held e d is same = let fault : e ≡ stop.Input (fault_at why k) = cc is in rw (same ∙ fault) (refl, Appends-nil held)

@@ -7,7 +7,7 @@ use Rattle.council_core.specs.Rolls.{Opening}
 use Rattle.council_core.specs.declared.refusals.Refusal.TheVariants.{BadHeader, BadLimit, BadRecord, ChairOpen, OutOfMemory, ReadFault, TooLong, WriteFault}
 use Rattle.recording_io.specs.Tapes.{Giving}
 use Rattle.board_text.specs.Inputs.{IsOfDevice, NoReadInVain, RetriesAtMost, RunRetriesAtMost}
-use Rattle.board_text.specs.Output.{Fails, IsBadLimit, IsBroken, Plays, Starts}
+use Rattle.board_text.specs.Output.{Fails, IsBadLimit, IsBroken, WritesRun, Starts}
 use Rattle.board_text.specs.Text.{fault_at, printed_run, stopped_run}
 use Rattle.board_text.specs.declared.bounds.Limits.{Limits}
 use Rattle.board_text.specs.declared.faults.Fault.{Fault}
@@ -224,13 +224,13 @@ start_writes_nothing : (lim : Limits) (members : Opening) → Starts lim members
 start_writes_nothing lim members h = h
 
 -- a run that stops is not played to its end, nor does another fault stop it
-stopped_run_played : Plays {A = Unit {0}} (Some []) (Some []) (Ok tt) (stopped_run (fault_at BadRecord 5)) → ⊥
+stopped_run_played : WritesRun {A = Unit {0}} (Some []) (Some []) (Ok tt) (stopped_run (fault_at BadRecord 5)) → ⊥
 stopped_run_played h = let e = h.0 in cc e
 
-stopped_by_another : Plays {A = Unit {0}} (Some []) (Some []) (Err (stop.Input (fault_at BadRecord 6))) (stopped_run (fault_at BadRecord 5)) → ⊥
+stopped_by_another : WritesRun {A = Unit {0}} (Some []) (Some []) (Err (stop.Input (fault_at BadRecord 6))) (stopped_run (fault_at BadRecord 5)) → ⊥
 stopped_by_another h = let e : fault_at BadRecord 5 ≡ fault_at BadRecord 6 = let d = h.0 in cc d in absurd (omega (arith, place e))
 
-line_left_out : Plays {A = Unit {0}} (Some []) (Some []) (Ok tt) (printed_run (codes "began" ∷ [])) → ⊥
+line_left_out : WritesRun {A = Unit {0}} (Some []) (Some []) (Ok tt) (printed_run (codes "began" ∷ [])) → ⊥
 line_left_out h = let e = h.1 in cc e
 
 -- the limits of chairs, reads, retries and steps by number, so that a changed constant is rejected

@@ -11,8 +11,7 @@ use Rattle.recording_io.specs.Tapes.{Giving, HasEnded, WasGiven}
 abbrev pub WastesAtMost : ℕ → Giving → Giving → Type 0
 WastesAtMost count from to = to.vain + from.interruptions ≤ from.vain + count + to.interruptions
 
--- each read returned a byte, except interrupted reads and the last read, which reported the end or
--- failed
+-- each read returned a byte, except interrupted reads and at most one more, which reported the end or failed
 abbrev pub NoReadInVain : {A : Type 0} → Giving → Giving → Result A Stop → Type 0
 NoReadInVain from to (Ok _) = WastesAtMost 1 from to
 NoReadInVain from to (Err stop.ReadFault) = WastesAtMost 1 from to

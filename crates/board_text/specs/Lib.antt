@@ -10,3 +10,5 @@ pub mod Sinks
 pub mod Output
 pub mod Inputs
 pub mod Scripts
+pub mod Writing
+pub mod Laws

@@ -9,11 +9,11 @@ use Rattle.council_core.specs.Sheets.{cast_of, front_of, total_of}
 use Rattle.two_copy_steps.specs.declared.events.Note.{Note}
 use Rattle.two_copy_steps.specs.declared.events.Note.TheVariants as note
 use Rattle.majority_rule.specs.declared.majorities.Majority.{Majority}
-use Rattle.power_index.specs.Indices.{indices_of}
+use Rattle.power_index.specs.Indices.{fraction, indices_of}
 use Rattle.power_index.specs.declared.indices.Fraction.{Fraction}
 use Rattle.power_index.specs.declared.indices.ChairPower.{ChairPower}
 use Rattle.power_index.specs.declared.indices.Indices.{Indices}
-use Rattle.board_text.specs.Words.{word_of_majority}
+use Rattle.majority_rule.specs.Majorities.{word_of_majority}
 use Rattle.board_text.specs.declared.faults.Fault.{Fault}
 use Rattle.board_text.specs.declared.requests.Request.{Request}
 use Rattle.board_text.specs.declared.requests.Request.TheVariants as ask
@@ -35,10 +35,6 @@ refused_line why = line_of (codes "refused") (decimal (code_of why) ∷ name_of 
 
 abbrev pub published_line : ℕ → LineBytes
 published_line n = line_of (codes "published") (decimal n ∷ [])
-
--- `NUM/DEN`, not reduced
-abbrev pub fraction : Fraction → List ℕ
-fraction f = decimal f.num ++ 47 ∷ decimal f.den
 
 -- a fraction, or `-` where it is absent
 abbrev pub fraction_if_any : Option Fraction → List ℕ

@@ -35,16 +35,20 @@ WritesSome old new (Err e) text = (e ≡ stop.WriteFault) × AppendsFront old ne
 abbrev pub AppendsLines : Option (List ℕ) → Option (List ℕ) → List LineBytes → Type 0
 AppendsLines old new lines = (front : List LineBytes) × IsPrefix front lines × Appends old new (text_of front)
 
--- the text that was appended before the line of the fault
-abbrev pub StopsIn : Option (List ℕ) → Option (List ℕ) → Stop → Run → Type 0
-StopsIn old new stop.OutOfMemory run = AppendsLines old new run.lines
-StopsIn old new stop.ReadFault run = AppendsLines old new run.lines
-StopsIn old new stop.WriteFault run = AppendsFront old new (text_of run.lines)
-StopsIn old new (stop.Input f) run = (run.end ≡ Some f) × Appends old new (text_of run.lines)
+-- a run that stopped has written this, before the line of its fault: without memory or after a failed read a prefix of
+-- its lines, each whole; after a failed write a prefix of their text; at a fault of the input, which is the run's own,
+-- all of its lines
+abbrev pub WritesUntilStop : Option (List ℕ) → Option (List ℕ) → Stop → Run → Type 0
+WritesUntilStop old new stop.OutOfMemory run = AppendsLines old new run.lines
+WritesUntilStop old new stop.ReadFault run = AppendsLines old new run.lines
+WritesUntilStop old new stop.WriteFault run = AppendsFront old new (text_of run.lines)
+WritesUntilStop old new (stop.Input f) run = (run.end ≡ Some f) × Appends old new (text_of run.lines)
 
-abbrev pub Plays : {A : Type 0} → Option (List ℕ) → Option (List ℕ) → Result A Stop → Run → Type 0
-Plays old new (Ok _) run = (run.end ≡ None) × Appends old new (text_of run.lines)
-Plays old new (Err e) run = StopsIn old new e run
+-- a run has written this, before the line of a fault: all of its lines, if no fault ends it, or what it writes until it
+-- stops
+abbrev pub WritesRun : {A : Type 0} → Option (List ℕ) → Option (List ℕ) → Result A Stop → Run → Type 0
+WritesRun old new (Ok _) run = (run.end ≡ None) × Appends old new (text_of run.lines)
+WritesRun old new (Err e) run = WritesUntilStop old new e run
 
 -- the error of a read of the input: out of memory, a failed read, or the fault that the definition
 -- gives

@@ -8,7 +8,8 @@ use Rattle.council_core.specs.declared.commands.Command.{Command}
 use Rattle.council_core.specs.declared.commands.Command.TheVariants.{Open, Close, Move, SetVotes, Suspend, Restore}
 use Rattle.council_core.specs.declared.commands.Command.TheVariants.{Admit, Withdraw}
 use Rattle.board_text.specs.Numbers.{number_of_digits}
-use Rattle.board_text.specs.Words.{pair_of, chair_of, code_of_member, majority_of, target_chair, votes_of}
+use Rattle.majority_rule.specs.Majorities.{majority_of}
+use Rattle.board_text.specs.Words.{pair_of, chair_of, code_of_member, target_chair, votes_of}
 use Rattle.board_text.specs.declared.requests.Request.{Request}
 use Rattle.board_text.specs.declared.requests.Request.TheVariants as ask
 

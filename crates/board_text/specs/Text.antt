@@ -1,7 +1,8 @@
 -- The text that a run writes and the fault that ends it, as a function of the bytes of its input.
-use Rattle.std.specs.Prelude.{ℕ, ◌+◌, ◌==◌, ◌&&◌, List, [], ◌∷◌, ◌++◌, Bool, true, Option, Some}
-use Rattle.std.specs.Prelude.{None, Result, Ok, Err, ⊤, length, nat_le, if◌then◌else◌}
-use Rattle.std.specs.List.{flat_map}
+use Rattle.std.specs.Prelude.{ℕ, ◌+◌, ◌&&◌, List, [], ◌∷◌, ◌++◌, Bool, true, Option, Some}
+use Rattle.std.specs.Prelude.{None, Result, Ok, Err, ⊤, length, nat_le, nat_lt, if◌then◌else◌}
+use Rattle.std.specs.Prelude.{filter_map, is_none, take}
+use Rattle.std.specs.List.{after_first, before_first, flat_map, list_any, position_from}
 use Rattle.csv.specs.Reading.{default_config, records, strip_bom}
 use Rattle.council_core.specs.Ledgers.{Ledger, start_verdict}
 use Rattle.council_core.specs.Refusals.{code_of}
@@ -73,33 +74,32 @@ request_within lim row = valid_or_refused (is_served lim) (request_of row)
 abbrev pub Opened : Type 0
 Opened = Opening × ℕ × List Row
 
--- the fault of a malformed member record, or else the rest of the opening after that member
-abbrev pub member_then : ℕ → Option (List ℕ × ℕ) → (List ℕ × ℕ → Result Opened Fault)
-    → Result Opened Fault
-member_then k None more = Err (fault_at BadRecord k)
-member_then k (Some m) more = more m
+-- the record is no member's
+abbrev pub is_no_member : Row → Bool
+is_no_member row = is_none (member_of row)
 
--- reads the members' records up to the mark, after `members`; k is the number of the next record
-unfoldable pub opening_of : Opening → ℕ → List Row → Result Opened Fault
-opening_of members k [] = Err (fault_at NoScript 0)
-opening_of members k (r ∷ rs) =
-    if is_mark r then Ok (members, k + 1, rs)
-    else if length members == MAX_MEMBERS then Err (fault_at TooManyMembers 0)
-    else member_then k (member_of r) (λ m. opening_of (members ++ m ∷ []) (k + 1) rs)
+-- the records before the mark, or all where there is none
+abbrev pub before_mark : List Row → List Row
+before_mark rows = before_first is_mark rows
 
--- the members so far if the record is no member, or else what follows that member
-abbrev pub member_or : Opening → Option (List ℕ × ℕ) → (List ℕ × ℕ → Opening) → Opening
-member_or members None more = members
-member_or members (Some m) more = more m
+-- the fault of the bad record with this number, or else what follows
+abbrev pub unless_bad : Option ℕ → Result Opened Fault → Result Opened Fault
+unless_bad None more = more
+unless_bad (Some number) more = Err (fault_at BadRecord number)
 
--- the members up to the mark, the end, the member after the last that fits, or the first record
--- that is no member, after `members`: those that opening_of reads, also where it then meets a fault
-unfoldable pub members_before : Opening → List Row → Opening
-members_before members [] = members
-members_before members (r ∷ rs) =
-    if is_mark r then members
-    else if length members == MAX_MEMBERS then members
-    else member_or members (member_of r) (λ m. members_before (members ++ m ∷ []) rs)
+-- the members before the mark, and the script after it; the first of these records is number 2
+unfoldable pub opening_of : List Row → Result Opened Fault
+opening_of rows =
+    unless_bad (position_from is_no_member 2 (take MAX_MEMBERS (before_mark rows)))
+    (if nat_lt MAX_MEMBERS (length (before_mark rows)) then Err (fault_at TooManyMembers 0)
+    else if list_any is_mark rows
+    then Ok (filter_map member_of (before_mark rows), length (before_mark rows) + 3, after_first is_mark rows)
+    else Err (fault_at NoScript 0))
+
+-- the members that opening_of reads, also where it then meets a fault: at most MAX_MEMBERS of those before the mark, up
+-- to the first record that is no member's
+unfoldable pub members_before : List Row → Opening
+members_before rows = filter_map member_of (before_first is_no_member (take MAX_MEMBERS (before_mark rows)))
 
 -- a register with these members and an empty journal
 abbrev pub ledger_at_start : Limits → Opening → Ledger
@@ -120,12 +120,12 @@ run_begun_with lim (Ok p) = started_with lim (start_verdict p.0 lim.journal) p
 -- the members and the script of the records of an input, or the first fault before the script
 abbrev pub opened_of : List Row → Result Opened Fault
 opened_of [] = Err (fault_at BadHeader 0)
-opened_of (r ∷ rs) = if is_header r then opening_of [] 2 rs else Err (fault_at BadHeader 0)
+opened_of (r ∷ rs) = if is_header r then opening_of rs else Err (fault_at BadHeader 0)
 
 -- the members of the records of an input, also where they meet a fault
 abbrev pub members_in : List Row → Opening
 members_in [] = []
-members_in (r ∷ rs) = if is_header r then members_before [] rs else []
+members_in (r ∷ rs) = if is_header r then members_before rs else []
 
 -- both limits are in range: readers from 1 to READERS, journal from 1 to MAX_COMMANDS
 abbrev pub in_range : Limits → Bool

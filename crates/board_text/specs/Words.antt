@@ -1,11 +1,8 @@
 -- The meaning of the fields of a record.
-use Rattle.std.specs.Prelude.{ℕ, List, [], ◌∷◌, Option, Some, None, nat_le, ◌&&◌, if◌then◌else◌, option_map}
-use Rattle.std.specs.Prelude.{codes}
+use Rattle.std.specs.Prelude.{ℕ, List, Option, Some, None, nat_le, ◌&&◌, if◌then◌else◌, option_map, codes}
 use Rattle.std.specs.Option.{option_and_then}
 use Rattle.std.specs.Str.{bytes_eq}
 use Rattle.council_core.specs.Codes.{is_code}
-use Rattle.majority_rule.specs.declared.majorities.Majority.{Majority}
-use Rattle.majority_rule.specs.declared.majorities.Majority.TheVariants.{Half, Seventy, EightyFive, Quorum}
 use Rattle.board_text.specs.Numbers.{number_of_digits}
 use Rattle.council_core.specs.declared.limits.TheConstants.{CHAIRS, MAX_VOTES}
 
@@ -28,22 +25,6 @@ code_of_member field = if is_code field then Some field else None
 -- where a member is moved: to a chair, or to none
 abbrev pub target_chair : List ℕ → Option (Option ℕ)
 target_chair field = if bytes_eq field (codes "none") then Some None else option_map Some (chair_of field)
-
--- the word of a majority
-abbrev pub word_of_majority : Majority → List ℕ
-word_of_majority Half = codes "half"
-word_of_majority Seventy = codes "70"
-word_of_majority EightyFive = codes "85"
-word_of_majority Quorum = codes "quorum"
-
--- the first of these majorities whose word is this field
-abbrev pub first_worded : List Majority → List ℕ → Option Majority
-first_worded [] field = None
-first_worded (m ∷ ms) field = if bytes_eq field (word_of_majority m) then Some m else first_worded ms field
-
--- a majority, by its word
-abbrev pub majority_of : List ℕ → Option Majority
-majority_of field = first_worded (Half ∷ Seventy ∷ EightyFive ∷ Quorum ∷ []) field
 
 -- two options combined, if both are present
 abbrev pub pair_of : {A B C : Type 0} → (A → B → C) → Option A → Option B → Option C

@@ -56,7 +56,7 @@ pub fn read_within<R: Read + Drop>(
         → IsErrOf result (Stop.Input (fault_at why.BadLimit 0)) × (input.new ≡ input.old) }
 {
     if !limits.is_in_range() {
-        return Err(Stop::of_fault(Refusal::BadLimit, 0));
+        return Err(Stop::at(Refusal::BadLimit, 0));
     }
     read_input(alloc, input)
 }

@@ -15,6 +15,18 @@ pub struct Limits {
     pub journal: u32,
 }
 
+impl Default for Limits {
+    /// One reader, and `MAX_COMMANDS` commands.
+    fn default() -> Limits
+        ensures { result ≡ record { readers = 1; journal = MAX_COMMANDS } }
+    {
+        Limits {
+            readers: 1,
+            journal: MAX_COMMANDS,
+        }
+    }
+}
+
 impl Limits {
     /// Whether both limits are in range.
     pub fn is_in_range(self) -> bool

@@ -1,5 +1,6 @@
 //! The public error of a run.
 ghost use Rattle.std.specs.Prelude.{◌≡◌, ◌≤◌, length};
+ghost use Rattle.council_core.specs.Refusals.{refusal_of};
 ghost use Rattle.board_text.specs.Lines.{fault_name};
 ghost use Rattle.board_text.specs.Text.{fault_at};
 
@@ -27,13 +28,20 @@ impl Fault {
         }
     }
 
+    /// The refusal of this fault; `None` if no refusal has the number `code`.
+    pub fn refusal(&self) -> Option<Refusal>
+        ensures same { result ≡ refusal_of self.now.code }
+    {
+        Refusal::from_code(self.code)
+    }
+
     /// The name of the refusal of this fault, as the output writes it, in at most 16 bytes; empty
     /// if no refusal has the number `code`.
     pub fn name(&self) -> &'static str
         ensures name { result.now ≡ fault_name self.now.code }
         ensures short { length result.now ≤ 16 }
     {
-        match Refusal::from_code(self.code) {
+        match self.refusal() {
             Some(why) => why.name(),
             None => "",
         }
@@ -43,7 +51,7 @@ impl Fault {
 impl fmt::Display for Fault {
     /// Writes the reason in words, and the number of the record at fault, if any.
     fn fmt<W: fmt::Write>(&self, f: &mut fmt::Formatter<W>) -> fmt::Result {
-        match Refusal::from_code(self.code) {
+        match self.refusal() {
             Some(why) => why.fmt(f)?,
             None => write!(f, "fault {}", self.code)?,
         }

@@ -74,7 +74,7 @@ pub(crate) fn read_input<R: Read + Drop>(
             Some(0) => return Ok(text),
             Some(n) => {
                 if n > INPUT_LIMIT - text.len() {
-                    return Err(Stop::of_fault(Refusal::TooLong, 0));
+                    return Err(Stop::at(Refusal::TooLong, 0));
                 }
                 text.extend_from_slice(&piece[..n])?;
             }

@@ -7,7 +7,7 @@ ghost use Rattle.csv.specs.Reading.{default_config, records, strip_bom};
 ghost use Rattle.csv.specs.Records.{fields_of};
 ghost use Rattle.council_core.specs.Ledgers.{Ledger};
 ghost use Rattle.board_text.specs.Inputs.{RetriesAtMost, WastesAtMost};
-ghost use Rattle.board_text.specs.Output.{Plays, StartsRun};
+ghost use Rattle.board_text.specs.Output.{WritesRun, StartsRun};
 ghost use Rattle.board_text.specs.Sinks.{GoesOn};
 ghost use Rattle.board_text.specs.Requests.{Row};
 ghost use Rattle.board_text.specs.Scripts.{Turn, begun_end, begun_run, end_of_script, interpreted_end, interpreted_run};
@@ -28,6 +28,32 @@ use std::alloc::Global;
 use std::io::{Read, Write};
 
 /// The state that the records of a script are carried out on.
+///
+/// Every command of the program reads its input in the same way: it checks the limits, reads all
+/// bytes, cuts them into records, reads the header and the members, starts a register, and then
+/// carries out the script's records one after another. `interpret` does all of this. What a record
+/// means, and what is printed of it, is left to an interpreter: `replay` carries out a record on
+/// the register, `trace` on the two-copy machine, and `serve` only stores it for its threads.
+///
+/// An implementation says in three ghost members what it does, as functions that the contracts
+/// cite:
+///
+/// - `opened` gives the state over a register at its start.
+/// - `step` gives, for a state and a record, the lines that the record prints and the state after
+///   it, or the refusal that ends the run.
+/// - `kept` is what holds of the state before the record with a number; `Unit {0}` where there is
+///   nothing to say.
+///
+/// and has two methods. `interpret` calls `open` once, with a register at its start, if the limits
+/// are in range and no fault was found before the script. Then it calls `carry_out` once for each
+/// record, in order, until one returns an error. After an error neither is called again, and the
+/// state is dropped.
+///
+/// `carry_out` writes the lines of its record to `out` before it returns, and returns `Ok` only if
+/// they were written whole. It writes no line of a fault: `end_run` does. Of its errors,
+/// `Stop::Input` names the number of the record, and leaves the lines before it written; without
+/// memory some first lines of the record may have been written, and after a failed write a prefix
+/// of them.
 pub trait Interpreter: Sized + Drop {
     // The state opened over a register at its start.
     ghost opened: { Limits → Ledger → Self };
@@ -63,7 +89,7 @@ pub trait Interpreter: Sized + Drop {
         out: &mut Output<'_, W>,
     ) -> Result<(), Stop>
         requires kept { kept number self.old }
-        ensures wrote { Plays out.old.held out.new.held result
+        ensures wrote { WritesRun out.old.held out.new.held result
             (step_run number (step limits self.old (fields_of row.now))) }
         ensures state { OnOk result (IfOk (step limits self.old (fields_of row.now)) (λ p. self.new ≡ p.1)) }
         ensures kept { OnOk result (kept (number + 1) self.new) }
@@ -81,7 +107,8 @@ fn interpret_script<I: Interpreter, W: Write>(
 ) -> Result<I, Stop>
     requires numbers { first + length script.old < 2 ^ 32 }
     requires kept { I.kept first interpreter }
-    ensures wrote { Plays out.old.held out.new.held result (script_run (I.step limits) interpreter first script.old) }
+    ensures wrote { WritesRun out.old.held out.new.held result
+        (script_run (I.step limits) interpreter first script.old) }
     ensures ended { IfOk result (λ i. script_end (I.step limits) interpreter first script.old ≡ Ok i) }
     ensures kept { IfOk result (λ i. (number : ℕ) × (number < 2 ^ 32) × I.kept number i) }
     ensures continues { GoesOn out.old out.new }
@@ -105,7 +132,7 @@ fn interpret_text<I: Interpreter, W: Write>(
 ) -> Result<I, Stop>
     requires short { length text.now ≤ INPUT_LIMIT }
     requires in_range { in_range limits ≡ true }
-    ensures wrote { Plays out.old.held out.new.held result
+    ensures wrote { WritesRun out.old.held out.new.held result
         (begun_run (run_of_script I.opened I.step limits)
         (run_begun_with limits (opened_of (records default_config (strip_bom text.now))))) }
     ensures ended { IfOk result
@@ -134,7 +161,7 @@ pub fn interpret<I: Interpreter, R: Read + Drop, W: Write>(
     limits: Limits,
 ) -> Result<I, Stop>
     ensures wrote { OfInput input.old input.new
-        (λ bytes. Plays out.old.held out.new.held result (interpreted_run I.opened I.step limits bytes)) }
+        (λ bytes. WritesRun out.old.held out.new.held result (interpreted_run I.opened I.step limits bytes)) }
     ensures ended { IfOk result
         (λ i. OfInput input.old input.new (λ bytes. interpreted_end I.opened I.step limits bytes ≡ Ok i)) }
     ensures kept { IfOk result (λ i. (number : ℕ) × (number < 2 ^ 32) × I.kept number i) }

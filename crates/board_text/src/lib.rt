@@ -9,9 +9,9 @@ mod faults;
 mod fields;
 mod input;
 mod interpreters;
+mod laws;
 mod line;
 mod lines;
-mod majorities;
 mod numbers;
 mod opening;
 mod output;
@@ -26,6 +26,7 @@ pub use endings::end_run;
 pub use faults::Fault;
 pub use input::{INPUT_LIMIT, INTERRUPTIONS, READS};
 pub use interpreters::{Interpreter, interpret};
+pub use laws::{input_law, majority_law, member_law, number_law, reading_law, request_law};
 pub use line::{LINE, Line};
 pub use lines::{
     line_of_answer, line_of_audit, line_of_chair, line_of_count, line_of_fault, line_of_note,

@@ -1,6 +1,7 @@
 //! One line of output in a buffer of fixed size, without allocation.
 ghost use Rattle.std.specs.Prelude.{◌≡◌, ◌≤◌, ◌+◌, ◌∷◌, ◌++◌, [], List, ℕ, length, decimal};
-ghost use Rattle.board_text.specs.Lines.{fraction, fraction_if_any};
+ghost use Rattle.power_index.specs.Indices.{fraction};
+ghost use Rattle.board_text.specs.Lines.{fraction_if_any};
 
 use arrayvec::ArrayString;
 use itoa::Buffer;

@@ -7,7 +7,6 @@ ghost use Rattle.board_text.specs.Lines.{audit_line, reader_line};
 
 use crate::faults::Fault;
 use crate::line::{LINE, Line};
-use crate::majorities::word_of_majority;
 use council_core::{Answer, Refusal, Sheet};
 use power_index::{ChairPower, Indices};
 use two_copy_steps::Note;
@@ -106,7 +105,7 @@ pub fn line_of_reading(reader: u64, indices: &Indices) -> Line
     let mut line = Line::new("reading");
     line.number(reader);
     line.number(u64::from(indices.front));
-    line.word(word_of_majority(indices.majority));
+    line.word(indices.majority.word());
     line.number(u64::from(indices.chairs));
     line.number(indices.quota);
     line.number(indices.cast);

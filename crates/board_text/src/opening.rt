@@ -18,24 +18,24 @@ fn read_members(
 ) -> Result<u32, Stop>
     requires none { members.old.items ≡ [] }
     requires short { length script.old < 2 ^ 31 }
-    ensures opened { IfOk result (λ n. opening_of [] 2 script.old ≡ Ok (members.new.items, n, script.new)) }
-    ensures fault { IfErr result (λ e. Fails e (opening_of [] 2 script.old)) }
-    ensures members { ReadTo result members.new.items (members_before [] script.old) }
+    ensures opened { IfOk result (λ n. opening_of script.old ≡ Ok (members.new.items, n, script.new)) }
+    ensures fault { IfErr result (λ e. Fails e (opening_of script.old)) }
+    ensures members { ReadTo result members.new.items (members_before script.old) }
     ensures numbers { IfOk result (λ n. n + length script.new ≤ 2 + length script.old) }
 {
     let mut number: u32 = 2;
     'records: loop {
         if !script.next(row)? {
-            return Err(Stop::of_fault(Refusal::NoScript, 0));
+            return Err(Stop::at(Refusal::NoScript, 0));
         }
         if is_mark_row(row) {
             return Ok(number + 1);
         }
         if members.len() == MAX_MEMBERS {
-            return Err(Stop::of_fault(Refusal::TooManyMembers, 0));
+            return Err(Stop::at(Refusal::TooManyMembers, 0));
         }
         let Some(member) = member_in(row) else {
-            return Err(Stop::of_fault(Refusal::BadRecord, number));
+            return Err(Stop::at(Refusal::BadRecord, number));
         };
         members.push(member)?;
         number += 1;
@@ -61,10 +61,10 @@ pub fn read_opening(
     ensures numbers { IfOk result (λ n. n + length script.new < 2 ^ 32) }
 {
     if !script.next(row)? {
-        return Err(Stop::of_fault(Refusal::BadHeader, 0));
+        return Err(Stop::at(Refusal::BadHeader, 0));
     }
     if !is_header_row(row) {
-        return Err(Stop::of_fault(Refusal::BadHeader, 0));
+        return Err(Stop::at(Refusal::BadHeader, 0));
     }
     read_members(script, row, members)
 }

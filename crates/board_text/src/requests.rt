@@ -7,11 +7,11 @@ ghost use Rattle.board_text.specs.Numbers.{number_of_digits};
 ghost use Rattle.board_text.specs.declared.requests.Request.TheVariants.{Read};
 ghost use Rattle.board_text.specs.Text.{is_served, request_within};
 ghost use Rattle.board_text.specs.Output.{at_record};
-ghost use Rattle.board_text.specs.Words.{pair_of, chair_of, code_of_member, majority_of, target_chair, votes_of};
+ghost use Rattle.majority_rule.specs.Majorities.{majority_of};
+ghost use Rattle.board_text.specs.Words.{pair_of, chair_of, code_of_member, target_chair, votes_of};
 
 use crate::bounds::Limits;
 use crate::fields::{Fields, fields_in, is_word};
-use crate::majorities::majority_in;
 use crate::numbers::number_of_field;
 use crate::stops::Stop;
 use council_core::{ChairId, Command, MemberCode, Order, Refusal, Votes};
@@ -19,7 +19,7 @@ use csv::ByteRecord;
 use majority_rule::Majority;
 
 /// A request of one record of the script.
-#[derive(Clone, Copy, Debug)]
+#[derive(Clone, Copy, Debug, PartialEq, Eq)]
 pub enum Request {
     /// A call of the writer.
     Order(Order),
@@ -109,7 +109,7 @@ fn reading_in(reader: &[u8], majority: &[u8]) -> Option<Request>
     ensures { result ≡ pair_of Read (number_of_digits reader.now) (majority_of majority.now) }
 {
     let reader = number_of_field(reader)?;
-    let majority = majority_in(majority)?;
+    let majority = Majority::from_word(majority)?;
     Some(Request::Read(reader, majority))
 }
 
@@ -193,10 +193,10 @@ pub fn request_in(limits: Limits, row: &ByteRecord, number: u32) -> Result<Reque
     ensures served { IfOk result (λ q. is_served limits q ≡ true) }
 {
     let Some(request) = request_of(row) else {
-        return Err(Stop::of_fault(Refusal::BadRecord, number));
+        return Err(Stop::at(Refusal::BadRecord, number));
     };
     if !is_served(limits, &request) {
-        return Err(Stop::of_fault(Refusal::BadReader, number));
+        return Err(Stop::at(Refusal::BadReader, number));
     }
     Ok(request)
 }

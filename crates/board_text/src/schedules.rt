@@ -19,7 +19,7 @@ use csv::ByteRecord;
 pub const MAX_STEPS: u64 = 1000;
 
 /// A request of one record of a schedule.
-#[derive(Clone, Copy, Debug)]
+#[derive(Clone, Copy, Debug, PartialEq, Eq)]
 pub enum Act {
     /// Submit this command to the writer.
     Submit(Command),
@@ -91,10 +91,10 @@ pub fn act_in(limits: Limits, row: &ByteRecord, number: u32) -> Result<Act, Stop
     ensures scheduled { IfOk result (λ a. is_scheduled limits a ≡ true) }
 {
     let Some(act) = act_of(row) else {
-        return Err(Stop::of_fault(Refusal::BadRecord, number));
+        return Err(Stop::at(Refusal::BadRecord, number));
     };
     if !is_scheduled(limits, &act) {
-        return Err(Stop::of_fault(Refusal::BadReader, number));
+        return Err(Stop::at(Refusal::BadReader, number));
     }
     Ok(act)
 }

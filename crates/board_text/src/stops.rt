@@ -29,7 +29,7 @@ pub enum Stop {
 
 impl Stop {
     /// A fault of the input: a refusal at the number of a record, or at 0.
-    pub fn of_fault(why: Refusal, number: u32) -> Stop
+    pub fn at(why: Refusal, number: u32) -> Stop
         ensures same { result ≡ Stop.Input (fault_at why number) }
     {
         Stop::Input(Fault::new(why, number))
@@ -72,7 +72,7 @@ impl From<Refusal> for Stop {
     fn from(why: Refusal) -> Stop {
         match why {
             Refusal::OutOfMemory => Stop::OutOfMemory,
-            why => Stop::of_fault(why, 0),
+            why => Stop::at(why, 0),
         }
     }
 }

@@ -9,7 +9,7 @@ use Rattle.council_core.specs.Sheets.{IsSheet, open_chairs}
 use Rattle.c_values.specs.declared.counts.BoardAllCounts.{BoardAllCounts}
 use Rattle.c_values.specs.declared.counts.BoardChair.{BoardChair}
 use Rattle.c_values.specs.declared.counts.BoardCounts.{BoardCounts}
-use Rattle.c_values.specs.Counts.{ShowsAllCounts, ShowsCounts, chair_row, majority_numbered, no_chair}
+use Rattle.c_values.specs.Counts.{AreCountsOf, ShowsAllCounts, ShowsCounts, chair_row, majority_number, majority_numbered, no_chair}
 
 -- chairs 1, 2 and 3 with 50, 49 and 1 votes
 abbrev three : List ℕ
@@ -20,6 +20,13 @@ row chair weight swings = record { chair = chair; weight = weight; swings = swin
 
 numbers : (majority_numbered 0 ≡ Some Half) × (majority_numbered 1 ≡ Some Seventy) × (majority_numbered 2 ≡ Some EightyFive) × (majority_numbered 3 ≡ Some Quorum) × (majority_numbered 4 ≡ None)
 numbers = (refl, refl, refl, refl, refl)
+
+numbers_of_majorities : (majority_number Half ≡ 0) × (majority_number Seventy ≡ 1) × (majority_number EightyFive ≡ 2) × (majority_number Quorum ≡ 3)
+numbers_of_majorities = (refl, refl, refl, refl)
+
+-- where no chair is open, all 32 rows are zeros
+no_rows : (counts : BoardCounts) → AreCountsOf Half (replicate 34 0) counts → counts.rows ≡ replicate 32 no_chair
+no_rows counts h = h.row_each
 
 -- what is shown at number 0 is by more than half of the votes cast: 3 coalitions win
 half_shown : (counts : BoardCounts) → ShowsCounts 0 three counts → counts.omega ≡ 3
@@ -72,6 +79,10 @@ no_sheet_shown counts h = omega (arith, h.whole.long)
 
 no_sheet_shown_by_all : (counts : BoardAllCounts) → ShowsAllCounts [] counts → ⊥
 no_sheet_shown_by_all counts h = omega (arith, h.whole.long)
+
+-- nor of one word less or more than those of a sheet
+one_word_less : (counts : BoardCounts) → (ShowsCounts 0 (replicate 33 0) counts → ⊥) × (ShowsCounts 0 (replicate 35 0) counts → ⊥)
+one_word_less counts = ((λ h. omega (arith, h.whole.long)), λ h. omega (arith, h.whole.long))
 
 -- the words whose counts are shown have the ranges of a sheet
 sheet_shown : (words : List ℕ) (counts : BoardCounts) → ShowsCounts 0 words counts → IsSheet words

@@ -30,7 +30,7 @@ pub const READ: u32 = 9;
 
 /// A command, as `struct board_command` in `board.h`.
 #[repr(C)]
-#[derive(Clone, Copy)]
+#[derive(Clone, Copy, Debug, PartialEq, Eq)]
 pub struct BoardCommand {
     /// `OPEN` to `WITHDRAW`.
     pub kind: u32,

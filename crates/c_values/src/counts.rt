@@ -11,7 +11,7 @@ use power_index::{ChairPower, Indices, LentEvaluator, ListRoom};
 
 /// An open chair, as `struct board_chair` in `board.h`.
 #[repr(C)]
-#[derive(Clone, Copy)]
+#[derive(Clone, Copy, Debug, PartialEq, Eq)]
 pub struct BoardChair {
     /// The chair's number, from 1 to 32.
     pub chair: u64,
@@ -25,7 +25,7 @@ pub struct BoardChair {
 /// The least weight and size that win on a board, and the counts of its coalitions, as `struct
 /// board_counts` in `board.h`.
 #[repr(C)]
-#[derive(Clone, Copy)]
+#[derive(Clone, Copy, Debug, PartialEq, Eq)]
 pub struct BoardCounts {
     /// The least weight that wins, in votes.
     pub quota: u64,
@@ -47,7 +47,7 @@ pub struct BoardCounts {
 
 /// The counts by each of the four majorities, as `struct board_all_counts` in `board.h`.
 #[repr(C)]
-#[derive(Clone, Copy)]
+#[derive(Clone, Copy, Debug, PartialEq, Eq)]
 pub struct BoardAllCounts {
     /// By more than half of the votes cast.
     pub half: BoardCounts,

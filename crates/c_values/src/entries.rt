@@ -9,7 +9,7 @@ use std::alloc::Global;
 
 /// A member with which a register starts, as `struct board_entry` in `board.h`.
 #[repr(C)]
-#[derive(Clone, Copy)]
+#[derive(Clone, Copy, Debug, PartialEq, Eq)]
 pub struct BoardEntry {
     /// The member's code: three capitals and a 0.
     pub code: [u8; 4],
@@ -19,7 +19,7 @@ pub struct BoardEntry {
 
 /// A member of a register, as `struct board_member_row` in `board.h`.
 #[repr(C)]
-#[derive(Clone, Copy)]
+#[derive(Clone, Copy, Debug, PartialEq, Eq)]
 pub struct BoardMemberRow {
     /// The member's code: three capitals and a 0.
     pub code: [u8; 4],

@@ -8,13 +8,7 @@ use majority_rule::Majority;
 pub(crate) fn majority_at(number: u32) -> Option<Majority>
     ensures { result ≡ majority_numbered number }
 {
-    match number {
-        0 => Some(Majority::Half),
-        1 => Some(Majority::Seventy),
-        2 => Some(Majority::EightyFive),
-        3 => Some(Majority::Quorum),
-        _ => None,
-    }
+    Majority::ALL.get(number as usize).copied()
 }
 
 /// The number of a majority, by which a call counts: 0 to 3 for `Half`, `Seventy`, `EightyFive` and

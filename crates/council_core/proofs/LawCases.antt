@@ -44,6 +44,9 @@ sheet_law_used law = law three_members each_command opening_in_range commands_in
 pub prefix_law_used : PrefixLaw → sheet three_members (take 3 (each_command ++ Close 1 ∷ [])) ≡ sheet three_members (take 3 each_command)
 prefix_law_used law = law three_members each_command (Close 1) 3 (omega arith)
 
+pub prefix_law_at_the_end : PrefixLaw → sheet three_members (take 9 (each_command ++ Close 1 ∷ [])) ≡ sheet three_members (take 9 each_command)
+prefix_law_at_the_end law = law three_members each_command (Close 1) 9 (omega arith)
+
 pub front_law_used : FrontLaw → front_of (sheet three_members (take 9 each_command)) ≡ 9
 front_law_used law = law three_members each_command 9 (omega arith)
 

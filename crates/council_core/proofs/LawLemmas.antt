@@ -12,9 +12,10 @@ use Rattle.std.proofs.lemmas.List.Sums.{sum_by-cons}
 use Rattle.council_core.specs.declared.commands.Command.{Command}
 use Rattle.council_core.specs.declared.commands.Command.TheVariants.{Open, Close, Move, SetVotes, Suspend, Restore, Admit, Withdraw}
 use Rattle.council_core.specs.declared.commands.Standing.{Standing}
+use Rattle.council_core.specs.declared.limits.TheConstants.{MAX_MEMBERS}
 use Rattle.council_core.specs.declared.refusals.Refusal.{Refusal}
 use Rattle.council_core.specs.declared.refusals.Refusal.TheVariants.{ChairOpen, ChairNotOpen, ChairHasMembers, UnknownMember, MemberSuspended, AlreadyThere, AlreadySuspended, NotSuspended, TooManyMembers, MemberExists, MemberSeated}
-use Rattle.council_core.specs.Rolls.{Roll, RollEntry, Opening, IsLegal, next_roll, cast, can_receive, chair_numbers, chair_word, roll_with_closed, fold_from, has_members, is_open, max_members, move_member, opening_roll, roll_after, same_chair, same_code, sheet, standing_among, step, total, update, weight, with_member, roll_without_member, sheet_words, admit_member, roll_with_member, new_entry}
+use Rattle.council_core.specs.Rolls.{Roll, RollEntry, Opening, IsLegal, next_roll, cast, can_receive, chair_numbers, chair_word, roll_with_closed, fold_from, has_members, is_open, move_member, opening_roll, roll_after, same_chair, same_code, sheet, standing_among, step, total, update, weight, with_member, roll_without_member, sheet_words, admit_member, roll_with_member, new_entry}
 use Rattle.council_core.specs.Sheets.{IsSheet, cast_of, front_of, weight_in}
 use Rattle.council_core.specs.Laws.{IsOpening, SetsInRange}
 use Rattle.council_core.specs.Ledgers.{Ledger, roll_of, sheet_of}
@@ -61,7 +62,7 @@ unless_refused : (b : Bool) (e : Refusal) (next : Result Roll Refusal) → Gives
 unless_refused true e next h = tt
 unless_refused false e next h = h
 
-not_full : (n : ℕ) → nat_le max_members n ≡ false → n < max_members
+not_full : (n : ℕ) → nat_le MAX_MEMBERS n ≡ false → n < MAX_MEMBERS
 not_full n h = grind (arith, nat_tests, h)
 
 module _ (roll : Roll) (small : IsSmall roll) where
@@ -96,7 +97,7 @@ module _ (roll : Roll) (small : IsSmall roll) where
         small = all_without code (λ (t : Standing). t.votes ≤ 2 ^ 40) roll.members small.small;
       }
 
-  entered_small : (code : List ℕ) (n : ℕ) → n ≤ 2 ^ 40 → length roll.members < max_members → IsSmall (roll_with_member roll code n)
+  entered_small : (code : List ℕ) (n : ℕ) → n ≤ 2 ^ 40 → length roll.members < MAX_MEMBERS → IsSmall (roll_with_member roll code n)
   entered_small code n h room =
       record {
         bound = rw length-append (omega (arith, room));
@@ -106,7 +107,7 @@ module _ (roll : Roll) (small : IsSmall roll) where
   admitted_small : (code : List ℕ) (n : ℕ) → n ≤ 2 ^ 40 → GivesSmall (admit_member roll code n)
   admitted_small code n h =
       unless_refused (is_some (standing_among code roll.members)) MemberExists _
-      (elim (nat_le max_members (length roll.members)) as (λ b. nat_le max_members (length roll.members) ≡ b → GivesSmall (if b then Err TooManyMembers else Ok (roll_with_member roll code n)))
+      (elim (nat_le MAX_MEMBERS (length roll.members)) as (λ b. nat_le MAX_MEMBERS (length roll.members) ≡ b → GivesSmall (if b then Err TooManyMembers else Ok (roll_with_member roll code n)))
       [ true ↦ λ e. tt | false ↦ λ e. entered_small code n h (not_full (length roll.members) e) ] refl)
 
   step_small : (command : Command) → SetsInRange command → GivesSmall (step roll command)

@@ -1,3 +1,5 @@
+pub mod CodeLemmas
+pub mod MemberLemmas
 mod PublishedLemmas
 pub mod WorkedCases
 pub mod LawCases

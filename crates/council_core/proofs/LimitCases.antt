@@ -1,10 +1,11 @@
 -- Definitions at their limits and one beside them, computed; and what they exclude.
-use Rattle.std.proofs.Common.{rules, ◌≡◌, ◌≤◌, ◌^◌, ◌+◌, ◌++◌, ℕ, Bool, true, false, List, [], ◌∷◌, length, replicate, Some, None, Ok, Err, Result, refl, sym, ap, ◌∙◌, zero, suc, arith, true≢false, is_ok, nat_eq, subst, take, slice_index_or}
+use Rattle.std.proofs.Common.{rules, ◌≡◌, ◌≤◌, ◌<◌, ◌^◌, ◌+◌, ◌++◌, ℕ, true, false, List, [], ◌∷◌, length, replicate, Some, None, Ok, Err, refl, sym, ap, ◌∙◌, zero, suc, arith, true≢false, is_ok, nat_eq, subst, take, slice_index, slice_index_or, All}
+use Rattle.std.proofs.lemmas.List.Elements.{All-from_recursion}
 use Rattle.std.specs.Prelude.{⊤}
 use Rattle.std.specs.List.Sorted.{IsPermutation}
 use Rattle.council_core.specs.Codes.{is_code}
 use Rattle.council_core.specs.Coalitions.{IsRule, Rule, omega_of, omega_with, eta_of, threshold_rule}
-use Rattle.council_core.specs.Ledgers.{IsLedger, Ledger, ledger_as_of, room_of, start_verdict}
+use Rattle.council_core.specs.Ledgers.{IsLedger, Ledger, has_duplicate, ledger_as_of, room_of, start_verdict}
 use Rattle.council_core.specs.Laws.{SetsInRange, IsOpening, same_set}
 use Rattle.council_core.specs.Published.{IsShown, sequential_as_of}
 use Rattle.council_core.specs.Refusals.{refusal_of}
@@ -14,7 +15,6 @@ use Rattle.council_core.specs.Sheets.{Chair, IsSheet, cast_of, front_of, open_ch
 use Rattle.council_core.specs.Verdicts.{Follows}
 use Rattle.council_core.specs.declared.commands.Command.{Command}
 use Rattle.council_core.specs.declared.commands.Command.TheVariants.{Open, Close, Move, SetVotes, Suspend, Restore, Admit}
-use Rattle.council_core.specs.declared.refusals.Refusal.{Refusal}
 use Rattle.council_core.specs.declared.refusals.Refusal.TheVariants.{ChairOpen, ChairNotOpen, UnknownMember, MemberSuspended, AlreadyThere, AlreadySuspended, NotSuspended, JournalFull, BadIndex, DuplicateMember, OutOfMemory, BadLimit}
 use Rattle.council_core.proofs.WorkedCases.{AAA, BBB, accepted, refused, three, three_members}
 
@@ -76,6 +76,10 @@ open_and_closed = (refl, refl, refl, refl)
 pub weights_of_chairs : (weight_word first_and_last 1 ≡ None) × (weight_word first_and_last 2 ≡ Some 0) × (weight_word first_and_last 31 ≡ None) × (weight_word first_and_last 32 ≡ Some 5)
 weights_of_chairs = (refl, refl, refl, refl)
 
+-- a sheet at each of its limits
+pub largest_sheet : ((k : ℕ) → k < 32 → slice_index ((2 ^ 48 + 1) ∷ replicate 31 0 ++ 2 ^ 48 ∷ 1000000 ∷ []) k ≤ 2 ^ 48 + 1) → IsSheet ((2 ^ 48 + 1) ∷ replicate 31 0 ++ 2 ^ 48 ∷ 1000000 ∷ [])
+largest_sheet small = record { chairs = small; cast = omega arith; total = omega arith; front = omega arith }
+
 -- no word above 2^48 + 1, also not that of chair 32; no more cast than the total; no total above 2^48; no front above a million
 pub word_too_large : IsSheet ((2 ^ 48 + 2) ∷ replicate 31 0 ++ 2 ^ 48 ∷ 0 ∷ []) → ⊥
 word_too_large h = omega (arith, h.chairs 0 (omega arith))
@@ -91,6 +95,10 @@ total_too_large h = omega (arith, h.total)
 
 pub front_too_large : IsSheet (replicate 32 0 ++ 0 ∷ 1000001 ∷ []) → ⊥
 front_too_large h = omega (arith, h.front)
+
+-- chair 32 is the last that a sheet shows
+pub last_chair : sheet three_members (Open 32 ∷ Move AAA (Some 32) ∷ []) ≡ replicate 31 0 ++ 51 ∷ 100 ∷ 2 ∷ []
+last_chair = refl
 
 -- a register starts with no member and a limit of 1; 256 members are not too many
 pub starts_at_the_least : (start_verdict [] 1 ≡ Ok tt) × (start_verdict [] 0 ≡ Err BadLimit) × (start_verdict (replicate 256 (AAA, 1)) 5 ≡ Err DuplicateMember)
@@ -238,6 +246,13 @@ pub room_for_the_last : (opening : List (List ℕ × ℕ)) (journal : List Comma
     → (length journal ≡ 999999 → room_of (record { opening = opening; journal = journal; limit = 1000000 }) ≡ Ok tt)
     × (length journal ≡ 1000000 → room_of (record { opening = opening; journal = journal; limit = 1000000 }) ≡ Err JournalFull)
 room_for_the_last opening journal = ((λ long. rw long refl), (λ long. rw long refl))
+
+-- an opening may have 256 members, and one of 2^40 votes
+pub most_members : (opening : List (List ℕ × ℕ)) → length opening ≡ 256 → has_duplicate opening ≡ false → All (λ m. m.1 ≤ 2 ^ 40) opening → IsOpening opening
+most_members opening long apart small = record { bound = omega (arith, long); apart = apart; small = small }
+
+pub most_votes_of_one : IsOpening ((AAA, 2 ^ 40) ∷ [])
+most_votes_of_one = record { bound = omega arith; apart = refl; small = All-from_recursion (λ (m : List ℕ × ℕ). m.1 ≤ 2 ^ 40) ((AAA, 2 ^ 40) ∷ []) (omega arith, tt) }
 
 -- no opening has 257 members, or one of more than 2^40 votes
 pub too_many_members : (opening : List (List ℕ × ℕ)) → length opening ≡ 257 → IsOpening opening → ⊥

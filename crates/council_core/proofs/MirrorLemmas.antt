@@ -7,9 +7,10 @@ use Rattle.std.proofs.lemmas.Bool.Decides.{nat_tests}
 use Rattle.std.proofs.lemmas.List.Elements.{All-append, All-from_recursion}
 use Rattle.std.proofs.lemmas.List.Sums.{sum_by-append, sum_by-cons}
 use Rattle.council_core.specs.declared.commands.Standing.{Standing}
+use Rattle.council_core.specs.declared.limits.TheConstants.{MAX_MEMBERS}
 use Rattle.council_core.specs.declared.registers.Register.TheInside.{Inside}
 use Rattle.council_core.specs.declared.totals.ChairTotals.{ChairTotals}
-use Rattle.council_core.specs.Rolls.{Roll, RollEntry, same_chair, standing_among, with_standing, members_without, new_entry, new_standing, roll_with_member, roll_without_member, max_members, sits_in, effective_votes, votes_in, weight, is_open, chair_word, can_receive, has_members, step, opening_roll}
+use Rattle.council_core.specs.Rolls.{Roll, RollEntry, same_chair, standing_among, with_standing, members_without, new_entry, new_standing, roll_with_member, roll_without_member, sits_in, effective_votes, votes_in, weight, is_open, chair_word, can_receive, has_members, step, opening_roll}
 use Rattle.std.specs.Result.{result_unwrap_or}
 use Rattle.council_core.specs.declared.commands.Command.{Command}
 use Rattle.council_core.specs.Ledgers.{Ledger, roll_of, ledger_with}
@@ -222,13 +223,13 @@ Mirrors-update roll kept m code old new known fits after x =
     }
 
 -- a member is entered, in no chair
-pub Mirrors-admit : (roll : Roll) (kept : Kept) → IsMirror roll kept → (code : List ℕ) (votes : ℕ) → length roll.members < max_members
+pub Mirrors-admit : (roll : Roll) (kept : Kept) → IsMirror roll kept → (code : List ℕ) (votes : ℕ) → length roll.members < MAX_MEMBERS
     → (after : ChairTotals) → Gain kept.totals after (new_standing votes)
     → IsMirror (roll_with_member roll code votes) (record { entries = kept.entries ++ new_entry (code, votes) ∷ []; totals = after })
 Mirrors-admit roll kept m code votes room after gain =
     let more : (f : Standing → ℕ) → sum_by (λ e. f e.1) (roll.members ++ new_entry (code, votes) ∷ []) ≡ sum_by (λ e. f e.1) roll.members + (0 + f (new_standing votes))
     = λ f. sum_by-append (λ (e : RollEntry). f e.1) roll.members (new_entry (code, votes) ∷ []) in
-    let bound : length kept.entries < max_members = subst (λ (l : List RollEntry). length l < max_members) (sym m.same_members) room in
+    let bound : length kept.entries < MAX_MEMBERS = subst (λ (l : List RollEntry). length l < MAX_MEMBERS) (sym m.same_members) room in
     record {
       same_members = ap (λ (l : List RollEntry). l ++ new_entry (code, votes) ∷ []) m.same_members;
       each_word = λ k h.

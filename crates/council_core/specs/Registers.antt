@@ -2,9 +2,9 @@
 use Rattle.std.specs.Prelude.{◌≡◌, ℕ, ◌+◌, ◌≤◌, ◌<◌, true, false, if◌then◌else◌}
 use Rattle.std.specs.Prelude.{List, length, sum_by, All, slice_index, None, Some, Ok}
 use Rattle.council_core.specs.Rolls.{Roll, RollEntry, chair_word, sits_in, total, is_open, can_receive, standing_among}
-use Rattle.council_core.specs.Rolls.{place_among, has_members, roll_with_open, roll_with_closed, roll_with_member, roll_without_member, max_members, step}
+use Rattle.council_core.specs.Rolls.{place_among, has_members, roll_with_open, roll_with_closed, roll_with_member, roll_without_member, step}
 use Rattle.council_core.specs.Rolls.{update, all_accepted, opening_roll}
-use Rattle.council_core.specs.declared.limits.TheConstants.{CHAIRS, MAX_COMMANDS, MAX_VOTES}
+use Rattle.council_core.specs.declared.limits.TheConstants.{CHAIRS, MAX_COMMANDS, MAX_MEMBERS, MAX_VOTES}
 use Rattle.council_core.specs.declared.changes.Change.{Change}
 use Rattle.council_core.specs.declared.changes.Change.TheVariants as change
 use Rattle.council_core.specs.declared.commands.Command.{Command}
@@ -29,7 +29,7 @@ pub record Mirrors (roll : Roll) (entries : List RollEntry) (words counts : List
   pub each_count : (k : ℕ) → k < CHAIRS → slice_index counts k ≡ members_in_chair roll.members (k + 1)
   pub same_total : sum ≡ total roll
   pub closed_empty : (c : ℕ) → is_open roll c ≡ false → members_in_chair roll.members c ≡ 0
-  pub bound : length entries ≤ max_members
+  pub bound : length entries ≤ MAX_MEMBERS
   pub small : All (λ m. m.1.votes ≤ MAX_VOTES) entries
 
 -- the invariant of every register: members with which a register can start, commands that set votes
@@ -62,7 +62,7 @@ pub record IsChange (roll : Roll) (command : Command) (code : List ℕ) (old new
 -- the command adds a member whose code is new
 pub record IsEntry (roll : Roll) (command : Command) (code : List ℕ) (votes : ℕ) : Type 0 where
   pub unknown : standing_among code roll.members ≡ None
-  pub room : length roll.members < max_members
+  pub room : length roll.members < MAX_MEMBERS
   pub effect : step roll command ≡ Ok (roll_with_member roll code votes)
 
 -- the command removes the member with this code, which sits in no chair

@@ -117,10 +117,6 @@ restore_member r code s = if s.suspended then update r code (record s { suspende
 abbrev pub with_member : Roll → List ℕ → (Standing → Result Roll Refusal) → Result Roll Refusal
 with_member r code f = option_map_or f (standing_among code r.members) (Err UnknownMember)
 
--- the largest number of members at any moment
-abbrev pub max_members : ℕ
-max_members = MAX_MEMBERS
-
 -- the roll with one more member, last in the order of entry
 abbrev pub roll_with_member : Roll → List ℕ → ℕ → Roll
 roll_with_member r code votes = record r { members = r.members ++ new_entry (code, votes) ∷ [] }
@@ -128,7 +124,7 @@ roll_with_member r code votes = record r { members = r.members ++ new_entry (cod
 abbrev pub admit_member : Roll → List ℕ → ℕ → Result Roll Refusal
 admit_member r code votes =
     if is_some (standing_among code r.members) then Err MemberExists
-    else (if nat_le max_members (length r.members) then Err TooManyMembers else Ok (roll_with_member r code votes))
+    else (if nat_le MAX_MEMBERS (length r.members) then Err TooManyMembers else Ok (roll_with_member r code votes))
 
 abbrev pub roll_without_member : Roll → List ℕ → Roll
 roll_without_member r code = record r { members = members_without code r.members }

@@ -7,6 +7,7 @@ mod changes;
 mod commands;
 mod laws;
 mod limits;
+mod member_rows;
 mod published;
 mod refusals;
 mod registers;
@@ -21,6 +22,7 @@ pub use laws::{cast_law, coalitions_law, opening_law, prefix_law, sheet_law};
 pub use limits::{
     CHAIRS, FRONT, MAX_COMMANDS, MAX_MEMBERS, MAX_TOTAL, MAX_VOTES, SHEET_WORDS, TOTAL,
 };
+pub use member_rows::MemberRows;
 pub use published::PublishedRegister;
 pub use refusals::Refusal;
 pub use registers::Register;

@@ -91,7 +91,8 @@ impl PublishedRegister {
     /// Those of `Register::apply`; nothing has changed then.
     pub fn apply(&mut self, command: Command) -> Result<u32, Refusal>
         ensures verdict { Follows (verdict_of self.old.ledger command) result OutOfMemory }
-        ensures accepted { IfOk result (λ n. (self.new ≡ record self.old { ledger = ledger_with self.old.ledger command })
+        ensures accepted { IfOk result
+            (λ n. (self.new ≡ record self.old { ledger = ledger_with self.old.ledger command })
             × (n ≡ length self.new.ledger.journal)) }
         ensures unchanged { OnErr result (self.new ≡ self.old) }
     {

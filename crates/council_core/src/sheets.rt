@@ -14,6 +14,9 @@ use std::marker::Model;
 /// The 34 numbers that readers see: for each chair a word, which is 0 if the chair is closed and
 /// its weight plus 1 if it is open; then the total voting power; then the front, the number of
 /// accepted commands. Weights and the total are in votes.
+///
+/// `from_words`, `chairs`, `open_chairs` and `cast` pass over the words of all chairs; `words` and a
+/// copy of a sheet copy its 272 bytes; every other call reads one word.
 #[derive(Clone, Copy, Debug, PartialEq, Eq, Hash)]
 pub struct Sheet {
     words: [u64; SHEET_WORDS],

@@ -1,16 +1,27 @@
 //! Validated values that commands carry: chairs, votes and member codes.
 ghost use Rattle.std.specs.Prelude.{◌≡◌, ◌≤◌, ◌<◌, ◌+◌, ◌↔◌, ◌^◌, ℕ, List, IsOk, IfOk};
-ghost use Rattle.std.specs.Prelude.{IsOkUnless};
+ghost use Rattle.std.specs.Prelude.{IsOkUnless, Some, decimal};
+ghost use Rattle.std.specs.Fmt.{styled_decimal, styled_text};
+ghost use Rattle.std.specs.Result.{OkIff};
 ghost use Rattle.council_core.specs.declared.refusals.Refusal.TheVariants.{BadChair, BadMember, VotesTooLarge};
 ghost use Rattle.council_core.specs.Codes.{IsCode};
 
 use crate::limits::{CHAIRS, MAX_VOTES};
 use crate::refusals::Refusal;
+use std::fmt;
 use std::marker::Model;
+use std::str::{self, FromStr};
 
 /// A chair: the Executive Director, by number from 1 to 32, who casts the votes of its members
-/// as one block (Articles of Agreement, Article XII, Section 3(i)).
-#[derive(Clone, Copy, Debug, PartialEq, Eq, Hash)]
+/// as one block (Articles of Agreement, Article XII, Section 3(i)). Chairs are ordered by number.
+///
+/// ```rust
+/// let chair = ChairId::try_from(12)?;
+/// assert_eq!(rt; chair.number(), 12);
+/// assert!(rt; ChairId::new(0).is_err() && ChairId::default() < chair);
+/// println!(rt; "chair {chair}")?; // chair 12
+/// ```
+#[derive(Clone, Copy, Debug, PartialEq, Eq, PartialOrd, Ord, Hash)]
 pub struct ChairId {
     number: u8,
 }
@@ -64,6 +75,30 @@ impl ChairId {
     }
 }
 
+impl TryFrom<u8> for ChairId {
+    type Error = Refusal;
+
+    ghost use Rattle.council_core.specs.declared.limits.TheConstants.{CHAIRS};
+
+    ghost try_from_gives = { λ number r. OkIff r ((1 ≤ number) × (number ≤ CHAIRS)) number × IsOkUnless r BadChair };
+
+    /// Like `ChairId::new`.
+    fn try_from(number: u8) -> Result<ChairId, Refusal> {
+        ChairId::new(number)
+    }
+}
+
+impl fmt::Display for ChairId {
+    ghost output = { λ chair. Some (decimal chair) };
+
+    ghost styled_output = { λ chair spec. Some (styled_decimal spec chair) };
+
+    /// Writes the number.
+    fn fmt<W: fmt::Write>(&self, f: &mut fmt::Formatter<W>) -> fmt::Result {
+        fmt::Display::fmt(&self.number, f)
+    }
+}
+
 // The index of a chair's word in a sheet.
 pub(crate) fn place_of(chair: ChairId) -> usize
     ensures place { result + 1 ≡ chair }
@@ -84,7 +119,13 @@ pub(crate) fn chair_at(place: usize) -> ChairId
 
 /// The votes of one member, basic and quota-based votes together, from 0 to 2^40 votes (Articles
 /// of Agreement, Article XII, Section 5(a)).
-#[derive(Clone, Copy, Debug, PartialEq, Eq, Hash)]
+///
+/// ```rust
+/// let votes = Votes::try_from(831_401)?;
+/// assert_eq!(rt; votes.number(), 831_401);
+/// assert!(rt; Votes::new(0)? < votes && Votes::new(u64::MAX).is_err());
+/// ```
+#[derive(Clone, Copy, Debug, PartialEq, Eq, PartialOrd, Ord, Hash)]
 pub struct Votes {
     count: u64,
 }
@@ -128,8 +169,39 @@ impl Votes {
     }
 }
 
-/// The code that names a member: three ASCII capitals.
-#[derive(Clone, Copy, Debug, PartialEq, Eq, Hash)]
+impl TryFrom<u64> for Votes {
+    type Error = Refusal;
+
+    ghost use Rattle.council_core.specs.declared.limits.TheConstants.{MAX_VOTES};
+
+    ghost try_from_gives = { λ number r. OkIff r (number ≤ MAX_VOTES) number × IsOkUnless r VotesTooLarge };
+
+    /// Like `Votes::new`.
+    fn try_from(number: u64) -> Result<Votes, Refusal> {
+        Votes::new(number)
+    }
+}
+
+impl fmt::Display for Votes {
+    ghost output = { λ votes. Some (decimal votes) };
+
+    ghost styled_output = { λ votes spec. Some (styled_decimal spec votes) };
+
+    /// Writes the number.
+    fn fmt<W: fmt::Write>(&self, f: &mut fmt::Formatter<W>) -> fmt::Result {
+        fmt::Display::fmt(&self.count, f)
+    }
+}
+
+/// The code that names a member: three ASCII capitals. Codes are ordered as in a dictionary.
+///
+/// ```rust
+/// let code: MemberCode = "AUT".parse()?;
+/// assert_eq!(rt; code, MemberCode::new(b"AUT")?);
+/// assert_eq!(rt; code.as_str(), "AUT");
+/// assert!(rt; code < MemberCode::new(b"BEL")? && MemberCode::new(b"Aut").is_err());
+/// ```
+#[derive(Clone, Copy, Debug, PartialEq, Eq, PartialOrd, Ord, Hash)]
 pub struct MemberCode {
     letters: [u8; 3],
 }
@@ -172,5 +244,37 @@ impl MemberCode {
         ensures code { IsCode result }
     {
         self.letters
+    }
+
+    /// The three letters as text.
+    pub fn as_str(&self) -> &str
+        ensures same { result.now ≡ self.now }
+    {
+        match str::from_utf8(&self.letters) {
+            Ok(text) => text,
+            Err(_) => unreachable!(),
+        }
+    }
+}
+
+impl FromStr for MemberCode {
+    type Err = Refusal;
+
+    ghost from_str_gives = { λ text r. OkIff r (IsCode text) text × IsOkUnless r BadMember };
+
+    /// Like `MemberCode::new`.
+    fn from_str(text: &str) -> Result<MemberCode, Refusal> {
+        MemberCode::new(text.as_bytes())
+    }
+}
+
+impl fmt::Display for MemberCode {
+    ghost output = { λ code. Some code };
+
+    ghost styled_output = { λ code spec. Some (styled_text spec code) };
+
+    /// Writes the three letters.
+    fn fmt<W: fmt::Write>(&self, f: &mut fmt::Formatter<W>) -> fmt::Result {
+        f.pad(self.as_str())
     }
 }

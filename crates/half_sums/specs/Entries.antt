@@ -6,6 +6,7 @@ use Rattle.std.specs.Simd.Lanes.{zip2}
 use Rattle.std.specs.List.{All}
 use Rattle.std.specs.List.Sorted.{IsPermutation, IsNonDecreasingBy}
 use Rattle.half_sums.specs.declared.entry.Entry.{Entry}
+use Rattle.council_core.specs.declared.limits.TheConstants.{MAX_TOTAL}
 use Rattle.council_core.specs.Sheets.{weight_of}
 use Rattle.council_core.specs.Coalitions.{subsets}
 use Rattle.half_sums.specs.Masks.{mask_of}
@@ -37,12 +38,12 @@ pub record AreSubsets (chairs : List (ℕ × ℕ)) (entries : List Entry) : Type
   pub each_once : IsPermutation (entries_of chairs) entries
   pub ascending : IsNonDecreasingBy (λ e. e.sum) entries
 
--- the invariant of every list of a half: at most 65,536 entries, ascending, no sum above 2^48, and
--- no slot above 15
+-- the invariant of every list of a half: at most 65,536 entries, ascending, no sum above
+-- MAX_TOTAL, and no slot above 15
 pub record IsHalf (entries : List Entry) : Type 0 where
   pub bound : length entries ≤ ROOM
   pub ascending : IsNonDecreasingBy (λ e. e.sum) entries
-  pub small : All (λ e. e.sum ≤ 2 ^ 48) entries
+  pub small : All (λ e. e.sum ≤ MAX_TOTAL) entries
   pub slots : All (λ e. e.mask < 2 ^ SLOTS) entries
 
 -- the default entry, for an index at which there is none

@@ -1,5 +1,5 @@
 //! Lists of sets over borrowed slices.
-ghost use Rattle.std.specs.Prelude.{◌≡◌, ℕ, ◌+◌, ◌-◌, ◌<◌, ◌≤◌, List, length, set};
+ghost use Rattle.std.specs.Prelude.{◌≡◌, ◌==◌, ℕ, ◌+◌, ◌-◌, ◌<◌, ◌≤◌, List, length, set};
 ghost use Rattle.std.specs.Prelude.{slice_index_or};
 ghost use Rattle.half_sums.specs.declared.entry.Entry.{Entry};
 ghost use Rattle.half_sums.specs.Entries.{entries_from, zero_entry, IsHalf};
@@ -13,8 +13,8 @@ use std::marker::Model;
 pub const ROOM: usize = 65_536;
 
 /// The read-only list of a half, over two borrowed slices, one of sums and one of masks: at most
-/// `ROOM` sets, ascending by sum, no sum above 2^48. A set takes ten bytes in this form and sixteen
-/// as an `Entry`.
+/// `ROOM` sets, ascending by sum, no sum above `MAX_TOTAL`. A set takes ten bytes in this form and
+/// sixteen as an `Entry`.
 #[derive(Debug, Drop)]
 pub struct SumList<'a> {
     sums: &'a [u64],
@@ -59,6 +59,13 @@ impl<'a> SumList<'a> {
         ensures half { IsHalf self.now }
     {
         self.sums.len()
+    }
+
+    /// Whether the list has no set. That of a half has at least the empty one.
+    pub fn is_empty(&self) -> bool
+        ensures { result ≡ (length self.now == 0) }
+    {
+        self.len() == 0
     }
 
     /// The set at this index.

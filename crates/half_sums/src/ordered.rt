@@ -3,6 +3,7 @@ ghost use Rattle.std.specs.Prelude.{◌≡◌, ℕ, ◌==◌, ◌^◌, ◌<◌, 
 ghost use Rattle.std.specs.Prelude.{List, [], ◌∷◌, length, map, IfOk, IsOkUnless, vec_len, vec_capacity};
 ghost use Rattle.std.specs.List.{All, IsDistinct};
 ghost use Rattle.council_core.specs.declared.refusals.Refusal.TheVariants.{OutOfMemory};
+ghost use Rattle.council_core.specs.declared.limits.TheConstants.{MAX_TOTAL};
 ghost use Rattle.council_core.specs.Sheets.{weight_of};
 ghost use Rattle.half_sums.specs.declared.entry.Entry.{Entry};
 ghost use Rattle.half_sums.specs.declared.lists.TheConstants.{ROOM};
@@ -65,7 +66,7 @@ impl OrderedSums {
     pub fn rebuild(&mut self, chairs: &[(u8, u64)])
         requires slots { All (λ chair. chair.0 < SLOTS) chairs.now }
         requires distinct { IsDistinct (λ a b. a == b) (map (λ chair. chair.0) chairs.now) }
-        requires small { weight_of chairs.now ≤ 2 ^ 48 }
+        requires small { weight_of chairs.now ≤ MAX_TOTAL }
         ensures subsets { AreSubsets chairs.now self.new }
     {
         let count = 1usize << chairs.len();
@@ -100,7 +101,7 @@ fn set_length<T: Copy>(column: &mut Vec<T>, count: usize, zero: T)
 pub fn list_subsets(chairs: &[(u8, u64)], sums: &mut [u64], masks: &mut [u16])
     requires slots { All (λ chair. chair.0 < SLOTS) chairs.now }
     requires distinct { IsDistinct (λ a b. a == b) (map (λ chair. chair.0) chairs.now) }
-    requires small { weight_of chairs.now ≤ 2 ^ 48 }
+    requires small { weight_of chairs.now ≤ MAX_TOTAL }
     requires sums_room { length sums.old ≡ 2 ^ length chairs.now }
     requires masks_room { length masks.old ≡ 2 ^ length chairs.now }
 

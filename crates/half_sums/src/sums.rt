@@ -1,10 +1,11 @@
 //! The ascending list of a half, and the same sets grouped by size.
-ghost use Rattle.std.specs.Prelude.{◌≡◌, ◌==◌, ◌^◌, ◌<◌, ◌≤◌};
+ghost use Rattle.std.specs.Prelude.{◌≡◌, ◌==◌, ◌<◌, ◌≤◌};
 ghost use Rattle.std.specs.Prelude.{List, [], ◌∷◌, length, map, take, IfOk, IsOkUnless};
 ghost use Rattle.std.specs.Box.{boxed_slice_items};
 ghost use Rattle.std.specs.List.{All, IsDistinct};
 ghost use Rattle.std.specs.List.Sorted.{IsPermutation};
 ghost use Rattle.council_core.specs.declared.refusals.Refusal.TheVariants.{OutOfMemory};
+ghost use Rattle.council_core.specs.declared.limits.TheConstants.{MAX_TOTAL};
 ghost use Rattle.council_core.specs.Sheets.{weight_of};
 ghost use Rattle.half_sums.specs.declared.entry.Entry.{Entry};
 ghost use Rattle.half_sums.specs.declared.lists.TheConstants.{ROOM};
@@ -108,7 +109,7 @@ impl HalfSums {
     pub fn rebuild(&mut self, chairs: &[(u8, u64)])
         requires slots { All (λ chair. chair.0 < SLOTS) chairs.now }
         requires distinct { IsDistinct (λ a b. a == b) (map (λ chair. chair.0) chairs.now) }
-        requires small { weight_of chairs.now ≤ 2 ^ 48 }
+        requires small { weight_of chairs.now ≤ MAX_TOTAL }
         ensures subsets { AreSubsets chairs.now self.new }
     {
         self.ordered.rebuild(chairs);

@@ -1,5 +1,6 @@
 //! The least weight and the least size that win, and the test of whether a coalition wins.
-ghost use Rattle.std.specs.Prelude.{◌≡◌, ◌≤◌, ◌^◌, ◌↔◌, ℕ, IsTrue};
+ghost use Rattle.std.specs.Prelude.{◌≡◌, ◌≤◌, ◌↔◌, ℕ, IsTrue};
+ghost use Rattle.council_core.specs.declared.limits.TheConstants.{MAX_TOTAL};
 ghost use Rattle.majority_rule.specs.Winning.{MonotoneLaw, QuotaLaw, quota_of, least_size_of, weight_wins, size_wins};
 ghost use Rattle.majority_rule.specs.Winning.{wins};
 
@@ -7,7 +8,8 @@ use crate::majorities::Majority;
 use council_core::Sheet;
 
 /// The least weight, in votes, with which a coalition can win on this sheet. The coalition of all
-/// open chairs may weigh less: if members sit in no chair, even that coalition can lose.
+/// open chairs may weigh less: if members sit in no chair, even that coalition can lose. Adds up the
+/// weights of the sheet at most once.
 ///
 /// ```rust
 /// // Chair 1 is open with 10 votes of a total of 10.
@@ -32,7 +34,7 @@ pub fn quota(majority: Majority, sheet: &Sheet) -> u64
 
 /// The least number of chairs with which a coalition can win on this sheet; 0 if the majority
 /// requires no number of chairs. It may exceed the number of open chairs: it is 1 for a quorum if
-/// no chair is open.
+/// no chair is open. Counts the open chairs at most once.
 pub fn least_size(majority: Majority, sheet: &Sheet) -> u8
     ensures same { result ≡ least_size_of majority sheet.now }
     ensures least { (k : ℕ) → (result ≤ k) ↔ IsTrue (size_wins majority sheet.now k) }
@@ -43,10 +45,10 @@ pub fn least_size(majority: Majority, sheet: &Sheet) -> u8
     }
 }
 
-/// Whether a coalition of `size` chairs with this weight, in votes and at most 2^48, wins on this
-/// sheet.
+/// Whether a coalition of `size` chairs with this weight, in votes and at most `MAX_TOTAL`, wins on
+/// this sheet.
 pub fn wins(majority: Majority, sheet: &Sheet, weight: u64, size: u8) -> bool
-    requires weight { weight ≤ 2 ^ 48 }
+    requires weight { weight ≤ MAX_TOTAL }
     ensures known { result ≡ wins majority sheet.now weight size }
 {
     match majority {

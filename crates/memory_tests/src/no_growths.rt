@@ -8,7 +8,7 @@ use council_core::{
 use fixtures::open;
 use half_sums::HalfSums;
 use majority_rule::{Majority, least_size, quota, wins};
-use power_index::Evaluator;
+use power_index::{Evaluator, LentEvaluator, ListRoom};
 use std::alloc::Global;
 use std::sync::Wait;
 use std::test::Fail;
@@ -17,7 +17,7 @@ use two_copy_steps::{Event, Machine, Note};
 
 // The numbers of a sheet with 10 of 30 votes in chair 1 after two commands, of votes and of a
 // refusal's name, a code's letters, and whether too many votes are refused.
-fn look_at_values() -> Result<([u64; 11], [u8; 3], bool), Refusal> {
+fn look_at_values() -> Result<([u64; 12], [u8; 3], bool), Refusal> {
     let mut words = [0; SHEET_WORDS];
     words[0] = 11;
     words[TOTAL] = 30;
@@ -37,6 +37,7 @@ fn look_at_values() -> Result<([u64; 11], [u8; 3], bool), Refusal> {
         u64::from(wins(Majority::Seventy, &sheet, 10, 1)),
         Votes::new(7)?.number(),
         why.name().len() as u64,
+        MemberCode::new(b"AAA")?.as_str().len() as u64,
     ];
     Ok((
         numbers,
@@ -45,10 +46,10 @@ fn look_at_values() -> Result<([u64; 11], [u8; 3], bool), Refusal> {
     ))
 }
 
-// Five numbers of a register, and its answers to a command that it accepts and one that it refuses.
+// Six numbers of a register, and its answers to a command that it accepts and one that it refuses.
 fn look_at_register(
     register: &mut Register,
-) -> Result<([u64; 5], [Result<(), Refusal>; 2], Result<u32, Refusal>), Refusal> {
+) -> Result<([u64; 6], [Result<(), Refusal>; 2], Result<u32, Refusal>), Refusal> {
     let (new, old) = (open(2)?, open(1)?);
     let votes = match register.member_at(1) {
         Some(row) => row.votes.number(),
@@ -60,14 +61,17 @@ fn look_at_register(
         register.journal().len() as u64,
         register.sheet_word(FRONT),
         register.sheet().words()[FRONT],
+        u64::from(register.member_rows().next().is_some()),
     ];
     let checks = [register.check(new), register.check(old)];
     Ok((numbers, checks, register.apply(old)))
 }
 
 // The number of changed halves, then the quota, the winning coalitions and the swings of the first
-// chair, the winning coalitions at another majority, and the front.
-fn count_all(evaluator: &mut Evaluator, sheet: &Sheet) -> [u64; 6] {
+// chair, the winning coalitions at another majority, the front, and the winning coalitions counted
+// in other memory.
+fn count_all(evaluator: &mut Evaluator, sheet: &Sheet) -> [u64; 7] {
+    let mut room = ListRoom::new();
     let halves = evaluator.set(sheet);
     let half = evaluator.evaluate(Majority::Half);
     let swings = match half.rows.as_slice().first() {
@@ -81,21 +85,25 @@ fn count_all(evaluator: &mut Evaluator, sheet: &Sheet) -> [u64; 6] {
         swings,
         evaluator.evaluate(Majority::Quorum).winning,
         u64::from(evaluator.sheet().front()),
+        LentEvaluator::over(sheet, &mut room)
+            .evaluate(Majority::Half)
+            .winning,
     ]
 }
 
 // Of a chair with two votes and one with one: the number of sets, of sets of one chair, the
-// greatest sum, and the number of pairs of sets that have three votes.
-fn list_sets(half: &mut HalfSums) -> [u64; 4] {
+// greatest sum, the number of pairs of sets that have three votes, and whether there is no set.
+fn list_sets(half: &mut HalfSums) -> ([u64; 4], bool) {
     half.rebuild(&[(0, 2), (1, 1)]);
     let sets = half.ascending();
     let greatest = if sets.len() == 4 { sets.at(3).sum } else { 0 };
-    [
+    let numbers = [
         half.entries().len() as u64,
         half.group(1).len() as u64,
         greatest,
         count(half, half, 3, 0).winning,
-    ]
+    ];
+    (numbers, sets.is_empty())
 }
 
 // Takes the steps of an event that is repeated.
@@ -173,12 +181,12 @@ fn analyst(alloc: Global) -> Result<Option<Analyst>, Refusal> {
 #[test]
 fn calls_without_memory(rt: HostRuntime) -> Result<(), Fail> {
     let alloc = rt.alloc();
-    let values = ([10, 10, 30, 2, 1, 6, 26, 1, 0, 7, 11], *b"AAA", true);
+    let values = ([10, 10, 30, 2, 1, 6, 26, 1, 0, 7, 11, 3], *b"AAA", true);
     assert!(rt; asks_for_none(alloc, |_| Ok(()), |_| look_at_values(), values)?);
     for commands in [2, 4, 5] {
         let (front, refused) = (u64::from(commands), Refusal::ChairOpen);
         let checks = [Ok(()), Err(refused)];
-        let answers = ([20, front, front, front, front], checks, Err(refused));
+        let answers = ([20, front, front, front, front, 1], checks, Err(refused));
         let begin = |alloc| with_commands(alloc, commands);
         assert!(rt;
             asks_for_none(alloc, begin, look_at_register, answers)?,
@@ -187,9 +195,9 @@ fn calls_without_memory(rt: HostRuntime) -> Result<(), Fail> {
     }
     let counting = |alloc| Ok((Evaluator::new(alloc)?, with_commands(alloc, 5)?.sheet()));
     let count = |state: &mut (Evaluator, Sheet)| Ok(count_all(&mut state.0, &state.1));
-    assert!(rt; asks_for_none(alloc, counting, count, [1, 11, 8, 8, 4, 5])?);
+    assert!(rt; asks_for_none(alloc, counting, count, [1, 11, 8, 8, 4, 5, 8])?);
     let list = |half: &mut HalfSums| Ok(list_sets(half));
-    assert!(rt; asks_for_none(alloc, HalfSums::new, list, [4, 2, 3, 10])?);
+    assert!(rt; asks_for_none(alloc, HalfSums::new, list, ([4, 2, 3, 10], false))?);
     let kept = |alloc| Ok(Some(with_commands(alloc, 2)?));
     assert!(rt; asks_for_none(alloc, kept, start_machine, (true, 3, false))?);
     let board = |alloc| board_over(alloc, with_commands(alloc, 2)?, 2);

@@ -9,7 +9,7 @@ use Rattle.half_sums.specs.declared.entry.Entry.{Entry}
 use Rattle.swing_walk.specs.Pairs.{large_pairs, swings_of}
 use Rattle.power_index.specs.declared.indices.Indices.{Indices}
 use Rattle.power_index.specs.Counts.{AreCounts, EvaluationLaw}
-use Rattle.power_index.specs.Halves.{AreHalves, changed_halves, chairs_from_slot, left_count, left_weights, open_chair_place, place_in_counts, right_weights}
+use Rattle.power_index.specs.Halves.{AreHalves, changed_blocks, chairs_from_slot, left_count, left_weights, open_chair_place, place_in_counts, right_weights}
 use Rattle.power_index.specs.Indices.{AreIndices, indices_of, ratio, ratio_unless_zero, rows_among}
 use Rattle.power_index.proofs.WorkedCases.{indices, row, three_chairs}
 
@@ -34,8 +34,8 @@ places_of_three = (refl, refl, refl)
 abbrev zeros : List ℕ
 zeros = replicate 34 0
 
-changed_blocks : (changed_halves zeros zeros ≡ 0) × (changed_halves zeros (replicate 15 0 ++ 1 ∷ replicate 18 0) ≡ 1) × (changed_halves zeros (replicate 16 0 ++ 1 ∷ replicate 17 0) ≡ 1) × (changed_halves zeros (replicate 15 0 ++ 1 ∷ 1 ∷ replicate 17 0) ≡ 2) × (changed_halves zeros (1 ∷ replicate 30 0 ++ 1 ∷ 0 ∷ 0 ∷ []) ≡ 2) × (changed_halves zeros (replicate 32 0 ++ 1 ∷ 1 ∷ []) ≡ 0)
-changed_blocks = (refl, refl, refl, refl, refl, refl)
+blocks_that_change : (changed_blocks zeros zeros ≡ 0) × (changed_blocks zeros (replicate 15 0 ++ 1 ∷ replicate 18 0) ≡ 1) × (changed_blocks zeros (replicate 16 0 ++ 1 ∷ replicate 17 0) ≡ 1) × (changed_blocks zeros (replicate 15 0 ++ 1 ∷ 1 ∷ replicate 17 0) ≡ 2) × (changed_blocks zeros (1 ∷ replicate 30 0 ++ 1 ∷ 0 ∷ 0 ∷ []) ≡ 2) × (changed_blocks zeros (replicate 32 0 ++ 1 ∷ 1 ∷ []) ≡ 0)
+blocks_that_change = (refl, refl, refl, refl, refl, refl)
 
 -- only a denominator of 0 is no fraction
 fractions : (ratio_unless_zero 3 0 ≡ None) × (ratio_unless_zero 0 3 ≡ Some (ratio 0 3)) × (ratio_unless_zero 3 1 ≡ Some (ratio 3 1))

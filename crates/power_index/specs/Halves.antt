@@ -43,16 +43,16 @@ abbrev pub open_chair_place : List ℕ → ℕ → ℕ
 open_chair_place words before = place_in_counts (left_count (length (open_chairs words))) before
 
 -- the words of the sixteen chairs from index `from` on
-abbrev pub half_words : ℕ → List ℕ → List ℕ
-half_words from words = take SLOTS (drop from words)
+abbrev pub block_words : ℕ → List ℕ → List ℕ
+block_words from words = take SLOTS (drop from words)
 
 -- whether the sixteen chairs from index `from` on have the same words on two sheets
-abbrev pub same_half : ℕ → List ℕ → List ℕ → Bool
-same_half from old new = pointwise nat_eq (half_words from old) (half_words from new)
+abbrev pub same_block : ℕ → List ℕ → List ℕ → Bool
+same_block from old new = pointwise nat_eq (block_words from old) (block_words from new)
 
 abbrev pub one_if : Bool → ℕ
 one_if b = if b then 1 else 0
 
 -- the number of blocks, of chairs 1 to 16 and of chairs 17 to 32, in which two sheets differ
-abbrev pub changed_halves : List ℕ → List ℕ → ℕ
-changed_halves old new = one_if (not (same_half 0 old new)) + one_if (not (same_half SLOTS old new))
+abbrev pub changed_blocks : List ℕ → List ℕ → ℕ
+changed_blocks old new = one_if (not (same_block 0 old new)) + one_if (not (same_block SLOTS old new))

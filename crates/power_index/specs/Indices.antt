@@ -2,7 +2,7 @@
 -- the Banzhaf measure: Banzhaf 1965. The powers to prevent, to initiate and of the board to act:
 -- Coleman 1971. Names and fractions: Felsenthal and Machover 1998.
 use Rattle.std.specs.Prelude.{◌≡◌, ℕ, ◌-◌, ◌^◌, ◌≤◌, ◌==◌, ◌↔◌, IsTrue}
-use Rattle.std.specs.Prelude.{if◌then◌else◌, List, length, map, sum_by, Option, None, Some}
+use Rattle.std.specs.Prelude.{if◌then◌else◌, List, ◌∷◌, ◌++◌, length, map, sum_by, Option, None, Some, decimal}
 use Rattle.council_core.specs.Sheets.{Chair, open_chairs, cast_of, total_of, front_of}
 use Rattle.council_core.specs.Coalitions.{Rule, omega_of, eta_of}
 use Rattle.majority_rule.specs.declared.majorities.Majority.{Majority}
@@ -14,6 +14,10 @@ use Rattle.power_index.specs.declared.indices.Indices.{Indices}
 -- a fraction, not reduced
 abbrev pub ratio : ℕ → ℕ → Fraction
 ratio n d = record { num = n; den = d }
+
+-- the text of a fraction: `NUM/DEN`, not reduced
+abbrev pub fraction : Fraction → List ℕ
+fraction f = decimal f.num ++ 47 ∷ decimal f.den
 
 -- a fraction, or None if its denominator is 0
 abbrev pub ratio_unless_zero : ℕ → ℕ → Option Fraction

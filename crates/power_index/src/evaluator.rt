@@ -1,7 +1,7 @@
 //! An evaluator: a sheet with the subset sums of its two halves, in its own memory.
 ghost use Rattle.std.specs.Prelude.{◌≡◌, IfOk, IsOkUnless, replicate};
 ghost use Rattle.council_core.specs.declared.refusals.Refusal.TheVariants.{OutOfMemory};
-ghost use Rattle.power_index.specs.Halves.{changed_halves};
+ghost use Rattle.power_index.specs.Halves.{changed_blocks};
 ghost use Rattle.power_index.specs.Indices.{AreIndices, indices_of};
 
 use crate::halves::{differ, on_left, refresh, weights_of};
@@ -57,9 +57,10 @@ impl Evaluator {
     /// neither block.
     ///
     /// The open chairs, in the order of their numbers, are split in the middle into two lists; an
-    /// odd one belongs to the first. A list is rebuilt if its weights differ from the previous ones.
+    /// odd one belongs to the first. A list is rebuilt if its weights differ from the previous ones,
+    /// in time proportional to its number of sets: 2^k for k chairs.
     pub fn set(&mut self, sheet: &Sheet) -> u8
-        ensures changed { result ≡ changed_halves self.old sheet.now }
+        ensures changed { result ≡ changed_blocks self.old sheet.now }
         ensures held { self.new ≡ sheet.now }
     {
         let old = self.sheet.words();
@@ -73,7 +74,8 @@ impl Evaluator {
         differ(&old, &new, 0) + differ(&old, &new, SLOTS)
     }
 
-    /// The indices of the sheet under this majority.
+    /// The indices of the sheet under this majority, counted by one walk over both lists: in time
+    /// proportional to the number of their sets, at most 131,072.
     ///
     /// The clause `exact` gives every field by its definition, and the quota and the least size by
     /// what wins. The clause `same` gives the result as a value that computes.

@@ -1,9 +1,10 @@
 //! The halves of a sheet: the first half of its open chairs, by number, is on the left, and the
 //! others are on the right.
-ghost use Rattle.std.specs.Prelude.{◌≡◌, ◌+◌, ◌<◌, ◌≤◌, ◌^◌, ℕ, not, length, sum_by, slice_index};
+ghost use Rattle.std.specs.Prelude.{◌≡◌, ◌+◌, ◌<◌, ◌≤◌, ℕ, not, length, sum_by, slice_index};
+ghost use Rattle.council_core.specs.declared.limits.TheConstants.{MAX_TOTAL};
 ghost use Rattle.council_core.specs.Sheets.{open_chairs};
 ghost use Rattle.half_sums.specs.Entries.{AreSubsets};
-ghost use Rattle.power_index.specs.Halves.{weights, chairs_from_slot, left_count, place_in_counts, same_half, one_if};
+ghost use Rattle.power_index.specs.Halves.{weights, chairs_from_slot, left_count, place_in_counts, same_block, one_if};
 
 use arrayvec::ArrayVec;
 use council_core::{CHAIRS, SHEET_WORDS, Sheet};
@@ -46,7 +47,7 @@ pub(crate) fn chairs_of(weights: &[u64]) -> ArrayVec<(u8, u64), SLOTS>
 pub(crate) fn differ(old: &[u64; SHEET_WORDS], new: &[u64; SHEET_WORDS], from: usize) -> u8
     requires from { from ≤ SLOTS }
     ensures bound { result ≤ 1 }
-    ensures changed { result ≡ one_if (not (same_half from old.now new.now)) }
+    ensures changed { result ≡ one_if (not (same_block from old.now new.now)) }
 {
     if old[from..from + SLOTS] == new[from..from + SLOTS] {
         0
@@ -58,7 +59,7 @@ pub(crate) fn differ(old: &[u64; SHEET_WORDS], new: &[u64; SHEET_WORDS], from: u
 // Rebuilds a half if its weights differ.
 pub(crate) fn refresh(half: &mut OrderedSums, old: &[u64], new: &[u64])
     requires bound { length new.now ≤ SLOTS }
-    requires small { sum_by (λ n. n) new.now ≤ 2 ^ 48 }
+    requires small { sum_by (λ n. n) new.now ≤ MAX_TOTAL }
     requires before { AreSubsets (chairs_from_slot 0 old.now) half.old }
     ensures after { AreSubsets (chairs_from_slot 0 new.now) half.new }
 {

@@ -1,15 +1,34 @@
 //! The result of an evaluation.
+ghost use Rattle.std.specs.Prelude.{Some};
+
 use arrayvec::ArrayVec;
 use council_core::{CHAIRS, ChairId};
 use majority_rule::Majority;
+use std::fmt;
 
 /// An exact fraction of two whole numbers, not reduced to lowest terms.
+///
+/// ```rust
+/// println!(rt; "{}", Fraction { num: 2, den: 4 })?; // 2/4
+/// ```
 #[derive(Clone, Copy, Debug, PartialEq, Eq, Hash, Default)]
 pub struct Fraction {
     /// The numerator.
     pub num: u64,
     /// The denominator.
     pub den: u64,
+}
+
+impl fmt::Display for Fraction {
+    ghost use Rattle.power_index.specs.Indices.{fraction};
+
+    ghost output = { λ value. Some (fraction value) };
+
+    /// Writes `NUM/DEN`.
+    fn fmt<W: fmt::Write>(&self, f: &mut fmt::Formatter<W>) -> fmt::Result {
+        let (num, den) = (self.num, self.den);
+        write!(f, "{num}/{den}")
+    }
 }
 
 /// The power of one open chair.
@@ -40,8 +59,8 @@ pub struct ChairPower {
 
 /// The indices of a sheet under a majority.
 ///
-/// Names and fractions are those of Felsenthal and Machover (1998). Votes are at most 2^48, counts
-/// at most 2^32, except the denominator of a share, which is at most 2^37.
+/// Names and fractions are those of Felsenthal and Machover (1998). Votes are at most `MAX_TOTAL`,
+/// counts at most 2^32, except the denominator of a share, which is at most 2^37.
 #[derive(Debug, PartialEq, Eq, Drop)]
 pub struct Indices {
     /// The majority by which coalitions win.

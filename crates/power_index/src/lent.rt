@@ -1,5 +1,6 @@
 //! The indices of a sheet, counted in memory that the caller lends. No call here allocates.
-ghost use Rattle.std.specs.Prelude.{◌≡◌, ◌≤◌, ◌^◌, length, sum_by};
+ghost use Rattle.std.specs.Prelude.{◌≡◌, ◌≤◌, length, replicate, sum_by};
+ghost use Rattle.council_core.specs.declared.limits.TheConstants.{MAX_TOTAL};
 ghost use Rattle.half_sums.specs.declared.lists.TheConstants.{ROOM};
 ghost use Rattle.half_sums.specs.Entries.{AreSubsets};
 ghost use Rattle.power_index.specs.Halves.{chairs_from_slot};
@@ -28,6 +29,23 @@ pub struct ListRoom {
     pub right_masks: [u16; ROOM],
 }
 
+impl ListRoom {
+    /// Room filled with zeros: 1,310,720 bytes, by value.
+    pub fn new() -> ListRoom
+        ensures left_sums { result.left_sums ≡ replicate ROOM 0 }
+        ensures right_sums { result.right_sums ≡ replicate ROOM 0 }
+        ensures left_masks { result.left_masks ≡ replicate ROOM 0 }
+        ensures right_masks { result.right_masks ≡ replicate ROOM 0 }
+    {
+        ListRoom {
+            left_sums: [0; ROOM],
+            right_sums: [0; ROOM],
+            left_masks: [0; ROOM],
+            right_masks: [0; ROOM],
+        }
+    }
+}
+
 /// A sheet, with the lists of its halves in memory that the caller lends.
 #[derive(Debug, Drop)]
 pub struct LentEvaluator<'a> {
@@ -48,17 +66,19 @@ impl<'a> Model for LentEvaluator<'a> {
 }
 
 impl<'a> LentEvaluator<'a> {
-    /// Holds a sheet, and lists the sets of both of its halves in `room`.
+    /// Holds a sheet, and lists the sets of both of its halves in `room`, in time proportional to
+    /// their number, at most 131,072.
     ///
     /// ```rust
-    /// // `room: &mut ListRoom`, and `sheet: Sheet` as in the example of `Evaluator::evaluate`.
-    /// let evaluator = LentEvaluator::over(&sheet, room);
+    /// // `sheet: Sheet` as in the example of `Evaluator::evaluate`
+    /// let mut room = ListRoom::new();
+    /// let evaluator = LentEvaluator::over(&sheet, &mut room);
     /// assert_eq!(rt; evaluator.evaluate(Majority::Half).winning, 3);
     /// ```
     pub fn over(sheet: &Sheet, room: &'a mut ListRoom) -> LentEvaluator<'a>
         ensures held { result ≡ sheet.now }
     {
-        // The proof uses these words to show that the weights of a sheet add up to at most 2^48.
+        // The proof uses these words: the weights of a sheet add up to at most `MAX_TOTAL`.
         let _words = sheet.words();
         let weights = weights_of(sheet);
         let (on_left, on_right) = weights.as_slice().split_at(on_left(weights.len()));
@@ -74,7 +94,7 @@ impl<'a> LentEvaluator<'a> {
     }
 
     /// The indices of the sheet under this majority: by their definition (`exact`), and as a value
-    /// that computes (`same`).
+    /// that computes (`same`). Takes the time of `Evaluator::evaluate`.
     pub fn evaluate(&self, majority: Majority) -> Indices
         ensures exact { AreIndices majority self.now result }
         ensures same { result ≡ indices_of majority self.now }
@@ -86,7 +106,7 @@ impl<'a> LentEvaluator<'a> {
 // Lists the sets of the chairs with these weights in borrowed slices.
 fn listed<'a>(weights: &[u64], sums: &'a mut [u64], masks: &'a mut [u16]) -> SumList<'a>
     requires bound { length weights.now ≤ SLOTS }
-    requires small { sum_by (λ n. n) weights.now ≤ 2 ^ 48 }
+    requires small { sum_by (λ n. n) weights.now ≤ MAX_TOTAL }
     requires sums_room { length sums.old ≡ ROOM }
     requires masks_room { length masks.old ≡ ROOM }
     ensures subsets { AreSubsets (chairs_from_slot 0 weights.now) result }

@@ -9,6 +9,7 @@
 //! required takes longer.
 ghost use Rattle.std.specs.Prelude.{◌≡◌, ℕ, ◌+◌, ◌-◌, ◌^◌, ◌<◌, ◌≤◌, ◌*◌, ◌&&◌, ◌||◌, length, not, nat_le};
 ghost use Rattle.std.specs.Prelude.{slice_index, slice_index_or};
+ghost use Rattle.council_core.specs.declared.limits.TheConstants.{MAX_TOTAL};
 ghost use Rattle.half_sums.specs.Entries.{zero_entry};
 ghost use Rattle.swing_walk.specs.Pairs.{large_pairs, large_with};
 ghost use Rattle.swing_walk.specs.Walks.{enough, turned_route, IsNext, StandsAt, StandApart, at_start};
@@ -208,7 +209,7 @@ fn falls_next(low: &Entry, high: &Entry, some_rising: bool, some_falling: bool, 
 // The next entry in ascending order after `passed` entries, or `NO_ENTRY` if all are passed.
 fn next_up(entries: &SumList, passed: usize) -> Entry
     ensures entry { passed < length entries.now → result ≡ slice_index_or entries.now passed zero_entry }
-    ensures small { result.sum ≤ 2 ^ 48 }
+    ensures small { result.sum ≤ MAX_TOTAL }
 {
     if passed < entries.len() {
         entries.at(passed)
@@ -222,7 +223,7 @@ fn next_up(entries: &SumList, passed: usize) -> Entry
 fn next_down(entries: &SumList, rest: usize) -> Entry
     requires within { rest ≤ length entries.now }
     ensures entry { 0 < rest → result ≡ slice_index_or entries.now (rest - 1) zero_entry }
-    ensures small { result.sum ≤ 2 ^ 48 }
+    ensures small { result.sum ≤ MAX_TOTAL }
 {
     if rest > 0 {
         entries.at(rest - 1)

@@ -9,7 +9,7 @@ use Rattle.two_copy_steps.specs.Actions.{pin, reader_action}
 use Rattle.two_copy_steps.specs.Auxiliary.{Auxiliary, IsApart, IsLawful, auxiliary_start, auxiliary_step, record_at, state_of}
 use Rattle.two_copy_steps.specs.Effects.{AnswersEvent, effects, sequential_replies, sequential_start, sequential_steps}
 use Rattle.two_copy_steps.specs.Laws.{AfterLaw, BeginLaw, BeginTransitionLaw, BusyLaw, EffectsLaw, EventLaw, GrowthLaw, HasVotesInRange, IdleTransitionLaw, LedgerLaw, NotesLaw, OutputsLaw, RangeLaw, ReaderLaw, ReaderTransitionLaw, StartLaw, StateKnownLaw, StateUnderLaw, StepCountLaw, SubmitTransitionLaw, WriterLaw, WriterTransitionLaw}
-use Rattle.two_copy_steps.specs.Lawful.{IsPublishable, ShowsSheet, State, begun_by, read_by, written_by}
+use Rattle.two_copy_steps.specs.Lawful.{Fills, IsPublishable, ShowsSheet, State, Stored, begun_by, read_by, written_by}
 use Rattle.two_copy_steps.specs.Runs.{KeepsRecordsReported, WantsMemoryFrom}
 use Rattle.two_copy_steps.specs.Machines.{IsMachine, WantsMemory}
 use Rattle.two_copy_steps.specs.Publications.{IsLeastUnseen}
@@ -20,6 +20,7 @@ use Rattle.two_copy_steps.specs.declared.events.Event.{Event}
 use Rattle.two_copy_steps.specs.declared.events.Event.TheVariants.{Submit, Publish, Writer, Reader}
 use Rattle.two_copy_steps.specs.declared.events.Note.TheVariants.{Began}
 use Rattle.two_copy_steps.specs.declared.views.ReaderView.{ReaderView}
+use Rattle.two_copy_steps.specs.declared.views.Writing.{Writing}
 use Rattle.two_copy_steps.specs.declared.views.Stage.{Stage}
 use Rattle.two_copy_steps.specs.declared.views.Stage.TheVariants.{AtRest, Arrived, Reading, Leaving}
 use Rattle.two_copy_steps.specs.declared.views.Phase.{Phase}
@@ -81,6 +82,12 @@ published_not_staged h = let e = h.writer.begins.1 in cc e
 not_shown : IsLawfulState (at_rest (replicate 70 0) Idle (0 ∷ []) AtRest []) → ⊥
 not_shown h = omega (arith, h.writer.shown 32 (omega arith))
 
+abbrev another_front : List ℕ
+another_front = replicate 32 0 ++ 10 ∷ 7 ∷ []
+
+last_word_not_shown : IsLawfulState (at_rest (0 ∷ another_front ++ first_sheet ++ 0 ∷ []) Idle (0 ∷ []) AtRest []) → ⊥
+last_word_not_shown h = omega (arith, h.writer.shown 33 (omega arith))
+
 -- the last cut is the number of published commands, and none is above it, which follows, or below the one before it
 no_cut_at_all : IsLawfulState (at_rest (words_with_pin 0) Idle [] AtRest []) → ⊥
 no_cut_at_all h = none h.writer.last_cut.0 h.writer.last_cut.1
@@ -107,6 +114,13 @@ fills_under_one h = true≢false (sym h.writer.fills.1.0)
 
 not_all_filled : IsLawfulState (at_rest (0 ∷ first_sheet ++ replicate 35 0) Swapping (0 ∷ []) AtRest []) → ⊥
 not_all_filled h = omega (arith, h.writer.fills.1 32 (omega arith))
+
+last_word_not_filled : IsLawfulState (at_rest (0 ∷ first_sheet ++ another_front ++ 0 ∷ []) Swapping (0 ∷ []) AtRest []) → ⊥
+last_word_not_filled h = omega (arith, h.writer.fills.1 33 (omega arith))
+
+-- word 34 is the last to be stored
+last_word_next : (words : List ℕ) (w : Writing) → Stored one_member.opening (IsPublishable one_member.opening) words w 33 → Fills one_member.opening (IsPublishable one_member.opening) words w (Filling 33)
+last_word_next words w stored = (omega arith, stored)
 
 -- a reader's pin is that of its stage, and it has read sheets of cuts
 pin_left : IsLawfulState (at_rest (words_with_pin 1) Idle (0 ∷ []) AtRest []) → ⊥

@@ -2,7 +2,8 @@
 -- exclude.
 use Rattle.std.proofs.Common.{◌≡◌, ◌+◌, ◌^◌, ◌++◌, ℕ, true, false, List, [], ◌∷◌, replicate, Some, None, refl, sym, ap, arith, true≢false}
 use Rattle.council_core.specs.Ledgers.{Ledger}
-use Rattle.council_core.specs.Sequential.{Sequential, reading, submit}
+use Rattle.council_core.specs.Sequential.{Sequential, answered, reading, submit}
+use Rattle.council_core.specs.declared.calls.Answer.TheVariants as answer
 use Rattle.council_core.specs.declared.commands.Command.TheVariants.{Open, Close}
 use Rattle.council_core.specs.declared.refusals.Refusal.TheVariants.{BadLimit}
 use Rattle.two_copy_steps.specs.Actions.{all_true, cuts_past, filling_phase, first_false, other_side, pin, place, readings_after, seeing_phase, stage_with_words}
@@ -18,7 +19,7 @@ use Rattle.two_copy_steps.specs.Stages.{IsReadable, about_to_leave, last_load, l
 use Rattle.two_copy_steps.specs.States.{EndsWith}
 use Rattle.two_copy_steps.specs.Transitions.{MachineState, is_idle, is_pending, machine_at_start, transition}
 use Rattle.two_copy_steps.specs.declared.events.Event.TheVariants.{Submit, Publish, Writer, Reader}
-use Rattle.two_copy_steps.specs.declared.events.Note.TheVariants.{Accepted, Busy, Moved, Published, Read}
+use Rattle.two_copy_steps.specs.declared.events.Note.TheVariants.{Accepted, Began, Busy, Moved, Published, Read, Refused, Skipped}
 use Rattle.two_copy_steps.specs.declared.views.Stage.TheVariants.{AtRest, Arrived, Reading, Leaving}
 use Rattle.two_copy_steps.specs.declared.views.Phase.TheVariants.{Idle, Seeing, Filling, Swapping}
 use Rattle.two_copy_steps.proofs.WorkedCases.{first_sheet, last_sheet, one_member}
@@ -132,6 +133,17 @@ reply_made_up h = let e = h in cc e
 
 reading_made_up : OutputIsReply [] (λ number. None) (Read 1 first_sheet) → ⊥
 reading_made_up h = let e = h in cc e
+
+-- no publication, refusal, beginning, blocking reader or skipped event is made up either
+publication_made_up : (OutputIsReply [] (λ number. None) (Published 0) → ⊥) × (OutputIsReply (answered (answer.Published 1) ∷ []) (λ number. None) (Published 0) → ⊥)
+publication_made_up = ((λ h. let e = h in cc e), λ h. let e = h in cc e)
+
+refusal_made_up : (OutputIsReply [] (λ number. None) (Refused BadLimit) → ⊥) × (OutputIsReply (answered (answer.Refused BadLimit) ∷ []) (λ number. None) (Accepted 1) → ⊥)
+refusal_made_up = ((λ h. let e = h in cc e), λ h. let e = h in cc e)
+
+reply_passed_over : (OutputIsReply (answered (answer.Published 0) ∷ []) (λ number. None) Began → ⊥) × (OutputIsReply (answered (answer.Published 0) ∷ []) (λ number. None) (Busy 1) → ⊥)
+    × (OutputIsReply (answered (answer.Accepted 1) ∷ []) (λ number. None) Skipped → ⊥)
+reply_passed_over = ((λ h. let e = h in cc e), (λ h. let e = h in cc e), λ h. let e = h in cc e)
 
 reading_of_another : OutputIsReply [] (λ number. Some (reading last_sheet)) (Read 1 first_sheet) → ⊥
 reading_of_another h = let e = h in cc e

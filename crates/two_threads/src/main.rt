@@ -1,5 +1,4 @@
-//! An example program: a writer, two readers and an analyst of one board, each in a separate
-//! thread, and an audit of their results.
+//! An example program: a writer and a reader of one board, each in a separate thread, and an audit of the readings.
 #![tactic(auto)]
 
 mod faults;
@@ -8,7 +7,6 @@ mod work;
 
 use council_core::{ChairId, Command, MemberCode, Refusal, Votes};
 use faults::SessionFault;
-use power_index::Indices;
 use sessions::{Session, hold};
 use std::alloc::Global;
 use std::io;
@@ -39,32 +37,11 @@ fn commands(members: &[(MemberCode, Votes); 3]) -> Result<[Command; 6], Refusal>
     ])
 }
 
-// Prints what doesn't depend on the threads' schedule: the numbers of publications and readings,
-// and the last answer.
+// Prints what doesn't depend on the threads' schedule: the numbers of publications and readings.
 fn report(rt: &(impl Print + Alloc), session: &Session) -> io::Result<()> {
     println!(rt; "published {} times", session.cuts.len())?;
-    for (at, sheets) in session.readings.iter().enumerate() {
-        println!(rt; "reader {}: {} readings", at + 1, sheets.len())?;
-    }
-    report_indices(rt, &session.answer.indices)?;
+    println!(rt; "{} readings", session.sheets.len())?;
     println!(rt; "audit: ok")
-}
-
-// Prints the indices, with one line for each chair.
-fn report_indices(rt: &(impl Print + Alloc), indices: &Indices) -> io::Result<()> {
-    println!(rt;
-        "after {} commands {} of {} coalitions win",
-        indices.front, indices.winning, indices.coalitions
-    )?;
-    for row in &indices.rows {
-        println!(rt;
-            "chair {}: {} votes, {} swings",
-            row.chair.number(),
-            row.weight,
-            row.swings
-        )?;
-    }
-    Ok(())
 }
 
 // Holds a session and returns its result, or the error that ended it early.

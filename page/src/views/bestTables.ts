@@ -1,6 +1,6 @@
 /** The tables of single moves: those to one chair, and those that change any chair most. */
 import type { App } from "../app";
-import { chairsWords, gainText, valueText } from "../compare";
+import { chairsWords, gainText, gainUnit, gainWords, valueText } from "../compare";
 import { chairWords, memberWords } from "../commandWords";
 import { button, h, type Child } from "../dom";
 import { fractionText, grouped } from "../fractions";
@@ -69,7 +69,7 @@ function tableOf(moves: Moves, words: string, more: readonly string[], cells: (r
 /** The moves to a chair, with the chair's measure after each. */
 export function movesToChair(moves: Moves, chair: number): HTMLElement {
   const { measure, digits } = moves.app.view;
-  const heads = ["Votes", MEASURE[measure].label, "Added"];
+  const heads = ["Votes", MEASURE[measure].label, `Added${gainUnit(measure, ", ")}`];
   return tableOf(moves, `Moves to chair ${chair}`, heads, ({ member, value, gain }) => [
     h("td", {}, grouped(member.votes)),
     h("td", { title: fractionText(value) }, valueText(value, measure, digits)),
@@ -85,7 +85,7 @@ export function movesToAny(moves: Moves): HTMLElement {
     if (!found) return h("td", { class: "text" }, "nobody");
     const who = chairsWords(found.chairs.map((chair) => ({ chair, name: standing.name(chair) })));
     return h("td", { class: "text", title: `made here: ${fractionText(found.gain)}` },
-      `${who} (${gainText(found.gain, measure, digits)})`,
+      `${who} (${gainWords(found.gain, measure, digits)})`,
     );
   };
   const heads = ["To", "Gains most", "Loses most"];

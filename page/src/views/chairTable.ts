@@ -1,23 +1,24 @@
 /** The table of chairs: votes and measures, base and changed, as decimals or as fractions. */
 import type { App } from "../app";
 import { comparedLabel, type Columns, type Line } from "../columns";
-import { gainText, valueText, type ChairRow } from "../compare";
+import { gainText, gainUnit, valueText, type ChairRow } from "../compare";
 import { button, h, type Child } from "../dom";
 import { plainCell } from "../csv";
-import { difference, fractionText, grouped, percent, signed, type Ratio } from "../fractions";
+import { difference, fractionText, grouped, percent, type Ratio } from "../fractions";
 import { isolated } from "../names";
 import { measureOf, type ChairReading } from "../reading";
 import type { View } from "../study";
 import { MAJORITY, MEASURE, type Majority, type Measure } from "../words";
 
-/** A cell: its decimal, its fraction, and its source. */
+/** A cell: its decimal, the unit that it lacks because the heading has it, its fraction, and its source. */
 interface Cell {
   readonly decimal: string;
+  readonly unit: string;
   readonly fraction: string;
   readonly source: string;
 }
 
-const EMPTY: Cell = { decimal: "", fraction: "-", source: "the chair isn't open here" };
+const EMPTY: Cell = { decimal: "", unit: "", fraction: "-", source: "the chair isn't open here" };
 
 function countedCell(chair: ChairReading | undefined, measure: Measure, digits: number): Cell {
   if (!chair) return EMPTY;
@@ -25,13 +26,15 @@ function countedCell(chair: ChairReading | undefined, measure: Measure, digits: 
   const fraction = measure === "swings" ? String(chair.swings) : fractionText(ratio);
   return {
     decimal: valueText(ratio, measure, digits),
+    unit: "",
     fraction,
     source: `counted: ${MEASURE[measure].column}`,
   };
 }
 
-function madeCell(ratio: Ratio | null, decimal: string, source: string): Cell {
-  return ratio ? { decimal, fraction: fractionText(ratio), source: `made here: ${source}` } : EMPTY;
+/** The cell of a fraction that is made here: its decimal, its source, and the unit in the heading. */
+function madeCell(ratio: Ratio | null | undefined, decimal: string, source: string, unit = ""): Cell {
+  return ratio ? { decimal, unit, fraction: fractionText(ratio), source: `made here: ${source}` } : EMPTY;
 }
 
 /** The cells of votes: in the base and in each column. All majorities have the same. */
@@ -40,24 +43,24 @@ function weightCells({ cells }: Line): Cell[] {
     const [first] = row?.at.values() ?? [];
     const chair = first?.[side];
     if (!chair) return EMPTY;
-    return { decimal: grouped(chair.weight), fraction: String(chair.weight), source: "counted: WEIGHT" };
+    return { decimal: grouped(chair.weight), unit: "", fraction: String(chair.weight), source: "counted: WEIGHT" };
   };
   return [weight(cells[0], "before"), ...cells.map((it) => weight(it, "after"))];
 }
 
-/** What is added in a column, in words: `changed less base`. */
-function lessWords({ list }: Columns, at: number, view: View): string {
-  return `${list[at]?.label ?? ""} less ${comparedLabel(list, at, view)}`;
+/** The cell of what is added to a measure in a column. */
+function addedCell(gain: Ratio | null, measure: Measure, { list }: Columns, at: number, view: View): Cell {
+  const source = `${list[at]?.label ?? ""} less ${comparedLabel(list, at, view)}`;
+  return madeCell(gain, gainText(gain, measure, view.digits), source, gainUnit(measure));
 }
 
 /** The cells of shares of votes: in the base, then in each column with what is added. */
 function shareCells({ cells }: Line, columns: Columns, view: View): Cell[] {
   const share = (ratio: Ratio | null | undefined) =>
-    madeCell(ratio ?? null, ratio ? `${percent(ratio, view.digits)} %` : "", "WEIGHT/CAST");
+    madeCell(ratio, ratio ? `${percent(ratio, view.digits)} %` : "", "WEIGHT/CAST");
   const rest = cells.flatMap((it, at) => {
     const added = difference(it?.votesAfter ?? null, it?.votesBefore ?? null);
-    const words = added ? signed(percent(added, view.digits)) : "";
-    return [share(it?.votesAfter), madeCell(added, words, `${lessWords(columns, at, view)}, in points`)];
+    return [share(it?.votesAfter), addedCell(added, "share", columns, at, view)];
   });
   return [share(cells[0]?.votesBefore), ...rest];
 }
@@ -67,8 +70,7 @@ function powerCells({ cells }: Line, columns: Columns, view: View, majority: Maj
   const { measure, digits } = view;
   const rest = cells.flatMap((it, at) => {
     const { after, gain } = it?.at.get(majority) ?? {};
-    const added = madeCell(gain ?? null, gainText(gain ?? null, measure, digits), lessWords(columns, at, view));
-    return [countedCell(after, measure, digits), added];
+    return [countedCell(after, measure, digits), addedCell(gain ?? null, measure, columns, at, view)];
   });
   return [countedCell(cells[0]?.at.get(majority)?.before, measure, digits), ...rest];
 }
@@ -97,12 +99,15 @@ function head(group: string, own: string, mark: Head["mark"], words = `${group},
 interface Things {
   readonly group: string;
   readonly mark: Head["mark"];
-  /** What is added, in words, and its unit. */
-  readonly added: string;
-  readonly unit: string;
+  /** What is added to, whose gains may have a unit, and the words of its majority. */
+  readonly measure: Measure;
+  readonly majority: string;
 }
 
-function groupHeads({ group, mark, added, unit }: Things, { list, isOne }: Columns, view: View): Head[] {
+/** The headings of columns of one thing. Over decimals they have the unit of what is added; fractions have none. */
+function groupHeads({ group, mark, measure, majority }: Things, { list, isOne }: Columns, view: View): Head[] {
+  const unit = view.fractions ? "" : gainUnit(measure, ", ");
+  const added = `Added${unit}${majority}`;
   const rest = list.flatMap((it, at) => {
     const [label, other] = [isolated(it.label), isolated(comparedLabel(list, at, view))];
     const own = isOne ? `added${unit}` : `added${unit}, less ${other}`;
@@ -115,13 +120,12 @@ function groupHeads({ group, mark, added, unit }: Things, { list, isOne }: Colum
 /** The headings of all columns: the first two are the chair's number and its name. */
 export function headsOf(columns: Columns, view: View): Head[] {
   const { majorities, measure } = view;
-  const unit = measure === "share" ? ", points" : "";
   const powers = majorities.flatMap((it) => {
     const { label } = MAJORITY[it];
     const group = `${MEASURE[measure].label}, ${label}`;
-    return groupHeads({ group, mark: "counted", added: `Added${unit}, ${label}`, unit }, columns, view);
+    return groupHeads({ group, mark: "counted", measure, majority: `, ${label}` }, columns, view);
   });
-  const share: Things = { group: "Share of votes", mark: "made here", added: "Added, points", unit: ", points" };
+  const share: Things = { group: "Share of votes", mark: "made here", measure: "share", majority: "" };
   return [
     head("", "Chair", "counted", "Chair"),
     head("", "Name", "given", "Name"),
@@ -144,14 +148,14 @@ export function tableText(columns: Columns, view: View): string {
   return [heads, ...cells].map((line) => `${line.join("\t")}\n`).join("");
 }
 
-/** The exact fractions of a row in words. */
+/** The exact fractions of a row in words. Each decimal has its unit, so the headings are those of fractions. */
 export function rowWords(line: Line, columns: Columns, view: View): Child[] {
-  const heads = headsOf(columns, view).slice(2).map((it) => it.words);
+  const heads = headsOf(columns, { ...view, fractions: true }).slice(2).map((it) => it.words);
   const items = cellsOf(line, columns, view).map((cell, at) => {
     return cell.decimal ? h(
       "li",
       { title: cell.source },
-      `${heads[at]}: ${cell.decimal} = ${cell.fraction} (${cell.source})`,
+      `${heads[at]}: ${cell.decimal}${cell.unit} = ${cell.fraction} (${cell.source})`,
     ) : null;
   });
   return [h("strong", {}, `${line.chair} ${isolated(line.name)}`), h("ul", {}, items)];

@@ -17,7 +17,7 @@ import { MOST_STEPS } from "../steps";
 import {
   AGAINST, COLUMNS, ORDERS, TABS, type Against, type ColumnsShown, type Order, type Tab,
 } from "../study";
-import { MAJORITIES, MAJORITY, MEASURE, MEASURES, type Majority, type Measure } from "../words";
+import { MAJORITIES, MAJORITY, measureTitle, MEASURES, type Majority, type Measure } from "../words";
 
 const ORDER_WORDS: Readonly<Record<Order, string>> = {
   number: "number",
@@ -57,7 +57,7 @@ function paintChoices(app: App): void {
     });
     return h("label", { title: MAJORITY[majority].rule }, box, MAJORITY[majority].label);
   });
-  const measures = MEASURES.map((it): [string, string] => [it, MEASURE[it].label]);
+  const measures = MEASURES.map((it): [string, string] => [it, measureTitle(it)]);
   const orders = ORDERS.map((it): [string, string] => [it, ORDER_WORDS[it]]);
   const ats = view.majorities.map((it): [string, string] => [it, MAJORITY[it].label]);
   const digits = [0, 1, 2, 3, 4, 6, 8, 10].map((it): [string, string] => [String(it), String(it)]);

@@ -1,20 +1,21 @@
 /** The foot: definitions of the measures, marks, sources, how to cite, script and lines, and licences. */
 import type { App } from "../app";
+import { SOURCES } from "../cited";
 import { openDialog } from "../dialogs";
 import { byId, button, h, paint, type Child } from "../dom";
 import licences from "../licences.txt";
 import { firstLines, provenanceOf, studySource } from "../provenance";
-import { MAJORITY, MEASURE } from "../words";
+import { MAJORITY, MEASURE, measureTitle } from "../words";
 import { openCitation } from "./citation";
 
 function definitions({ view }: App): HTMLElement {
-  const { column, definition, label, source } = MEASURE[view.measure];
+  const { column, definition, source } = MEASURE[view.measure];
   const majorities = view.majorities.map((it) => [
     h("dt", {}, MAJORITY[it].label),
-    h("dd", {}, `${MAJORITY[it].rule}. Articles of Agreement, ${MAJORITY[it].article}.`),
+    h("dd", {}, `${MAJORITY[it].rule}. Articles of Agreement, ${MAJORITY[it].article}: ${MAJORITY[it].about}.`),
   ]);
   return h("dl", {},
-    h("dt", {}, label), h("dd", {}, `${definition} (${source}; ${column} in the lines).`),
+    h("dt", {}, measureTitle(view.measure)), h("dd", {}, `${definition} (${source}; ${column} in the lines).`),
     h("dt", {}, "Votes"), h(
       "dd",
       {},
@@ -40,19 +41,6 @@ const MARKS: readonly (readonly [string, string])[] = [
       "too. What the tab Coalition says of coalitions is made here, from counted votes and quotas.",
   ],
   ["given", "from the table, with its row and column."],
-];
-
-const SOURCES = [
-  "Banzhaf, John F., III (1965). Weighted voting doesn't work: a mathematical analysis. Rutgers Law Review " +
-    "19(2), 317-343.",
-  "Coleman, James S. (1971). Control of collectivities and the power of a collectivity to act. In Bernhardt " +
-    "Lieberman (ed.), Social Choice. Gordon and Breach, New York, 269-300.",
-  "Felsenthal, Dan S., and Moshé Machover (1998). The Measurement of Voting Power: Theory and Practice, " +
-    "Problems and Paradoxes. Edward Elgar, Cheltenham.",
-  "International Monetary Fund. Articles of Agreement. Article III, Section 2(c); Article XII, Sections 3(h), " +
-    "3(i), 5(a) and 5(c); Article XXVI, Section 2(b); Schedule L.",
-  "Penrose, Lionel S. (1946). The elementary statistics of majority voting. Journal of the Royal Statistical " +
-    "Society 109(1), 53-57.",
 ];
 
 function given({ study }: App): Child {
@@ -160,7 +148,9 @@ export function paintFoot(app: App): void {
     h(
       "p",
       { class: "note" },
-      "This page makes no request to any network, and keeps nothing. The figures at 85 per cent say what blocks " +
+      "The numbers measure a-priori power: all coalitions count as equally likely. They say nothing of preferences, " +
+        "persuasion or bargaining. " +
+        "This page makes no request to any network, and keeps nothing. The figures at 85 per cent say what blocks " +
         "of votes would be worth under that majority.",
     ),
   );

@@ -1,4 +1,4 @@
-/** The smallest winning coalitions with a chair, and the chairs that every winning coalition has. */
+/** The smallest winning coalitions with a chair, and the chairs that have a veto. */
 import { smallestWith, subsetsWithout, vetoChairs, votesOf, type Smallest } from "../coalitions";
 import { button, byId, choice, h, paint, type Child } from "../dom";
 import { counted, grouped } from "../fractions";
@@ -85,8 +85,8 @@ function vetoWords(looked: Looked, reading: Reading): Child {
 function vetoes(looked: Looked): Child {
   const items = looked.readings.map((it) => h("li", { "data-majority": it.majority }, vetoWords(looked, it)));
   return [
-    h("h3", {}, "Veto chairs"),
-    h("p", { class: "note" }, "A veto chair is in every winning coalition: nothing passes without it. Made here."),
+    h("h3", {}, "Chairs with a veto"),
+    h("p", { class: "note" }, "A chair has a veto if no coalition without it wins. Made here."),
     h("ul", { id: "vetoes" }, items),
   ];
 }
@@ -109,7 +109,7 @@ function choices(looked: Looked, chair: number, tickThem: TickThem): HTMLElement
   );
 }
 
-/** The part of the tab with the smallest winning coalitions and the veto chairs. */
+/** The part of the tab with the smallest winning coalitions and the chairs with a veto. */
 export function smallestPart(looked: Looked, tickThem: TickThem): Child {
   const { app: { open: { ticks } }, chairs, readings } = looked;
   const { chair = 0 } = chairs.find((it) => it.chair === ticks.chair) ?? chairs[0] ?? {};

@@ -1,4 +1,4 @@
-/** The dialog of thresholds: from how many votes a chair prevents everything, carries everything alone, and so on. */
+/** The dialog of thresholds: from how many votes a chair has a veto, carries everything alone, and so on. */
 import type { App, Shown } from "../app";
 import { copy } from "../clipboard";
 import type { Thresholds, ThresholdsAsked } from "../count";

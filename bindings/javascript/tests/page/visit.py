@@ -17,8 +17,8 @@ from pathlib import Path
 from typing import Any
 
 HERE = Path(__file__).resolve().parent
-sys.path.insert(0, str(HERE.parents[3] / "tests" / "python"))
-from board_checks.browser_visit import started  # noqa: E402
+sys.path.insert(0, str(HERE.parents[3]))
+from tests.shared.browser import started  # noqa: E402
 from selenium.webdriver.support.ui import WebDriverWait  # noqa: E402
 
 SECONDS = 300

@@ -6,18 +6,12 @@ from fractions import Fraction
 from itertools import groupby
 from typing import TYPE_CHECKING
 
-from .names import Majority
+from .names import BEGINNINGS, Majority
 from .results import IndexName
 
 if TYPE_CHECKING:
     from .studies import Result, Swept, Threshold
 
-AT: dict[Majority, str] = {
-    "half": "At a simple majority",
-    "70": "At 70 per cent",
-    "85": "At 85 per cent",
-    "quorum": "For the quorum",
-}
 NAMES: dict[IndexName, str] = {
     "share": "share of power",
     "banzhaf": "Banzhaf measure",
@@ -28,8 +22,8 @@ PLACES, PERCENT_PLACES = 6, 3
 UNITS = [10**places for places in range(11)]
 #: What begins to hold at a threshold, and what ends.
 WORDS = {
-    ("prevents", True): "can prevent every decision alone",
-    ("prevents", False): "can no longer prevent every decision alone",
+    ("prevents", True): "has a veto",
+    ("prevents", False): "no longer has a veto",
     ("powerless", True): "has no power",
     ("powerless", False): "has power",
 }
@@ -100,19 +94,19 @@ def opened_words(result: Result, base: Result, majority: Majority, index: IndexN
 def gain_sentence(result: Result, majority: Majority, index: IndexName) -> str:
     """The greatest gain and loss at a majority."""
     if not result.indices[majority].omega:
-        return f"{AT[majority]} no coalition wins."
+        return f"{BEGINNINGS[majority]} no coalition wins."
     if result.base is None:
         chairs = [(getattr(it, index), it.chair) for it in result.indices[majority].chairs if getattr(it, index)]
         most = max((value for value, _ in chairs), default=Fraction(0))
         first = [chair for value, chair in chairs if value == most]
         words = f"{'has' if len(first) == 1 else 'have'} most, {value_words(most, index)}"
-        return f"{AT[majority]}, in {NAMES[index]}: {chairs_words(result, first)} {words}."
+        return f"{BEGINNINGS[majority]}, in {NAMES[index]}: {chairs_words(result, first)} {words}."
     if not result.base.indices[majority].omega:
-        return f"{AT[majority]} no coalition wins in the base, so nothing can be compared."
+        return f"{BEGINNINGS[majority]} no coalition wins in the base, so nothing can be compared."
     over, under = result.gains_over(index, majority)
     both = "; ".join(most_words(result, index, over, under, verb) for verb in ("gain", "lose"))
     said = both if any(over.values()) else "no chair gains, and no chair loses"
-    return f"{AT[majority]}, in {NAMES[index]}: {said}.{opened_words(result, result.base, majority, index)}"
+    return f"{BEGINNINGS[majority]}, in {NAMES[index]}: {said}.{opened_words(result, result.base, majority, index)}"
 
 
 def kind_words(result: Result, chairs: Sequence[int], words: str) -> str:
@@ -128,8 +122,8 @@ def threshold_sentence(swept: Swept, found: Sequence[Threshold]) -> str:
     said = "; ".join(kind_words(swept.steps[0], chairs, words) for words, chairs in kinds.items())
     share = decimal(100 * first.share.numerator, first.share.denominator, PERCENT_PLACES)
     return (
-        f"{AT[first.majority]}, from {votes_words(first.votes)} of {swept.sweep.who} on, {share} per cent of the total "
-        f"voting power: {said}. With {votes_words(first.votes - 1)} it is not so."
+        f"{BEGINNINGS[first.majority]}, from {votes_words(first.votes)} of {swept.sweep.who} on, {share} per cent of "
+        f"the total voting power: {said}. With {votes_words(first.votes - 1)} it is not so."
     )
 
 
@@ -139,17 +133,17 @@ def steady_sentence(swept: Swept, majority: Majority) -> str:
 
     found, first = [it.indices[majority] for it in swept.steps], swept.steps[0]
     if not any(it.omega for it in found):
-        return f"{AT[majority]} no coalition wins at any step."
+        return f"{BEGINNINGS[majority]} no coalition wins at any step."
     kinds = [kinds_of(it, swept.seats) for it in found]
     always = [key for key in kinds[0] if all(it[key] for it in kinds)]
     never = [key for key in kinds[0] if not any(it[key] for it in kinds)]
     statements = [
-        ([it for it in swept.seats if (it, "prevents") in always], "can prevent every decision alone at each step"),
-        ([it for it in swept.seats if (it, "prevents") in never], "cannot prevent every decision alone at any step"),
+        ([it for it in swept.seats if (it, "prevents") in always], "has a veto at each step"),
+        ([it for it in swept.seats if (it, "prevents") in never], "has no veto at any step"),
         ([it for it, kind in always if kind == "powerless"], "has no power at any step"),
     ]
     said = [kind_words(first, chairs, words) for chairs, words in statements if chairs]
-    return f"{AT[majority]}: {'; '.join(said)}." if said else ""
+    return f"{BEGINNINGS[majority]}: {'; '.join(said)}." if said else ""
 
 
 def sweep_sentences(swept: Swept) -> list[str]:

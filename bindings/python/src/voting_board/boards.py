@@ -6,8 +6,8 @@ from ctypes import addressof, c_uint64
 from typing import Optional
 
 from .library import COUNT_WORDS, SHEET_WORDS, long, rooms
-from .names import ALLOWED, CHAIRS, MAJORITIES, TOTAL_VOTES, Majority
-from .refusals import BAD_SHEET, Refused, check_done
+from .names import ALLOWED, BAD_SHEET, CHAIRS, MAJORITIES, TOTAL_VOTES, Majority
+from .refusals import Refused, check_done
 from .results import Indices, fields_in
 from .tables import Table, members_of
 from .values import Weights, Whole, chair_of, items_of, number_of, total_of, weights_of

@@ -10,6 +10,7 @@ from collections.abc import Callable, Iterable, Sequence
 from pathlib import Path
 
 from .amounts import BadStudy
+from .names import MAJORITIES
 
 #: How a file that the commands write may begin: a table, the page, and a figure.
 TABLE, PAGE, SVG, PDF = "(scenario|reading),", r"<!DOCTYPE html>.*id=\"study-data\"", r"<\?xml.*board-", "%PDF-"
@@ -32,7 +33,7 @@ def ended(parser: argparse.ArgumentParser, make: Callable[[argparse.Namespace], 
     except BrokenPipeError:
         os.dup2(os.open(os.devnull, os.O_WRONLY), 1)
     except ImportError as why:
-        needed = "pip install 'voting-board[pandas,plot]' installs what this needs"
+        needed = "pip install numpy pandas matplotlib installs what this needs"
         say(command, [f"{why.name or why} isn't here: {needed}", "nothing was written"])
         return 1
     except (ValueError, OSError) as why:
@@ -84,8 +85,8 @@ def add_figure_words(parser: argparse.ArgumentParser) -> None:
 def majorities(text: str) -> list[str]:
     """The majorities that an argument lists, each once."""
     found = text.split(",")
-    if not set(found) <= {"half", "70", "85", "quorum"} or len(set(found)) != len(found):
-        raise argparse.ArgumentTypeError(f"{text!r}: the majorities are half, 70, 85 and quorum, each once")
+    if not set(found) <= set(MAJORITIES) or len(set(found)) != len(found):
+        raise argparse.ArgumentTypeError(f"{text!r}: majorities are any of {', '.join(MAJORITIES)}, each once")
     return found
 
 

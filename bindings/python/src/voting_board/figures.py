@@ -37,9 +37,18 @@ FONTS = ("DejaVu Sans", "Noto Sans", "Noto Sans CJK SC", "Noto Sans CJK JP", "We
 #: Inches: the width, and the heights of a row of names and of a panel.
 WIDTH, ROW, PANEL = 6.5, 0.24, 2.6
 SETTINGS: dict[str, Any] = {
-    "svg.hashsalt": "board", "svg.fonttype": "none", "pdf.fonttype": 42, "font.size": 9, "text.parse_math": False,
-    "axes.spines.top": False, "axes.spines.right": False, "axes.grid": True, "grid.color": "#d8d8d8",
-    "axes.axisbelow": True, "axes.formatter.useoffset": False, "hatch.linewidth": 0.6,
+    "svg.hashsalt": "board",
+    "svg.fonttype": "none",
+    "pdf.fonttype": 42,
+    "font.size": 9,
+    "text.parse_math": False,
+    "axes.spines.top": False,
+    "axes.spines.right": False,
+    "axes.grid": True,
+    "grid.color": "#d8d8d8",
+    "axes.axisbelow": True,
+    "axes.formatter.useoffset": False,
+    "hatch.linewidth": 0.6,
 }
 
 
@@ -94,8 +103,10 @@ def name_rows(axes: Axes, frame: DataFrame) -> None:
 
 def dot_plot(frame: DataFrame, index: IndexName) -> Figure:
     """A measure at each majority next to the share of the votes, the chair with the most votes on top."""
-    groups = {majority: own.sort_values(["weight", "chair"], ascending=[False, True]) for majority, own
-              in frame.groupby("majority", sort=False)}
+    groups = {
+        majority: own.sort_values(["weight", "chair"], ascending=[False, True])
+        for majority, own in frame.groupby("majority", sort=False)
+    }
     first = next(iter(groups.values()))
     figure, [axes] = empty(1, ROW * len(first))
     if index == "share":
@@ -113,8 +124,10 @@ def dot_plot(frame: DataFrame, index: IndexName) -> Figure:
 
 def bar_plot(frame: DataFrame, index: IndexName) -> Figure:
     """The gains over the base at each majority, the chair with the most votes on top."""
-    groups = [(majority, own.sort_values(["weight", "chair"], ascending=[False, True])) for majority, own
-              in frame.groupby("majority", sort=False)]
+    groups = [
+        (majority, own.sort_values(["weight", "chair"], ascending=[False, True]))
+        for majority, own in frame.groupby("majority", sort=False)
+    ]
     thick = 0.8 / len(groups)
     figure, [axes] = empty(1, ROW * len(groups[0][1]) * max(1, len(groups) / 2))
     for at, (majority, own) in enumerate(groups):

@@ -3,13 +3,13 @@ from __future__ import annotations
 
 import os
 from array import array
-from collections.abc import Iterable, Iterator
+from collections.abc import Callable, Iterable, Iterator, Sequence
 from concurrent.futures import ThreadPoolExecutor
 from ctypes import addressof
 from dataclasses import dataclass, field
 from functools import partial
 from itertools import repeat
-from typing import TYPE_CHECKING, Any, Optional, Union
+from typing import TYPE_CHECKING, Any, Optional, TypeVar, Union
 
 from .boards import sheet_of
 from .library import COUNT_WORDS, FIRST_ROW, ROW_WORDS, SHEET_WORDS, long, rooms
@@ -32,6 +32,8 @@ QUOTA, LEAST_SIZE, OMEGA, SWINGS = 0, 1, 5, FIRST_ROW + 2
 #: As many boards are counted between two looks at whether the call was interrupted.
 CHUNK = 16
 Rows = Union["DataFrame", Iterable[Weights]]
+Item = TypeVar("Item")
+Found = TypeVar("Found")
 
 
 @dataclass(frozen=True, eq=False)
@@ -46,8 +48,8 @@ class ManyIndices:
     chairs: the number of chairs of each board
     total: the total voting power of each board, in votes
     weights: the weights in votes, by board and chair
-    quota: the least weight that wins, in votes, by board and majority
-    least_size: the least number of chairs that wins, by board and majority
+    quota: the least weight that can win, in votes, by board and majority
+    least_size: the least number of chairs that can win, by board and majority
     omega: the number of winning coalitions, by board and majority
     swings: the swings, by board, majority and chair
     names: the names of the chairs of each board, where its row had names
@@ -99,20 +101,22 @@ class ManyIndices:
         floats: Floats = shaped(found, len(self), len(self.majorities), width)
         return floats
 
-    def to_dataframe(self) -> DataFrame:
+    def to_dataframe(self, *, floats: bool = True) -> DataFrame:
         """A table of pandas with a row for each chair of each board at each majority: board (counted from 0), majority,
-        chair, name (if any chair has one), weight, swings, and the indices as floats."""
+        chair, name (if any chair has one), weight, swings, and the indices as floats. With `floats=False` they are
+        exact fractions, as in the table of an `Indices`."""
         from pandas import DataFrame
 
         rows: list[dict[str, Cell]] = [
             {"board": board, "majority": majority, **record}
             for board, counts in enumerate(self)
             for majority in self.majorities
-            for record in counts[majority].records(floats=True)
+            for record in counts[majority].records(floats=floats)
         ]
         names = ["name"] if any(self.names) else []
         columns = ["board", "majority", "chair", *names, "weight", "swings", *INDEX_NAMES]
-        return DataFrame(rows, columns=columns).astype(dict.fromkeys(INDEX_NAMES, float))
+        table = DataFrame(rows, columns=columns)
+        return table.astype(dict.fromkeys(INDEX_NAMES, float)) if floats else table
 
     def __reduce__(self) -> tuple[object, ...]:
         arrays = [getattr(self, name).tobytes() for name in ARRAYS]
@@ -183,17 +187,18 @@ class Job:
 
     def run(self, boards: int, processors: int) -> None:
         """Counts all boards, on some processors at a time."""
-        chunks = [range(at, min(at + CHUNK, boards)) for at in range(0, boards, CHUNK)]
-        if min(processors, len(chunks)) < 2:
-            for chunk in chunks:
-                self.count(chunk)
-            return
-        pool = ThreadPoolExecutor(processors)
-        try:
-            for _ in pool.map(self.count, chunks):
-                pass
-        finally:
-            pool.shutdown(cancel_futures=True)
+        in_threads(self.count, [range(at, min(at + CHUNK, boards)) for at in range(0, boards, CHUNK)], processors)
+
+
+def in_threads(call: Callable[[Item], Found], items: Sequence[Item], threads: int) -> list[Found]:
+    """The results of a call for each item, in the order of the items, by some threads at a time."""
+    if min(threads, len(items)) < 2:
+        return list(map(call, items))
+    pool = ThreadPoolExecutor(threads)
+    try:
+        return list(pool.map(call, items))
+    finally:
+        pool.shutdown(cancel_futures=True)
 
 
 def all_processors() -> int:

@@ -1,4 +1,4 @@
-"""The names, limits and sentences of the library. Made by tools/names from the sources: do not edit."""
+"""The names, limits and sentences of the library. Made by tools/made from the sources: do not edit."""
 
 from typing import Literal
 
@@ -22,6 +22,14 @@ MEANINGS: dict[Majority, str] = {
     "70": "at least one vote, and at least 70 per cent of the total",
     "85": "at least one vote, and at least 85 per cent of the total",
     "quorum": "more than half of the open chairs, with at least half of the total",
+}
+
+#: How a sentence on each majority begins.
+BEGINNINGS: dict[Majority, str] = {
+    "half": "At a simple majority",
+    "70": "At 70 per cent",
+    "85": "At 85 per cent",
+    "quorum": "For the quorum",
 }
 
 Kind = Literal[
@@ -87,6 +95,46 @@ REFUSALS: dict[int, tuple[str, str]] = {
     34: ("NoRegister", "the handle has no register"),
     35: ("BadIndex", "there is no item at this index"),
 }
+CHAIR_OPEN = 1
+CHAIR_NOT_OPEN = 2
+CHAIR_HAS_MEMBERS = 3
+UNKNOWN_MEMBER = 4
+MEMBER_SUSPENDED = 5
+ALREADY_THERE = 6
+ALREADY_SUSPENDED = 7
+NOT_SUSPENDED = 8
+JOURNAL_FULL = 9
+OUT_OF_MEMORY = 10
+DUPLICATE_MEMBER = 11
+TOO_MANY_MEMBERS = 12
+BAD_LIMIT = 13
+BAD_CHAIR = 14
+BAD_MEMBER = 15
+VOTES_TOO_LARGE = 16
+BAD_RECORD = 17
+NO_ENTRY = 18
+READ_FAULT = 19
+WRITE_FAULT = 20
+BAD_HEADER = 21
+BAD_READER = 22
+BUSY = 23
+MISMATCH = 24
+MEMBER_EXISTS = 25
+MEMBER_SEATED = 26
+GATE_CLOSED = 27
+NO_SCRIPT = 28
+TOO_LONG = 29
+BAD_JOURNAL = 30
+BAD_CUTS = 31
+BAD_SHEET = 32
+TOO_MANY_CHAIRS = 33
+NO_REGISTER = 34
+BAD_INDEX = 35
+TRAPPED = 255
+IMPOSSIBLE = "the library came to a point that its proof rules out: the compiler or the machine is at fault"
+
+#: The columns of a table of members.
+COLUMNS = ("code", "name", "votes", "chair", "chair_name", "suspended")
 
 #: What is allowed for a value.
 ALLOWED: dict[str, str] = {

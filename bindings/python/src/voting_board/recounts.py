@@ -6,6 +6,7 @@ from typing import Any
 
 import numpy
 
+from .names import MAJORITIES
 from .results import Indices
 
 #: The number of chairs that are counted in one array; for each set of the others there is an array.
@@ -21,7 +22,9 @@ def winning(weights: Numbers, sizes: Numbers, of: Indices) -> Numbers:
         return (weights >= 1) & (10 * weights >= 7 * of.total)
     if of.majority == "85":
         return (weights >= 1) & (20 * weights >= 17 * of.total)
-    return (2 * sizes > len(of.weights)) & (2 * weights >= of.total)
+    if of.majority == "quorum":
+        return (2 * sizes > len(of.weights)) & (2 * weights >= of.total)
+    raise ValueError(f"no rule for the majority {of.majority}")
 
 
 def all_sums(values: list[int]) -> Numbers:
@@ -83,6 +86,6 @@ def drawn_script(lot: Random, chairs: int) -> str:
         *(f"move,{code},{chair}" for code, chair in zip(codes, seats)),
         f"suspend,{lot.choice(codes[:-1])}",
         "publish",
-        *(f"read,1,{majority}" for majority in ("half", "70", "85", "quorum")),
+        *(f"read,1,{majority}" for majority in MAJORITIES),
     ]
     return "\n".join([*records, ""])

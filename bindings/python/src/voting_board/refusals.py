@@ -3,23 +3,9 @@ from __future__ import annotations
 
 from typing import Optional
 
-from .names import REFUSALS
+from .names import IMPOSSIBLE, OUT_OF_MEMORY, REFUSALS, TRAPPED
 
-OUT_OF_MEMORY = 10
-DUPLICATE_MEMBER = 11
-BAD_LIMIT = 13
-BAD_CHAIR = 14
-BAD_MEMBER = 15
-VOTES_TOO_LARGE = 16
-BAD_RECORD = 17
-TOO_LONG = 29
-BAD_SHEET = 32
-BAD_INDEX = 35
-TRAPPED = 255
-IMPOSSIBLE = (
-    "the library came to a point that its proof rules out: the compiler or the machine is at fault. "
-    "A register that was in use can't be used any more"
-)
+LOST = f"{IMPOSSIBLE}. A register that was in use can't be used any more"
 
 
 class Refused(ValueError):
@@ -68,7 +54,7 @@ def refusal_of(number: int, command: Optional[str] = None, record: Optional[int]
     if number == OUT_OF_MEMORY:
         return MemoryError(reason_of(number))
     if number == TRAPPED:
-        return RuntimeError(IMPOSSIBLE)
+        return RuntimeError(LOST)
     what = "refused " * (record is not None or command is not None)
     what += f"record {record}{where}" * (record is not None) + ", " * (record is not None and command is not None)
     what += repr(command) if command is not None else ""

@@ -10,17 +10,24 @@ from typing import Any, Optional, Union, cast
 
 from .boards import count_all, count_by
 from .library import COUNT_WORDS, SHEET_WORDS, CommandWords, Entry, Handle, MemberRow, long, rooms, short
-from .names import ALLOWED, CHAIRS, COMMANDS, INPUT_BYTES, KINDS, MAJORITIES, PUBLISH, READ, READERS, Kind, Majority
-from .refusals import (
+from .names import (
+    ALLOWED,
     BAD_CHAIR,
     BAD_INDEX,
     BAD_RECORD,
+    CHAIRS,
+    COMMANDS,
     DUPLICATE_MEMBER,
-    IMPOSSIBLE,
-    Refused,
-    check_done,
-    refusal_of,
+    INPUT_BYTES,
+    KINDS,
+    MAJORITIES,
+    PUBLISH,
+    READ,
+    READERS,
+    Kind,
+    Majority,
 )
+from .refusals import LOST, Refused, check_done, refusal_of
 from .results import Command, Indices, Member, fields_in
 from .scripts import (
     KIND,
@@ -229,7 +236,7 @@ class Register:
         if self._lock.locked():
             raise RuntimeError("another thread is using this register")
         if not self._handle.is_usable:
-            raise RuntimeError(IMPOSSIBLE)
+            raise RuntimeError(LOST)
         return self._lock
 
     def _run(self, kind: Kind, code: object = None, chair: object = None, votes: object = None) -> int:
@@ -339,6 +346,9 @@ class Register:
     def undo(self, to: Optional[Whole] = None) -> int:
         """Goes back to the first `to` accepted commands, by default without the last one, and returns their number.
 
+        Those of them that were published stay published: if more than `to` were, all that are left are published, and
+        `read` counts the register after them.
+
         Raises `Refused`, BadIndex, unless `to` is from 0 to the number of accepted commands.
         """
         with self._used():
@@ -375,8 +385,8 @@ class Register:
         return count_all(sheet, self._names)
 
     def read(self, majority: Majority) -> Indices:
-        """The voting power in what was published last, which is what readers see; before the first publication in the
-        register at its start."""
+        """The voting power in the register after its published commands, which is what readers see; before the first
+        publication in the register at its start."""
         number, found = number_of(majority), (c_uint64 * COUNT_WORDS)()
         with self._used():
             check_done(long.board_register_read(self._handle.words, number, rooms.room, found))

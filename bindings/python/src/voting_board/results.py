@@ -66,8 +66,8 @@ class Indices:
     """The voting power of a board by a majority: what wins, and how often each chair is decisive.
 
     majority: "half", "70", "85" or "quorum"
-    quota: the least weight that wins, in votes
-    least_size: the least number of chairs that wins; 0 if the majority requires none
+    quota: the least weight that can win, in votes
+    least_size: the least number of chairs that can win; 0 if the majority requires none
     cast: the votes of all open chairs together
     total: the total voting power, in votes
     omega: the number of winning coalitions

@@ -11,8 +11,8 @@ from reprlib import repr
 from typing import Any, Union
 
 from .library import CommandWords, Entry, Handle, Item, long, short
-from .names import INPUT_BYTES, KINDS, MEMBERS
-from .refusals import OUT_OF_MEMORY, TOO_LONG, TRAPPED, check_done, refusal_of
+from .names import INPUT_BYTES, KINDS, MEMBERS, OUT_OF_MEMORY, TOO_LONG, TRAPPED
+from .refusals import check_done, refusal_of
 from .results import Command
 from .values import text_of
 

@@ -12,9 +12,8 @@ from hashlib import sha256
 from pathlib import Path
 from typing import Optional, Union
 
-from .names import CHAIRS, MEMBER_VOTES, MEMBERS
+from .names import CHAIRS, COLUMNS, MEMBER_VOTES, MEMBERS
 from .registers import Register
-from .tables import COLUMNS
 
 ENCODINGS = ("utf-8", "cp1252", "latin-1", "utf-16")
 CLEANED = "open the table in board.html, which cleans it and saves a table that is read here"
@@ -71,8 +70,10 @@ class StrictTable:
     def register(self) -> Register:
         """The register of the members."""
         parts = ("code", "votes", "chair", "suspended")
-        rows = [{part: getattr(it, part) for part in parts} | {"chair_name": self.names.get(it.chair or 0)}
-                for it in self.members]
+        rows = [
+            {part: getattr(it, part) for part in parts} | {"chair_name": self.names.get(it.chair or 0)}
+            for it in self.members
+        ]
         return Register(rows)
 
 
@@ -214,8 +215,10 @@ def merged(members: Sequence[StrictMember]) -> list[StrictMember]:
 
 def doubts_of(members: Sequence[StrictMember]) -> dict[int, str]:
     """What isn't clean in the table as a whole, by rows."""
-    doubts = {it.row: f"the {it.votes} votes of {it.code or it.name!r} equal the sum of {what}, as a total's do"
-              for it, what in sums_of(members)}
+    doubts = {
+        it.row: f"the {it.votes} votes of {it.code or it.name!r} equal the sum of {what}, as a total's do"
+        for it, what in sums_of(members)
+    }
     for it in merged(members):
         who = repr(it.code or it.name)
         doubts.setdefault(it.row, f"{who} has no chair, below a row that has one, as in a table with merged cells")

@@ -21,6 +21,7 @@ from typing import TYPE_CHECKING, Optional, Union
 
 from . import answers
 from .amounts import BadStudy, Members, codes_of, plain_command, records_for, records_of, total_of, undone, votes_of
+from .many import all_processors, in_threads
 from .names import MAJORITIES, Majority
 from .refusals import Refused
 from .registers import Register
@@ -147,7 +148,7 @@ class Threshold:
     """The least votes of a sweep's subject from which something holds that doesn't hold with one vote less.
 
     majority, chair: what it is about
-    kind: "prevents" (the chair is in each winning coalition) or "powerless" (it has no swing)
+    kind: "prevents" (the chair has a veto) or "powerless" (it has no swing)
     begins: whether this begins to hold there, or ends
     votes: the votes
     share: these votes over the total voting power
@@ -248,9 +249,7 @@ def record_of(result: Result, found: Indices, chair: Chair, floats: bool) -> dic
     old = fractions_of(base, earlier) if earlier else [None] * len(FRACTIONS)
     for name, now, before in zip(FRACTIONS, fractions_of(found, chair), old):
         added = None if now is None or before is None else now - before
-        row[name], row[f"{name}_difference"] = (
-            (it if it is None or not floats else float(it)) for it in (now, added)
-        )
+        row[name], row[f"{name}_difference"] = ((it if it is None or not floats else float(it)) for it in (now, added))
     return row
 
 
@@ -262,17 +261,20 @@ def counted(register: Register, majorities: Sequence[Majority]) -> dict[Majority
     return {it: found[it] for it in majorities}
 
 
-def with_names(found: Result, register: Register, members: Mapping[str, str]) -> Result:
+def with_names(found: Result, moved: Moved, members: Mapping[str, str]) -> Result:
     """The result with a name for each open chair: the given one, else that of its member with the most votes, and how
     many others there are."""
     open_chairs = next(iter(found.indices.values())).numbers
-    given = {chair: name for chair, name in register.names.items() if chair not in found.opened}
-    seated = register.members if set(open_chairs) - given.keys() else {}
-    for chair in set(open_chairs) - given.keys():
-        own = sorted((-it.votes, at, code) for at, (code, it) in enumerate(seated.items()) if it.chair == chair)
-        first, more = own[0][2] if own else "", f" and {len(own) - 1} more" * (len(own) > 1)
-        given[chair] = (members.get(first) or first) + more if own else f"chair {chair}"
-    return replace(found, names={chair: given[chair] for chair in open_chairs})
+    given = {chair: name for chair, name in moved.register.names.items() if chair not in found.opened}
+    seated: dict[Optional[int], list[str]] = {chair: [] for chair in open_chairs if chair not in given}
+    for code, member in moved.members.items() if seated else ():
+        if member.chair in seated:
+            seated[member.chair].append(code)
+    for chair in open_chairs:
+        if own := seated.get(chair):
+            first, more = max(own, key=lambda it: moved.members[it].votes), f" and {len(own) - 1} more" * (len(own) > 1)
+            given[chair] = (members.get(first) or first) + more
+    return replace(found, names={chair: given.get(chair, f"chair {chair}") for chair in open_chairs})
 
 
 @dataclass(frozen=True)
@@ -314,17 +316,18 @@ class Counting:
     moved: dict[str, Moved] = field(default_factory=dict)
     results: dict[str, Result] = field(default_factory=dict)
 
-    def add(self, label: str, moved: Moved, sweep: str = "", percent: str = "", votes: int = 0) -> Result:
-        """Counts a register and adds the result."""
-        indices, base = counted(moved.register, self.majorities), self.results.get(BASE)
-        found = Result(label, indices, {}, moved.taken, moved.back, base, sweep, percent, votes)
-        self.moved[label], self.results[label] = moved, with_names(found, moved.register, self.base.members)
-        return self.results[label]
+    def add(self, asked: Sequence[tuple[Result, Moved]]) -> tuple[Result, ...]:
+        """Counts registers, on all processors, and adds their results, which have no counts yet."""
+        counts = in_threads(lambda it: counted(it[1].register, self.majorities), asked, all_processors())
+        for (found, moved), indices in zip(asked, counts):
+            found = replace(found, indices=indices, taken=moved.taken, back=moved.back, base=self.results.get(BASE))
+            self.moved[found.label], self.results[found.label] = moved, with_names(found, moved, self.base.members)
+        return tuple(self.results[found.label] for found, _ in asked)
 
-    def add_scenario(self, asked: Scenario) -> None:
-        """Carries out a scenario, and counts it."""
+    def scenario(self, asked: Scenario) -> tuple[Result, Moved]:
+        """Carries out a scenario."""
         try:
-            self.add(asked.label, self.moved[BASE].after(asked.commands))
+            return Result(asked.label, {}, {}), self.moved[BASE].after(asked.commands)
         except BadStudy as why:
             raise BadStudy(f"scenario {asked.label!r}: {why}") from None
 
@@ -378,12 +381,12 @@ class Subject:
         """The register where the members have some votes together."""
         return self.start.after(records_for(self.members, self.codes, votes))
 
-    def step(self, percent: str) -> Result:
-        """The result of a step."""
+    def step(self, percent: str) -> tuple[Result, Moved]:
+        """Carries out a step."""
         asked = self.asked
         moved = self.start.after([plain_command(f"votes,{asked.who},{percent}% of total")])
-        votes = votes_of(moved.register.members, self.codes)
-        return self.counting.add(asked.label(percent), moved, asked.text, percent, votes)
+        votes = votes_of(moved.members, self.codes)
+        return Result(asked.label(percent), {}, {}, sweep=asked.text, percent=percent, votes=votes), moved
 
     def kinds(self, majority: Majority, votes: int) -> Kinds:
         """What holds at a majority where the members have some votes."""
@@ -415,7 +418,7 @@ class Subject:
     def swept(self) -> Swept:
         """The sweep with its steps and thresholds."""
         seats = self.seats
-        steps = tuple(map(self.step, self.asked.percents))
+        steps = self.counting.add(list(map(self.step, self.asked.percents)))
         order = self.counting.majorities.index
         found = sorted(self.thresholds(steps), key=lambda it: (order(it.majority), it.votes))
         points = dict.fromkeys((it.majority, votes) for it in found for votes in (it.votes - 1, it.votes))
@@ -438,7 +441,7 @@ def majorities_of(at: Union[Majority, Iterable[Majority]]) -> tuple[Majority, ..
     for it in found:
         number_of(it)
     if not found or len(set(found)) < len(found):
-        raise BadStudy(f"the majorities are half, 70, 85 and quorum, each once, and not {','.join(found)!r}")
+        raise BadStudy(f"majorities are any of {', '.join(MAJORITIES)}, each once, not {','.join(found)!r}")
     return found
 
 
@@ -466,8 +469,8 @@ def study(
     swept_of = each(lambda it: it if isinstance(it, Sweep) else sweep_of(it), texts)
     check_labels(asked, swept_of)
     counting = Counting(majorities, base)
-    counting.add(BASE, Moved(base.register))
-    each(counting.add_scenario, asked)
+    counting.add([(Result(BASE, {}, {}), Moved(base.register))])
+    counting.add(each(counting.scenario, asked))
     swept = each(counting.sweep, swept_of)
     return Study(majorities, base, counting.results, tuple(asked), tuple(swept))
 

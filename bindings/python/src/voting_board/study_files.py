@@ -56,8 +56,10 @@ def pairs_of(found: Indices) -> dict[int, list[Pair]]:
     """The fractions of each chair, by number."""
     under = [found.divisor(it) for it in INDEX_NAMES]
     rows = zip(found.numbers, found.weights, found.swings)
-    return {chair: [(weight, found.cast) if found.cast else None, *((swings, it) if it else None for it in under)]
-            for chair, weight, swings in rows}
+    return {
+        chair: [(weight, found.cast) if found.cast else None, *((swings, it) if it else None for it in under)]
+        for chair, weight, swings in rows
+    }
 
 
 def cells_of(now: Pair, before: Pair) -> tuple[str, str, str, str]:
@@ -136,8 +138,15 @@ def base_data(base: Base) -> dict[str, object]:
     """The base in the page's format."""
     given = {str(chair): name for chair, name in base.register.names.items()}
     columns = {it: it for it in base.columns}
-    return {"script": base.register.script(), "names": base.members, "chairNames": given, "rows": base.rows,
-            "choices": list(base.notices), "hash": base.hash, "columns": columns}
+    return {
+        "script": base.register.script(),
+        "names": base.members,
+        "chairNames": given,
+        "rows": base.rows,
+        "choices": list(base.notices),
+        "hash": base.hash,
+        "columns": columns,
+    }
 
 
 def page_data(
@@ -153,9 +162,19 @@ def page_data(
     kept.update({"published": published, "sweep": sweep_data(sweep_in_page(study))})
     order_at = "85" if "85" in study.majorities else study.majorities[0]
     tab, columns = ("change", "scenarios") if scenarios else ("power", "changed")
-    view = {"majorities": study.majorities, "measure": index, "order": "number", "orderAt": order_at, "digits": 3,
-            "fractions": False, "tab": tab, "columns": columns, "against": "base", "curveChair": None,
-            "curveVotes": False}
+    view = {
+        "majorities": study.majorities,
+        "measure": index,
+        "order": "number",
+        "orderAt": order_at,
+        "digits": 3,
+        "fractions": False,
+        "tab": tab,
+        "columns": columns,
+        "against": "base",
+        "curveChair": None,
+        "curveVotes": False,
+    }
     data = {"format": FORMAT, "provenance": lines, "study": kept, "view": view}
     return json.dumps(data, ensure_ascii=False).replace("<", "\\u003c")
 

@@ -5,11 +5,10 @@ from collections.abc import Iterable, Mapping
 from dataclasses import dataclass, fields, is_dataclass
 from typing import Any, ClassVar, NamedTuple, Optional, Protocol, Union
 
-from .names import ALLOWED
-from .refusals import BAD_CHAIR, BAD_SHEET, DUPLICATE_MEMBER, Refused
+from .names import ALLOWED, BAD_CHAIR, BAD_SHEET, COLUMNS, DUPLICATE_MEMBER
+from .refusals import Refused
 from .values import board_votes_of, chair_of, code_of, is_bool, items_of, votes_of, wrong_type
 
-COLUMNS = ("code", "name", "votes", "chair", "chair_name", "suspended")
 #: What a row has in a column that it leaves out.
 LEFT_OUT = {"code": None, "name": None, "chair": None, "chair_name": None, "suspended": False}
 LIST = "a list or an array"
@@ -20,9 +19,11 @@ class Frame(Protocol):
     """A data frame, such as one of pandas."""
 
     @property
-    def columns(self) -> Any: ...
+    def columns(self) -> Any:
+        ...
 
-    def __getitem__(self, column: str, /) -> Any: ...
+    def __getitem__(self, column: str, /) -> Any:
+        ...
 
 
 class DataclassRow(Protocol):
@@ -34,7 +35,8 @@ class DataclassRow(Protocol):
 class NamedRow(Protocol):
     """A row that is a named tuple."""
 
-    def _asdict(self) -> dict[str, Any]: ...
+    def _asdict(self) -> dict[str, Any]:
+        ...
 
 
 Row = Union[Mapping[str, object], DataclassRow, NamedRow]
@@ -126,8 +128,10 @@ def members_of(table: Table, needed: tuple[str, str]) -> Members:
         raise ValueError("the table has no rows")
     for name in needed:
         if name not in columns:
-            raise ValueError(f"no column {name!r}: a {'register' if 'code' in needed else 'board'} needs {needed[0]} "
-                             f"and {needed[1]}, and {ALLOWED['columns']}")
+            raise ValueError(
+                f"no column {name!r}: a {'register' if 'code' in needed else 'board'} needs {needed[0]} "
+                f"and {needed[1]}, and {ALLOWED['columns']}"
+            )
     if len(set(lengths.values())) > 1:
         raise ValueError(f"columns of unequal length: {', '.join(f'{name} {it}' for name, it in lengths.items())}")
     return read(columns, "code" in needed)

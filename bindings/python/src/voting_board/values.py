@@ -8,8 +8,22 @@ from numbers import Real
 from reprlib import repr
 from typing import Any, Optional, SupportsIndex, Union, cast
 
-from .names import ALLOWED, CHAIRS, COMMANDS, MAJORITIES, MEMBER_VOTES, READERS, TOTAL_VOTES
-from .refusals import BAD_CHAIR, BAD_LIMIT, BAD_MEMBER, BAD_RECORD, BAD_SHEET, VOTES_TOO_LARGE, Refused
+from .names import (
+    ALLOWED,
+    BAD_CHAIR,
+    BAD_LIMIT,
+    BAD_MEMBER,
+    BAD_RECORD,
+    BAD_SHEET,
+    CHAIRS,
+    COMMANDS,
+    MAJORITIES,
+    MEMBER_VOTES,
+    READERS,
+    TOTAL_VOTES,
+    VOTES_TOO_LARGE,
+)
+from .refusals import Refused
 
 #: A whole number: an int, or a float such as 5.0, of Python or of numpy.
 Whole = Union[SupportsIndex, float]

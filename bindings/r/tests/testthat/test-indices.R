@@ -126,3 +126,16 @@ test_that("results are printed, summed up and drawn", {
   expect_silent(plot(board_indices(c(0, 0), "half")))
   expect_error(plot(board_indices(numeric(0), "half")), "no chair is open")
 })
+
+test_that("many boards have the same counts in the same order on any number of threads", {
+  rows <- lapply(1:400, function(at) c(at, 2 * at %% 7, 3, rep(1, at %% 9)))
+  wanted <- lapply(rows, board_indices_of_all)
+  for (processors in list(NULL, 1, 2, 3L, 1000)) {
+    many <- board_indices_of_many(rows, processors = processors)
+    for (it in many$majorities) {
+      expect_identical(unname(many$omega[, it]), vapply(wanted, function(all) all[[it]]$omega, 0))
+      swings <- lapply(wanted, function(all) all[[it]]$chairs$swings)
+      expect_identical(lapply(seq_along(rows), function(at) many$swings[at, it, seq_along(rows[[at]])]), swings)
+    }
+  }
+})

@@ -62,7 +62,7 @@ test_that("calls hold what they allocate while R collects at each allocation", {
   board_publish(r)
   calls <- list(
     weights = list(c(2, 1), 3, 4L, names), members = list(c(2, 1), c(1, 2), c(FALSE, TRUE), 4, 4L, names),
-    many = list(list(c(2, 1), 5), c(3, 5), 0:3), counts = list(r$handle, 0L, names, TRUE), rows = list(r$handle),
+    many = list(list(c(2, 1), 5), c(3, 5), 0:3, 2), counts = list(r$handle, 0L, names, TRUE), rows = list(r$handle),
     entries = list(r$handle), commands = list(r$handle), sheet = list(r$handle), state = list(r$handle),
     check = list(r$handle, charToRaw("open,5\nopen,5")), submit = list(r$handle, charToRaw("open,5\nopen,5")),
     replay_text = list(text, 1, 10), replay = list(text, 1, 10)

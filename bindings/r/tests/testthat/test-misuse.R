@@ -68,6 +68,11 @@ test_that("many boards are refused with the board's place", {
   wrong(board_indices_of_many(list(1), totals = "5"), paste0("board 1: the total is '5' (character)", votes_are))
   wrong(board_indices_of_many(5), "the boards are 5 (numeric): a matrix of numbers, a row each, or a list of vectors")
   wrong(board_indices_of_many(list(1), 70), paste0("the majorities are 70 (numeric)", majorities_are))
+  wrong(board_indices_of_many(list(1), processors = "2"), "processors is '2' (character): a whole number from 1")
+  wrong(board_indices_of_many(list(1), processors = 1:2), "processors is 1:2 (integer): a whole number from 1")
+  for (it in c(0, -1, 1.5)) {
+    wrong(board_indices_of_many(list(1), processors = it), paste0("processors is ", it, ": a whole number from 1"))
+  }
 })
 
 test_that("cells of tables are refused with their rows", {
@@ -174,5 +179,6 @@ test_that("C checks again what R has checked", {
   expect_error(call("state", 5), "not a register")
   expect_error(call("submit", board_register(c(AAA = 1))$handle, "open,1"), "wrong type")
   expect_error(call("start", c("AAAA"), 1, 10), "three characters")
-  expect_error(call("many", list(rep(1, 33)), 33, 0L), "too many weights")
+  expect_error(call("many", list(rep(1, 33)), 33, 0L, 1), "too many weights")
+  expect_error(call("many", list(1), 1, 0L, -1), "isn't whole")
 })

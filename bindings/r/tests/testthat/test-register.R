@@ -153,6 +153,8 @@ test_that("a copy shares nothing, and undo goes back", {
   expect_identical(parts(board_copy(r)), before)
   expect_identical(board_undo(r, 2), 2L)
   expect_identical(c(board_accepted(r), board_published(r)), c(2L, 2L))
+  # Catches: readers that see commands that were taken back, or none of those that stay.
+  expect_identical(board_read(r, "half"), board_indices(r, "half"))
   expect_identical(board_undo(r, 0), 0L)
   refused(board_undo(r), "BadIndex", "to is -1: a whole number from 0 to the number of accepted commands")
   refused(board_undo(r, 1), "BadIndex", "to is 1: a whole number from 0 to the number of accepted commands")

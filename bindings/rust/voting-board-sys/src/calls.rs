@@ -97,7 +97,7 @@ extern "C" {
         counts: *mut board_all_counts,
     ) -> u8;
 
-    /// The counts of the sheet that was published last.
+    /// The counts of the sheet after the published commands.
     pub fn board_register_read(
         handle: *mut board_register,
         majority: u32,

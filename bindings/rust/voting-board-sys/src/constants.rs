@@ -1,4 +1,4 @@
-//! The constants of board.h. Made by tools/names from the sources: do not edit.
+//! The constants of board.h. Made by tools/made from the sources: do not edit.
 
 /// `BOARD_CHAIRS` of board.h.
 pub const BOARD_CHAIRS: usize = 32;

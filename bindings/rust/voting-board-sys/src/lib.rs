@@ -45,9 +45,9 @@ pub struct board_chair {
 #[repr(C, align(8))]
 #[derive(Clone, Copy, Debug, Default, PartialEq, Eq)]
 pub struct board_counts {
-    /// The least weight that wins, in votes.
+    /// The least weight that can win, in votes.
     pub quota: u64,
-    /// The least number of chairs that wins; 0 if the majority requires none.
+    /// The least number of chairs that can win; 0 if the majority requires none.
     pub least_size: u64,
     /// The votes of all open chairs together.
     pub cast: u64,

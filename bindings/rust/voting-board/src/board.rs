@@ -3,6 +3,7 @@ use crate::indices::Names;
 use crate::names::{allowed, CHAIRS, TOTAL_VOTES};
 use crate::table::names_of;
 use crate::{library, Indices, Majority, MemberRow, Refusal, Refused};
+use std::sync::atomic::{AtomicUsize, Ordering};
 use std::thread;
 use voting_board_sys::{board_member, BOARD_SHEET_WORDS};
 
@@ -54,7 +55,7 @@ impl Board {
 
     /// The counts by each majority, in the order of [`Majority::ALL`], refused likewise. It takes less time than four
     /// counts.
-    pub fn indices_of_all(&self) -> Result<[Indices; 4], Refused> {
+    pub fn indices_of_all(&self) -> Result<[Indices; Majority::ALL.len()], Refused> {
         let total = self.checked_total()?;
         let mut words = [0; BOARD_SHEET_WORDS];
         for (word, weight) in words.iter_mut().zip(&self.weights) {
@@ -132,7 +133,7 @@ pub fn indices(weights: &[u64], majority: Majority) -> Result<Indices, Refused> 
 /// assert_eq!(all[Majority::Quorum as usize].quota, 50);
 /// # Ok::<(), voting_board::Refused>(())
 /// ```
-pub fn indices_of_all(weights: &[u64]) -> Result<[Indices; 4], Refused> {
+pub fn indices_of_all(weights: &[u64]) -> Result<[Indices; Majority::ALL.len()], Refused> {
     Board::new(weights).indices_of_all()
 }
 
@@ -189,17 +190,40 @@ pub fn indices_of_members(members: &[MemberRow], open_chairs: &[u8], majority: M
 /// # Ok::<(), voting_board::Refused>(())
 /// ```
 pub fn indices_of_many(boards: &[Board], majorities: &[Majority]) -> Result<Vec<Vec<Indices>>, Refused> {
-    let threads = thread::available_parallelism().map_or(1, usize::from);
-    let size = boards.len() / threads + 1;
-    let count = |(first, part): (usize, &[Board])| -> Result<Vec<Vec<Indices>>, Refused> {
-        let row = |(at, it): (usize, &Board)| it.by_each(majorities).map_err(|why| why.of_board(first * size + at + 1));
-        part.iter().enumerate().map(row).collect()
+    let taken = AtomicUsize::new(0);
+    let threads = thread::available_parallelism().map_or(1, usize::from).min(boards.len());
+    let parts: Vec<Part> = thread::scope(|scope| {
+        // Where the system starts no further thread, those that there are count all boards.
+        let start = |_| thread::Builder::new().spawn_scoped(scope, || count_some(boards, majorities, &taken)).ok();
+        let others: Vec<_> = (1..threads).map_while(start).collect();
+        let own = count_some(boards, majorities, &taken);
+        let join = |it: thread::ScopedJoinHandle<'_, Part>| it.join().expect("a count doesn't panic");
+        [own].into_iter().chain(others.into_iter().map(join)).collect()
+    });
+    let mut rows: Part = parts.into_iter().flatten().collect();
+    rows.sort_by_key(|row| row.0);
+    rows.into_iter().map(|(at, found)| found.map_err(|why| why.of_board(at + 1))).collect()
+}
+
+/// The counts of some boards, with their places.
+type Part = Vec<(usize, Result<Vec<Indices>, Refused>)>;
+
+/// Counts one board after another that no other thread has taken, until all are taken or one is refused.
+fn count_some(boards: &[Board], majorities: &[Majority], taken: &AtomicUsize) -> Part {
+    let mut part = Part::new();
+    let next = || {
+        let at = taken.fetch_add(1, Ordering::Relaxed);
+        Some((at, boards.get(at)?))
     };
-    let parts = thread::scope(|scope| {
-        let spawned: Vec<_> = boards.chunks(size).enumerate().map(|it| scope.spawn(move || count(it))).collect();
-        spawned.into_iter().map(|it| it.join().expect("a count doesn't panic")).collect::<Result<Vec<_>, _>>()
-    })?;
-    Ok(parts.into_iter().flatten().collect())
+    while let Some((at, board)) = next() {
+        let found = board.by_each(majorities);
+        if found.is_err() {
+            // The boards before this one are all taken, and no other is counted.
+            taken.store(boards.len(), Ordering::Relaxed);
+        }
+        part.push((at, found));
+    }
+    part
 }
 
 impl Board {

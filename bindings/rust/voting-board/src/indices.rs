@@ -34,9 +34,9 @@ pub struct Chair {
 pub struct Indices {
     /// The majority by which it is counted.
     pub majority: Majority,
-    /// The least weight that wins, in votes.
+    /// The least weight that can win, in votes.
     pub quota: u64,
-    /// The least number of chairs that wins; 0 if the majority requires none.
+    /// The least number of chairs that can win; 0 if the majority requires none.
     pub least_size: u64,
     /// The votes of all open chairs together.
     pub cast: u64,
@@ -66,7 +66,7 @@ impl Indices {
     }
 
     /// The counts by each majority, in the order of `Majority::ALL`.
-    pub(crate) fn of_all(counts: &[board_counts; 4], names: &Names) -> [Self; 4] {
+    pub(crate) fn of_all(counts: &[board_counts; Majority::ALL.len()], names: &Names) -> [Self; Majority::ALL.len()] {
         Majority::ALL.map(|it| Self::new(it, &counts[it as usize], names))
     }
 

@@ -88,12 +88,12 @@ pub(crate) fn counts_of_weights(weights: &[u64], total: u64, majority: Majority)
 }
 
 /// The counts of a sheet by each majority, in the order of `Majority::ALL`.
-pub(crate) fn all_counts_of_sheet(words: &[u64]) -> Result<[board_counts; 4], Refusal> {
+pub(crate) fn all_counts_of_sheet(words: &[u64]) -> Result<[board_counts; Majority::ALL.len()], Refusal> {
     let (at, len) = (words.as_ptr(), words.len());
     counted(|room, to| done(unsafe { sys::board_all_counts_of_sheet(at, len, room, to) })).map(in_order)
 }
 
-fn in_order(it: board_all_counts) -> [board_counts; 4] {
+fn in_order(it: board_all_counts) -> [board_counts; Majority::ALL.len()] {
     [it.half, it.seventy, it.eighty_five, it.quorum]
 }
 
@@ -291,7 +291,7 @@ impl Handle {
         counted(|room, to| self.call(|it| unsafe { sys::board_register_counts(it, majority as u32, room, to) }))
     }
 
-    pub(crate) fn all_counts(&self) -> Result<[board_counts; 4], Refusal> {
+    pub(crate) fn all_counts(&self) -> Result<[board_counts; Majority::ALL.len()], Refusal> {
         counted(|room, to| self.call(|it| unsafe { sys::board_register_all_counts(it, room, to) })).map(in_order)
     }
 

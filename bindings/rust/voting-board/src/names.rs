@@ -1,4 +1,4 @@
-//! The names, limits and sentences of the library. Made by tools/names from the sources: do not edit.
+//! The names, limits and sentences of the library. Made by tools/made from the sources: do not edit.
 
 /// The version of the library.
 pub const VERSION: &str = "0.10.0";

@@ -223,8 +223,8 @@ impl Register {
         self.handle.check(&raw).map_err(|it| refused(it, command))
     }
 
-    /// Carries out all commands, or none: the first that is refused refuses all, and [`Refused::record`] counts it from
-    /// 1.
+    /// Carries out all commands, or none, as [`submit`](Self::submit) does: the first that is refused refuses all, and
+    /// [`Refused::record`] counts it from 1.
     pub fn apply_all(&mut self, commands: &[Command]) -> Result<u32, Refused> {
         let record = |(number, it): (u32, &Command)| {
             let command = it.checked().map_err(|why| why.in_record(number))?;
@@ -238,8 +238,8 @@ impl Register {
     /// The refusal has the number of the record and its text.
     ///
     /// A record that isn't well formed, and a `read`, are refused as [`Refusal::BadRecord`]. Where memory runs out,
-    /// [`Refusal::OutOfMemory`] refuses all records; only if it also runs out while records are taken back, those
-    /// before the refused one stay carried out.
+    /// [`Refusal::OutOfMemory`] refuses all records; but if it runs out while records are taken back, those before the
+    /// refused one stay carried out.
     ///
     /// ```
     /// use voting_board::Register;
@@ -268,10 +268,12 @@ impl Register {
         Ok(self.handle.publish()?)
     }
 
-    /// Takes the register back to its first commands, and frees the others. What was published of those stays
-    /// published.
+    /// Takes the register back to its first `accepted` commands, and frees the others. Those of them that were
+    /// published stay published: if more than `accepted` were, all that are left are published, and
+    /// [`read`](Self::read) counts the register after them.
     ///
-    /// More commands than were accepted are refused as [`Refusal::BadIndex`].
+    /// More commands than were accepted are refused as [`Refusal::BadIndex`]. Where memory runs out,
+    /// [`Refusal::OutOfMemory`] refuses it, and the register stays as it is.
     ///
     /// ```
     /// use voting_board::Register;
@@ -424,12 +426,12 @@ impl Register {
     }
 
     /// The counts as the register stands, by each majority, in the order of [`Majority::ALL`].
-    pub fn indices_of_all(&self) -> Result<[Indices; 4], Refused> {
+    pub fn indices_of_all(&self) -> Result<[Indices; Majority::ALL.len()], Refused> {
         Ok(Indices::of_all(&self.handle.all_counts()?, &self.names))
     }
 
-    /// The counts of what was published last, which is what readers see. Before the first publication that is the
-    /// opening: no chair is open.
+    /// The counts of the register after its published commands, which is what readers see. Before the first publication
+    /// that is the opening: no chair is open.
     pub fn read(&self, majority: Majority) -> Result<Indices, Refused> {
         Ok(Indices::new(majority, &self.handle.read(majority)?, &self.names))
     }

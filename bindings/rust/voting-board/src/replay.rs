@@ -144,7 +144,7 @@ pub struct Replay {
     items: vec::IntoIter<board_item>,
     fault: Option<Refused>,
     /// The counts of what is published, by those majorities by which it was read.
-    read: [Option<Indices>; 4],
+    read: [Option<Indices>; Majority::ALL.len()],
 }
 
 impl Replay {

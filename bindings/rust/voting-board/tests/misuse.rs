@@ -52,6 +52,14 @@ fn many_boards() {
 }
 
 #[test]
+fn many_boards_are_refused_with_the_first_one_whatever_thread_sees_it() {
+    let boards: Vec<Board> = (0..200).map(|at| Board::new(vec![1; if at < 90 { 18 } else { 33 }])).collect();
+    for _ in 0..20 {
+        assert_eq!(indices_of_many(&boards, &Majority::ALL).unwrap_err().row(), Some(91));
+    }
+}
+
+#[test]
 fn majorities() {
     for name in ["HALF", " half", "70%", "", "0", "50"] {
         let message = format!("no majority '{name}': half, 70, 85 or quorum");

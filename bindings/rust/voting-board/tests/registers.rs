@@ -87,6 +87,8 @@ fn undo_keeps_what_was_published() {
     assert_eq!((register.accepted(), register.published(), register.chairs().len()), (6, 6, 3));
     register.undo_to(2).unwrap();
     assert_eq!((register.accepted(), register.published(), register.chairs().len()), (2, 2, 2));
+    // Catches: readers that see commands that were taken back, or none of those that stay.
+    assert_eq!(register.read(Majority::Half), register.indices(Majority::Half));
     register.undo_to(0).unwrap();
     assert_eq!((register.members(), register.chairs().len()), (register.opening(), 0));
     assert_eq!(register.undo().unwrap_err().to_string(), "there is no command to take back");

@@ -1,7 +1,7 @@
 use Rattle.std.proofs.Common.{arith, ◌∙◌}
 use Rattle.std.proofs.lemmas.Result.{err_from_is_err_and}
 use Rattle.board_text.specs.Lines.{chair_line}
-use Rattle.board_text.proofs.PlayFacts.{RowAt, plays-passed, rows-more, rows-stop}
+use Rattle.board_text.proofs.RunFacts.{RowAt, writes-passed, rows-more, rows-stop}
 use Rattle.board_runs.proofs.replaying.write_chairs.Goals as goal
 
 pub returns-in_err-write_line-clause-wrote : goal.returns-in_err-write_line-clause-wrote
@@ -13,7 +13,7 @@ returns-in_err-write_line-clause-wrote g c =
       stands = record { within = c.loop-row-test.true; here = c.row-item.is };
       spelled = c.line_of_chair.ensures.text;
     } in
-    rw p.1 (plays-passed _ _ c.in_err-write_line.field-0.0 p.0 _ p.2
+    rw p.1 (writes-passed _ _ c.in_err-write_line.field-0.0 p.0 _ p.2
     (rows-stop chair_line _ _ _ c.in_err-write_line.field-0.0 c.args.rows.now c.loop-row.row-index row c.loop-row.invariant.so_far c.in_err-write_line.ensures.written))
 
 pub loop-row-preserved : goal.loop-row-preserved

@@ -2,7 +2,7 @@ use Rattle.std.proofs.Common.{map, ap, ◌∙◌}
 use Rattle.std.proofs.lemmas.Result.{err_from_is_err_and}
 use Rattle.power_index.specs.declared.indices.Indices.{Indices}
 use Rattle.board_text.specs.Lines.{chair_line, reading_line}
-use Rattle.board_text.proofs.PlayFacts.{first-stops, first-then, plays-passed}
+use Rattle.board_text.proofs.RunFacts.{first-stops, first-then, writes-passed}
 use Rattle.board_runs.proofs.DeskFacts.{at-their-own}
 use Rattle.board_runs.proofs.replaying.write_reading.Goals as goal
 
@@ -14,7 +14,7 @@ keep-requires g c = record {
 pub returns-in_err-write_line-clause-wrote : goal.returns-in_err-write_line-clause-wrote
 returns-in_err-write_line-clause-wrote g c =
     let p = err_from_is_err_and c.from_residual.result c.from_residual.ensures.1 in
-    rw p.1 (plays-passed _ _ c.in_err-write_line.field-0.0 p.0 _ p.2 (first-stops _ _ c.in_err-write_line.field-0.0 c.line_of_reading.result _ _
+    rw p.1 (writes-passed _ _ c.in_err-write_line.field-0.0 p.0 _ p.2 (first-stops _ _ c.in_err-write_line.field-0.0 c.line_of_reading.result _ _
     (c.line_of_reading.ensures.text ∙ ap (reading_line c.args.reader) c.indices-indices.ensures.counted) c.in_err-write_line.ensures.written))
 
 pub returns-clause-wrote : goal.returns-clause-wrote

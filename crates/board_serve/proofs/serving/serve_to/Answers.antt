@@ -4,11 +4,11 @@ use Rattle.board_text.specs.Scripts.{interpreted_run}
 use Rattle.board_text.specs.Text.{begun_of, text_of}
 use Rattle.board_text.specs.declared.faults.Fault.{Fault}
 use Rattle.board_text.specs.declared.input.TheConstants.{INTERRUPTIONS}
-use Rattle.board_text.proofs.PlayFacts.{appends-same}
+use Rattle.board_text.proofs.RunFacts.{appends-same}
 use Rattle.board_text.proofs.ReadingFacts.{retries-on, retries-passed}
 use Rattle.board_text.proofs.RecordFacts.{begun-end}
 use Rattle.board_serve.specs.Plans.{Planned, plan_of, plan_start, plan_step, two_readers}
-use Rattle.board_serve.specs.Serving.{ServesTo}
+use Rattle.board_serve.specs.Serving.{WritesServeRun}
 use Rattle.board_serve.proofs.PlanFacts.{plan-lines}
 use Rattle.board_serve.proofs.ServeFacts.{after-nothing, fails-serve}
 use Rattle.board_serve.proofs.serving.serve_to.Goals as goal
@@ -24,7 +24,7 @@ pub returns-clause-wrote : goal.returns-clause-wrote
 returns-clause-wrote g c = λ bytes is.
     let lim = two_readers c.args.journal_limit in
     let nothing = appends-same _ _ _ _ (ap text_of (plan-lines lim (begun_of lim bytes))) (c.in_ok-plan.ensures.wrote bytes is).1 in
-    let P : Result Planned Fault → Type 0 = ServesTo c.interpret.new.out.held c.serve_plan.new.out.held c.serve_plan.result in
+    let P : Result Planned Fault → Type 0 = WritesServeRun c.interpret.new.out.held c.serve_plan.new.out.held c.serve_plan.result in
     after-nothing c.args.out.now.held c.interpret.new.out.held c.serve_plan.new.out.held c.serve_plan.result (plan_of c.args.journal_limit bytes) nothing
     (subst P (sym (c.in_ok-plan.ensures.ended bytes is)) c.serve_plan.ensures.wrote)
 

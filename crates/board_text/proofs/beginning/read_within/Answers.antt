@@ -4,7 +4,7 @@ use Rattle.board_text.proofs.beginning.read_within.Goals as goal
 
 pub returns-then-not-is_in_range-clause-fault : goal.returns-then-not-is_in_range-clause-fault
 returns-then-not-is_in_range-clause-fault g c =
-    fails-by_limits c.args.input.now c.args.input.now c.of_fault.result c.args.limits (sym c.if-not-is_in_range.ensures.known) c.of_fault.ensures.same
+    fails-by_limits c.args.input.now c.args.input.now c.at.result c.args.limits (sym c.if-not-is_in_range.ensures.known) c.at.ensures.same
 
 pub returns-clause-fault : goal.returns-clause-fault
 returns-clause-fault g c =

@@ -1,6 +1,6 @@
 use Rattle.std.proofs.lemmas.Result.{err_from_is_err_and}
 use Rattle.board_text.specs.Scripts.{end_of_script, run_of_script}
-use Rattle.board_text.proofs.InterpretFacts.{TextRead, ended-input, interpreted-input, plays-failed_input}
+use Rattle.board_text.proofs.InterpretFacts.{TextRead, ended-input, interpreted-input, writes-failed_input}
 use Rattle.board_text.specs.declared.input.TheConstants.{INTERRUPTIONS}
 use Rattle.board_text.proofs.ReadingFacts.{retries-on, retries-passed, wastes-one}
 use Rattle.board_text.proofs.interpreters.interpret.Goals as goal
@@ -8,7 +8,7 @@ use Rattle.board_text.proofs.interpreters.interpret.Goals as goal
 pub returns-in_err-text-clause-wrote : goal.returns-in_err-text-clause-wrote
 returns-in_err-text-clause-wrote g c =
     let p = err_from_is_err_and c.from_residual.result c.from_residual.ensures.1 in
-    rw p.1 (plays-failed_input c.args.input.now c.read_within.new.input c.args.out.now.held c.in_err-text.field-0.0 p.0 c.args.limits (run_of_script g.I.Interpreter.opened g.I.Interpreter.step c.args.limits) p.2 c.in_err-text.ensures.fault)
+    rw p.1 (writes-failed_input c.args.input.now c.read_within.new.input c.args.out.now.held c.in_err-text.field-0.0 p.0 c.args.limits (run_of_script g.I.Interpreter.opened g.I.Interpreter.step c.args.limits) p.2 c.in_err-text.ensures.fault)
 
 pub returns-clause-wrote : goal.returns-clause-wrote
 returns-clause-wrote g c =

@@ -1,7 +1,7 @@
 use Rattle.std.proofs.Common.{◌≡◌, ap, refl, arith}
 use Rattle.csv.specs.Records.{fields_of}
 use Rattle.board_text.specs.Text.{request_within}
-use Rattle.board_text.proofs.PlayFacts.{plays-nothing}
+use Rattle.board_text.proofs.RunFacts.{writes-nothing}
 use Rattle.board_text.proofs.RecordFacts.{turn-refused, turn-valid}
 use Rattle.board_serve.specs.Plans.{Planned, record_count, shares_of, two_readers}
 use Rattle.board_serve.proofs.PlanFacts.{added, size-request}
@@ -13,7 +13,7 @@ returns-in-Err-clause-wrote g c =
 
 pub returns-clause-wrote : goal.returns-clause-wrote
 returns-clause-wrote g c =
-    rw (turn-valid c.args.number (added c.args.self.now) (request_within (two_readers c.args.limits.journal) (fields_of c.args.row.now)) c.in-Ok.request c.in-Ok.ensures.same) (plays-nothing c.args._out.now.held c.in_ok-add.field-0)
+    rw (turn-valid c.args.number (added c.args.self.now) (request_within (two_readers c.args.limits.journal) (fields_of c.args.row.now)) c.in-Ok.request c.in-Ok.ensures.same) (writes-nothing c.args._out.now.held c.in_ok-add.field-0)
 
 pub returns-clause-state : goal.returns-clause-state
 returns-clause-state g c =

@@ -1,0 +1,51 @@
+/** The words and Articles of the majorities, and the sources, of docs/DEFINITIONS.md. Made by tools/made from the sources: do not edit. */
+import type { Majority } from "../../bindings/javascript/src/names";
+
+interface MajorityWords {
+  /** How a sentence begins. */
+  readonly at: string;
+  readonly label: string;
+  readonly rule: string;
+  readonly article: string;
+  readonly about: string;
+}
+
+export const MAJORITY: Readonly<Record<Majority, MajorityWords>> = {
+  half: {
+    at: "At a simple majority",
+    label: "simple majority",
+    rule: "more than half of the votes cast, if all open chairs vote",
+    article: "Article XII, Section 5(c)",
+    about: "the rule, unless otherwise specifically provided",
+  },
+  "70": {
+    at: "At 70 per cent",
+    label: "70 per cent",
+    rule: "at least one vote, and at least 70 per cent of the total",
+    article: "Article XXVI, Section 2(b)",
+    about: "an example of a decision that asks for it",
+  },
+  "85": {
+    at: "At 85 per cent",
+    label: "85 per cent",
+    rule: "at least one vote, and at least 85 per cent of the total",
+    article: "Article III, Section 2(c)",
+    about: "an example of a decision that asks for it. Changes of quotas are decided by the Board of Governors, so the figures say what blocks of votes would be worth under this majority",
+  },
+  quorum: {
+    at: "For the quorum",
+    label: "quorum",
+    rule: "more than half of the open chairs, with at least half of the total",
+    article: "Article XII, Section 3(h)",
+    about: "the quorum of a meeting",
+  },
+};
+
+export const SOURCES: readonly string[] = [
+  "Banzhaf, John F., III (1965). Weighted voting doesn't work: a mathematical analysis. Rutgers Law Review 19(2), 317-343.",
+  "Coleman, James S. (1971). Control of collectivities and the power of a collectivity to act. In Bernhardt Lieberman (ed.), Social Choice. Gordon and Breach, New York, 269-300.",
+  "Felsenthal, Dan S., and Moshé Machover (1998). The Measurement of Voting Power: Theory and Practice, Problems and Paradoxes. Edward Elgar, Cheltenham.",
+  "Horowitz, Ellis, and Sartaj Sahni (1974). Computing partitions with applications to the knapsack problem. Journal of the Association for Computing Machinery 21(2), 277-292.",
+  "International Monetary Fund. Articles of Agreement, adopted at the United Nations Monetary and Financial Conference, Bretton Woods, New Hampshire, 22 July 1944; in force since 27 December 1945; as amended. Article II, Section 2; Article III, Section 2(c); Article XII, Sections 3(h), 3(i), 5(a) and 5(c); Article XXVI, Sections 1 and 2(b); Schedule L.",
+  "Penrose, Lionel S. (1946). The elementary statistics of majority voting. Journal of the Royal Statistical Society 109(1), 53-57.",
+];

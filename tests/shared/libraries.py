@@ -1,0 +1,34 @@
+"""Programs in C over the static libraries, for this machine and for others."""
+from __future__ import annotations
+
+from pathlib import Path
+
+from tests.shared.commands import TOP, Words, printed
+
+CRATES = ["board_c", "board_register", "board_script", "board_replay"]
+HEADER = TOP / "crates" / "board_c"
+STRICT = ["-std=c11", "-Wall", "-Wextra", "-Werror", "-pedantic", "-pthread", f"-I{HEADER}"]
+# For programs that refuse memory.
+REFUSING = ["-Wl,--wrap=malloc,--wrap=realloc,--wrap=free"]
+
+
+def kit() -> Path:
+    """The folder of the toolchain."""
+    return Path(printed(["rt", "doc"]).decode().strip()).parent
+
+
+def native() -> Words:
+    """The libraries for this machine."""
+    return [*(f"{TOP}/out/lib{it}.a" for it in CRATES), f"{kit()}/c/liblibc_c.a"]
+
+
+def over(libraries: Words, source: Path, made: Path, *flags: str, compiler: str = "cc") -> str:
+    """A program in C over libraries, compiled without a warning."""
+    words = [compiler, *STRICT, '-DBOARD_VERSION="of tests"', *flags, str(source), str(HEADER / "names.c")]
+    printed([*words, *libraries, "-o", str(made)])
+    return str(made)
+
+
+def over_libraries(source: Path, made: Path, *flags: str) -> str:
+    """A program in C over the libraries for this machine."""
+    return over(native(), source, made, "-O2", *flags)

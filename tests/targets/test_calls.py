@@ -1,0 +1,139 @@
+"""The calls of the library for aarch64 and of the WebAssembly module, against the program and the library for x86-64.
+"""
+from __future__ import annotations
+
+import struct
+from collections.abc import Callable
+from pathlib import Path
+
+import pytest
+
+from tests.shared.boards import boards
+from tests.shared.commands import TOP, Say, Words, printed
+from tests.shared.inputs import Call, at_limits, mutated, of_cases
+from tests.shared.kept import Kept
+from tests.shared.runs import Run, all_by_program, by_c, by_module, check_same
+from tests.targets.conftest import Built
+from tests.targets.modules import KITS, MODULE, WIDE, calling, on_register
+
+EXAMPLE = (TOP / "examples" / "three-chairs.csv").read_bytes()
+SEED = 20_260_101
+INPUTS = 5_000
+BOARDS = 1_500
+COMMANDS = 100_000
+# The seeds of tests/register/commands.c: each has registers and limits of another kind.
+DRAWS = [1, 2, 3, 4]
+# One in this many is tried on slow targets, and on the module that board.wasm is lowered from.
+FEW = 5
+
+Build = Callable[[str], Built]
+
+
+class Calls:
+    """The inputs, and the program's runs of them."""
+
+    def __init__(self, program: Path, kept: Kept) -> None:
+        self.rows, self.changed = [*of_cases(), *at_limits()], mutated(SEED, INPUTS)
+        self.every, self.few = [*self.rows, *self.changed], [*self.rows, *self.changed[::FEW]]
+        self.schedules = of_cases("trace")
+        calls = [*self.every, *self.schedules]
+        runs = kept("runs", lambda: all_by_program(program, calls))
+        self.wanted = {call.name: run for call, run in zip(calls, runs, strict=True)}
+
+    def runs(self, calls: list[Call]) -> list[Run]:
+        return [self.wanted[it.name] for it in calls]
+
+
+@pytest.fixture(scope="session")
+def calls(program: Path, kept: Kept) -> Calls:
+    return Calls(program, kept)
+
+
+def check_module(words: Words, calls: Calls, some: list[Call], say: Say) -> None:
+    """The runs of a module are the program's."""
+    say("inputs", len(some))
+    check_same(some, by_module(words, some), calls.runs(some))
+
+
+def check_c(words: Words, calls: Calls, some: list[Call], say: Say) -> None:
+    """The runs of a program in C are the program's."""
+    say("inputs", len(some))
+    check_same(some, by_c(words, some, calls.runs(some)), calls.runs(some))
+
+
+@pytest.mark.parametrize("called", [calling, on_register], ids=["by one call", "as data"])
+@pytest.mark.parametrize("part", ["rows", "changed"])
+def test_module(calls: Calls, called: Callable[..., Words], part: str, record_property: Say) -> None:
+    # Catches: a text, a fault or its record that isn't the program's.
+    check_module(called(MODULE, "replays"), calls, getattr(calls, part), record_property)
+
+
+@pytest.mark.parametrize("called", [calling, on_register], ids=["by one call", "as data"])
+def test_wide_module(calls: Calls, called: Callable[..., Words], record_property: Say) -> None:
+    # Catches: the same of the module with a 64-bit memory.
+    check_module(called(WIDE, "replays"), calls, calls.few, record_property)
+
+
+def test_replays(calls: Calls, built: Build, record_property: Say) -> None:
+    # Catches: the same of the library for x86-64, by one call.
+    check_c(built("targets/replays").here, calls, calls.every, record_property)
+
+
+def test_replays_on_aarch64(calls: Calls, built: Build, record_property: Say) -> None:
+    # Catches: the same of the library for aarch64, by one call.
+    check_c(built("targets/replays").there, calls, calls.few, record_property)
+
+
+def test_data_on_aarch64(calls: Calls, built: Build, record_property: Say) -> None:
+    # Catches: the same of the library for aarch64, as data.
+    check_c(built("register/replay").there, calls, calls.every, record_property)
+
+
+@pytest.mark.parametrize("where", ["here", "there"])
+def test_schedules(calls: Calls, built: Build, where: str, record_property: Say) -> None:
+    # Catches: a trace by a library that isn't the program's.
+    words: Words = getattr(built("targets/replays"), where)
+    check_c([*words, "trace"], calls, calls.schedules, record_property)
+
+
+@pytest.mark.parametrize("module", [MODULE, WIDE])
+@pytest.mark.parametrize("called, what", [(calling, "limits"), (on_register, "limits"), (on_register, "copies")])
+def test_limits(called: Callable[..., Words], what: str, module: str) -> None:
+    # Catches: a call at its limits that isn't refused or isn't carried out, and memory of what-ifs that is kept.
+    printed(called(module, what), EXAMPLE)
+
+
+COUNTING = {
+    "module": (calling(MODULE, "counts"), 1),
+    "wide module": (calling(WIDE, "counts"), FEW),
+    "the kit's module": (calling(KITS, "alone"), FEW),
+    "aarch64": (None, 1),
+}
+
+
+@pytest.mark.parametrize("name", COUNTING)
+def test_counts(built: Build, name: str, record_property: Say) -> None:
+    # Catches: a count or a refusal of a board that isn't that of the library for x86-64.
+    words, every = COUNTING[name]
+    programs = built("targets/counts")
+    some = [struct.pack(f"<{len(it)}Q", *it) for it in boards(SEED, BOARDS)][::every]
+    record_property("boards", len(some))
+    assert printed(words or programs.there, b"".join(some)) == printed(programs.here, b"".join(some))
+
+
+COMMANDING = {
+    "module": on_register(MODULE, "answers"),
+    "wide module": on_register(WIDE, "answers"),
+    "aarch64": None,
+}
+
+
+@pytest.mark.parametrize("draw", DRAWS)
+@pytest.mark.parametrize("name", COMMANDING)
+def test_commands(built: Build, name: str, draw: int, record_property: Say) -> None:
+    # Catches: an answer to a command, or a sheet, that isn't that of the library for x86-64.
+    record_property("commands", COMMANDS)
+    programs = built("register/commands")
+    words = COMMANDING[name] or [*programs.there, "answers"]
+    made = printed([*programs.here, "made", str(draw), str(COMMANDS)])
+    assert printed(words, made) == printed([*programs.here, "answers"], made)

@@ -1,0 +1,188 @@
+"""tools/part, which judges the parts of the gate, and tools/install, with stub programs in a folder that comes first on
+the PATH."""
+from __future__ import annotations
+
+import re
+import subprocess
+from pathlib import Path
+
+import pytest
+
+from tests.shared.commands import TOP
+
+ROWS = [it.split(":") for it in (TOP / "tools" / "packages.txt").read_text().splitlines() if not it.startswith("#")]
+PACKAGES = sorted({word.rpartition("=")[2] for _, words in ROWS for word in words.split()})
+# The system's programs that the scripts call. A stub may stand for one.
+SYSTEM = "awk bash cat cp dirname grep mkdir sort tail tee tr".split()
+
+
+class Stubbed:
+    """A copy of the tools, with the programs that they call."""
+
+    def __init__(self, folder: Path) -> None:
+        self.programs, self.top = folder / "bin", folder / "top"
+        self.programs.mkdir()
+        for name in SYSTEM:
+            (self.programs / name).symlink_to(Path("/usr/bin", name))
+        (self.top / "tools").mkdir(parents=True)
+        for name in ("install", "packages.txt", "part"):
+            (self.top / "tools" / name).symlink_to(TOP / "tools" / name)
+        self.stub(dpkg_query=f"cat {self.top}/installed")
+        self.hide()
+
+    def stub(self, **programs: str) -> None:
+        """Puts programs on the PATH, each a line of shell."""
+        for name, line in programs.items():
+            file = self.programs / name.replace("_", "-")
+            file.write_text(f"#!/bin/bash\n{line}\n")
+            file.chmod(0o755)
+
+    def hide(self, *packages: str) -> None:
+        """Has dpkg-query say that all packages are installed but these."""
+        lines = [f"{it} install ok installed\n" for it in PACKAGES if it not in packages]
+        (self.top / "installed").write_text("".join(lines))
+
+    def ran(self, name: str, *words: str, **more: str) -> tuple[int, str]:
+        """The status and the output of a tool."""
+        environment = {"PATH": str(self.programs), **more}
+        done = subprocess.run([self.top / "tools" / name, *words], env=environment, capture_output=True, text=True)
+        assert not done.stderr
+        return done.returncode, done.stdout
+
+    def made(self, *words: str, **more: str) -> tuple[int, str]:
+        """The status and the output of `make` by the repository's Makefile."""
+        (self.top / "crates.txt").touch()
+        if not (self.top / "Makefile").exists():
+            (self.top / "Makefile").symlink_to(TOP / "Makefile")
+        environment = {"PATH": f"{self.programs}:/usr/bin:/bin", **more}
+        done = subprocess.run(["make", *words], cwd=self.top, env=environment, capture_output=True, text=True)
+        return done.returncode, done.stdout
+
+    def judged(self, *lines: str, status: int = 0, **more: str) -> tuple[int, str]:
+        """What tools/part says of a part that prints lines and ends in a status."""
+        printed = "\n".join(lines)
+        self.stub(tests=f"cat <<'END'\n{printed}\nEND\nexit {status}")
+        return self.ran("part", "compilers", "tests", **more)
+
+
+@pytest.fixture
+def stubbed(tmp_path: Path) -> Stubbed:
+    return Stubbed(tmp_path)
+
+
+def test_a_part_passes_by_its_last_line(stubbed: Stubbed) -> None:
+    # Catches: a part that fails though it passed, and output that isn't kept.
+    assert stubbed.judged("one: passed", "1 passed, 0 failed") == (0, "one: passed\n1 passed, 0 failed\n")
+    assert (stubbed.top / "out" / "said" / "compilers").read_text() == "one: passed\n1 passed, 0 failed\n"
+
+
+@pytest.mark.parametrize("printed", ["0 passed, 0 failed", "", "one: passed", "1 passed, 0 failed\nand more"])
+def test_a_part_that_ran_no_test_fails(stubbed: Stubbed, printed: str) -> None:
+    # Catches: a part that is green since all of it was left out, or since it ended before its tests.
+    status, said = stubbed.judged(printed)
+    assert status == 1
+    assert said.endswith("tools/part: no test of compilers ran, or not all of them\n")
+
+
+def test_a_part_fails_by_its_status_or_its_last_line(stubbed: Stubbed) -> None:
+    # Catches: a part that is green though a test of it failed, or its command did.
+    assert stubbed.judged("2 passed, 1 failed")[0] == 1
+    assert stubbed.judged("2 passed, 1 failed", status=1)[0] == 1
+    assert stubbed.judged("2 passed, 0 failed", status=3)[0] == 3
+
+
+def test_a_hidden_package_fails_in_the_gate_alone(stubbed: Stubbed) -> None:
+    # Catches: a part of the gate that leaves out what it has no tool for, and is green.
+    stubbed.hide("wine64", "g++")
+    needs = "tools/install: Debian's g++ isn't here\ntools/install: Debian's wine64 isn't here\n"
+    assert stubbed.judged("5 passed, 0 failed", GATE="1") == (1, needs + "0 passed, 1 failed\n")
+    assert stubbed.judged("5 passed, 0 failed") == (0, "5 passed, 0 failed\n")
+
+
+def test_each_part_is_run_by_tools_part_and_has_its_packages_listed() -> None:
+    # Catches: a part of which nobody says what it needs, so that nothing fails where that is missing.
+    text = (TOP / "Makefile").read_text().replace("\\\n", " ")
+    groups = re.findall(r"^GATE_PARTS +:= (.*)$", text, re.MULTILINE)[0]
+    languages = re.findall(r"^LANGUAGES +:= (.*)$", text, re.MULTILINE)[0]
+    parts = groups.replace("$(LANGUAGES)", languages).replace('"', "").split()
+    listed = {part for parts_of_row, _ in ROWS for part in parts_of_row.split()}
+    assert len(parts) > 20
+    assert set(parts) <= listed
+    assert re.findall(r"^gate: export GATE := (.*)$", text, re.MULTILINE) == ["1"]
+
+
+def test_a_gate_without_a_package_fails_with_its_name(stubbed: Stubbed) -> None:
+    # Catches: a gate that doesn't ask tools/part.
+    stubbed.hide("git")
+    assert stubbed.made("docs", GATE="1") == (2, "tools/install: Debian's git isn't here\n0 passed, 1 failed\n")
+
+
+@pytest.mark.parametrize(
+    "groups, status, line",
+    [
+        ("good", 0, "3 passed, 0 failed"),
+        ('"good empty" absent', 2, "3 passed, 2 failed"),
+        ("bad good", 2, "5 passed, 1 failed"),
+        ("absent", 2, "0 passed, 1 failed"),
+    ],
+)
+def test_a_gate_adds_up_its_parts(stubbed: Stubbed, groups: str, status: int, line: str) -> None:
+    # Catches: a gate that is green though a part ran no test, didn't run, or failed.
+    stubbed.stub(good="echo 3 passed, 0 failed", bad="echo 2 passed, 1 failed", empty="echo 0 passed, 0 failed")
+    # A kit, without which nothing is made.
+    stubbed.stub(rt="exit 1")
+    (stubbed.programs.parent / "KIT-ID").touch()
+    parts = [f"{it}:\n\t$(call said,{it})\n" for it in ("good", "bad", "empty")]
+    rules = "".join([*parts, f"try:\n\t+@$(call judged,{groups})\n"])
+    made, said = stubbed.made(f"--eval={rules}", "try")
+    assert (made, said.splitlines()[-1]) == (status, line)
+
+
+@pytest.mark.parametrize("words", ["", "--check", "--check compilers"])
+def test_it_says_nothing_where_all_is_there(stubbed: Stubbed, words: str) -> None:
+    # Catches: a package that is installed and counts as missing.
+    assert stubbed.ran("install", *words.split()) == (0, "")
+
+
+def test_each_missing_package_is_named(stubbed: Stubbed) -> None:
+    # Catches: a missing package of which nobody hears.
+    stubbed.hide(*PACKAGES)
+    status, said = stubbed.ran("install", "--check")
+    assert sorted(said.splitlines()) == [f"tools/install: Debian's {it} isn't here" for it in PACKAGES]
+    assert status == 1
+
+
+def test_a_package_is_missed_by_the_parts_that_need_it(stubbed: Stubbed) -> None:
+    # Catches: a part that needs a package, and passes without it, and one that fails for a package of another.
+    stubbed.hide("valgrind")
+    assert stubbed.ran("install", "--check", "compilers", "regis") == (0, "")
+    assert stubbed.ran("install", "--check", "compilers", "register")[0] == 1
+
+
+def test_a_command_stands_for_its_package(stubbed: Stubbed) -> None:
+    # Catches: a program that is there, but not from Debian, and counts as missing.
+    stubbed.hide("nodejs")
+    assert stubbed.ran("install", "--check", "targets")[0] == 1
+    stubbed.stub(node="true")
+    assert stubbed.ran("install", "--check", "targets") == (0, "")
+
+
+def test_one_line_says_what_was_installed_or_why_not(stubbed: Stubbed) -> None:
+    # Catches: an installation that fails, and ends as if it hadn't.
+    (stubbed.top / "installed").rename(stubbed.top / "all")
+    stubbed.hide("chromium")
+    why = "tools/install: chromium can't be installed: "
+    assert stubbed.ran("install") == (1, f"{why}there is no apt-get here\n")
+    stubbed.stub(timeout='shift; exec "$@"', id="echo 1000", apt_get="false")
+    assert stubbed.ran("install") == (1, f"{why}it needs root: apt-get install chromium\n")
+    stubbed.stub(id="echo 0")
+    for line, said in [
+        ("false", "apt-get update didn't end well; is there a network?"),
+        ('[[ "$*" != *install* ]]', "apt-get install didn't end well; is there a network?"),
+        ("exit 0", "apt-get install left them out"),
+    ]:
+        stubbed.stub(apt_get=line)
+        assert stubbed.ran("install") == (1, f"{why}{said}\n")
+    stubbed.stub(apt_get=f"cp {stubbed.top}/all {stubbed.top}/installed")
+    assert stubbed.ran("install") == (0, "tools/install: installed chromium\n")
+    assert stubbed.ran("install") == (0, "")
