@@ -190,13 +190,15 @@ uninstall:  ## removes what `make install` put there
 
 # The gate's parts. Each prints a line for each test and, last, 'N passed, M failed'; its output is kept in out/said.
 said = @tools/part $@ $1
-# Runs groups of parts one after another, and adds up their passed and failed counts.
+# Runs groups of parts one after another, repeats the lines that say what failed, and adds up the passed and failed counts.
+FAILURES := ^(FAILED|ERROR) |IS NOT REFUSED|can't be applied|: not proved|^make.*[*]{3}
 define judged
 rm -rf $O/said && mkdir -p $O/said && status=0
-for parts in $1; do $(MAKE) --keep-going $$parts || status=1; done
+for parts in $1; do $(MAKE) --keep-going $$parts 2>&1 | tee -a $O/said/.log || status=1; done
 for part in $(subst ",,$1); do
   [[ -s $O/said/$$part ]] || echo "make $$part ran no test" | tee $O/said/$$part
 done
+(( status == 0 )) || grep -E "$(FAILURES)" $O/said/.log | tail -n 40 || true
 tail -qn 1 $O/said/* | awk -v status=$$status '
   /^[0-9]+ passed, [0-9]+ failed$$/ && $$1 + $$3 {passed += $$1; failed += $$3; next}
   {failed++} END {failed += status && !failed; print passed + 0 " passed, " failed + 0 " failed"; exit failed > 0}'

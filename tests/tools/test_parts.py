@@ -128,7 +128,8 @@ def test_a_gate_without_a_package_fails_with_its_name(stubbed: Stubbed) -> None:
 )
 def test_a_gate_adds_up_its_parts(stubbed: Stubbed, groups: str, status: int, line: str) -> None:
     # Catches: a gate that is green though a part ran no test, didn't run, or failed.
-    stubbed.stub(good="echo 3 passed, 0 failed", bad="echo 2 passed, 1 failed", empty="echo 0 passed, 0 failed")
+    stubbed.stub(good="echo 3 passed, 0 failed", bad="echo FAILED one; echo 2 passed, 1 failed")
+    stubbed.stub(empty="echo 0 passed, 0 failed")
     # A kit, without which nothing is made.
     stubbed.stub(rt="exit 1")
     (stubbed.programs.parent / "KIT-ID").touch()
@@ -136,6 +137,8 @@ def test_a_gate_adds_up_its_parts(stubbed: Stubbed, groups: str, status: int, li
     rules = "".join([*parts, f"try:\n\t+@$(call judged,{groups})\n"])
     made, said = stubbed.made(f"--eval={rules}", "try")
     assert (made, said.splitlines()[-1]) == (status, line)
+    # What failed is said again at the end, where a long output may be cut.
+    assert said.count("FAILED one") == 2 * groups.count("bad")
 
 
 @pytest.mark.parametrize("words", ["", "--check", "--check compilers"])
