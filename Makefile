@@ -190,7 +190,8 @@ uninstall:  ## removes what `make install` put there
 
 # The gate's parts. Each prints a line for each test and, last, 'N passed, M failed'; its output is kept in out/said.
 said = @tools/part $@ $1
-# Runs groups of parts one after another, repeats the lines that say what failed, and adds up the passed and failed counts.
+# Runs groups of parts one after another, repeats the lines that say what failed, and adds up the passed and failed
+# counts.
 FAILURES := ^(FAILED|ERROR) |IS NOT REFUSED|can't be applied|: not proved|^make.*[*]{3}
 define judged
 rm -rf $O/said && mkdir -p $O/said && status=0
