@@ -95,4 +95,11 @@ function wide(most) {
     .map((it) => it.outerHTML.slice(0, 120));
 }
 
-return { faint, focused, wide }[arguments[0]](...[...arguments].slice(1));
+/** The number of lines that the text of an element takes. */
+function lines(place) {
+  const text = document.createRange();
+  text.selectNodeContents(document.querySelector(place));
+  return new Set([...text.getClientRects()].map((it) => it.top)).size;
+}
+
+return { faint, focused, lines, wide }[arguments[0]](...[...arguments].slice(1));

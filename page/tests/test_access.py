@@ -13,6 +13,8 @@ from selenium.webdriver.common.keys import Keys
 from test_exports import DROP
 
 LEAST_CONTRAST = 4.5
+# The width of the smallest phones.
+SMALLEST = 320
 # More presses of Tab than the page has controls.
 MOST_STOPS = 400
 # Higher than the page, so that nothing is scrolled away.
@@ -105,6 +107,15 @@ def test_width_of_a_phone(page: Page, width: int) -> None:
     for tab in TABS:
         page.click(tab)
         assert not page.look("wide", width), tab
+
+
+def test_tabs_on_the_smallest_phone(page: Page) -> None:
+    # Catches: a tab that a finger can't reach, or whose word is broken.
+    page.show(SMALLEST, 640)
+    for tab in TABS:
+        page.click(tab)
+        assert page.look("lines", tab) == 1, tab
+        assert not page.look("wide", SMALLEST), tab
 
 
 def stops(page: Page) -> list[dict[str, Any]]:
