@@ -192,14 +192,14 @@ uninstall:  ## removes what `make install` put there
 said = @tools/part $@ $1
 # Runs groups of parts one after another, repeats the lines that say what failed, and adds up the passed and failed
 # counts.
-FAILURES := ^(FAILED|ERROR) |IS NOT REFUSED|can't be applied|: not proved|^make.*[*]{3}
+FAILURES := ^(FAILED|ERROR) |IS NOT REFUSED|can't be applied|[^ ]: (not proved|no proof)|Error: |^make.*[*]{3}
 define judged
 rm -rf $O/said && mkdir -p $O/said && status=0
 for parts in $1; do $(MAKE) --keep-going $$parts 2>&1 | tee -a $O/said/.log || status=1; done
 for part in $(subst ",,$1); do
   [[ -s $O/said/$$part ]] || echo "make $$part ran no test" | tee $O/said/$$part
 done
-(( status == 0 )) || grep -E "$(FAILURES)" $O/said/.log | tail -n 40 || true
+(( status == 0 )) || grep -E "$(FAILURES)" $O/said/.log | grep -v ' is refused: ' | tail -n 40 || true
 tail -qn 1 $O/said/* | awk -v status=$$status '
   /^[0-9]+ passed, [0-9]+ failed$$/ && $$1 + $$3 {passed += $$1; failed += $$3; next}
   {failed++} END {failed += status && !failed; print passed + 0 " passed, " failed + 0 " failed"; exit failed > 0}'
@@ -207,7 +207,7 @@ endef
 # The groups of the gate's parts. The mutations take most of the memory.
 GATE_PARTS := "docs lint style tools" ci edits "steps steps-tests cases independent recipes memory register script" \
               stress targets compilers "$(LANGUAGES)" "tables page-units" page-tests release-tests
-.PHONY: $(subst ",,$(GATE_PARTS)) kit-gate
+.PHONY: $(subst ",,$(GATE_PARTS)) edits-tried kit-gate
 docs:  ## names, links and made parts of the documents
 	$(call said,tools/check)
 style:  ## how files are written: shellcheck, black, mypy, tsc, clang-format, rustfmt, columns
@@ -234,8 +234,12 @@ steps: $(patsubst %,$O/%.proved,$(STEPPED) $(STATIC))  ## the atomic steps, memo
 	$(call said,tools/steps tools/steps.txt $(patsubst %,$O/%.bc,$(STEPPED) $(STATIC)))
 steps-tests: $O/memory_tests.proved  ## changes planted in the compiled code, which steps must refuse
 	$(call said,tests/run tests/steps)
-edits: $(EDITED:%=$O/%.edits)  ## the mutations
-	$(call said,awk '/^[0-9]+ passed, 0 failed$$/ {passed += $$1} END {print passed + 0 " passed, 0 failed"}' $^)
+edits: edits-tried  ## the mutations
+	$(call said,awk '/^[0-9]+ passed, 0 failed$$/ {passed += $$1} END {print passed + 0 " passed, 0 failed"}' $(tried))
+# A crate that fails beside others is tried once more by itself: its check may have been killed for want of memory.
+tried := $(EDITED:%=$O/%.edits)
+edits-tried:
+	+@$(MAKE) --keep-going $(tried) || $(MAKE) --keep-going -j1 $(tried)
 cases: board  ## worked examples, and the examples of the documents, on the program
 	$(call said,tests/run tests/cases)
 independent: board  ## the program against a Python reader written from the documents alone

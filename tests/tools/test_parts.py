@@ -58,6 +58,11 @@ class Stubbed:
         done = subprocess.run(["make", *words], cwd=self.top, env=environment, capture_output=True, text=True)
         return done.returncode, done.stdout
 
+    def put_kit(self) -> None:
+        """Puts a kit there, without which nothing is made."""
+        self.stub(rt="exit 1")
+        (self.programs.parent / "KIT-ID").touch()
+
     def judged(self, *lines: str, status: int = 0, **more: str) -> tuple[int, str]:
         """What tools/part says of a part that prints lines and ends in a status."""
         printed = "\n".join(lines)
@@ -130,15 +135,22 @@ def test_a_gate_adds_up_its_parts(stubbed: Stubbed, groups: str, status: int, li
     # Catches: a gate that is green though a part ran no test, didn't run, or failed.
     stubbed.stub(good="echo 3 passed, 0 failed", bad="echo FAILED one; echo 2 passed, 1 failed")
     stubbed.stub(empty="echo 0 passed, 0 failed")
-    # A kit, without which nothing is made.
-    stubbed.stub(rt="exit 1")
-    (stubbed.programs.parent / "KIT-ID").touch()
+    stubbed.put_kit()
     parts = [f"{it}:\n\t$(call said,{it})\n" for it in ("good", "bad", "empty")]
     rules = "".join([*parts, f"try:\n\t+@$(call judged,{groups})\n"])
     made, said = stubbed.made(f"--eval={rules}", "try")
     assert (made, said.splitlines()[-1]) == (status, line)
     # What failed is said again at the end, where a long output may be cut.
     assert said.count("FAILED one") == 2 * groups.count("bad")
+
+
+@pytest.mark.parametrize("tries, status", [(1, 0), (2, 0), (3, 2)])
+def test_a_crate_whose_mutations_fail_is_tried_once_more(stubbed: Stubbed, tries: int, status: int) -> None:
+    # Catches: a gate that fails since a check was killed, or that passes though a crate has failed twice.
+    stubbed.put_kit()
+    rule = f"crate:\n\t@echo >>tries; [[ $$(wc -l <tries) -ge {tries} ]]\n"
+    made, said = stubbed.made(f"--eval={rule}", "tried=crate", "edits-tried")
+    assert made == status, said
 
 
 @pytest.mark.parametrize("words", ["", "--check", "--check compilers"])
