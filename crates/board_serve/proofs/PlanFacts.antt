@@ -1,5 +1,5 @@
 -- The plan of a run of the threads, from its input.
-use Rattle.std.proofs.Common.{◌≡◌, ◌≤◌, ◌+◌, ◌-◌, ◌&&◌, ℕ, zero, suc, true, List, [], ◌∷◌, ◌++◌, length, nat_le, sum_by, Result, Ok, Err, refl, subst, arith}
+use Rattle.std.proofs.Common.{◌≡◌, ◌≤◌, ◌+◌, ◌-◌, ℕ, zero, suc, List, [], ◌∷◌, ◌++◌, length, sum_by, Result, Ok, Err, refl, arith}
 use Rattle.std.proofs.lemmas.List.{length-append}
 use Rattle.std.proofs.lemmas.List.Sums.{sum_by-cons}
 use Rattle.majority_rule.specs.declared.majorities.Majority.{Majority}
@@ -7,7 +7,7 @@ use Rattle.council_core.specs.declared.refusals.Refusal.{Refusal}
 use Rattle.board_text.specs.Lines.{LineBytes}
 use Rattle.board_text.specs.Requests.{Row}
 use Rattle.board_text.specs.Scripts.{begun_run, run_of_script, run_step, script_run, turn_of}
-use Rattle.board_text.specs.Text.{Begun, Run, is_served, request_within}
+use Rattle.board_text.specs.Text.{Begun, Run, request_within}
 use Rattle.board_text.specs.declared.bounds.Limits.{Limits}
 use Rattle.board_text.specs.declared.faults.Fault.{Fault}
 use Rattle.board_text.specs.declared.requests.Request.{Request}
@@ -25,11 +25,6 @@ size-at (suc index) m (list ∷ lists) =
 pub size-request : (s : Shares) (q : Request) → record_count (with_request s q) ≤ record_count s + 1
 size-request s (ask.Order o) = omega (arith, length-append s.orders (o ∷ []))
 size-request s (ask.Read reader m) = let more = size-at (reader - 1) m s.asked in omega (arith, more)
-
--- a request whose reader number is in range for two readers
-pub served-of-two : (lim : Limits) (q : Request) → lim.readers ≡ 2 → is_served lim q ≡ true → is_served (two_readers 0) q ≡ true
-served-of-two lim (ask.Read reader m) two served = subst (λ (n : ℕ). (nat_le 1 reader && nat_le reader n) ≡ true) two served
-served-of-two lim (ask.Order o) two served = refl
 
 -- the plan's effect of a request
 abbrev pub added : Planned → Request → List LineBytes × Planned

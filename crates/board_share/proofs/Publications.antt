@@ -22,8 +22,8 @@ use Rattle.two_copy_steps.specs.declared.table.TheConstants.{COPY_WORDS}
 use Rattle.board_share.specs.declared.views.View.{View}
 use Rattle.board_share.specs.Histories.{Adds, KnowsAfter, is_writers}
 use Rattle.board_share.specs.Steps.{begin_events, with_writer, writer_begun_with}
-use Rattle.board_share.specs.Writers.{IsWriter, MayBegin, MayPublish, MayWrite, Publishing, SeatStepped, WriterTook, due_at, held_by, next_action, published_view, publishing_view, unseen_count, writer_or}
-use Rattle.board_share.proofs.Prefixes.{adds_none, adds_then}
+use Rattle.board_share.specs.Writers.{MayBegin, MayWrite, Publishing, SeatStepped, WriterTook, due_at, held_by, next_action, published_view, publishing_view, unseen_count, writer_or}
+use Rattle.board_share.proofs.Prefixes.{adds_then}
 
 -- the quiescent readers, one by one
 pub first_at : (bs : List Bool) (r : ℕ) → slice_get bs r ≡ Some false → all_true (take r bs) ≡ true
@@ -79,26 +79,6 @@ seeing_busy out = elim (all_true out) as (λ b. is_idle (cond b (Filling 0) Seei
 filling_busy : (k : ℕ) → is_idle (filling_phase k) ≡ false
 filling_busy k = elim (eqb k COPY_WORDS) as (λ b. is_idle (cond b Swapping (Filling k)) ≡ false)
     [ true ↦ refl | false ↦ refl ]
-
--- a publication begins with the next step of the writer's seat
-pub begins : (table seat : TableId) (me : Me Unit View) (l : Ledger) (side : ℕ) (out : List Bool)
-    → IsWriter table seat me l side out → MayPublish me.0.history l.opening (held_by me.0) l.journal
-    → Publishing l me me 0 out (seeing_phase out)
-begins table seat me l side out h may =
-    let v = held_by me.0 in
-    let due : due_at me l.journal ≡ Some l.journal =
-    ap (λ (p : Phase). cond (is_idle p) (Some l.journal) None) h.idle in
-    record {
-      writes = h.writes;
-      bare = h.bare;
-      view = ap (λ (d : Option (List Command)). writer_begun_with d v) due
-          ∙ ap (λ (o : List Bool). publishing_view v l.journal o (seeing_phase o)) h.out_is;
-      may_begin = subst (MayBegin me.0.history l.opening v) (sym due) may;
-      own = [];
-      adds = adds_none is_writers me.0.history;
-      whole = ap (λ (d : Option (List Command)). begin_events d v) due
-          ∙ sym (append-nil (begin_events (Some l.journal) v));
-    }
 
 -- a publication goes on after its steps
 goes_on : (l : Ledger) (start me : Me Unit View) (steps : ℕ) (out : List Bool) (phase : Phase) (note : Note)
@@ -182,10 +162,6 @@ module _ (l : Ledger) (start me : Me Unit View) (steps : ℕ) (out : List Bool) 
 
   pub becomes : (f : ℕ → ℕ) → ((n : ℕ) → f n ≡ action.becomes n) → (n : ℕ) → f n ≡ (next_action list me).becomes n
   becomes f t n = t n ∙ ap (λ (d : Action WriterView). d.becomes n) (sym action_is)
-
-  pub alike : (x : ℕ) → ((n : ℕ) → action.after x ≡ action.after n) → (n : ℕ)
-      → (next_action list me).after x ≡ (next_action list me).after n
-  alike x t n = subst (λ (d : Action WriterView). d.after x ≡ d.after n) (sym action_is) (t n)
 
   -- once it is taken
   module _ (seat seat' : TableId) (me' : Me Unit View) (found : ℕ)

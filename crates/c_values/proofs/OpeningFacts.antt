@@ -11,10 +11,6 @@ abbrev pub after : Opening → Result Opening Refusal → Result Opening Refusal
 after ms (Ok rest) = Ok (ms ++ rest)
 after ms (Err e) = Err e
 
-pub after_none : (r : Result Opening Refusal) → r ≡ after [] r
-after_none (Ok ms) = refl
-after_none (Err e) = refl
-
 -- one more member
 pub after_more : (ms : Opening) (m : List ℕ × ℕ) (r : Result Opening Refusal) → after ms (both_of (λ k ks. k ∷ ks) (Ok m) r) ≡ after (ms ++ m ∷ []) r
 after_more ms m (Ok rest) = ap Ok (sym (append_assoc ms (m ∷ []) rest))

@@ -10,7 +10,7 @@ use Rattle.std.proofs.lemmas.List.Sums.{count_by-le-length}
 use Rattle.half_sums.specs.declared.entry.Entry.{Entry}
 use Rattle.half_sums.specs.Groups.{size_of}
 use Rattle.half_sums.specs.declared.lists.TheConstants.{ROOM}
-use Rattle.swing_walk.specs.Pairs.{pairs_where, reaches, has_slot, is_large, is_enough, large_pairs}
+use Rattle.swing_walk.specs.Pairs.{pairs_where, reaches, has_slot, is_large, is_enough}
 use Rattle.swing_walk.specs.Sizes.{partners_of}
 use Rattle.swing_walk.proofs.Counting.{Splits, count_none, count_agree, count_all, count_split, bit_times}
 use Rattle.swing_walk.proofs.Steps.{pairs_swap, pairs_agree, turned}
@@ -59,10 +59,7 @@ turned_enough quota least a b =
     let swap : size_of b + size_of a ≡ size_of a + size_of b = omega arith in
     ap (λ t. t && is_large least b a) (turned quota a b) ∙ ap (λ n. reaches quota a b && nat_le least n) swap
 
--- the pairs seen from the right entries
-pub turned_pairs : (quota least : ℕ) (left right : List Entry) → pairs_where (is_enough quota least) right left ≡ large_pairs quota least left right
-turned_pairs quota least left right = pairs_swap (is_enough quota least) right left ∙ pairs_agree (λ a b. is_enough quota least b a) (is_enough quota least) left right (turned_enough quota least)
-
+-- the pairs with a slot, seen from the right entries
 pub turned_marks : (quota least slot : ℕ) (left right : List Entry) → pairs_where (λ a b. is_enough quota least a b && has_slot slot a) right left ≡ pairs_where (λ l r. is_enough quota least l r && has_slot slot r) left right
 turned_marks quota least slot left right =
     let test : Entry → Entry → Bool = λ a b. is_enough quota least a b && has_slot slot a in

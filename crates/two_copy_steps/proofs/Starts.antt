@@ -25,9 +25,6 @@ module _ (numbers pins : List ℕ) (long : length numbers ≡ COPY_WORDS) where
   abbrev pub words_at_start : List ℕ
   words_at_start = 0 ∷ numbers ++ numbers ++ pins
 
-  front_long : length (0 ∷ numbers) ≡ place 1 0
-  front_long = omega arith
-
   pub start_length : length words_at_start ≡ pin (length pins)
   start_length = omega (arith, length-append (0 ∷ numbers ++ numbers) pins, length-append (0 ∷ numbers) numbers)
 
