@@ -235,7 +235,7 @@ takes members room k (r ∷ rs) o e =
 
 takes-all : (rows : List Row) (o : Opened) → opened_of rows ≡ Ok o → Takes rows 1 o
 takes-all [] o e = cc
-takes-all (r ∷ rs) o e = from-if (is_header r) _ _ (Ok o) _ (λ t next. takes-more r rs 1 o (header-plain r t) (takes [] 256 2 rs o (sym (opening-starts rs) ∙ next))) (λ none. cc none) e
+takes-all (r ∷ rs) o e = from-if (is_header r) _ _ (Ok o) _ (λ t next. takes-more r rs 1 o (header-plain r t) (takes [] MAX_MEMBERS 2 rs o (sym (opening-starts rs) ∙ next))) (λ none. cc none) e
 
 -- the records behind an opening
 pub left-of : (input : List ℕ) (rows : List Row) (o : Opened) → rows ≡ input_rows input → opened_of rows ≡ Ok o → IsLeft input o.1 o.2

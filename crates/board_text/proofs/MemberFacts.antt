@@ -6,6 +6,7 @@ use Rattle.std.proofs.lemmas.Bool.{ltb-false}
 use Rattle.std.proofs.lemmas.List.{take_all}
 use Rattle.std.proofs.lemmas.List.Sums.{take_while-cons}
 use Rattle.council_core.specs.Rolls.{Opening}
+use Rattle.council_core.specs.declared.limits.TheConstants.{MAX_MEMBERS}
 use Rattle.two_copy_steps.specs.Lawful.{IsPrefix}
 use Rattle.board_text.specs.Requests.{Row, is_header, is_mark, member_of}
 use Rattle.board_text.specs.Text.{Opened, before_mark, is_no_member, members_before, members_in, opened_of, opening_of, unless_bad}
@@ -25,7 +26,7 @@ front-none xs = (xs, refl)
 unfoldable pub members_after : Opening → ℕ → List Row → Opening
 members_after members room rows = members ++ filter_map member_of (before_first is_no_member (take room (before_mark rows)))
 
-pub members-start : (rs : List Row) → members_before rs ≡ members_after [] 256 rs
+pub members-start : (rs : List Row) → members_before rs ≡ members_after [] MAX_MEMBERS rs
 unfolding members_before members_after
 members-start rs = refl
 
@@ -107,9 +108,9 @@ same-before : (rs : List Row) → Same (members_before rs) (opening_of rs)
 unfolding members_before opening_of
 same-before rs =
     same-unless _ _ _ (λ none.
-    same-either _ (nat_lt 256 (length (before_mark rs))) _ _ (λ full. tt) (λ fits.
+    same-either _ (nat_lt MAX_MEMBERS (length (before_mark rs))) _ _ (λ full. tt) (λ fits.
     same-either _ (list_any is_mark rs) _ _ (λ marked. ap (filter_map member_of)
-    (none-bad 2 _ none ∙ take_all 256 (before_mark rs) (ltb-false 256 _ fits))) (λ unmarked. tt)))
+    (none-bad 2 _ none ∙ take_all MAX_MEMBERS (before_mark rs) (ltb-false MAX_MEMBERS _ fits))) (λ unmarked. tt)))
 
 same-begun : (b : Bool) (rs : List Row) (f : Fault) → Same (if b then members_before rs else []) (if b then opening_of rs else Err f)
 same-begun true rs f = same-before rs

@@ -5,6 +5,7 @@ use Rattle.std.specs.List.{after_first, list_any, position_from, position_or_len
 use Rattle.std.proofs.lemmas.Bool.{le-ltb, lt-ltb, ltb-false, ltb-true}
 use Rattle.std.proofs.lemmas.List.Sums.{take_while-cons}
 use Rattle.council_core.specs.Rolls.{Opening}
+use Rattle.council_core.specs.declared.limits.TheConstants.{MAX_MEMBERS}
 use Rattle.council_core.specs.declared.refusals.Refusal.TheVariants.{BadRecord, NoScript, TooManyMembers}
 use Rattle.board_text.specs.Requests.{Row, is_mark, member_of}
 use Rattle.board_text.specs.Text.{Opened, before_mark, fault_at, is_no_member, opening_of, unless_bad}
@@ -19,7 +20,7 @@ opening_after members room k rows =
     then Ok (members ++ filter_map member_of (before_mark rows), length (before_mark rows) + (k + 1), after_first is_mark rows)
     else Err (fault_at NoScript 0))
 
-pub opening-starts : (rs : List Row) → opening_of rs ≡ opening_after [] 256 2 rs
+pub opening-starts : (rs : List Row) → opening_of rs ≡ opening_after [] MAX_MEMBERS 2 rs
 unfolding opening_of opening_after
 opening-starts rs = refl
 

@@ -5,6 +5,7 @@ use Rattle.std.specs.List.{AllByRecursion}
 use Rattle.std.proofs.lemmas.List.Elements.{recursion_from_All}
 use Rattle.csv.specs.Reading.{default_config, records, strip_bom}
 use Rattle.council_core.specs.Rolls.{Opening}
+use Rattle.council_core.specs.declared.limits.TheConstants.{MAX_MEMBERS}
 use Rattle.board_text.specs.Requests.{Row}
 use Rattle.board_text.specs.Text.{opened_of}
 use Rattle.board_text.specs.Writing.{Field, IsMember, IsRequest, bytes_of, field_text, fields_text, header_row, written_rows, mark_row, member_row, quoted_as, request_row, rows_text}
@@ -44,7 +45,7 @@ requests-plain : (requests : List Request) → AllByRecursion IsRequest requests
 requests-plain [] are = tt
 requests-plain (q ∷ requests) are = (request-plain q are.0, requests-plain requests are.1)
 
-pub input-law : (members : Opening) (requests : List Request) (input : List (List Field)) → All IsMember members → All IsRequest requests → length members ≤ 256
+pub input-law : (members : Opening) (requests : List Request) (input : List (List Field)) → All IsMember members → All IsRequest requests → length members ≤ MAX_MEMBERS
     → map bytes_of input ≡ written_rows members (map request_row requests)
     → opened_of (records default_config (strip_bom (rows_text input))) ≡ Ok (members, length members + 3, map request_row requests)
 input-law members requests input are asked fits same =
@@ -56,5 +57,5 @@ input-law members requests input are asked fits same =
     ) in
     ap (λ bytes. opened_of (records default_config bytes)) (begins input _ same)
     ∙ ap opened_of (rows-read input (subst ArePlainRows (sym same) plain) ∙ same)
-    ∙ opening-starts _ ∙ opening-read [] members 256 2 (map request_row requests) members_are (omega (arith, fits))
+    ∙ opening-starts _ ∙ opening-read [] members MAX_MEMBERS 2 (map request_row requests) members_are (omega (arith, fits))
     ∙ ap (λ n. Ok (members, n, map request_row requests)) (omega arith)
