@@ -65,7 +65,7 @@ pub(crate) fn read_all(board: &Board, seat: &mut Seat<(), View>, r: u8) -> Readi
     }
     leave(board, seat, r, side, &words);
     Reading {
-        sheet: Sheet::of_words(&words),
+        sheet: Sheet::from_words_unchecked(&words),
     }
 }
 

@@ -245,7 +245,7 @@ impl Register {
         let mut words = self.totals.words();
         words[TOTAL] = self.totals.total;
         words[FRONT] = self.journal.len() as u64;
-        Sheet::of_words(&words)
+        Sheet::from_words_unchecked(&words)
     }
 
     /// One number of the sheet after the accepted commands, without the others. `place` is its

@@ -15,8 +15,8 @@ use std::marker::Model;
 /// its weight plus 1 if it is open; then the total voting power; then the front, the number of
 /// accepted commands. Weights and the total are in votes.
 ///
-/// `from_words`, `chairs`, `open_chairs` and `cast` pass over the words of all chairs; `words` and a
-/// copy of a sheet copy its 272 bytes; every other call reads one word.
+/// `from_words`, `chairs`, `open_chairs` and `cast` pass over the words of all chairs; `words`,
+/// `from_words_unchecked` and a copy of a sheet copy its 272 bytes; every other call reads one word.
 #[derive(Clone, Copy, Debug, PartialEq, Eq, Hash)]
 pub struct Sheet {
     words: [u64; SHEET_WORDS],
@@ -58,14 +58,15 @@ impl Sheet {
         ensures refused { IsOkUnless result BadSheet }
     {
         if is_in_range(words) {
-            Ok(Sheet::of_words(words))
+            Ok(Sheet::from_words_unchecked(words))
         } else {
             Err(Refusal::BadSheet)
         }
     }
 
-    /// The sheet with these words, which the caller has shown to be in range.
-    pub fn of_words(words: &[u64; SHEET_WORDS]) -> Sheet
+    /// The sheet with these words, untested: the caller must have proved that they are in range.
+    /// Words from outside go through `from_words`, which tests them.
+    pub fn from_words_unchecked(words: &[u64; SHEET_WORDS]) -> Sheet
         requires { IsSheet words.now }
         ensures { result ≡ words.now }
     {

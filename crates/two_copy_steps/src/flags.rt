@@ -1,5 +1,5 @@
 //! The set of quiescent readers.
-ghost use Rattle.std.specs.Prelude.{◌≡◌, List, Bool, ◌<◌, ◌≤◌, true, false, Some, length, take, replicate};
+ghost use Rattle.std.specs.Prelude.{◌≡◌, ◌==◌, List, Bool, ◌<◌, ◌≤◌, true, false, Some, length, take, replicate};
 ghost use Rattle.std.specs.Prelude.{slice_get, slice_set};
 ghost use Rattle.two_copy_steps.specs.declared.table.TheConstants.{READERS};
 ghost use Rattle.two_copy_steps.specs.Actions.{all_true, first_false};
@@ -38,6 +38,13 @@ impl Flags {
         ensures bound { result ≤ READERS }
     {
         self.as_slice().len() as u8
+    }
+
+    /// Whether there is no reader. A machine has at least one.
+    pub fn is_empty(&self) -> bool
+        ensures { result ≡ (length self.now == 0) }
+    {
+        self.len() == 0
     }
 
     /// Whether reader `r`, counted from 0, is quiescent.

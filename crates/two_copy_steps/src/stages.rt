@@ -113,7 +113,7 @@ impl ReaderStage {
             }
             ReaderPc::Leaving => {
                 self.pc = ReaderPc::AtRest;
-                Some(Sheet::of_words(&self.words))
+                Some(Sheet::from_words_unchecked(&self.words))
             }
         }
     }

@@ -32,4 +32,4 @@ returns c =
     let all : c.loop-k.k ≡ COPY_WORDS = let end = c.loop-k.auto.k-end in let past = c.loop-k-test.false in omega arith in
     let way : HasReadPart board start c.loop-k.seat.table_id c.loop-k.seat.me (Leaving side c.loop-k.words) = subst (HasReadPart board start c.loop-k.seat.table_id c.loop-k.seat.me)
     (ap (λ (n : ℕ). stage_with_words side (take n c.loop-k.words)) all ∙ loaded_all side c.loop-k.words i.long) i.reading in
-    record { read = subst (HasRead board start c.leave.new.seat.table_id c.leave.new.seat.me) (sym c.of_words.ensures) (has_read _ _ _ _ _ _ _ _ refl way c.leave.ensures) }
+    record { read = subst (HasRead board start c.leave.new.seat.table_id c.leave.new.seat.me) (sym c.from_words_unchecked.ensures) (has_read _ _ _ _ _ _ _ _ refl way c.leave.ensures) }

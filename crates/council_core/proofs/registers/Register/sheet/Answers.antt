@@ -8,8 +8,8 @@ use Rattle.council_core.proofs.RegisterLemmas.{word_small, total_small}
 use Rattle.council_core.proofs.SheetOfLemmas.{same_words, cast_within, sheet_is}
 use Rattle.council_core.proofs.registers.Register.sheet.Goals as goal
 
-pub of_words-requires : goal.of_words-requires
-of_words-requires c =
+pub from_words_unchecked-requires : goal.from_words_unchecked-requires
+from_words_unchecked-requires c =
     let i = c.self.inside in
     let m = c.self.invariant.mirrors in
     let l : Ledger = record { opening = i.opening.items; journal = i.journal.items; limit = i.limit } in
@@ -33,5 +33,5 @@ returns-clause-same c =
     let long : length (take 32 w) ≡ 32 = omega (arith, length-take 32 w, c.words-words.ensures.long) in
     let kept : (k : ℕ) → k < 32 → slice_index (take 32 w) k ≡ slice_index i.totals.words k = λ k h. get_or-take 32 w k 0 h ∙ ap (λ (x : List ℕ). get_or x k 0) c.words-words.ensures.same in
     let front : c.len.result ≡ length i.journal.items = search rules in
-    c.of_words.ensures ∙ written_behind 32 w i.totals.total c.len.result c.words-words.ensures.long
+    c.from_words_unchecked.ensures ∙ written_behind 32 w i.totals.total c.len.result c.words-words.ensures.long
     ∙ sheet_is (roll_of l) (take 32 w) i.totals.total c.len.result (length i.journal.items) long (λ k h. kept k h ∙ m.each_word k h) m.same_total front ∙ ap sheet_of c.self.view_is
