@@ -14,7 +14,7 @@ use Rattle.c_values.specs.declared.counts.BoardCounts.{BoardCounts}
 use Rattle.c_values.specs.declared.commands.BoardCommand.{BoardCommand}
 use Rattle.c_values.specs.declared.entries.BoardEntry.{BoardEntry}
 use Rattle.board_register.specs.declared.TheConstants.{DONE}
-use Rattle.board_register.specs.Calls.{AcceptsAs, Answers, AnswersCopy, AnswersWith, Begins, IsAccepted, IsCopied, IsRefusedStart, IsStarted, OfRegister, WritesAt, WritesCommand, WritesCounts, opening_entry, reply_number, register_in, reply, row_at, start_reply}
+use Rattle.board_register.specs.Calls.{AcceptsAs, Answers, AnswersCopy, AnswersWith, Begins, IsAccepted, IsCopied, IsRefusedStart, IsStarted, OfRegister, WritesAt, WritesCommand, WritesCounts, all_published, opening_entry, reply_number, register_in, reply, row_at, start_reply}
 use Rattle.board_register.specs.declared.handles.BoardRegister.{BoardRegister}
 
 -- the answer of a call that is not refused
@@ -68,6 +68,10 @@ copies = (
   (λ e. e),
   (λ e. omega (arith, e)),
 )
+
+-- a publication publishes both commands, and changes nothing else
+pub both_published : all_published small ≡ record { ledger = small.ledger; published = 2 }
+both_published = refl
 
 -- what isn't there isn't written
 pub nothing_written : (WritesCommand None 0 (command 0 1) (command 0 1) → ⊥) × (OfRegister {A = ℕ} None 0 0 0 (λ s. Unit {0}) → ⊥)

@@ -1,18 +1,23 @@
 -- Histories of a board over a register of one member, computed; and what definitions must not hold of.
-use Rattle.std.proofs.Common.{◌≡◌, ℕ, true, false, List, [], ◌∷◌, ◌++◌, replicate, Some, refl, ap, ◌∙◌}
+use Rattle.std.proofs.Common.{◌≡◌, ℕ, true, false, List, [], ◌∷◌, ◌++◌, replicate, None, Some, refl, ap, ◌∙◌}
 use Rattle.std.specs.List.{filter}
 use Rattle.atomic_table.specs.Seated.{TableId}
+use Rattle.council_core.specs.Ledgers.{Ledger}
 use Rattle.council_core.specs.Rolls.{Opening}
 use Rattle.council_core.specs.declared.commands.Command.{Command}
 use Rattle.council_core.specs.declared.commands.Command.TheVariants.{Open, Move}
 use Rattle.two_copy_steps.specs.declared.events.Event.{Event}
 use Rattle.two_copy_steps.specs.declared.events.Event.TheVariants.{Submit, Publish, Writer, Reader}
 use Rattle.two_copy_steps.specs.declared.events.Note.TheVariants.{Busy, Published, Read}
+use Rattle.two_copy_steps.specs.declared.views.Phase.TheVariants.{Idle}
 use Rattle.two_copy_steps.specs.declared.views.Stage.TheVariants.{AtRest, Arrived}
 use Rattle.board_share.specs.declared.views.Beginning.{Beginning}
 use Rattle.board_share.specs.declared.views.History.{History}
 use Rattle.board_share.specs.Histories.{Adds, first_history, is_writers, last_reported, history_with}
-use Rattle.board_share.specs.Readers.{HasLegalRecord, IsLegalSheet, ReaderSeen, TookStep, last_front_of, new_reader}
+use Rattle.board_share.specs.Openings.{beginning_of, new_publisher, new_readers}
+use Rattle.board_share.specs.Readers.{HasLegalRecord, IsLegalSheet, ReaderSeen, TookStep, WasReported, last_front_of, last_of, new_reader, reader_at, sole_part}
+use Rattle.board_share.specs.Rule.{first_reader, opening_view}
+use Rattle.board_share.specs.Seats.{Part, seat_of_reader}
 use Rattle.board_share.specs.Writers.{look_count, publication, publication_steps}
 
 abbrev one_member : Opening
@@ -100,3 +105,77 @@ no_step h = stays (ap (λ v. v.stage) h.knows)
   where
     stays : AtRest ≡ Arrived → ⊥
     stays e = cc
+
+-- a board begins with a register and its readers
+pub begins_with : beginning_of begun.register 1 ≡ begun
+begins_with = refl
+
+-- its writer has published the journal by one cut, and all readers are quiescent
+abbrev one_open : Ledger
+one_open = record { opening = one_member; journal = Open 1 ∷ []; limit = 100 }
+
+pub first_writer : new_publisher table one_open 2 ≡ record {
+  table = table;
+  ledger = one_open;
+  published = Open 1 ∷ [];
+  cuts = 1 ∷ [];
+  seen_out = true ∷ true ∷ [];
+  history = record { begun = record { register = one_open; readers = 2 }; events = [] };
+}
+first_writer = refl
+
+-- its readers are at rest, in order, and have read nothing
+abbrev unread : ℕ → ReaderSeen
+unread r = record { table = table; opening = one_member; index = r; stage = AtRest; readings = []; history = record { begun = begun; events = [] } }
+
+pub first_readers : (new_readers table begun 0 ≡ []) × (new_readers table begun 3 ≡ unread 0 ∷ unread 1 ∷ unread 2 ∷ [])
+first_readers = (refl, refl)
+
+pub unread_view : (first_reader.stage ≡ AtRest) × (first_reader.readings ≡ [])
+unread_view = (refl, refl)
+
+-- its first seat holds the writer and all readers
+pub whole_seat : opening_view begun ≡ record {
+  writer = Some (
+    one_member,
+    record {
+      state = record { side = 0; published = []; staged = []; phase = Idle; seen_out = true ∷ [] };
+      cuts = 0 ∷ [];
+    },
+  );
+  readers = Some (one_member, record { stage = AtRest; readings = [] }) ∷ [];
+  history = record { begun = begun; events = [] };
+}
+whole_seat = refl
+
+-- a seat's reader is the first that it holds
+abbrev second_part : Part
+second_part = (one_member, record { stage = Arrived; readings = none_done ∷ [] })
+
+pub parts_of_seats : (sole_part [] ≡ ([], record { stage = AtRest; readings = [] })) × (sole_part (None ∷ Some second_part ∷ []) ≡ second_part)
+    × (sole_part (Some second_part ∷ Some (one_member, first_reader) ∷ []) ≡ second_part)
+parts_of_seats = (refl, refl, refl)
+
+pub reader_of_seat : reader_at table (seat_of_reader (first_history begun) 1 second_part) 1 Arrived
+    ≡ record { table = table; opening = one_member; index = 1; stage = Arrived; readings = none_done ∷ []; history = first_history begun }
+reader_of_seat = refl
+
+-- the last reading, if there is one
+pub last_reading : (last_of (having_read (none_done ∷ both_done ∷ [])) ≡ Some both_done) × (last_of (having_read []) ≡ None)
+last_reading = (refl, refl)
+
+-- a reading was reported if its reader's history ends with it: no other sheet, no other reader's, and nothing after it
+abbrev after_reading : ℕ → List Event → ReaderSeen
+after_reading r more = record (new_reader table begun r) { history = after_events (replicate 37 (Reader 1) ++ more) }
+
+pub was_reported : WasReported (after_reading 0 []) none_done
+was_reported = refl
+
+pub another_sheet : WasReported (after_reading 0 []) both_done → ⊥
+another_sheet reported = let e = reported in cc e
+
+pub another_reader : WasReported (after_reading 1 []) none_done → ⊥
+another_reader reported = let e = reported in cc e
+
+pub before_the_last_event : WasReported (after_reading 0 (Reader 1 ∷ [])) none_done → ⊥
+before_the_last_event reported = let e = reported in cc e

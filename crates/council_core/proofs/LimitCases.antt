@@ -3,11 +3,11 @@ use Rattle.std.proofs.Common.{rules, ◌≡◌, ◌≤◌, ◌<◌, ◌^◌, ◌
 use Rattle.std.proofs.lemmas.List.Elements.{All-from_recursion}
 use Rattle.std.specs.Prelude.{⊤}
 use Rattle.std.specs.List.Sorted.{IsPermutation}
-use Rattle.council_core.specs.Codes.{is_code}
+use Rattle.council_core.specs.Codes.{IsCode, is_code}
 use Rattle.council_core.specs.Coalitions.{IsRule, Rule, omega_of, omega_with, eta_of, threshold_rule}
 use Rattle.council_core.specs.Ledgers.{IsLedger, Ledger, has_duplicate, ledger_as_of, room_of, start_verdict}
 use Rattle.council_core.specs.Laws.{SetsInRange, IsOpening, same_set}
-use Rattle.council_core.specs.Published.{IsShown, sequential_as_of}
+use Rattle.council_core.specs.Published.{IsShown, sequential_as_of, shown_as}
 use Rattle.council_core.specs.Refusals.{refusal_of}
 use Rattle.council_core.specs.Rolls.{IsLegal, Roll, admit_member, all_accepted, new_entry, sheet}
 use Rattle.council_core.specs.Sequential.{AreCuts, AreLegalRecords, AreRecords, IsCutSheet, IsRecordFrom, Sequential, replies_of, submit}
@@ -30,6 +30,12 @@ bytes_after_Z = (refl, refl, refl)
 
 pub other_lengths : (is_code [] ≡ false) × (is_code (65 ∷ []) ≡ false) × (is_code (65 ∷ 65 ∷ []) ≡ false) × (is_code (65 ∷ 65 ∷ 65 ∷ 65 ∷ []) ≡ false)
 other_lengths = (refl, refl, refl, refl)
+
+pub code_taken : IsCode (65 ∷ 66 ∷ 90 ∷ [])
+code_taken = refl
+
+pub small_letter_taken : IsCode (65 ∷ 66 ∷ 122 ∷ []) → ⊥
+small_letter_taken code = true≢false (sym code)
 
 -- a rule by which one chair alone wins, but not two, is none; nor is one by which the first chair decides
 abbrev alone : Rule
@@ -171,6 +177,10 @@ of_none = replicate 32 0 ++ 100 ∷ 0 ∷ []
 
 abbrev of_one : List ℕ
 of_one = 1 ∷ replicate 31 0 ++ 100 ∷ 1 ∷ []
+
+-- the front of the sheet shown says how many commands are published
+pub shown_none_and_one : (shown_as (ledger (Open 1 ∷ Open 2 ∷ []) 5) of_none ≡ two_done 0) × (shown_as (ledger (Open 1 ∷ Open 2 ∷ []) 5) of_one ≡ two_done 1)
+shown_none_and_one = (refl, refl)
 
 pub sheet_of_no_cut : IsCutSheet three_members (Open 1 ∷ []) (0 ∷ []) of_one → ⊥
 sheet_of_no_cut (cut, (k, below, is), same) =

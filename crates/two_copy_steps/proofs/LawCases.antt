@@ -4,23 +4,24 @@ use Rattle.std.proofs.Common.{◌≡◌, ◌≤◌, ℕ, ◌++◌, replicate, tr
 use Rattle.council_core.specs.Ledgers.{IsLedger, verdict_of}
 use Rattle.council_core.specs.Sequential.{AreLegalRecords}
 use Rattle.council_core.specs.Sheets.{front_of}
-use Rattle.council_core.specs.declared.commands.Command.TheVariants.{Open, Close, SetVotes}
+use Rattle.council_core.specs.declared.commands.Command.TheVariants.{Open, Close, Move, SetVotes}
 use Rattle.council_core.specs.declared.refusals.Refusal.TheVariants.{BadLimit, OutOfMemory}
 use Rattle.two_copy_steps.specs.declared.events.Event.{Event}
 use Rattle.two_copy_steps.specs.declared.events.Event.TheVariants.{Submit, Publish, Writer, Reader}
+use Rattle.two_copy_steps.specs.declared.views.Stage.{Stage}
 use Rattle.two_copy_steps.specs.declared.views.Stage.TheVariants.{AtRest, Arrived, Reading}
 use Rattle.two_copy_steps.specs.declared.views.Phase.TheVariants.{Filling}
 use Rattle.two_copy_steps.specs.Lawful.{IsPublishable}
 use Rattle.two_copy_steps.specs.Laws.{AtOnceLaw, BusyLaw, StepCountLaw, FreshLaw, GrowthLaw, NeverOlderLaw, RangeLaw, RecordsLaw, RepliesLaw, StayLaw, UnderLaw}
-use Rattle.two_copy_steps.specs.Auxiliary.{Auxiliary, IsApart, IsLawful}
+use Rattle.two_copy_steps.specs.Auxiliary.{Auxiliary, IsApart, IsLawful, side_held}
 use Rattle.two_copy_steps.specs.Actions.{reader_action, stage_action}
 use Rattle.two_copy_steps.specs.Records.{FrontsNeverFall}
 use Rattle.two_copy_steps.specs.Stages.{steps_taken}
 use Rattle.two_copy_steps.specs.Machines.{IsFew, WantsMemory}
 use Rattle.two_copy_steps.specs.Publications.{IsLeastUnseen, StaySeen}
-use Rattle.two_copy_steps.specs.Runs.{HasCause, IsFault, ReportsReplies, auxiliary_after, machine_after}
+use Rattle.two_copy_steps.specs.Runs.{HasCause, IsFault, KeepsRecordsLegal, ReportsReplies, StoresUnderNobody, auxiliary_after, machine_after}
 use Rattle.two_copy_steps.specs.Transitions.{MachineState, notes, machine_at_start, transition}
-use Rattle.two_copy_steps.proofs.WorkedCases.{code, filling_under, hands_three_votes, blocking, one_member, votes_in_range}
+use Rattle.two_copy_steps.proofs.WorkedCases.{code, filling_under, first_sheet, hands_three_votes, blocking, last_sheet, one_member, votes_in_range}
 
 -- an accepted command can want memory; a refused one, one that comes while a publication is under way, and every other
 -- event can't
@@ -80,6 +81,21 @@ records_while_held_up law = law one_member 1 ledger blocking
 apart_while_held_up : UnderLaw → let m = machine_after one_member 1 blocking in IsApart m.writer m.readers
 apart_while_held_up law = law one_member 1 ledger blocking
 
+-- both hold before the first event and after every one; after the last, both commands are published and both readings done
+records_kept : RecordsLaw → KeepsRecordsLegal one_member 1 blocking
+records_kept law k = law one_member 1 ledger (take k blocking)
+
+apart_kept : UnderLaw → StoresUnderNobody one_member 1 blocking
+apart_kept law k = law one_member 1 ledger (take k blocking)
+
+kept_to_the_end : KeepsRecordsLegal one_member 1 blocking
+    → AreLegalRecords one_member.opening (Open 1 ∷ Move code (Some 1) ∷ []) (0 ∷ 1 ∷ 2 ∷ []) ((first_sheet ∷ last_sheet ∷ []) ∷ [])
+kept_to_the_end kept = kept 151
+
+-- the records of a register that begins with a refused command aren't legal before the first event
+refused_at_the_start : KeepsRecordsLegal (record one_member { journal = Close 1 ∷ [] }) 1 [] → ⊥
+refused_at_the_start kept = true≢false (sym (kept 0).legal.0)
+
 replies_while_held_up : RepliesLaw → ReportsReplies one_member 1 blocking
 replies_while_held_up law = law one_member 1 ledger blocking
 
@@ -94,6 +110,11 @@ at_once_used law = law (machine_after one_member 1 (Submit (Open 1) ∷ [])) ref
 -- a reader at rest after a publication of one command reads its sheet, or a newer one
 abbrev one_published : List Event
 one_published = Submit (Open 1) ∷ Publish ∷ replicate 35 Writer
+
+-- as its first word is stored, no reader holds copy 1
+nobody_under : StoresUnderNobody one_member 1 one_published → (stage : Stage)
+    → slice_get (machine_after one_member 1 (Submit (Open 1) ∷ Publish ∷ [])).readers 0 ≡ Some stage → side_held stage ≡ Some 1 → ⊥
+nobody_under apart stage at held = apart 2 1 0 stage refl at held
 
 fresh_used : FreshLaw → 1 ≤ front_of (1 ∷ replicate 31 0 ++ 10 ∷ 1 ∷ [])
 fresh_used law = law one_member 1 ledger one_published (replicate 36 (Reader 1)) 0 _ refl refl

@@ -15,11 +15,13 @@ use Rattle.two_copy_steps.specs.Machines.{IsFew, IsMachine}
 use Rattle.two_copy_steps.specs.Publications.{seen_out_at}
 use Rattle.two_copy_steps.specs.Records.{FrontsNeverFall, sheets_reported}
 use Rattle.two_copy_steps.specs.Runs.{IsFault}
-use Rattle.two_copy_steps.specs.Stages.{IsReadable, about_to_leave, last_load, last_step, reading_steps, sheet_read}
+use Rattle.two_copy_steps.specs.Stages.{IsReadable, about_to_leave, accessed_place, last_load, last_step, left_by, reading_steps, sheet_read, stage_of}
 use Rattle.two_copy_steps.specs.States.{EndsWith}
 use Rattle.two_copy_steps.specs.Transitions.{MachineState, is_idle, is_pending, machine_at_start, transition}
 use Rattle.two_copy_steps.specs.declared.events.Event.TheVariants.{Submit, Publish, Writer, Reader}
 use Rattle.two_copy_steps.specs.declared.events.Note.TheVariants.{Accepted, Began, Busy, Moved, Published, Read, Refused, Skipped}
+use Rattle.two_copy_steps.specs.declared.stages.Access.TheVariants.{Load, Store}
+use Rattle.two_copy_steps.specs.declared.stages.ReaderPc.TheVariants as pc
 use Rattle.two_copy_steps.specs.declared.views.Stage.TheVariants.{AtRest, Arrived, Reading, Leaving}
 use Rattle.two_copy_steps.specs.declared.views.Phase.TheVariants.{Idle, Seeing, Filling, Swapping}
 use Rattle.two_copy_steps.proofs.WorkedCases.{first_sheet, last_sheet, one_member}
@@ -64,6 +66,15 @@ readings_of_stages = (refl, refl, refl)
 
 sheets_of_stages : (sheet_read (Reading 0 (7 ∷ [])) ≡ None) × (sheet_read (Leaving 0 (7 ∷ [])) ≡ Some (7 ∷ [])) × (about_to_leave Arrived ≡ []) × (about_to_leave (Leaving 0 (7 ∷ [])) ≡ (7 ∷ []) ∷ [])
 sheets_of_stages = (refl, refl, refl, refl)
+
+-- a reader is at a stage with its side once that is loaded, and with the words that are
+stages_of_counters : (stage_of pc.AtRest 1 (7 ∷ 8 ∷ []) ≡ AtRest) × (stage_of pc.Arrived 1 (7 ∷ 8 ∷ []) ≡ Arrived) × (stage_of (pc.Reading 0) 1 (7 ∷ 8 ∷ []) ≡ Reading 1 []) × (stage_of (pc.Reading 1) 1 (7 ∷ 8 ∷ []) ≡ Reading 1 (7 ∷ []))
+    × (stage_of pc.Leaving 1 (7 ∷ 8 ∷ []) ≡ Leaving 1 (7 ∷ 8 ∷ []))
+stages_of_counters = (refl, refl, refl, refl, refl)
+
+-- a load leaves the number that it finds, and a store its own
+accesses : (accessed_place (Load 5) ≡ 5) × (accessed_place (Store 69 1) ≡ 69) × (left_by (Load 5) 7 ≡ 7) × (left_by (Store 69 1) 7 ≡ 1)
+accesses = (refl, refl, refl, refl)
 
 -- a reader loads up to 33 words, and leaves with 34, which are a sheet
 still_loading : IsReadable (Reading 0 (replicate 33 0)) × (IsReadable (Reading 0 (replicate 34 0)) → ⊥)
