@@ -25,9 +25,6 @@ to_error = written_streams (Some []) (Some []) (Some []) (Some one)
 output_without_memory : LacksMemory 1 to_output → ⊥
 output_without_memory h = let e = h.out_kept in cc e
 
-status_without_memory : LacksMemory 2 to_error → ⊥
-status_without_memory h = let e = h.status_is in cc e
-
 -- a program that has written nothing may end so, with that status and no other
 abbrev unwritten : Written
 unwritten = written_streams (Some []) (Some []) (Some []) (Some [])
