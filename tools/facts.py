@@ -18,7 +18,8 @@ LARGE = {2**40: "2^40", 2**48: "2^48"}
 
 @dataclass(frozen=True)
 class Majority:
-    """A row of the table of majorities: the word, the name, how a sentence on it begins, what wins, and why."""
+    """A row of the table of majorities: the word, the name, how a sentence on it begins, what wins, and why; and the
+    name in the code."""
 
     word: str
     name: str
@@ -27,6 +28,7 @@ class Majority:
     condition: str
     article: str
     about: str
+    variant: str
 
 
 @dataclass(frozen=True)
@@ -99,10 +101,11 @@ class Facts:
     def majorities(self) -> list[Majority]:
         """The majorities by number, as docs/DEFINITIONS.md has them."""
         rows = re.findall(r"^\| `\w+` \|.*\|$", section("Majorities"), re.MULTILINE)
-        found = [Majority(*(cell.strip(" `") for cell in row.strip("|").split("|"))) for row in rows]
-        words = re.findall(r'Majority::\w+ => "(\w+)"', text_of("crates/majority_rule/src/majorities.rt"))
-        assert words == [it.word for it in found], f"docs/DEFINITIONS.md has other majorities than the code: {words}"
-        return found
+        cells = [[cell.strip(" `") for cell in row.strip("|").split("|")] for row in rows]
+        coded = re.findall(r'Majority::(\w+) => "(\w+)"', text_of("crates/majority_rule/src/majorities.rt"))
+        words = [word for _, word in coded]
+        assert words == [row[0] for row in cells], f"docs/DEFINITIONS.md has other majorities than the code: {words}"
+        return [Majority(*[*row, variant]) for row, (variant, _) in zip(cells, coded)]
 
     @cached_property
     def refusals(self) -> list[Refusal]:

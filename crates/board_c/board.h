@@ -147,7 +147,7 @@ struct board_counts {
     struct board_chair rows[BOARD_CHAIRS]; /* open chairs by number, then zeros */
 };
 
-/* The counts by each of the four majorities. */
+/* The counts by each majority. */
 struct board_all_counts {
     struct board_counts half;
     struct board_counts seventy;
@@ -178,8 +178,8 @@ struct board_room {
 uint8_t board_counts_of_sheet(const uint64_t *words, size_t len, uint32_t majority, struct board_room *room,
                               struct board_counts *counts);
 
-/* The counts of a sheet by each of the four majorities, from lists that are built once. Words
- * that are not a sheet's are refused as BOARD_BAD_SHEET. */
+/* The counts of a sheet by each majority, from lists that are built once. Words that are not a
+ * sheet's are refused as BOARD_BAD_SHEET. */
 uint8_t board_all_counts_of_sheet(const uint64_t *words, size_t len, struct board_room *room,
                                   struct board_all_counts *counts);
 
@@ -304,9 +304,9 @@ uint8_t board_register_command_at(struct board_register *handle, size_t index, s
  * Refused as BOARD_NO_REGISTER. */
 uint8_t board_register_sheet(struct board_register *handle, uint64_t *words);
 
-/* The counts of the register's sheet by a majority, and by each of the four majorities, from lists
- * that are built once. Refused as BOARD_NO_REGISTER; otherwise the first as BOARD_BAD_RECORD, if
- * no majority has this number. */
+/* The counts of the register's sheet by a majority, and by each of them, from lists that are built
+ * once. Refused as BOARD_NO_REGISTER; otherwise the first as BOARD_BAD_RECORD, if no majority has
+ * this number. */
 uint8_t board_register_counts(struct board_register *handle, uint32_t majority, struct board_room *room,
                               struct board_counts *counts);
 uint8_t board_register_all_counts(struct board_register *handle, struct board_room *room,
@@ -336,7 +336,7 @@ struct board_item {
     struct board_command command; /* of kind BOARD_OPEN to BOARD_READ */
     uint32_t number;              /* the record's number, counted from 1 over all of the input */
     uint32_t reader;              /* of BOARD_READ: the reader, from 1 */
-    uint32_t majority;            /* of BOARD_READ: BOARD_HALF to BOARD_QUORUM */
+    uint32_t majority;            /* of BOARD_READ: a majority, as BOARD_HALF */
     uint32_t from;                /* the record's bytes are those of the input from this offset */
     uint32_t to;                  /* to this one, which is that of the first byte after them */
 };

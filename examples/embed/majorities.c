@@ -1,4 +1,4 @@
-/* A board at all four majorities in one call, and two calls that are refused. */
+/* A board at all majorities in one call, and two calls that are refused. */
 #include "board.h"
 #include <inttypes.h>
 #include <stdio.h>
@@ -25,7 +25,7 @@ int main(void) {
 
     uint8_t below = board_counts_of_weights(weights, 3, 99, BOARD_HALF, &room, &all.half);
     printf("a total below the sum: %d, %s\n", below, board_refusal_name(below));
-    uint8_t majority = board_counts_of_weights(weights, 3, 100, 4, &room, &all.half);
-    printf("a majority 4: %d, %s\n", majority, board_refusal_name(majority));
+    uint8_t majority = board_counts_of_weights(weights, 3, 100, 9, &room, &all.half);
+    printf("a majority 9: %d, %s\n", majority, board_refusal_name(majority));
     return 0;
 }

@@ -62,7 +62,7 @@ export function readingOf(indices: Indices): Reading {
   };
 }
 
-/** Counting by all four majorities together is faster than counting this number of them one by one. */
+/** Counting by all majorities together is faster than counting this number of them one by one. */
 const MANY = 3;
 
 /** The readings of a register as it stands. */

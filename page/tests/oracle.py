@@ -8,13 +8,16 @@ from typing import Any
 
 from member_tables import MemberTable, input_lines, read_table
 from replay_output import Output, read_output
+from tests.independent.counts import CLAUSES
 from voting_board.scenarios import Scenario
 from voting_board.studies import study
 from voting_board.study_files import study_table
 
 TOP = Path(__file__).resolve().parents[2]
 EXAMPLE = TOP / "examples" / "members.csv"
-MAJORITIES = ["half", "70", "85", "quorum"]
+MAJORITIES = list(CLAUSES)
+# Those that the page doesn't show at first.
+UNSHOWN = [it for it in MAJORITIES if it not in ("half", "85")]
 
 
 def text_of(records: list[str]) -> str:

@@ -12,7 +12,7 @@ import pytest
 from chromium import EVERY, NARROW, Page
 from coalition_count import Board, Coalition, counted, large_by_size
 from inputs import MOST
-from oracle import MAJORITIES, Oracle
+from oracle import MAJORITIES, UNSHOWN, Oracle
 from replay_output import Reading
 from selenium.webdriver.common.keys import Keys
 from test_exports import DROP
@@ -49,7 +49,7 @@ TICKED = """
 
 def show_all(page: Page) -> None:
     """Shows all majorities, and the tab."""
-    for majority in ["70", "quorum"]:
+    for majority in UNSHOWN:
         page.click(f"#at-{majority}")
     page.click("#tab-coalition")
 
@@ -267,12 +267,12 @@ def test_example(page: Page, oracle: Oracle) -> None:
     assert found[:-2] == [list(it) for it in zip(*columns)]
     check = "{} the sum equals the counted number of winning coalitions: {:,}."
     assert page.texts("#size-checks li") == [check.format(WORDS[it.majority], it.winning) for it in readings]
-    assert not page.all(".alarm") and vetoes(page) == vetoes_of(readings) == [[], [], [], []]
-    # With more votes chair 1 has a veto at 85 per cent, and at 70 with many more.
-    for votes, where in [("900000", [False, False, True, False]), ("5000000", [True, True, True, True])]:
+    assert not page.all(".alarm") and vetoes(page) == vetoes_of(readings) == [[] for _ in MAJORITIES]
+    # With more votes chair 1 has a veto at 85 per cent, and at all majorities with many more.
+    for votes, where in [("900000", ["85"]), ("5000000", MAJORITIES)]:
         assert page.act("votes", "XAA", votes)
         wanted = vetoes_of(oracle.output([f"votes,XAA,{votes}"], MAJORITIES).readings)
-        assert vetoes(page) == wanted and [1 in it for it in wanted] == where
+        assert vetoes(page) == wanted and [at for at, it in zip(MAJORITIES, wanted) if 1 in it] == where
 
 
 def test_marks(small: Page) -> None:
@@ -284,7 +284,7 @@ def test_marks(small: Page) -> None:
     assert set(parts.values()) == {"counted", "made here"}
     for table in ["#smallest-table", "#smallest-list"]:
         assert set(small.run(marks, f"{table} thead th")) == {"made here"}
-    assert small.run(marks, "#size-table thead th") == ["", *["made here"] * 9]
+    assert small.run(marks, "#size-table thead th") == ["", *["made here"] * (1 + 2 * len(MAJORITIES))]
     assert small.run(marks, "#size-table tfoot th") == ["made here", "counted"]
 
 
@@ -309,7 +309,7 @@ def test_few_chairs(page: Page, chairs: int) -> None:
 def test_most(page: Page, record_property: Say) -> None:
     # Catches: sums of the most votes that aren't exact any more, and a tab that takes seconds.
     opened(page, MOST, "most")
-    for majority in ["70", "quorum"]:
+    for majority in UNSHOWN:
         page.click(f"#at-{majority}")
     took = page.run(
         """
@@ -317,8 +317,8 @@ def test_most(page: Page, record_property: Say) -> None:
       document.getElementById("tab-coalition").click();
       return performance.now() - begun;"""
     )
-    record_property("time", f"tab Coalition: {took:.0f} ms, 32 chairs at 4 majorities")
-    assert len(page.texts("#size-checks li")) == 4 and not page.all(".alarm")
+    record_property("time", f"tab Coalition: {took:.0f} ms, 32 chairs at all majorities")
+    assert len(page.texts("#size-checks li")) == len(MAJORITIES) and not page.all(".alarm")
     *_, total, check = sizes(page)
     assert total[1:] == check[1:] and check[1] == f"{2**32:,}"
 

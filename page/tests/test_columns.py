@@ -9,7 +9,7 @@ from statistics import median
 import pytest
 from chromium import ACTS, EVERY, NARROW, Page
 from figures import rows, shown_majorities
-from oracle import MAJORITIES, Oracle, text_of
+from oracle import MAJORITIES, UNSHOWN, Oracle, text_of
 from rounding import exact, rounded
 from selenium.webdriver.common.keys import Keys
 from test_exports import DROP
@@ -107,7 +107,7 @@ def check_columns(page: Page, oracle: Oracle, lists: list[list[str]], is_chained
 def test_scenarios_as_columns(page: Page, oracle: Oracle, record_property: Say, against: str) -> None:
     # Catches: a column with another scenario's numbers, or with what is added to another column.
     keep(page, REFORMS)
-    for it in ["70", "quorum"]:
+    for it in UNSHOWN:
         page.click(f"#at-{it}")
     page.click("#tab-table")
     page.choose("#columns", "scenarios")
@@ -323,7 +323,7 @@ def edit_time(page: Page) -> float:
 
 def test_an_edit_beside_eight_scenarios(page: Page, record_property: Say) -> None:
     # Catches: scenarios that are all counted or drawn again in a way that makes each edit wait for them.
-    for it in ["70", "quorum"]:
+    for it in UNSHOWN:
         page.click(f"#at-{it}")
     assert shown_majorities(page) == MAJORITIES
     page.click("#tab-table")
@@ -334,6 +334,6 @@ def test_an_edit_beside_eight_scenarios(page: Page, record_property: Say) -> Non
     counted(page)
     beside = min(edit_time(page) for _ in range(ROUNDS))
     record_property(
-        "time", f"an edit beside eight scenarios {beside:.0f} ms, {beside / alone:.1f} times one alone, 4 majorities"
+        "time", f"an edit beside eight scenarios {beside:.0f} ms, {beside / alone:.1f} times one alone, all majorities"
     )
     assert beside < MOST_TO_EDIT * alone

@@ -13,7 +13,7 @@ from typing import Any
 import pytest
 from chromium import EVERY, Page
 from firefox import Driver
-from oracle import Oracle
+from oracle import MAJORITIES, UNSHOWN, Oracle
 from selenium.webdriver.common.keys import Keys
 from test_exports import COMMANDS, sha256
 
@@ -313,16 +313,16 @@ def test_no_figure(study: Page) -> None:
 
 def test_figure_in_grey(study: Page) -> None:
     # Catches: majorities that only their colour tells apart, or a colour that a copier loses.
-    for majority in ["70", "quorum"]:
+    for majority in UNSHOWN:
         study.click(f"#at-{majority}")
     show_tab(study, "change")
     root = ElementTree.fromstring(study.act("exported", "export-svg"))
     paths = [it for it in root.iter(f"{SVG}path") if it.get("fill", "").startswith("#")]
     shapes = {it.get("fill"): it.get("d") for it in paths}
-    assert len(shapes) == len(set(shapes.values())) == 4
+    assert len(shapes) == len(set(shapes.values())) == len(MAJORITIES)
     lines = [it for it in root.iter(f"{SVG}path") if it.get("stroke-width") and it.get("fill") == "none"]
     hatches = {it.get("stroke"): it.get("stroke-width") for it in lines}
-    assert set(hatches) == set(shapes) and len({hatches[it] for it in shapes}) == 4
+    assert set(hatches) == set(shapes) and len({hatches[it] for it in shapes}) == len(MAJORITIES)
     for colour in [*shapes, *(it.get("fill", "") for it in root.iter(f"{SVG}text") if it.get("fill"))]:
         red, green, blue = (int(str(colour)[at : at + 2], 16) / 255 for at in (1, 3, 5))
         assert 0.2126 * red + 0.7152 * green + 0.0722 * blue < 0.42, colour

@@ -7,7 +7,7 @@ from fractions import Fraction
 import pytest
 from chromium import Page
 from figures import BEFORE, EACH, check_figures, gains, lowest, measure_of, rows, shown_majorities
-from oracle import MAJORITIES, Oracle
+from oracle import MAJORITIES, UNSHOWN, Oracle
 from replay_output import Ratio
 from rounding import exact, rounded
 
@@ -33,7 +33,7 @@ def test_first_look(page: Page, oracle: Oracle) -> None:
 @pytest.mark.parametrize("measure", MEASURES)
 def test_measure(changed: Page, oracle: Oracle, measure: str) -> None:
     # Catches: one measure's numbers under another one's name.
-    for majority in ["70", "quorum"]:
+    for majority in UNSHOWN:
         changed.click(f"#at-{majority}")
     changed.choose("#measure", measure)
     assert shown_majorities(changed) == MAJORITIES

@@ -14,7 +14,7 @@ from chromium import ACTS, NARROW, SECONDS, Page
 from conftest import BUILT
 from figures import check_figures, open_menu
 from firefox import Firefox, firefox
-from oracle import Oracle
+from oracle import MAJORITIES, UNSHOWN, Oracle
 from selenium.webdriver.common.action_chains import ActionChains
 from selenium.webdriver.common.keys import Keys
 from test_exports import DROP
@@ -611,8 +611,8 @@ def printed(page: Page, folder: Path) -> str:
 
 
 def test_paper(page: Page, tmp_path: Path) -> None:
-    # Catches: columns that fall off the paper at four majorities.
-    for majority in ["70", "quorum"]:
+    # Catches: columns that fall off the paper at all majorities.
+    for majority in UNSHOWN:
         page.click(f"#at-{majority}")
     assert page.act("votes", "XAD", "+40%")
     page.click("#tab-table")
@@ -621,7 +621,7 @@ def test_paper(page: Page, tmp_path: Path) -> None:
       (row) => [...row.cells].map((it) => it.textContent));"""
     )
     found = "".join(printed(page, tmp_path).split())
-    assert len(cells) == 24 and len(cells[0]) == 19
+    assert len(cells) == 24 and len(cells[0]) == 7 + 3 * len(MAJORITIES)
     for row in cells:
         assert "".join("".join(row).split()) in found, row
 
@@ -629,7 +629,7 @@ def test_paper(page: Page, tmp_path: Path) -> None:
 @pytest.mark.parametrize("digits", ["3", "10"])
 def test_paper_of_every_tab(page: Page, digits: str) -> None:
     # Catches: something on paper that is wider than the paper, in any tab.
-    for majority in ["70", "quorum"]:
+    for majority in UNSHOWN:
         page.click(f"#at-{majority}")
     assert page.act("votes", "XAD", "+40%")
     page.write("#scenario-name", "More votes for one of them")

@@ -11,7 +11,7 @@ from chromium import EVERY, Page
 from figures import check_figures
 from inputs import user_codes
 from member_tables import register_of
-from oracle import MAJORITIES, TOP, Oracle
+from oracle import MAJORITIES, TOP, UNSHOWN, Oracle
 from test_exports import DROP
 from test_random import TEXTS, table_of
 from test_said import HEAD, opened
@@ -153,7 +153,7 @@ def test_scripts_in_odd_spellings(page: Page, oracle: Oracle, part: int) -> None
 def test_a_sweep_is_cancelled(page: Page) -> None:
     # Catches: a page that can't be used while it counts, and a Cancel that cancels nothing.
     opened(page, WEIGHTY)
-    for majority in ["70", "quorum"]:
+    for majority in UNSHOWN:
         page.click(f"#at-{majority}")
     ask(page, "1", "base", "0", "1000", "1", "votes")
     page.until(lambda: page.all("#waiting progress[value]"), "the progress")

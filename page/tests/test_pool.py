@@ -6,6 +6,7 @@ import random
 
 import inputs
 from chromium import Page
+from oracle import MAJORITIES, UNSHOWN
 from test_said import opened
 from test_studies import CELLS, ask, sweep
 from tests.shared.commands import Say
@@ -49,7 +50,7 @@ def open_with(page: Page, processors: int) -> None:
     script = page.driver.execute_cdp_cmd("Page.addScriptToEvaluateOnNewDocument", wanted)
     page.open()
     page.driver.execute_cdp_cmd("Page.removeScriptToEvaluateOnNewDocument", script)
-    for majority in ["70", "quorum"]:
+    for majority in UNSHOWN:
         page.click(f"#at-{majority}")
 
 
@@ -90,16 +91,16 @@ def test_the_numbers_of_one_worker(page: Page) -> None:
     open_with(page, 4)
     assert swept(page) == one and workers(page) == 4
     page.open(None, "Worker")
-    for majority in ["70", "quorum"]:
+    for majority in UNSHOWN:
         page.click(f"#at-{majority}")
     assert swept(page) == one and workers(page) == 1
 
 
 def milliseconds(page: Page, value: int) -> float:
-    """The time of a sweep of 200 values at four majorities, which begins at a value that wasn't asked for before."""
+    """The time of a sweep of 200 values at all majorities, which begins at a value that wasn't asked for before."""
     ask(page, "1", "base", str(value), str(value + 199_000), "1000", "votes")
     found = float(page.wait_for(COUNTED, str(value)))
-    assert "200 points at 4 majorities were counted" in page.text("#sweep-words")
+    assert f"200 points at {len(MAJORITIES)} majorities were counted" in page.text("#sweep-words")
     return found
 
 
@@ -115,7 +116,7 @@ def test_several_workers_take_less_time(page: Page, record_property: Say) -> Non
         if least[4] < AIM * least[1]:
             break
     ratio, possible = least[4] / least[1], plain[4] / plain[1]
-    words = "200 values at 32 chairs, 256 members and 4 majorities"
+    words = "200 values at 32 chairs, 256 members and all majorities"
     record_property(
         "time", f"{words}: {least[1]:.0f} ms with one worker, {least[4]:.0f} ms with four, {ratio:.2f} of it"
     )

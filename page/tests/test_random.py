@@ -9,7 +9,7 @@ import pytest
 from actions import Model, drawn_act
 from chromium import NARROW, Page
 from figures import shown_majorities
-from oracle import Oracle
+from oracle import UNSHOWN, Oracle
 
 SEED = 20_260_101
 PARTS, LISTS, MOST_ACTS = 10, 20, 9
@@ -52,7 +52,7 @@ def table_of(text: str) -> list[dict[str, str]]:
 def test_random_lists(page: Page, oracle: Oracle, part: int) -> None:
     # Catches: any sequence of acts after which the page shows other numbers than its script gives.
     some = random.Random(SEED + part)
-    for majority in some.sample(["70", "quorum"], part % 3):
+    for majority in some.sample(UNSHOWN, part % 3):
         page.click(f"#at-{majority}")
     majorities = shown_majorities(page)
     # Painting takes most of the time, and there is least of it here.

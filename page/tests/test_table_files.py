@@ -12,7 +12,7 @@ import openpyxl  # type: ignore[import]
 import pytest
 from chromium import EVERY, NARROW, Page
 from figures import measure_of, shown_majorities
-from oracle import MAJORITIES, TOP, Oracle
+from oracle import MAJORITIES, TOP, UNSHOWN, Oracle
 from replay_output import Chair, Reading
 from rounding import exact
 from selenium.webdriver.common.keys import Keys
@@ -63,10 +63,10 @@ HOSTILE = [
 
 @pytest.fixture
 def study(page: Page) -> Page:
-    """The page with three changes, at all four majorities."""
+    """The page with three changes, at all majorities."""
     for act in [["votes", "XAD", "+40%"], ["move", "XAA", "2"], ["suspend", "XAC"]]:
         assert page.act(*act)
-    for majority in ["70", "quorum"]:
+    for majority in UNSHOWN:
         page.click(f"#at-{majority}")
     return page
 
@@ -142,7 +142,7 @@ def test_latex(study: Page, oracle: Oracle) -> None:
         groups = ["Votes"] * 2 + ["Share of votes (%)"] * 3
         groups += [f"{words}, {LABELS[it]}{unit}" for it in MAJORITIES for _ in range(3)]
         points = "added, points" if measure == "share" else "added"
-        own = ["base", "changed", "base", "changed", "added, points", *["base", "changed", points] * 4]
+        own = ["base", "changed", "base", "changed", "added, points", *["base", "changed", points] * len(MAJORITIES)]
         assert table.heads == [["", "", *groups], ["Chair", "Name", *own]]
         assert [it[0] for it in table.rows] == [str(it) for it in range(1, 25)]
         for chair, _, *cells in table.rows:
@@ -150,8 +150,8 @@ def test_latex(study: Page, oracle: Oracle) -> None:
             compared += len(cells)
         for column in zip(*(it[2:] for it in table.rows)):
             assert len({len(cell.partition(".")[2]) for cell in column}) == 1, "points that don't align"
-    assert compared == 5 * 24 * 17
-    assert table.rules[1].count("cmidrule") == 6 and len(table.rules) == 4
+    assert compared == 5 * 24 * (5 + 3 * len(MAJORITIES))
+    assert table.rules[1].count("cmidrule") == 2 + len(MAJORITIES) and len(table.rules) == 4
 
 
 def test_latex_fractions_and_order(study: Page, oracle: Oracle) -> None:
@@ -261,7 +261,7 @@ def test_workbook(study: Page, oracle: Oracle) -> None:
     assert name.endswith("-table.xlsx") and book.sheetnames == ["Table", "Fractions", "Source"]
     wanted = table_of(oracle.study({"changed": COMMANDS}, MAJORITIES))
     rows, fractions = rows_of(book["Table"]), rows_of(book["Fractions"])
-    assert len(rows) == len(fractions) == len(wanted) == 2 * 4 * 24
+    assert len(rows) == len(fractions) == len(wanted) == 2 * len(MAJORITIES) * 24
     assert sum(check_cells(row, it) for row, it in zip(rows, wanted)) == len(wanted) * 34
     csv_rows = table_of(str(study.act("exported", "export-csv")))
     assert [list(it) for it in rows[:1]] == [list(it) for it in csv_rows[:1]]
@@ -272,7 +272,7 @@ def test_workbook(study: Page, oracle: Oracle) -> None:
             assert isinstance(texts[column], str) and Fraction(texts[column]) == value, (column, texts)
             assert number[column] == float(value), (column, number[column], value)
             compared += 1
-    assert compared == 2 * 4 * 24 * 10
+    assert compared == len(wanted) * 10
 
 
 def test_workbook_source(study: Page, oracle: Oracle) -> None:

@@ -8,7 +8,7 @@ import pytest
 from chromium import EVERY, NARROW, Page
 from figures import open_menu
 from member_tables import MOST_VOTES
-from oracle import MAJORITIES, Oracle, least
+from oracle import MAJORITIES, UNSHOWN, Oracle, least
 from replay_output import Ratio
 from rounding import exact, rounded
 from selenium.webdriver.common.keys import Keys
@@ -78,7 +78,7 @@ def check(cells: list[tuple[str, str]], holds: Holds, now: int, rest: int, digit
 @pytest.mark.parametrize(("who", "chair"), [("XAD", 4), ("5", 5), ("XAE", 5)])
 def test_both_sides_of_each(page: Page, oracle: Oracle, who: str, chair: int, is_changed: bool) -> None:
     # Catches: a threshold that is one vote off, or of another chair, majority or board.
-    for majority in ["70", "quorum"]:
+    for majority in UNSHOWN:
         page.click(f"#at-{majority}")
     for act in CHANGES:
         assert page.act(*act.split(","))

@@ -4,7 +4,7 @@ from __future__ import annotations
 from statistics import median
 
 from chromium import Page
-from oracle import MAJORITIES
+from oracle import MAJORITIES, UNSHOWN
 from test_studies import sweep
 from tests.shared.commands import Say
 
@@ -22,7 +22,7 @@ def test_times(page: Page, record_property: Say) -> None:
     # Catches: nothing. It prints the times, for developers of the page.
     first = page.run('const [it] = performance.getEntriesByName("edit to numbers"); return it.startTime + it.duration;')
     record_property("time", f"opened to first numbers: {first:.0f} ms")
-    for majority in ["70", "quorum"]:
+    for majority in UNSHOWN:
         page.click(f"#at-{majority}")
     assert page.act("votes", "XAD", "300000")
     for step in range(EDITS):

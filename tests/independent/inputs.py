@@ -8,8 +8,10 @@ from pathlib import Path
 from random import Random
 from string import ascii_uppercase
 
+from tests.independent.counts import CLAUSES
+
 EXAMPLES = Path(__file__).resolve().parents[2] / "examples"
-MAJORITIES = ["half", "70", "85", "quorum"]
+MAJORITIES = list(CLAUSES)
 MOST_BYTES = 4_194_304
 Records = list[list[str]]
 # Bytes that no sound input has, or has only in some places.

@@ -19,6 +19,7 @@ from concurrent.futures import ThreadPoolExecutor
 from itertools import islice
 from pathlib import Path
 
+from tests.independent.counts import CLAUSES
 from tests.shared.boards import weights_of
 from tests.shared.inputs import Call, mutated, of_cases
 
@@ -34,7 +35,7 @@ LARGEST_VOTES = 2**40
 COMMANDS = 9_000
 EVERY = 30
 MEMBERS, CODES, SEATS = 60, 80, 16
-MAJORITIES = ["half", "70", "85", "quorum"]
+MAJORITIES = list(CLAUSES)
 SECONDS = 60
 
 

@@ -119,7 +119,7 @@ static void refuse_all(struct test *test) {
     right &= board_register_entry_at(handle, SIZE_MAX, &to.entry) == BOARD_BAD_INDEX;
     right &= board_register_command_at(handle, model->accepted, &to.command) == BOARD_BAD_INDEX;
     right &= board_register_command_at(handle, SIZE_MAX, &to.command) == BOARD_BAD_INDEX;
-    for (int at = 0; at < MAJORITIES; at++) {
+    for (size_t at = 0; at < sizeof numbers / sizeof numbers[0]; at++) {
         right &= board_register_counts(handle, numbers[at], &room, &to.counts) == BOARD_BAD_RECORD;
         right &= board_register_read(handle, numbers[at], &room, &to.counts) == BOARD_BAD_RECORD;
     }

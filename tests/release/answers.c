@@ -51,7 +51,7 @@ static int count_board(char *rest) {
     words[BOARD_CHAIRS] = total;
     if (board_all_counts_of_sheet(words, BOARD_SHEET_WORDS, &room, &all)) return 1;
     const struct board_counts *of_all[] = {&all.half, &all.seventy, &all.eighty_five, &all.quorum};
-    for (uint32_t majority = 0; majority < 4; majority++) {
+    for (uint32_t majority = 0; majority < sizeof of_all / sizeof of_all[0]; majority++) {
         struct board_counts counts;
         if (board_counts_of_weights(weights, len, total, majority, &room, &counts)) return 1;
         if (memcmp(&counts, of_all[majority], sizeof counts)) return 1;

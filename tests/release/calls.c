@@ -149,7 +149,7 @@ static void refuse(void) {
     const uint64_t most = (uint64_t)1 << 48, half = (uint64_t)1 << 63;
     const uint64_t three[] = {50, 49, 1}, high[] = {UINT64_MAX}, wraps[] = {half, half, 1};
     const size_t lengths[] = {33, (size_t)1 << 61, (size_t)1 << 63, SIZE_MAX}, words_len = BOARD_SHEET_WORDS;
-    const uint32_t majorities[] = {4, 255, 256, UINT32_MAX};
+    const uint32_t majorities[] = {MAJORITIES, 255, 256, UINT32_MAX};
     const struct board_member far = {1, 33, 0}, heavy[] = {{most, 1, 0}, {1, 0, 0}}, one = {1, 1, 0};
     uint64_t words[BOARD_SHEET_WORDS] = {0};
     memset(&kept, 7, sizeof kept);

@@ -6,10 +6,11 @@ import io
 from collections.abc import Iterator
 from dataclasses import dataclass, field
 
+from tests.independent.counts import CLAUSES
 from tests.independent.register import BYTE_ORDER_MARK, MOST_BYTES, MOST_MEMBERS, MOST_VOTES
 from tests.independent.register import Fault, Malformed, code_of, number_of
 
-MAJORITIES = ["half", "70", "85", "quorum"]
+MAJORITIES = list(CLAUSES)
 READERS, CHAIRS = 4, 32
 
 

@@ -8,6 +8,7 @@ from collections.abc import Callable
 from dataclasses import dataclass
 
 from tests.cases.case_files import Case, all_cases
+from tests.independent.counts import CLAUSES
 from tests.shared.commands import TOP
 
 LONGEST = 4_194_304
@@ -18,7 +19,9 @@ MOST = 20_000
 HEADER = b"member,votes\n"
 RECORDS = [
     *b"open,N close,N move,CODE,N move,CODE,none votes,CODE,N suspend,CODE restore,CODE admit,CODE,N".split(),
-    *b"withdraw,CODE publish publish read,1,half read,1,70 read,1,85 read,1,quorum read,N,half".split(),
+    *b"withdraw,CODE publish publish".split(),
+    *(f"read,1,{it}".encode() for it in CLAUSES),
+    b"read,N,half",
 ]
 BYTES = b',,,"""\r\n\n0123456789ABCDEFabcdef \xef\xbb\xbf\x00\xff'
 

@@ -162,7 +162,7 @@ function limitsOfLimits(text) {
 
 /** Majorities that don't exist. */
 function limitsOfCounts() {
-  for (const majority of [4, 255, 256, 2 ** 32 - 1]) {
+  for (const majority of [MAJORITIES.length, 255, 256, 2 ** 32 - 1]) {
     const { calls, bytes, put } = instance();
     const [weights, room] = [put(Buffer.alloc(8)), calls.board_reserve(ROOM)];
     const counts = put(Buffer.alloc(COUNTS, UNTOUCHED));

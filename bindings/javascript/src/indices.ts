@@ -173,7 +173,7 @@ export function indices(weights: Weights, majority: Majority, given: { total?: W
   return counted(shared(), boardOf(weights, total), majority);
 }
 
-/** The voting power on such a board by each of the four majorities, from lists of coalitions that are made once. */
+/** The voting power on such a board by each majority, from lists of coalitions that are made once. */
 export function indicesOfAll(weights: Weights, given: { total?: Whole } = {}): Record<Majority, Indices> {
   const { total } = options(given, "total");
   return countedByAll(shared(), boardOf(weights, total));

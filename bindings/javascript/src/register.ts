@@ -351,7 +351,7 @@ export class Register {
     return this.#handle.indices("counts", majority, this.#names);
   }
 
-  /** The voting power as the register stands, by each of the four majorities. */
+  /** The voting power as the register stands, by each majority. */
   indicesOfAll(): Record<Majority, Indices> {
     return this.#handle.indicesOfAll(this.#names);
   }

@@ -13,7 +13,7 @@ from pathlib import Path
 
 import pytest
 
-from voting_board import indices, replay_text
+from voting_board import MAJORITIES, indices, replay_text
 from voting_board.amounts import BadStudy
 from voting_board.files import csv_text, place_of, plain_cell, write_files
 from voting_board.study_files import START, empty_page
@@ -214,9 +214,9 @@ def test_recount() -> None:
 
     script = "\n".join(good("recount", "--draw", 1, "--chairs", 18)).encode()
     said = good("recount", given=script + b"\n")
-    assert len(said) == 4 and all("quota, winning coalitions and all swings agree" in it for it in said)
-    for majority in ("half", "70", "85", "quorum"):
-        board = indices([9, 8, 7, 3, 2, 2], majority)  # type: ignore[arg-type]
+    assert len(said) == len(MAJORITIES) and all("quota, winning coalitions and all swings agree" in it for it in said)
+    for majority in MAJORITIES:
+        board = indices([9, 8, 7, 3, 2, 2], majority)
         assert differences_of(board) == []
         wrong = replace(board, swings=(*board.swings[:-1], board.swings[-1] + 1))
         assert len(differences_of(wrong)) == 1 and len(differences_of(replace(board, omega=board.omega + 1))) == 1

@@ -139,7 +139,7 @@ def test_many() -> None:
     for given in [*(numpy.array(rows, it) for it in ("uint8", "int32", float, object)), pandas.DataFrame(rows)]:
         many = indices_of_many(given, MAJORITIES)
         # Catches: counts that wrap where they are subtracted.
-        assert (many.swings.dtype, many.swings.shape) == (numpy.dtype("int64"), (2, 4, 3))
+        assert (many.swings.dtype, many.swings.shape) == (numpy.dtype("int64"), (2, len(MAJORITIES), 3))
         assert (many.swings == wanted.swings).all() and (many.omega == wanted.omega).all()
         assert list(many) == list(wanted)
     assert (wanted.swings - 9 < 0).any()

@@ -40,7 +40,7 @@ def test_script(small: Study) -> None:
     # Catches: a script whose readings are those of another register than the study's.
     readings = replay(small.script()).readings
     wanted = [found for it in small.results.values() for found in it.indices.values()]
-    assert len(wanted) == 4 * (1 + 4 + 11 + 3)
+    assert len(wanted) == len(MAJORITIES) * (1 + 4 + 11 + 3)
     for reading, it in zip(readings, wanted):
         for name in ("majority", "quota", "cast", "total", "omega", "numbers", "weights", "swings"):
             assert getattr(reading, name) == getattr(it, name)

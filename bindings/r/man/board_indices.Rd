@@ -8,8 +8,8 @@
 \alias{plot.board_indices}
 \title{The voting power of the chairs of a board}
 \description{
-Counts the winning coalitions of a board and the swings of each chair, over all coalitions, by one majority or by all
-four.
+Counts the winning coalitions of a board and the swings of each chair, over all coalitions, by one majority or by
+all of them.
 }
 \usage{
 board_indices(x, majority, ...)
@@ -50,7 +50,7 @@ whose votes don't count. Other columns, and parts of these names, are refused.
 A swing of a chair is a set of other open chairs that loses, and wins once the chair is added.
 }
 \value{
-\code{board_indices_of_all} returns a list of four by the names of the majorities. \code{board_indices} returns a
+\code{board_indices_of_all} returns a list by the names of the majorities. \code{board_indices} returns a
 list of class \code{"board_indices"}:
 \item{majority}{the majority}
 \item{quota}{the least weight that can win, in votes}

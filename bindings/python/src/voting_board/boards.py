@@ -1,4 +1,4 @@
-"""The power of one board: by its weights, by one majority or by all four, or by its members."""
+"""The power of one board: by its weights, by one majority or by all, or by its members."""
 from __future__ import annotations
 
 from collections.abc import Iterable, Set
@@ -56,7 +56,7 @@ def indices(weights: Weights, majority: Majority, *, total: Optional[Whole] = No
 
 
 def indices_of_all(weights: Weights, *, total: Optional[Whole] = None) -> dict[Majority, Indices]:
-    """The voting power of a board by each of the four majorities, which takes less than four calls of `indices`.
+    """The voting power of a board by each majority, which takes less time than a call of `indices` for each.
 
         >>> {majority: it.quota for majority, it in indices_of_all([50, 49, 1]).items()}
         {'half': 51, '70': 70, '85': 85, 'quorum': 50}

@@ -75,7 +75,7 @@ def differences_of(of: Indices) -> list[str]:
 
 
 def drawn_script(lot: Random, chairs: int) -> str:
-    """A script with drawn chairs, read at all four majorities: members in each, one suspended, one in no chair."""
+    """A script with drawn chairs, read at all majorities: members in each, one suspended, one in no chair."""
     codes = [f"X{chr(65 + at // 26)}{chr(65 + at % 26)}" for at in range(3 * chairs + 1)]
     seats = [*range(1, chairs + 1), *(lot.randint(1, chairs) for _ in range(2 * chairs))]
     records = [

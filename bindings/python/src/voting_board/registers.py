@@ -379,7 +379,7 @@ class Register:
         return count_by(sheet, number, self._names)
 
     def indices_of_all(self) -> dict[Majority, Indices]:
-        """The voting power in the register as it stands, by each of the four majorities."""
+        """The voting power in the register as it stands, by each majority."""
         with self._used():
             sheet = self._sheet()
         return count_all(sheet, self._names)

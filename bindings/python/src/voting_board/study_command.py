@@ -19,7 +19,7 @@ SCRIPT = "member,votes\n"
 MOST_NAMED = 12
 EPILOG = """For example:
 
-  board-study members.csv --at half,70,85,quorum --scenario "China +30%: votes,CHN,+30%" \\
+  board-study members.csv --at 70,85 --scenario "China +30%: votes,CHN,+30%" \\
     --scenario "Mexico to chair 23: move,MEX,23" --sweep "USA 10..20 by 0.5 %" out/study
 
 TABLE is a strict table: CSV with the columns code (or name), votes, chair, and if there chair_name and suspended, in
@@ -55,7 +55,7 @@ def words() -> argparse.ArgumentParser:
     add("--version", action="version", version=f"board-study {VERSION}")
     add("table", metavar="TABLE", help="the table of members; - is standard input")
     add("out", metavar="OUT", type=out_name, help="the name of the two files, without .csv and .html")
-    add("--at", metavar="MAJORITIES", type=majorities, default=MAJORITIES, help="(default: half,70,85,quorum)")
+    add("--at", metavar="MAJORITIES", type=majorities, default=MAJORITIES, help=f"(default: {','.join(MAJORITIES)})")
     add("--scenario", metavar="TEXT", action="append", default=[], help="'LABEL: command; command'")
     add("--scenarios", metavar="FILE", action="append", default=[], help="scenarios, in CSV or TOML")
     add("--sweep", metavar="TEXT", action="append", default=[], help="'WHO FROM..TO by STEP %%', of the total")

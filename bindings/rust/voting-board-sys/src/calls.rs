@@ -13,7 +13,7 @@ extern "C" {
         counts: *mut board_counts,
     ) -> u8;
 
-    /// The counts of a sheet's 34 words by each of the four majorities.
+    /// The counts of a sheet's 34 words by each majority.
     pub fn board_all_counts_of_sheet(
         words: *const u64,
         len: usize,
@@ -90,7 +90,7 @@ extern "C" {
         counts: *mut board_counts,
     ) -> u8;
 
-    /// The counts of the register's sheet by each of the four majorities.
+    /// The counts of the register's sheet by each majority.
     pub fn board_register_all_counts(
         handle: *mut board_register,
         room: *mut board_room,

@@ -63,7 +63,7 @@ pub struct board_counts {
     pub rows: [board_chair; BOARD_CHAIRS],
 }
 
-/// The counts by each of the four majorities.
+/// The counts by each majority.
 #[repr(C, align(8))]
 #[derive(Clone, Copy, Debug, Default, PartialEq, Eq)]
 pub struct board_all_counts {
@@ -165,7 +165,7 @@ pub struct board_item {
     pub number: u32,
     /// Of `BOARD_READ`: the reader, from 1.
     pub reader: u32,
-    /// Of `BOARD_READ`: `BOARD_HALF` to `BOARD_QUORUM`.
+    /// Of `BOARD_READ`: a majority, as `BOARD_HALF`.
     pub majority: u32,
     /// The record's bytes are those of the input from this offset.
     pub from: u32,

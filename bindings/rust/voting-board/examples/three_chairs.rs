@@ -1,4 +1,4 @@
-//! Three chairs with 50, 49 and 1 votes: at one majority, at all four, by a register and by a replay; and two refusals.
+//! Three chairs with 50, 49 and 1 votes: at one majority, at all, by a register and by a replay; and two refusals.
 use std::error::Error;
 use voting_board::{indices, indices_of_all, replay, Majority, Register};
 

@@ -53,8 +53,8 @@ impl Board {
         Ok(Indices::new(majority, &counts, &self.names))
     }
 
-    /// The counts by each majority, in the order of [`Majority::ALL`], refused likewise. It takes less time than four
-    /// counts.
+    /// The counts by each majority, in the order of [`Majority::ALL`], refused likewise. It takes less time than a
+    /// count by each.
     pub fn indices_of_all(&self) -> Result<[Indices; Majority::ALL.len()], Refused> {
         let total = self.checked_total()?;
         let mut words = [0; BOARD_SHEET_WORDS];
@@ -129,7 +129,7 @@ pub fn indices(weights: &[u64], majority: Majority) -> Result<Indices, Refused> 
 /// use voting_board::{indices_of_all, Majority};
 ///
 /// let all = indices_of_all(&[50, 49, 1])?;
-/// assert_eq!(all.clone().map(|it| it.omega), [3, 2, 2, 4]);
+/// assert_eq!(all.clone().map(|it| it.majority), Majority::ALL);
 /// assert_eq!(all[Majority::Quorum as usize].quota, 50);
 /// # Ok::<(), voting_board::Refused>(())
 /// ```
