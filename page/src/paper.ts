@@ -5,20 +5,22 @@ const [SMALLEST, LARGEST] = [4.5, 7];
 /** The characters that fill a line of A4 or Letter paper at a size of one point. */
 const LINE = 880;
 
-/** The characters of a cell that stay on one line: those of a number, or of the longest word. */
-function widthOf(cell: HTMLTableCellElement): number {
+/** The size of headings, as a part of the size of cells: that of page.css. */
+const HEADING = 0.85;
+
+/** The characters of a cell that stay on one line, those of a number or of the longest word, and one for the padding. */
+function widthOf(cell: HTMLTableCellElement, isHeading: boolean): number {
   const text = cell.textContent ?? "";
-  const words = cell.classList.contains("text") ? text.split(/\s+/) : [text];
-  return 1 + Math.max(...words.map((it) => it.length));
+  const words = isHeading || cell.classList.contains("text") ? text.split(/\s+/) : [text];
+  return 1 + (isHeading ? HEADING : 1) * Math.max(...words.map((it) => it.length));
 }
 
 /** The characters of a table's widest line. */
 function lineOf(table: HTMLTableElement): number {
   const widest: number[] = [];
-  for (const body of table.tBodies) {
-    for (const row of body.rows) {
-      [...row.cells].forEach((cell, at) => (widest[at] = Math.max(widest[at] ?? 0, widthOf(cell))));
-    }
+  for (const row of table.rows) {
+    const isHeading = row.parentElement === table.tHead;
+    [...row.cells].forEach((cell, at) => (widest[at] = Math.max(widest[at] ?? 0, widthOf(cell, isHeading))));
   }
   return widest.reduce((sum, it) => sum + it, 0);
 }

@@ -626,7 +626,7 @@ def test_paper(page: Page, tmp_path: Path) -> None:
         assert "".join("".join(row).split()) in found, row
 
 
-@pytest.mark.parametrize("digits", ["3", "10"])
+@pytest.mark.parametrize("digits", ["1", "3", "6", "10"])
 def test_paper_of_every_tab(page: Page, digits: str) -> None:
     # Catches: something on paper that is wider than the paper, in any tab.
     for majority in UNSHOWN:
