@@ -8,7 +8,7 @@ const LINE = 880;
 /** The size of headings, as a part of the size of cells: that of page.css. */
 const HEADING = 0.85;
 
-/** The characters of a cell that stay on one line, those of a number or of the longest word, and one for the padding. */
+/** The characters of a cell that stay on one line, of a number or of the longest word, and one for the padding. */
 function widthOf(cell: HTMLTableCellElement, isHeading: boolean): number {
   const text = cell.textContent ?? "";
   const words = isHeading || cell.classList.contains("text") ? text.split(/\s+/) : [text];
