@@ -113,6 +113,7 @@ def test_tabs_on_the_smallest_phone(page: Page) -> None:
     # Catches: a tab that a finger can't reach, or whose word is broken.
     page.show(SMALLEST, 640)
     for tab in TABS:
+        page.run('document.querySelector(arguments[0]).scrollIntoView({ block: "center" });', tab)
         page.click(tab)
         assert page.look("lines", tab) == 1, tab
         assert not page.look("wide", SMALLEST), tab
