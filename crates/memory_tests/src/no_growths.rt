@@ -13,7 +13,7 @@ use std::alloc::Global;
 use std::sync::Wait;
 use std::test::Fail;
 use swing_walk::count;
-use two_copy_steps::{Event, Machine, Note};
+use two_copy_steps::{Event, Flags, Machine, Note};
 
 // The numbers of a sheet with 10 of 30 votes in chair 1 after two commands, of votes and of a
 // refusal's name, a code's letters, and whether too many votes are refused.
@@ -124,13 +124,14 @@ fn take_turns(machine: &mut Machine) -> Result<bool, Refusal> {
     Ok(matches!(machine.step(Event::Reader(2))?, Note::Read(2, _)))
 }
 
-// Starts a machine and takes these steps: also the number of published commands, and whether reader
-// 2 is quiescent.
-fn start_machine(kept: &mut Option<Register>) -> Result<(bool, u32, bool), Refusal> {
+// Starts a machine and takes these steps: also the number of published commands, whether reader 2
+// is quiescent, and whether the flags of two readers are of none.
+fn start_machine(kept: &mut Option<Register>) -> Result<(bool, u32, [bool; 2]), Refusal> {
     let register = kept.take().ok_or(Refusal::BadLimit)?;
     let mut machine = Machine::start(register, 2).map_err(|(_, why)| why)?;
     let is_read = take_turns(&mut machine)?;
-    Ok((is_read, machine.published(), machine.seen_out(2)))
+    let flags = [machine.seen_out(2), Flags::start(2).is_empty()];
+    Ok((is_read, machine.published(), flags))
 }
 
 // Two commands for which the journal has room, published in turn: what each call answers, and
@@ -199,7 +200,7 @@ fn calls_without_memory(rt: HostRuntime) -> Result<(), Fail> {
     let list = |half: &mut HalfSums| Ok(list_sets(half));
     assert!(rt; asks_for_none(alloc, HalfSums::new, list, ([4, 2, 3, 10], false))?);
     let kept = |alloc| Ok(Some(with_commands(alloc, 2)?));
-    assert!(rt; asks_for_none(alloc, kept, start_machine, (true, 3, false))?);
+    assert!(rt; asks_for_none(alloc, kept, start_machine, (true, 3, [false; 2]))?);
     let board = |alloc| board_over(alloc, with_commands(alloc, 2)?, 2);
     let publish = |board: &mut (Writer, Vec<Reader>)| publish_two(&rt, &mut board.0);
     assert!(rt; asks_for_none(alloc, board, publish, ([3, 4, 4, 4], 4, false))?);
