@@ -65,7 +65,9 @@ def test_same_bytes(page: Page) -> None:
     # Catches: a time or an order by chance in what is built, so that nobody can check the bytes.
     first = BUILT.read_bytes()
     subprocess.run([TOP / "page" / "build"], check=True, capture_output=True)
-    assert BUILT.read_bytes() == first, "two builds differ"
+    # Of bytes in an assertion, pytest takes many minutes to show where they differ.
+    is_same = BUILT.read_bytes() == first
+    assert is_same, "two builds differ"
 
 
 def test_no_way_to_a_folder(page: Page) -> None:
