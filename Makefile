@@ -207,7 +207,7 @@ endef
 # The groups of the gate's parts. The mutations take most of the memory.
 GATE_PARTS := "docs lint style tools" ci edits "steps steps-tests cases independent recipes memory register script" \
               stress targets compilers "$(LANGUAGES)" "tables page-units" page-tests release-tests
-.PHONY: $(subst ",,$(GATE_PARTS)) edits-tried kit-gate
+.PHONY: $(subst ",,$(GATE_PARTS)) kit-gate
 docs:  ## names, links and made parts of the documents
 	$(call said,tools/check)
 style:  ## how files are written: shellcheck, black, mypy, tsc, clang-format, rustfmt, columns
@@ -234,12 +234,11 @@ steps: $(patsubst %,$O/%.proved,$(STEPPED) $(STATIC))  ## the atomic steps, memo
 	$(call said,tools/steps tools/steps.txt $(patsubst %,$O/%.bc,$(STEPPED) $(STATIC)))
 steps-tests: $O/memory_tests.proved  ## changes planted in the compiled code, which steps must refuse
 	$(call said,tests/run tests/steps)
-edits: edits-tried  ## the mutations
-	$(call said,awk '/^[0-9]+ passed, 0 failed$$/ {passed += $$1} END {print passed + 0 " passed, 0 failed"}' $(tried))
-# A crate that fails beside others is tried once more by itself: its check may have been killed for want of memory.
-tried := $(EDITED:%=$O/%.edits)
-edits-tried:
-	+@$(MAKE) --keep-going $(tried) || $(MAKE) --keep-going -j1 $(tried)
+# A comma in a call ends its argument, so the command that adds up is a variable.
+tried  := $(EDITED:%=$O/%.edits)
+add_up  = awk '/^[0-9]+ passed, 0 failed$$/ {passed += $$1} END {print passed + 0 " passed, 0 failed"}'
+edits: $(tried)  ## the mutations
+	$(call said,$(add_up) $(tried))
 cases: board  ## worked examples, and the examples of the documents, on the program
 	$(call said,tests/run tests/cases)
 independent: board  ## the program against a Python reader written from the documents alone

@@ -144,13 +144,13 @@ def test_a_gate_adds_up_its_parts(stubbed: Stubbed, groups: str, status: int, li
     assert said.count("FAILED one") == 2 * groups.count("bad")
 
 
-@pytest.mark.parametrize("tries, status", [(1, 0), (2, 0), (3, 2)])
-def test_a_crate_whose_mutations_fail_is_tried_once_more(stubbed: Stubbed, tries: int, status: int) -> None:
-    # Catches: a gate that fails since a check was killed, or that passes though a crate has failed twice.
+def test_the_mutations_of_all_crates_are_added_up(stubbed: Stubbed) -> None:
+    # Catches: a recipe that the shell can't read, so that the part fails though each mutation was rejected.
     stubbed.put_kit()
-    rule = f"crate:\n\t@echo >>tries; [[ $$(wc -l <tries) -ge {tries} ]]\n"
-    made, said = stubbed.made(f"--eval={rule}", "tried=crate", "edits-tried")
-    assert made == status, said
+    for name, passed in [("one", 2), ("two", 3)]:
+        (stubbed.top / name).write_text(f"{name}/first is refused: why\n{passed} passed, 0 failed\n")
+    made, said = stubbed.made("tried=one two", "edits")
+    assert (made, said) == (0, "5 passed, 0 failed\n")
 
 
 @pytest.mark.parametrize("words", ["", "--check", "--check compilers"])
