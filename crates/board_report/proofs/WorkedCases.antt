@@ -8,7 +8,7 @@ use Rattle.board_text.specs.declared.faults.Fault.{Fault}
 use Rattle.board_runs.specs.Replays.{run_of}
 use Rattle.board_report.proofs.WordCases.{plain, replay_asks_no_text, replay_has_no_fault}
 use Rattle.board_report.specs.declared.calls.Invocation.{Invocation}
-use Rattle.board_report.specs.declared.calls.Invocation.TheVariants.{Replay, Serve}
+use Rattle.board_report.specs.declared.calls.Invocation.TheVariants.{Replay, Serve, Trace}
 use Rattle.board_report.specs.Programs.{AnswersWords, CallEnds, CallExits, LacksMemory, Written, failure_text, written_streams}
 
 abbrev one : List ℕ
@@ -81,6 +81,12 @@ unfolding begun_of
 stopped_run_exits_well bytes (inl well) = let e = well.1.0 in cc e
 stopped_run_exits_well bytes (inr (inl fault)) = let e = fault.0 in cc e
 stopped_run_exits_well bytes (inr (inr lacks)) = let e = lacks.status_is in cc e
+
+stopped_trace_exits_well : (bytes : List ℕ) → CallExits (Trace 0 1) bytes 0 reported_well → ⊥
+unfolding begun_of
+stopped_trace_exits_well bytes (inl well) = let e = well.1.0 in cc e
+stopped_trace_exits_well bytes (inr (inl fault)) = let e = fault.0 in cc e
+stopped_trace_exits_well bytes (inr (inr lacks)) = let e = lacks.status_is in cc e
 
 -- and another fault's name is not what standard error gets
 abbrev another_name : List ℕ
