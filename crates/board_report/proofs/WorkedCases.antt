@@ -1,11 +1,13 @@
 -- What the definitions of how the program ends take and refuse.
-use Rattle.std.proofs.Common.{◌≡◌, ℕ, List, [], ◌∷◌, ◌++◌, get_or, Option, Some, Ok, codes, inl, inr, refl, sym, ap, ◌∙◌, subst, arith}
+use Rattle.std.proofs.Common.{◌≡◌, ℕ, List, [], ◌∷◌, ◌++◌, ◌⊎◌, get_or, Option, None, Some, Ok, Err, codes, inl, inr, refl, sym, ap, ◌∙◌, subst, arith}
 use Rattle.council_core.specs.Refusals.{code_of}
 use Rattle.council_core.specs.declared.refusals.Refusal.TheVariants.{BadHeader, BadLimit, BadRecord, OutOfMemory, ReadFault, WriteFault}
+use Rattle.board_text.specs.Lines.{LineBytes}
 use Rattle.board_text.specs.Output.{AppendsFront}
 use Rattle.board_text.specs.Text.{begun_of, fault_at, stopped_run, run_limits}
 use Rattle.board_text.specs.declared.faults.Fault.{Fault}
 use Rattle.board_runs.specs.Replays.{run_of}
+use Rattle.board_serve.specs.Serving.{EndsAfter, EndsBroken, EndsInInputFault}
 use Rattle.board_report.proofs.WordCases.{plain, replay_asks_no_text, replay_has_no_fault}
 use Rattle.board_report.specs.declared.calls.Invocation.{Invocation}
 use Rattle.board_report.specs.declared.calls.Invocation.TheVariants.{Replay, Serve, Trace}
@@ -131,3 +133,21 @@ another_fault_named bytes (inr (inr lacks)) = not_of_memory lacks.said
 serve_without_a_journal : (bytes : List ℕ) (old new : Option (List ℕ)) → CallEnds (Serve 0) bytes old new (Ok tt) → ⊥
 unfolding begun_of
 serve_without_a_journal bytes old new h = cc h.1.1
+
+-- and it ends in no fault but that of the limit
+same_code : {f g : Fault} → f ≡ g → f.code ≡ g.code
+same_code e = ap (λ (f : Fault). f.code) e
+
+no_header : (lines : List LineBytes) (f : Fault) → f.code ≡ 21 → EndsInInputFault (fault_at BadLimit 0) lines f ⊎ EndsBroken lines f → ⊥
+no_header lines f header (inl (none, e)) = omega (arith, header, same_code e)
+no_header lines f header (inr (none, inl e)) = omega (arith, header, same_code e)
+no_header lines f header (inr (none, inr e)) = omega (arith, header, same_code e)
+
+ends_by_the_limit : (lines : List LineBytes) (end : Option Fault) → EndsAfter (Err (fault_at BadLimit 0)) lines end → end ≡ Some (fault_at BadHeader 0) → ⊥
+ends_by_the_limit lines None e is = e
+ends_by_the_limit lines (Some f) e is = let same : f ≡ fault_at BadHeader 0 = cc is in no_header lines f (same_code same) e
+
+serve_ends_in_another_fault : (bytes : List ℕ) (old new : Option (List ℕ)) → CallEnds (Serve 0) bytes old new (Err (fault_at BadHeader 0)) → ⊥
+unfolding begun_of
+serve_ends_in_another_fault bytes old new (run, is, inl (end, wrote)) = ends_by_the_limit run.lines run.end is end
+serve_ends_in_another_fault bytes old new (run, is, inr (same, wrote)) = let e = same_code same in absurd (omega (arith, e))
