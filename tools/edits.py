@@ -26,8 +26,6 @@ from pathlib import Path
 NAMES = re.compile(
     r"has no field|is not in scope|has no `|was not admitted|that depends on `[^`]*`, which was rejected"
 )
-# The prover's statuses for a crate that is proved, and for one that isn't. Others say nothing about the crate.
-VERDICTS = (0, 1)
 # The greatest length of a reason that is printed.
 SHOWN = 160
 # The folders of a crate that the prover reads.
@@ -198,22 +196,17 @@ def link(source: str, target: str) -> None:
 
 
 def check_edited(folder: Path, kept: Path, command: Sequence[str], edits: list[Edit]) -> tuple[int, str]:
-    """Checks a crate with mutations applied, over a copy of its kept work: the prover's status and output.
-
-    A check that ends without a verdict is repeated once: it was killed, say, since other work took the memory."""
+    """Checks a crate with mutations applied, over a copy of its kept work: the prover's status and output."""
     with tempfile.TemporaryDirectory(prefix="edits-", dir=kept.parent) as place:
         for part in (it for it in READ if (folder / it).is_dir()):
             shutil.copytree(folder / part, Path(place, part))
         apply(edits, Path(place))
         own = shutil.copytree(kept, Path(place, "kept"), copy_function=link)
         words = [*command, "--incremental", str(own), "--jobs", "1"]
-        ran = partial(
-            subprocess.run, words, cwd=place, capture_output=True, text=True, errors="replace", stdin=subprocess.DEVNULL
+        ran = subprocess.run(
+            words, cwd=place, capture_output=True, text=True, errors="replace", stdin=subprocess.DEVNULL
         )
-        found = ran()
-        if found.returncode not in VERDICTS:
-            found = ran()
-        return found.returncode, found.stderr + found.stdout
+        return ran.returncode, ran.stderr + ran.stdout
 
 
 def main(folder: str, kept: str, *command: str) -> int:

@@ -130,16 +130,3 @@ def test_what_one_check_leaves_open_is_tried_alone(two: list[Any]) -> None:
     gives = {("first-wrong", "second-wrong"): failed(SEARCHED, CALLS), ("second-wrong",): (0, "logic=proved")}
     found = edits.tried(two, lambda some: gives[tuple(it.name for it in some)])
     assert [(it.name, why) for it, why in found] == [("first-wrong", REASON), ("second-wrong", None)]
-
-
-@pytest.mark.parametrize("kills, status", [(1, 1), (2, 137)])
-def test_a_check_without_a_verdict_is_repeated_once(
-    crate: Path, two: list[Any], tmp_path: Path, kills: int, status: int
-) -> None:
-    # Catches: a mutation that counts as not rejected because other work took the memory, and a check without an end.
-    kept, runs = tmp_path / "kept", tmp_path / "runs"
-    kept.mkdir()
-    script = f'echo >>"{runs}"; [ "$(wc -l <"{runs}")" -gt {kills} ] || exit 137; echo logic=not-proved; exit 1'
-    found, said = edits.check_edited(crate, kept, ["sh", "-c", script], two)
-    assert found == status and edits.is_refused(found, said) == (status == 1)
-    assert runs.read_text().count("\n") == 2
