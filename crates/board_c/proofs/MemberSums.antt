@@ -1,4 +1,4 @@
--- Sums over the members up to a place, and the counts that a call has written.
+-- Sums over the members up to an index, and the counts that a call has written.
 use Rattle.std.proofs.Common.{◌≡◌, ℕ, ◌+◌, ◌<◌, ◌≤◌, Bool, true, false, cond, List, [], ◌∷◌, length, take, get_or, arith, sym, subst}
 use Rattle.std.specs.Prelude.{Result, Ok, Err, IsOk, IfOk}
 use Rattle.std.specs.List.{All, sum_by}
@@ -27,7 +27,7 @@ sum_within c [] = omega arith
 sum_within c (m ∷ ms) =
     omega (arith, sum_by-cons (λ (x : BoardMember). votes_in c (standing_of x)) m ms, sum_by-cons (λ (x : BoardMember). effective_votes (standing_of x)) m ms, votes_within c (standing_of m), sum_within c ms)
 
--- and so are those of its members up to a place
+-- and so are those of its members up to an index
 pub front_within : (c at : ℕ) (ms : List BoardMember) → sum_by (λ m. votes_in c (standing_of m)) (take at ms) ≤ member_total ms
 front_within c at ms = omega (arith, sum_by-take-le (λ (m : BoardMember). votes_in c (standing_of m)) ms at, sum_within c ms)
 

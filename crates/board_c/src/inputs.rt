@@ -32,11 +32,11 @@ pub(crate) fn words_at(weights: &[u64], total: u64) -> Result<[u64; SHEET_WORDS]
     }
     let mut words = [0; SHEET_WORDS];
     words[TOTAL] = total;
-    for place in 0..weights.len() {
-        let Some(word) = weights[place].checked_add(1) else {
+    for index in 0..weights.len() {
+        let Some(word) = weights[index].checked_add(1) else {
             return Err(Refusal::BadSheet);
         };
-        words[place] = word;
+        words[index] = word;
     }
     Ok(words)
 }

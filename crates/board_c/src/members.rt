@@ -68,9 +68,9 @@ fn total_of(members: &[BoardMember]) -> Result<u64, Refusal>
     ensures refused { IfErr result (λ why. (why ≡ BadSheet) × (IsBoard members.now → ⊥)) }
 {
     let mut total = 0;
-    for place in 0..members.len() {
-        let votes = counted_votes(&members[place]);
-        if members[place].chair > CHAIRS as u64 || votes > MAX_TOTAL - total {
+    for index in 0..members.len() {
+        let votes = counted_votes(&members[index]);
+        if members[index].chair > CHAIRS as u64 || votes > MAX_TOTAL - total {
             return Err(Refusal::BadSheet);
         }
         total += votes;
@@ -87,9 +87,9 @@ fn word_of(members: &[BoardMember], mask: u32, chair: u64) -> u64
 {
     let mut is_taken = false;
     let mut votes = 0;
-    for place in 0..members.len() {
-        is_taken = is_taken || sits(&members[place], chair);
-        votes += votes_for(&members[place], chair);
+    for index in 0..members.len() {
+        is_taken = is_taken || sits(&members[index], chair);
+        votes += votes_for(&members[index], chair);
     }
     if names(mask, chair) || is_taken {
         votes + 1
@@ -107,8 +107,8 @@ fn words_of_members(members: &[BoardMember], mask: u32) -> Result<[u64; SHEET_WO
     let total = total_of(members)?;
     let mut words = [0; SHEET_WORDS];
     words[TOTAL] = total;
-    for place in 0..CHAIRS {
-        words[place] = word_of(members, mask, place as u64 + 1);
+    for index in 0..CHAIRS {
+        words[index] = word_of(members, mask, index as u64 + 1);
     }
     Ok(words)
 }

@@ -4,7 +4,7 @@ use Rattle.council_core.specs.Refusals.{code_of}
 use Rattle.council_core.specs.declared.refusals.Refusal.TheVariants.{BadHeader, BadLimit, BadRecord, OutOfMemory, ReadFault, WriteFault}
 use Rattle.board_text.specs.Lines.{LineBytes}
 use Rattle.board_text.specs.Output.{AppendsFront}
-use Rattle.board_text.specs.Text.{begun_of, fault_at, stopped_run, run_limits}
+use Rattle.board_text.specs.Text.{started_of, fault_at, stopped_run, run_limits}
 use Rattle.board_text.specs.declared.faults.Fault.{Fault}
 use Rattle.board_runs.specs.Replays.{run_of}
 use Rattle.board_serve.specs.Serving.{EndsAfter, EndsBroken, EndsInInputFault}
@@ -71,7 +71,7 @@ name_of_a_fault = refl
 
 -- with no reader a run stops before it reads
 no_reader : (bytes : List ℕ) → run_of (run_limits 0 1) bytes ≡ stopped_run (fault_at BadLimit 0)
-unfolding begun_of
+unfolding started_of
 no_reader bytes = refl
 
 -- then the status is not 0
@@ -79,13 +79,13 @@ abbrev reported_well : Written
 reported_well = written_streams (Some []) (Some (codes "fault,0,BadLimit" ++ 10 ∷ [])) (Some []) (Some [])
 
 stopped_run_exits_well : (bytes : List ℕ) → CallExits (Replay 0 1) bytes 0 reported_well → ⊥
-unfolding begun_of
+unfolding started_of
 stopped_run_exits_well bytes (inl well) = let e = well.1.0 in cc e
 stopped_run_exits_well bytes (inr (inl fault)) = let e = fault.0 in cc e
 stopped_run_exits_well bytes (inr (inr lacks)) = let e = lacks.status_is in cc e
 
 stopped_trace_exits_well : (bytes : List ℕ) → CallExits (Trace 0 1) bytes 0 reported_well → ⊥
-unfolding begun_of
+unfolding started_of
 stopped_trace_exits_well bytes (inl well) = let e = well.1.0 in cc e
 stopped_trace_exits_well bytes (inr (inl fault)) = let e = fault.0 in cc e
 stopped_trace_exits_well bytes (inr (inr lacks)) = let e = lacks.status_is in cc e
@@ -120,7 +120,7 @@ not_of_a_write : IsSaid (fault_at WriteFault 0) → ⊥
 not_of_a_write h = absurd (omega (arith, at 7 (begins another_name _ h).1))
 
 another_fault_named : (bytes : List ℕ) → CallExits (Replay 0 1) bytes 1 reported_another → ⊥
-unfolding begun_of
+unfolding started_of
 another_fault_named bytes (inl well) = let e = well.0 in cc e
 another_fault_named bytes (inr (inl (one, (f, inl (end, new), said)))) =
     let same : f ≡ fault_at BadLimit 0 = cc end in not_of_the_limit (subst IsSaid same said)
@@ -131,7 +131,7 @@ another_fault_named bytes (inr (inr lacks)) = not_of_memory lacks.said
 
 -- no serve with a journal of no commands ends well
 serve_without_a_journal : (bytes : List ℕ) (old new : Option (List ℕ)) → CallEnds (Serve 0) bytes old new (Ok tt) → ⊥
-unfolding begun_of
+unfolding started_of
 serve_without_a_journal bytes old new h = cc h.1.1
 
 -- and it ends in no fault but that of the limit
@@ -148,6 +148,6 @@ ends_by_the_limit lines None e is = e
 ends_by_the_limit lines (Some f) e is = let same : f ≡ fault_at BadHeader 0 = cc is in no_header lines f (same_code same) e
 
 serve_ends_in_another_fault : (bytes : List ℕ) (old new : Option (List ℕ)) → CallEnds (Serve 0) bytes old new (Err (fault_at BadHeader 0)) → ⊥
-unfolding begun_of
+unfolding started_of
 serve_ends_in_another_fault bytes old new (run, is, inl (end, wrote)) = ends_by_the_limit run.lines run.end is end
 serve_ends_in_another_fault bytes old new (run, is, inr (same, wrote)) = let e = same_code same in absurd (omega (arith, e))

@@ -12,12 +12,12 @@ use Rattle.council_core.specs.declared.refusals.Refusal.TheVariants.{BadHeader, 
 use Rattle.board_text.specs.Lines.{LineBytes}
 use Rattle.board_text.specs.Requests.{Row, request_of, is_mark, is_header, member_of}
 use Rattle.board_text.specs.Schedules.{act_of, is_scheduled}
-use Rattle.board_text.specs.Text.{Begun, Opened, Run, begun_of, run_begun_with, before_mark, in_range, is_served, opened_of, opening_of, started_with, unless_bad, valid_or_refused}
+use Rattle.board_text.specs.Text.{Started, Opened, Run, started_of, started_after, before_mark, in_range, is_served, opened_of, opening_of, started_with, unless_bad, valid_or_refused}
 use Rattle.board_text.specs.declared.bounds.Limits.{Limits}
 use Rattle.board_text.specs.declared.faults.Fault.{Fault}
 use Rattle.board_runs.specs.Replays.{replay_start, replay_step, reply_to, run_of}
 use Rattle.board_runs.specs.Traces.{machine_turn, trace_of, trace_start, trace_step}
-use Rattle.board_text.specs.Scripts.{Turn, begun_run, interpreted_run, run_of_script, run_step, script_run, turn_of}
+use Rattle.board_text.specs.Scripts.{Turn, started_run, interpreted_run, run_of_script, run_step, script_run, turn_of}
 
 -- the numbers of the faults that an input may have
 abbrev pub is_of_input : ℕ → Bool
@@ -67,13 +67,13 @@ started-errs : (lim : Limits) (verdict : Result ⊤ Refusal) (p : Opened) → If
 started-errs lim (Err why) p is = is
 started-errs lim (Ok u) p is = tt
 
-begun_with-errs : (lim : Limits) (opened : Result Opened Fault) → ErrsByInput opened → ErrsByInput (run_begun_with lim opened)
+begun_with-errs : (lim : Limits) (opened : Result Opened Fault) → ErrsByInput opened → ErrsByInput (started_after lim opened)
 begun_with-errs lim (Err f) p = p
 begun_with-errs lim (Ok o) p = started-errs lim _ o (verdict-errs o.0 lim.journal)
 
-begun-errs : (lim : Limits) (bytes : List ℕ) → ErrsByInput (begun_of lim bytes)
-unfolding begun_of
-begun-errs lim bytes =
+start-errs : (lim : Limits) (bytes : List ℕ) → ErrsByInput (started_of lim bytes)
+unfolding started_of
+start-errs lim bytes =
     either (in_range lim) _ _
     (either (nat_le (length bytes) 4194304) _ _ (begun_with-errs lim _ (opened-errs (records default_config (strip_bom bytes)))) refl)
     refl
@@ -108,12 +108,12 @@ module _ {S : Type 0} (opened : Limits → Ledger → S) (step : Limits → S �
   script_run-ends s k [] = tt
   script_run-ends s k (r ∷ rs) = step-ends k (step lim s r) _ (errs s r) (λ t. script_run-ends t (k + 1) rs)
 
-  begun_run-ends : (begun : Result Begun Fault) → ErrsByInput begun → EndsByInput (begun_run (run_of_script opened step lim) begun).end
-  begun_run-ends (Err f) p = p
-  begun_run-ends (Ok b) p = script_run-ends _ b.1 b.2
+  started_run-ends : (start : Result Started Fault) → ErrsByInput start → EndsByInput (started_run (run_of_script opened step lim) start).end
+  started_run-ends (Err f) p = p
+  started_run-ends (Ok b) p = script_run-ends _ b.1 b.2
 
   interpreted-ends : (bytes : List ℕ) (f : Fault) → (interpreted_run opened step lim bytes).end ≡ Some f → IsTrue (is_of_input f.code)
-  interpreted-ends bytes f is = end-by_input _ f (begun_run-ends (begun_of lim bytes) (begun-errs lim bytes)) is
+  interpreted-ends bytes f is = end-by_input _ f (started_run-ends (started_of lim bytes) (start-errs lim bytes)) is
 
 -- where a fault ends a replay, it is one of these
 pub run-ends : (lim : Limits) (bytes : List ℕ) (f : Fault) → (run_of lim bytes).end ≡ Some f → IsTrue (is_of_input f.code)

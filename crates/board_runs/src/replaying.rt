@@ -14,7 +14,7 @@ ghost use Rattle.board_runs.specs.Replays.{replay_start, replay_step, run_of};
 use crate::desks::Desk;
 use crate::runs::run;
 use board_text::{
-    Fault, INTERRUPTIONS, Interpreter, Limits, Output, READS, Request, RunStart, Stop,
+    Fault, INTERRUPTIONS, Interpreter, Limits, Output, READS, Request, ScriptStart, Stop,
     line_of_answer, line_of_chair, line_of_reading, request_in,
 };
 use csv::ByteRecord;
@@ -83,8 +83,8 @@ impl Interpreter for Desk {
 
     ghost kept = { λ number desk. Unit {0} };
 
-    fn open(alloc: Global, begun: RunStart, _limits: Limits) -> Result<Desk, Stop> {
-        Desk::open(alloc, begun.register)
+    fn open(alloc: Global, start: ScriptStart, _limits: Limits) -> Result<Desk, Stop> {
+        Desk::open(alloc, start.register)
     }
 
     fn carry_out<W: Write>(

@@ -13,7 +13,7 @@ ghost use Rattle.board_text.specs.Schedules.{is_scheduled};
 
 use crate::runs::run;
 use board_text::{
-    Act, Fault, INTERRUPTIONS, Interpreter, Limits, Output, READS, RunStart, Stop, act_in,
+    Act, Fault, INTERRUPTIONS, Interpreter, Limits, Output, READS, ScriptStart, Stop, act_in,
     line_of_note,
 };
 use csv::ByteRecord;
@@ -35,7 +35,11 @@ fn write_note<W: Write>(note: Note, out: &mut Output<'_, W>) -> Result<(), Stop>
 }
 
 // Takes the machine through one event.
-fn take<W: Write>(machine: &mut Machine, event: Event, out: &mut Output<'_, W>) -> Result<(), Stop>
+fn carry_out_event<W: Write>(
+    machine: &mut Machine,
+    event: Event,
+    out: &mut Output<'_, W>,
+) -> Result<(), Stop>
     ensures wrote { WritesRun out.old.held out.new.held result
         (printed_run (note_lines (transition machine.old event).1)) }
     ensures state { OnOk result (machine.new ≡ (transition machine.old event).0) }
@@ -45,7 +49,7 @@ fn take<W: Write>(machine: &mut Machine, event: Event, out: &mut Output<'_, W>) 
 }
 
 // Takes the machine through an event `count` times.
-fn take_all<W: Write>(
+fn carry_out_events<W: Write>(
     machine: &mut Machine,
     event: &Event,
     count: u32,
@@ -57,7 +61,7 @@ fn take_all<W: Write>(
     ensures continues { GoesOn out.old out.new }
 {
     for _turn in 0..count {
-        take(machine, *event, out)?;
+        carry_out_event(machine, *event, out)?;
     }
     Ok(())
 }
@@ -76,10 +80,15 @@ fn act_on<W: Write>(
     ensures continues { GoesOn out.old out.new }
 {
     match act {
-        Act::Submit(command) => take_all(machine, &Event::Submit(command), 1, out),
-        Act::Publish => take_all(machine, &Event::Publish, 1, out),
-        Act::Writer(count) => take_all(machine, &Event::Writer, count, out),
-        Act::Reader(reader, count) => take_all(machine, &Event::Reader(reader as u8), count, out),
+        Act::Submit(command) => carry_out_events(machine, &Event::Submit(command), 1, out),
+        Act::Publish => carry_out_events(machine, &Event::Publish, 1, out),
+        Act::Writer(count) => carry_out_events(machine, &Event::Writer, count, out),
+        Act::Reader(reader, count) => carry_out_events(
+            machine,
+            &Event::Reader(reader as u8),
+            count,
+            out,
+        ),
     }
 }
 
@@ -104,8 +113,8 @@ impl Interpreter for Scheduled {
 
     ghost kept = { λ number machine. Unit {0} };
 
-    fn open(_alloc: Global, begun: RunStart, limits: Limits) -> Result<Scheduled, Stop> {
-        match Machine::start(begun.register, limits.readers) {
+    fn open(_alloc: Global, start: ScriptStart, limits: Limits) -> Result<Scheduled, Stop> {
+        match Machine::start(start.register, limits.readers) {
             Ok(machine) => Ok(Scheduled { machine }),
             Err(_) => unreachable!(),
         }

@@ -1,8 +1,8 @@
 -- What an input contains, by the start of its script.
 use Rattle.std.proofs.Common.{◌≡◌, ◌⊎◌, inl, inr, ◌≤◌, ◌<◌, ◌+◌, ◌&&◌, ℕ, Bool, true, false, IfOk, if◌then◌else◌, List, [], ◌∷◌, length, map, nat_le, Option, Some, Result, Ok, Err, refl, sym, ap, ◌∙◌, subst}
 use Rattle.std.proofs.lemmas.Bool.{le-leb, lt-leb}
-use Rattle.board_script.specs.Places.{IsPlaced, input_rows}
-use Rattle.board_script.specs.Items.{without_place}
+use Rattle.board_script.specs.Spans.{SpansItsLine, input_rows}
+use Rattle.board_script.specs.Items.{without_span}
 use Rattle.council_core.specs.Ledgers.{start_verdict}
 use Rattle.council_core.specs.Rolls.{Opening}
 use Rattle.council_core.specs.Sequential.{Sequential}
@@ -10,15 +10,15 @@ use Rattle.council_core.specs.declared.refusals.Refusal.{Refusal}
 use Rattle.council_core.specs.declared.refusals.Refusal.TheVariants.{BadLimit, TooLong}
 use Rattle.board_text.specs.Output.{Fails, ReadTo}
 use Rattle.board_text.specs.Requests.{Row}
-use Rattle.board_text.specs.Scripts.{begun_run, run_of_script, run_step, script_run, turn_of}
-use Rattle.board_text.specs.Text.{Begun, Opened, Run, begun_of, fault_at, in_range, ledger_at_start, opened_of, run_begun_with, started_with}
+use Rattle.board_text.specs.Scripts.{started_run, run_of_script, run_step, script_run, turn_of}
+use Rattle.board_text.specs.Text.{Started, Opened, Run, started_of, fault_at, in_range, ledger_at_start, opened_of, started_after, started_with}
 use Rattle.board_text.specs.declared.bounds.Limits.{Limits}
 use Rattle.board_text.specs.declared.faults.Fault.{Fault}
 use Rattle.board_text.specs.declared.requests.Request.{Request}
 use Rattle.board_text.specs.declared.stops.Stop.{Stop}
 use Rattle.board_text.specs.declared.stops.Stop.TheVariants as stop
 use Rattle.board_runs.specs.Replays.{replay_start, replay_step, reply_to, run_of}
-use Rattle.board_script.specs.Contents.{fault_from, fault_or, items_begun, items_from, items_of, members_of}
+use Rattle.board_script.specs.Contents.{fault_from, fault_or, items_started, items_from, items_of, members_of}
 use Rattle.board_text.specs.Text.{members_in}
 use Rattle.board_script.specs.Written.{ChecksOpening, EndsReading, IsPartOfInput, IsWholeInput, ReadItems, answer_of, end_of, fault_record}
 use Rattle.board_script.specs.declared.items.BoardItem.{BoardItem}
@@ -40,30 +40,30 @@ script-end lim s k [] = refl
 script-end lim s k (r ∷ rs) = step-end s k _ (λ t. script_run (replay_step lim) t (k + 1) rs) (fault_from lim (k + 1) rs) (λ t. script-end lim t (k + 1) rs)
 
 -- the fault of a start, or of its script
-abbrev pub fault_begun : Limits → Result Begun Fault → Option Fault
+abbrev pub fault_begun : Limits → Result Started Fault → Option Fault
 fault_begun lim (Err f) = Some f
 fault_begun lim (Ok b) = fault_from lim b.1 b.2
 
-run-end : (lim : Limits) (b : Result Begun Fault) → (begun_run (run_of_script replay_start replay_step lim) b).end ≡ fault_begun lim b
+run-end : (lim : Limits) (b : Result Started Fault) → (started_run (run_of_script replay_start replay_step lim) b).end ≡ fault_begun lim b
 run-end lim (Err f) = refl
 run-end lim (Ok b) = script-end lim (replay_start lim b.0) b.1 b.2
 
 module _ (lim : Limits) (bytes : List ℕ) where
-  pub items-by : (b : Result Begun Fault) → begun_of lim bytes ≡ b → items_of lim bytes ≡ items_begun lim b
-  items-by b e = ap (items_begun lim) e
+  pub items-by : (b : Result Started Fault) → started_of lim bytes ≡ b → items_of lim bytes ≡ items_started lim b
+  items-by b e = ap (items_started lim) e
 
-  pub end-by : (b : Result Begun Fault) → begun_of lim bytes ≡ b → (run_of lim bytes).end ≡ fault_begun lim b
-  end-by b e = run-end lim (begun_of lim bytes) ∙ ap (fault_begun lim) e
+  pub end-by : (b : Result Started Fault) → started_of lim bytes ≡ b → (run_of lim bytes).end ≡ fault_begun lim b
+  end-by b e = run-end lim (started_of lim bytes) ∙ ap (fault_begun lim) e
 
   -- limits out of range
-  pub begun-out_of_range : in_range lim ≡ false → begun_of lim bytes ≡ Err (fault_at BadLimit 0)
-  unfolding begun_of
+  pub begun-out_of_range : in_range lim ≡ false → started_of lim bytes ≡ Err (fault_at BadLimit 0)
+  unfolding started_of
   begun-out_of_range e = rw e refl
 
   module _ (fits : in_range lim ≡ true) where
     -- more bytes than are read
-    pub begun-too_long : INPUT_LIMIT < length bytes → begun_of lim bytes ≡ Err (fault_at TooLong 0)
-    unfolding begun_of
+    pub begun-too_long : INPUT_LIMIT < length bytes → started_of lim bytes ≡ Err (fault_at TooLong 0)
+    unfolding started_of
     begun-too_long h = rw (fits, lt-leb _ _ h) refl
 
     module _ (short : length bytes ≤ INPUT_LIMIT) where
@@ -73,31 +73,31 @@ module _ (lim : Limits) (bytes : List ℕ) where
       pub members-rows : members_of lim bytes ≡ members_in (input_rows bytes)
       members-rows = rw (fits, le-leb _ _ short) refl
 
-      begun-rows : begun_of lim bytes ≡ run_begun_with lim (opened_of rows)
-      unfolding begun_of
+      begun-rows : started_of lim bytes ≡ started_after lim (opened_of rows)
+      unfolding started_of
       begun-rows = rw (fits, le-leb _ _ short) refl
 
-      pub begun-fault : (f : Fault) → opened_of rows ≡ Err f → begun_of lim bytes ≡ Err f
-      begun-fault f e = begun-rows ∙ ap (run_begun_with lim) e
+      pub begun-fault : (f : Fault) → opened_of rows ≡ Err f → started_of lim bytes ≡ Err f
+      begun-fault f e = begun-rows ∙ ap (started_after lim) e
 
       module _ (members : Opening) (n : ℕ) (left : List Row) (opened : opened_of rows ≡ Ok (members, n, left)) where
-        pub begun-refused : (why : Refusal) → start_verdict members lim.journal ≡ Err why → begun_of lim bytes ≡ Err (fault_at why 0)
-        begun-refused why verdict = begun-rows ∙ ap (run_begun_with lim) opened ∙ rw verdict refl
+        pub begun-refused : (why : Refusal) → start_verdict members lim.journal ≡ Err why → started_of lim bytes ≡ Err (fault_at why 0)
+        begun-refused why verdict = begun-rows ∙ ap (started_after lim) opened ∙ rw verdict refl
 
-        pub begun-script : start_verdict members lim.journal ≡ Ok tt → begun_of lim bytes ≡ Ok (ledger_at_start lim members, n, left)
-        begun-script verdict = begun-rows ∙ ap (run_begun_with lim) opened ∙ rw verdict refl
+        pub begun-script : start_verdict members lim.journal ≡ Ok tt → started_of lim bytes ≡ Ok (ledger_at_start lim members, n, left)
+        begun-script verdict = begun-rows ∙ ap (started_after lim) opened ∙ rw verdict refl
 
 -- what was read of an input, by the result of reading its opening
 module _ (lim : Limits) (bytes : List ℕ) where
-  pub items-refused : (d : Stop) (f : Fault) → d ≡ stop.Input f → begun_of lim bytes ≡ Err f → ReadTo {T = Unit {0}} (Err d) [] (items_of lim bytes)
+  pub items-refused : (d : Stop) (f : Fault) → d ≡ stop.Input f → started_of lim bytes ≡ Err f → ReadTo {T = Unit {0}} (Err d) [] (items_of lim bytes)
   items-refused d f is begun = rw is (sym (items-by lim bytes (Err f) begun))
 
-  pub end-refused : (d : Stop) (f : Fault) → d ≡ stop.Input f → begun_of lim bytes ≡ Err f → EndsReading {T = Unit {0}} (Err d) (run_of lim bytes).end
+  pub end-refused : (d : Stop) (f : Fault) → d ≡ stop.Input f → started_of lim bytes ≡ Err f → EndsReading {T = Unit {0}} (Err d) (run_of lim bytes).end
   end-refused d f is begun = rw is (end-by lim bytes (Err f) begun)
 
   -- no item was written
   pub none-written : (d : Stop) (old : List BoardItem) (count : ℕ) → count ≡ 0 → ReadTo {T = Unit {0}} (Err d) [] (items_of lim bytes) → ReadItems {T = Unit {0}} (Err d) bytes (items_of lim bytes) count old old
-  none-written d old count zero read = record { got = []; read = read; places = all-none (IsPlaced bytes); written = sym (overlaid-none old); counted = zero }
+  none-written d old count zero read = record { got = []; read = read; spans = all-none (SpansItsLine bytes); written = sym (overlaid-none old); counted = zero }
 
   module _ (fits : in_range lim ≡ true) (short : length bytes ≤ INPUT_LIMIT) (script : List Row) (same : script ≡ input_rows bytes) where
     items-unopened : (e : Stop) → Fails e (opened_of script) → ReadTo {T = Unit {0}} (Err e) [] (items_of lim bytes)
@@ -162,30 +162,30 @@ start-members : (lim : Limits) (got : Opening) (verdict : Result ⊤ Refusal) (o
 start-members lim got (Ok u) o is = is
 start-members lim got (Err why) o is = tt
 
-begun-members : (lim : Limits) (got : Opening) (opened : Result Opened Fault) → IfOk opened (λ o. got ≡ o.0) → IfOk (run_begun_with lim opened) (λ b. got ≡ b.0.opening)
+begun-members : (lim : Limits) (got : Opening) (opened : Result Opened Fault) → IfOk opened (λ o. got ≡ o.0) → IfOk (started_after lim opened) (λ b. got ≡ b.0.opening)
 begun-members lim got (Err f) is = tt
 begun-members lim got (Ok o) is = start-members lim got (start_verdict o.0 lim.journal) o is
 
 by-length : (lim : Limits) (bytes : List ℕ) (short : Bool) (rows : List Row)
-    → IfOk (if short then run_begun_with lim (opened_of rows) else Err (fault_at TooLong 0)) (λ b. (if true && short then members_in rows else []) ≡ b.0.opening)
+    → IfOk (if short then started_after lim (opened_of rows) else Err (fault_at TooLong 0)) (λ b. (if true && short then members_in rows else []) ≡ b.0.opening)
 by-length lim bytes true rs = begun-members lim (members_in rs) (opened_of rs) (members-opened rs)
 by-length lim bytes false rs = tt
 
 by-tests : (lim : Limits) (bytes : List ℕ) (fits short : Bool) (rows : List Row)
-    → IfOk (if fits then (if short then run_begun_with lim (opened_of rows) else Err (fault_at TooLong 0)) else Err (fault_at BadLimit 0)) (λ b. (if fits && short then members_in rows else []) ≡ b.0.opening)
+    → IfOk (if fits then (if short then started_after lim (opened_of rows) else Err (fault_at TooLong 0)) else Err (fault_at BadLimit 0)) (λ b. (if fits && short then members_in rows else []) ≡ b.0.opening)
 by-tests lim bytes true short rs = by-length lim bytes short rs
 by-tests lim bytes false short rs = tt
 
-pub members-begun : (lim : Limits) (bytes : List ℕ) → IfOk (begun_of lim bytes) (λ b. members_of lim bytes ≡ b.0.opening)
-unfolding begun_of
+pub members-begun : (lim : Limits) (bytes : List ℕ) → IfOk (started_of lim bytes) (λ b. members_of lim bytes ≡ b.0.opening)
+unfolding started_of
 members-begun lim bytes = by-tests lim bytes (in_range lim) (nat_le (length bytes) INPUT_LIMIT) (input_rows bytes)
 
-opening-kept : (lim : Limits) (bytes : List ℕ) (members : Opening) → members ≡ members_of lim bytes → IfOk (begun_of lim bytes) (λ b. members ≡ b.0.opening)
-opening-kept lim bytes members is = subst (λ (ms : Opening). IfOk (begun_of lim bytes) (λ b. ms ≡ b.0.opening)) (sym is) (members-begun lim bytes)
+opening-kept : (lim : Limits) (bytes : List ℕ) (members : Opening) → members ≡ members_of lim bytes → IfOk (started_of lim bytes) (λ b. members ≡ b.0.opening)
+opening-kept lim bytes members is = subst (λ (ms : Opening). IfOk (started_of lim bytes) (λ b. ms ≡ b.0.opening)) (sym is) (members-begun lim bytes)
 
 -- all that was read, or a part
 pub whole-or-part : (lim : Limits) (bytes : List ℕ) (r : Result (Unit {0}) Stop) (members : Opening) (items : List BoardItem)
-    → ReadTo r members (members_of lim bytes) → ReadTo r (map without_place items) (items_of lim bytes) → EndsReading r (run_of lim bytes).end
+    → ReadTo r members (members_of lim bytes) → ReadTo r (map without_span items) (items_of lim bytes) → EndsReading r (run_of lim bytes).end
     → IsWholeInput lim bytes members items (answer_of (end_of r)) (fault_record (end_of r)) ⊎ IsPartOfInput lim bytes members items (answer_of (end_of r)) (fault_record (end_of r))
 whole-or-part lim bytes (Ok u) members items m i e = inl record { members_read = m; opening = opening-kept lim bytes members m; items_read = i; number = ap answer_of (sym e); at = ap fault_record (sym e) }
 whole-or-part lim bytes (Err (stop.Input f)) members items m i e = inl record { members_read = m; opening = opening-kept lim bytes members m; items_read = i; number = ap answer_of (sym e); at = ap fault_record (sym e) }

@@ -10,7 +10,7 @@ use Rattle.csv.specs.declared.parser.State.{State}
 use Rattle.csv.specs.declared.parser.State.TheVariants as st
 use Rattle.csv.specs.declared.parser.Action.{Action}
 use Rattle.csv.specs.declared.parser.Action.TheVariants as act
-use Rattle.board_script.specs.Places.{is_in_line, is_line_end, is_one_line}
+use Rattle.board_script.specs.Spans.{is_in_line, is_line_end, is_one_line}
 use Rattle.board_script.specs.TextLines.{is_plain}
 use Rattle.board_text.proofs.ScriptFacts.{same-records}
 

@@ -8,7 +8,7 @@ use Rattle.std.specs.List.{list_all, prefix_len}
 use Rattle.csv.specs.Reading.{default_config, is_bom, records, records_from, strip_bom}
 use Rattle.csv.specs.Machine.{next_record}
 use Rattle.board_text.specs.Requests.{Row}
-use Rattle.board_script.specs.Places.{IsRecordAt, bytes_between, is_in_line, is_line_end, is_one_line, input_rows}
+use Rattle.board_script.specs.Spans.{IsRecordAt, bytes_between, is_in_line, is_line_end, is_one_line, input_rows}
 use Rattle.board_script.specs.TextLines.{is_plain, line_after, lines_end, mark_size}
 use Rattle.board_script.proofs.LineFacts.{and-left, and-right, IsBounded, IsRead, MayFollow, gap-skipped, line-reads, read-gap, read-line, read-none, follows-itself, bounded-follows}
 

@@ -22,7 +22,7 @@ use Rattle.board_text.specs.declared.bounds.Limits.{Limits}
 use Rattle.board_text.specs.declared.faults.Fault.{Fault}
 use Rattle.board_text.specs.declared.requests.Request.{Request}
 use Rattle.board_text.proofs.OpeningFacts.{opening-bad, opening-ends, opening-full, opening-mark, opening-member, opening-starts, opening_after}
-use Rattle.board_script.specs.Places.{is_in_line, is_one_line, input_rows}
+use Rattle.board_script.specs.Spans.{is_in_line, is_one_line, input_rows}
 use Rattle.board_script.specs.TextLines.{IsLeft, is_plain}
 use Rattle.board_script.proofs.LineFacts.{and-left, and-right}
 

@@ -11,15 +11,15 @@ use Rattle.council_core.specs.declared.refusals.Refusal.TheVariants.{BadLimit, D
 use Rattle.two_copy_steps.specs.Lawful.{IsPrefix}
 use Rattle.board_text.specs.Requests.{Row}
 use Rattle.board_runs.specs.Replays.{run_of}
-use Rattle.board_text.specs.Text.{begun_of, fault_at, members_in, opening_of, run_limits}
+use Rattle.board_text.specs.Text.{started_of, fault_at, members_in, opening_of, run_limits}
 use Rattle.board_text.specs.declared.bounds.Limits.{Limits}
 use Rattle.board_text.specs.declared.faults.Fault.{Fault}
 use Rattle.board_text.specs.declared.stops.Stop.TheVariants as stop
 use Rattle.c_values.specs.Given.{entry_as}
 use Rattle.c_values.specs.declared.entries.BoardEntry.{BoardEntry}
 use Rattle.board_script.specs.Contents.{items_of, members_of}
-use Rattle.board_script.specs.Items.{item_with, only_kind, placed_at, without_place}
-use Rattle.board_script.specs.Places.{IsPlaced, IsRecordAt, input_rows}
+use Rattle.board_script.specs.Items.{item_with, only_kind, with_span, without_span}
+use Rattle.board_script.specs.Spans.{SpansItsLine, IsRecordAt, input_rows}
 use Rattle.board_script.specs.TextLines.{IsLeft}
 use Rattle.board_script.specs.Written.{ChecksOpening, IsPartOfInput, IsWholeInput, ReadItems, ShowsInput, answer_of, fault_record, overlaid}
 use Rattle.board_script.specs.declared.items.BoardItem.{BoardItem}
@@ -38,7 +38,7 @@ abbrev member : Opening
 member = (65 ∷ 65 ∷ 65 ∷ [], 1) ∷ []
 
 no_items : (bytes : List ℕ) → items_of none bytes ≡ []
-unfolding begun_of
+unfolding started_of
 no_items bytes = refl
 
 end : (bytes : List ℕ) → (run_of none bytes).end ≡ Some (fault_at BadLimit 0)
@@ -49,7 +49,7 @@ module _ (bytes : List ℕ) where
   other_members members items answer place h = cc h.members_read
 
   pub other_items : (members : Opening) (items : List BoardItem) (answer place : ℕ) → IsWholeInput none bytes members (item ∷ items) answer place → ⊥
-  other_items members items answer place h = let is : map without_place (item ∷ items) ≡ [] = h.items_read ∙ no_items bytes in cc is
+  other_items members items answer place h = let is : map without_span (item ∷ items) ≡ [] = h.items_read ∙ no_items bytes in cc is
 
   pub no_fault : (members : Opening) (items : List BoardItem) (place : ℕ) → IsWholeInput none bytes members items 0 place → ⊥
   no_fault members items place h = let is : 0 ≡ code_of BadLimit = h.number ∙ ap answer_of (end bytes) in omega (arith, is)
@@ -62,7 +62,7 @@ module _ (bytes : List ℕ) where
       → (IsPartOfInput none bytes (member ++ members) items answer place → ⊥) × (IsPartOfInput none bytes members (item ∷ items) answer place → ⊥)
   no_front_of_none members items answer place = (
     (λ h. cc h.members_front.1),
-    (λ h. let is : [] ≡ map without_place (item ∷ items) ++ h.items_front.0 = sym (no_items bytes) ∙ h.items_front.1 in cc is),
+    (λ h. let is : [] ≡ map without_span (item ∷ items) ++ h.items_front.0 = sym (no_items bytes) ∙ h.items_front.1 in cc is),
   )
 
   pub out_of_memory : (members : Opening) (items : List BoardItem) (answer place : ℕ) → IsPartOfInput none bytes members items answer place → (answer ≡ 10) × (place ≡ 0)
@@ -70,7 +70,7 @@ module _ (bytes : List ℕ) where
 
 -- the members with which a replay starts are those that are read
 pub members_of_a_start : (members : Opening) (items : List BoardItem) (answer place : ℕ) → IsWholeInput (run_limits 1 10) input members items answer place → members ≡ member
-unfolding begun_of opening_of records_from strip_bom next_record
+unfolding started_of opening_of records_from strip_bom next_record
 members_of_a_start members items answer place h = h.opening
 
 -- of an input of one byte more than is read there are no members, and of one of the most bytes those of its records
@@ -84,21 +84,21 @@ no_other_answer bytes place mc ic old new before after h =
 
 -- one item is counted and written at a place where it doesn't stand
 abbrev misplaced : BoardItem
-misplaced = placed_at 25 34 (item_with 4 (only_kind 8) 0 0)
+misplaced = with_span 25 34 (item_with 4 (only_kind 8) 0 0)
 
-not_there : (items : List BoardItem) → 1 ≡ length items → misplaced ∷ [] ≡ overlaid items (item ∷ []) → All (IsPlaced input) items → ⊥
-not_there [] count written places = omega (arith, count)
-not_there (x ∷ []) count written places =
+not_there : (items : List BoardItem) → 1 ≡ length items → misplaced ∷ [] ≡ overlaid items (item ∷ []) → All (SpansItsLine input) items → ⊥
+not_there [] count written spans = omega (arith, count)
+not_there (x ∷ []) count written spans =
     let first : misplaced ≡ x = cc written in
-    let at : IsPlaced input misplaced = subst (IsPlaced input) (sym first) (recursion_from_All (IsPlaced input) (x ∷ []) places).0 in
+    let at : SpansItsLine input misplaced = subst (SpansItsLine input) (sym first) (recursion_from_All (SpansItsLine input) (x ∷ []) spans).0 in
     not_early at
   where
     not_early : IsRecordAt input 4 25 34 → ⊥
     not_early h = cc
-not_there (x ∷ y ∷ items) count written places = omega (arith, count)
+not_there (x ∷ y ∷ items) count written spans = omega (arith, count)
 
 pub no_misplaced : (answer place mc : ℕ) (old new : List BoardEntry) → ShowsInput (run_limits 1 10) input answer place old new mc (item ∷ []) (misplaced ∷ []) 1 → ⊥
-no_misplaced answer place mc old new h = not_there h.items h.items_number h.items_written h.places
+no_misplaced answer place mc old new h = not_there h.items h.items_number h.items_written h.spans
 
 -- where none is counted, what was in the caller's memory is still there
 nothing_over : (items : List BoardItem) (old new : List BoardItem) → 0 ≡ length items → new ≡ overlaid items old → new ≡ old
@@ -125,12 +125,12 @@ not_beyond h = omega (arith, h.within)
 pub none_read : (old new : List BoardItem) (count : ℕ) → ReadItems {T = ⊤} (Ok tt) [] [] count old new → (count ≡ 0) × (new ≡ old)
 none_read old new count h = by_items h.got h.read h.written h.counted
   where
-    by_items : (got : List BoardItem) → map without_place got ≡ [] → new ≡ overlaid got old → count ≡ length got → (count ≡ 0) × (new ≡ old)
+    by_items : (got : List BoardItem) → map without_span got ≡ [] → new ≡ overlaid got old → count ≡ length got → (count ≡ 0) × (new ≡ old)
     by_items [] read written counted = (counted, written ∙ overlaid-none old)
     by_items (x ∷ got) read written counted = cc read
 
-placed_items : (old new : List BoardItem) (h : ReadItems {T = ⊤} (Ok tt) input (without_place misplaced ∷ []) 1 old new) → All (IsPlaced input) h.got
-placed_items old new h = h.places
+placed_items : (old new : List BoardItem) (h : ReadItems {T = ⊤} (Ok tt) input (without_span misplaced ∷ []) 1 old new) → All (SpansItsLine input) h.got
+placed_items old new h = h.spans
 
 -- an opening is refused for its own reason, at no record
 pub openings_refused : (ChecksOpening (Err BadLimit) (Err (stop.Input (fault_at BadLimit 3))) → ⊥) × (ChecksOpening (Err BadLimit) (Err (stop.Input (fault_at DuplicateMember 0))) → ⊥)

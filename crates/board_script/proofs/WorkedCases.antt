@@ -1,16 +1,16 @@
--- Items and their places, computed on inputs; and places that they don't have.
+-- Items and their spans, computed on inputs; and spans that they don't have.
 use Rattle.std.proofs.Common.{◌≡◌, ℕ, List, [], ◌∷◌, Some, refl, arith}
 use Rattle.std.specs.Prelude.{codes}
 use Rattle.council_core.specs.declared.refusals.Refusal.TheVariants.{BadReader, BadRecord}
 use Rattle.csv.specs.Machine.{next_record}
 use Rattle.csv.specs.Reading.{records_from, strip_bom}
 use Rattle.board_text.specs.Requests.{Row}
-use Rattle.board_text.specs.Text.{begun_of, members_before, fault_at, opening_of, run_limits}
+use Rattle.board_text.specs.Text.{started_of, members_before, fault_at, opening_of, run_limits}
 use Rattle.c_values.specs.Given.{command_with, no_code}
 use Rattle.board_script.specs.declared.TheConstants.{DONE}
 use Rattle.board_script.specs.Contents.{fault_from, items_from, items_of, members_of}
 use Rattle.board_script.specs.Items.{item_with, only_kind}
-use Rattle.board_script.specs.Places.{IsRecordAt}
+use Rattle.board_script.specs.Spans.{IsRecordAt}
 use Rattle.board_script.specs.Written.{overlaid}
 
 -- the answer of a call that is not refused
@@ -51,7 +51,7 @@ input = codes "member,votes\nAAA,1\nscript\n\"op\"en,2\npublish"
 
 -- the fourth record, whose quotes end before its field does, is open,2
 pub quoted : items_of (run_limits 1 10) input ≡ item_with 4 (command_with 0 no_code 2 0) 0 0 ∷ item_with 5 (only_kind 8) 0 0 ∷ []
-unfolding begun_of opening_of items_from records_from strip_bom next_record
+unfolding started_of opening_of items_from records_from strip_bom next_record
 quoted = refl
 
 pub quoted_members : members_of (run_limits 1 10) input ≡ (65 ∷ 65 ∷ 65 ∷ [], 1) ∷ []
@@ -133,7 +133,7 @@ not_unended h = cc
 
 -- a fault: the items before it remain
 pub before_fault : items_of (run_limits 1 10) (codes "member,votes\nscript\npublish\nopen,33\npublish") ≡ item_with 3 (only_kind 8) 0 0 ∷ []
-unfolding begun_of opening_of items_from records_from strip_bom next_record
+unfolding started_of opening_of items_from records_from strip_bom next_record
 before_fault = refl
 
 pub at_fault : fault_from (run_limits 1 10) 3 ((codes "publish" ∷ []) ∷ (codes "open" ∷ codes "33" ∷ []) ∷ (codes "publish" ∷ []) ∷ []) ≡ Some (fault_at BadRecord 4)
@@ -142,7 +142,7 @@ at_fault = refl
 
 -- a fault before the script: no items, but the members before it
 pub no_items : items_of (run_limits 1 10) (codes "member,votes\nAAA,1\nAAA,2\nscript\npublish") ≡ []
-unfolding begun_of opening_of items_from records_from strip_bom next_record
+unfolding started_of opening_of items_from records_from strip_bom next_record
 no_items = refl
 
 pub both_members : members_of (run_limits 1 10) (codes "member,votes\nAAA,1\nAAA,2\nscript\npublish") ≡ (65 ∷ 65 ∷ 65 ∷ [], 1) ∷ (65 ∷ 65 ∷ 65 ∷ [], 2) ∷ []

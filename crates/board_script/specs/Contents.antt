@@ -4,13 +4,13 @@ use Rattle.std.specs.Prelude.{nat_le, if◌then◌else◌}
 use Rattle.council_core.specs.Rolls.{Opening}
 use Rattle.council_core.specs.declared.refusals.Refusal.{Refusal}
 use Rattle.board_text.specs.Requests.{Row}
-use Rattle.board_text.specs.Text.{Begun, begun_of, fault_at, in_range, members_in, request_within}
+use Rattle.board_text.specs.Text.{Started, started_of, fault_at, in_range, members_in, request_within}
 use Rattle.board_text.specs.declared.bounds.Limits.{Limits}
 use Rattle.board_text.specs.declared.faults.Fault.{Fault}
 use Rattle.board_text.specs.declared.input.TheConstants.{INPUT_LIMIT}
 use Rattle.board_text.specs.declared.requests.Request.{Request}
 use Rattle.board_script.specs.Items.{item_as}
-use Rattle.board_script.specs.Places.{input_rows}
+use Rattle.board_script.specs.Spans.{input_rows}
 use Rattle.board_script.specs.declared.items.BoardItem.{BoardItem}
 
 -- the members of an input
@@ -23,7 +23,7 @@ abbrev pub item_then : ℕ → Result Request Refusal → List BoardItem → Lis
 item_then k (Ok q) more = item_as k q ∷ more
 item_then k (Err why) more = []
 
--- the items of a script's records without their places, up to the first record with a fault; k is
+-- the items of a script's records without their spans, up to the first record with a fault; k is
 -- the number of the first
 unfoldable pub items_from : Limits → ℕ → List Row → List BoardItem
 items_from lim k [] = []
@@ -38,10 +38,10 @@ unfoldable pub fault_from : Limits → ℕ → List Row → Option Fault
 fault_from lim k [] = None
 fault_from lim k (r ∷ rs) = fault_or k (request_within lim r) (fault_from lim (k + 1) rs)
 
-abbrev pub items_begun : Limits → Result Begun Fault → List BoardItem
-items_begun lim (Err f) = []
-items_begun lim (Ok b) = items_from lim b.1 b.2
+abbrev pub items_started : Limits → Result Started Fault → List BoardItem
+items_started lim (Err f) = []
+items_started lim (Ok b) = items_from lim b.1 b.2
 
--- the items of an input without their places: those of the script that `replay` carries out
+-- the items of an input without their spans: those of the script that `replay` carries out
 abbrev pub items_of : Limits → List ℕ → List BoardItem
-items_of lim bytes = items_begun lim (begun_of lim bytes)
+items_of lim bytes = items_started lim (started_of lim bytes)

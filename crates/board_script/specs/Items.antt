@@ -10,14 +10,14 @@ use Rattle.c_values.specs.declared.commands.TheConstants.{PUBLISH, READ}
 use Rattle.board_script.specs.declared.items.BoardItem.{BoardItem}
 
 -- an item between these offsets of an input
-abbrev pub placed_at : ℕ → ℕ → BoardItem → BoardItem
-placed_at from to item = record item { from = from; to = to }
+abbrev pub with_span : ℕ → ℕ → BoardItem → BoardItem
+with_span from to item = record item { from = from; to = to }
 
--- an item without its place
-abbrev pub without_place : BoardItem → BoardItem
-without_place item = placed_at 0 0 item
+-- an item without its span
+abbrev pub without_span : BoardItem → BoardItem
+without_span item = with_span 0 0 item
 
--- an item of record number k, without its place
+-- an item of record number k, without its span
 abbrev pub item_with : ℕ → BoardCommand → ℕ → ℕ → BoardItem
 item_with k command reader majority = record {
   command = command;
@@ -32,7 +32,7 @@ item_with k command reader majority = record {
 abbrev pub only_kind : ℕ → BoardCommand
 only_kind kind = command_with kind no_code 0 0
 
--- the item of the request of record number k, without its place
+-- the item of the request of record number k, without its span
 abbrev pub item_as : ℕ → Request → BoardItem
 item_as k (ask.Order (order.Submit c)) = item_with k (command_as c) 0 0
 item_as k (ask.Order order.Publish) = item_with k (only_kind PUBLISH) 0 0

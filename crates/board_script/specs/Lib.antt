@@ -1,4 +1,4 @@
-pub mod Places
+pub mod Spans
 pub mod TextLines
 pub mod Items
 pub mod Contents

@@ -4,8 +4,8 @@ use Rattle.std.specs.Prelude.{drop, length}
 use Rattle.std.specs.List.{list_all, prefix_len}
 use Rattle.csv.specs.Reading.{is_bom}
 use Rattle.board_text.specs.Requests.{Row}
-use Rattle.board_script.specs.Places.{input_rows, is_in_line, is_line_end, is_one_line}
-use Rattle.board_script.specs.declared.lines.LinePlace.{LinePlace}
+use Rattle.board_script.specs.Spans.{input_rows, is_in_line, is_line_end, is_one_line}
+use Rattle.board_script.specs.declared.lines.LineSpan.{LineSpan}
 
 -- no field of the record contains a line end
 abbrev pub is_plain : Row → Bool
@@ -17,7 +17,7 @@ mark_size (a ∷ b ∷ c ∷ rest) = if is_bom a b c then 3 else 0
 mark_size _ = 0
 
 -- the first line with a byte in it, from an offset on
-abbrev pub line_after : List ℕ → ℕ → LinePlace
+abbrev pub line_after : List ℕ → ℕ → LineSpan
 line_after input at =
     let from = at + prefix_len is_line_end (drop at input) in
     record { from = from; to = from + prefix_len is_in_line (drop from input) }

@@ -8,7 +8,7 @@ use Rattle.council_core.specs.declared.refusals.Refusal.TheVariants.{OutOfMemory
 use Rattle.two_copy_steps.specs.Lawful.{IsPrefix}
 use Rattle.board_runs.specs.Replays.{run_of}
 use Rattle.board_text.specs.Output.{ReadTo}
-use Rattle.board_text.specs.Text.{begun_of, fault_at}
+use Rattle.board_text.specs.Text.{started_of, fault_at}
 use Rattle.board_text.specs.declared.bounds.Limits.{Limits}
 use Rattle.board_text.specs.declared.faults.Fault.{Fault}
 use Rattle.board_text.specs.declared.requests.Request.{Request}
@@ -16,27 +16,27 @@ use Rattle.board_text.specs.declared.stops.Stop.{Stop}
 use Rattle.board_text.specs.declared.stops.Stop.TheVariants as stop
 use Rattle.board_script.specs.Contents.{items_of, members_of}
 use Rattle.c_values.specs.Given.{entry_as}
-use Rattle.board_script.specs.Items.{item_as, placed_at, without_place}
-use Rattle.board_script.specs.Places.{IsPlaced}
-use Rattle.board_script.specs.declared.lines.LinePlace.{LinePlace}
+use Rattle.board_script.specs.Items.{item_as, with_span, without_span}
+use Rattle.board_script.specs.Spans.{SpansItsLine}
+use Rattle.board_script.specs.declared.lines.LineSpan.{LineSpan}
 use Rattle.board_script.specs.declared.items.BoardItem.{BoardItem}
 use Rattle.c_values.specs.declared.entries.BoardEntry.{BoardEntry}
 
--- the item of record number k at its place, or the stop of its fault
-abbrev pub item_at : ℕ → LinePlace → Result Request Refusal → Result BoardItem Stop
-item_at k place (Ok q) = Ok (placed_at place.from place.to (item_as k q))
-item_at k place (Err why) = Err (stop.Input (fault_at why k))
+-- the item of record number k with its span, or the stop of its fault
+abbrev pub item_at : ℕ → LineSpan → Result Request Refusal → Result BoardItem Stop
+item_at k span (Ok q) = Ok (with_span span.from span.to (item_as k q))
+item_at k span (Err why) = Err (stop.Input (fault_at why k))
 
 -- as many as fit of `all`, written over the front of `old`
 abbrev pub overlaid : {A : Type 0} → List A → List A → List A
 overlaid all old = take (length old) all ++ drop (length all) old
 
--- the items were read and written so; `all` are without their places
+-- the items were read and written so; `all` are without their spans
 pub record ReadItems {T : Type 0} (result : Result T Stop) (bytes : List ℕ) (all : List BoardItem)
     (count : ℕ) (old new : List BoardItem) : Type 0 where
   pub got : List BoardItem
-  pub read : ReadTo result (map without_place got) all
-  pub places : All (IsPlaced bytes) got
+  pub read : ReadTo result (map without_span got) all
+  pub spans : All (SpansItsLine bytes) got
   pub written : new ≡ overlaid got old
   pub counted : count ≡ length got
 
@@ -78,8 +78,8 @@ fault_record (Some f) = f.place
 pub record IsWholeInput (lim : Limits) (bytes : List ℕ) (members : Opening) (items : List BoardItem)
     (answer place : ℕ) : Type 0 where
   pub members_read : members ≡ members_of lim bytes
-  pub opening : IfOk (begun_of lim bytes) (λ b. members ≡ b.0.opening)
-  pub items_read : map without_place items ≡ items_of lim bytes
+  pub opening : IfOk (started_of lim bytes) (λ b. members ≡ b.0.opening)
+  pub items_read : map without_span items ≡ items_of lim bytes
   pub number : answer ≡ answer_of (run_of lim bytes).end
   pub at : place ≡ fault_record (run_of lim bytes).end
 
@@ -87,7 +87,7 @@ pub record IsWholeInput (lim : Limits) (bytes : List ℕ) (members : Opening) (i
 pub record IsPartOfInput (lim : Limits) (bytes : List ℕ) (members : Opening) (items : List BoardItem)
     (answer place : ℕ) : Type 0 where
   pub members_front : IsPrefix members (members_of lim bytes)
-  pub items_front : IsPrefix (map without_place items) (items_of lim bytes)
+  pub items_front : IsPrefix (map without_span items) (items_of lim bytes)
   pub number : answer ≡ code_of OutOfMemory
   pub at : place ≡ 0
 
@@ -100,7 +100,7 @@ pub record ShowsInput (lim : Limits) (bytes : List ℕ) (answer place : ℕ)
   pub items : List BoardItem
   pub contents : IsWholeInput lim bytes members items answer place
       ⊎ IsPartOfInput lim bytes members items answer place
-  pub places : All (IsPlaced bytes) items
+  pub spans : All (SpansItsLine bytes) items
   pub members_written : new_members ≡ overlaid (map entry_as members) old_members
   pub members_number : members_count ≡ length members
   pub items_written : new_items ≡ overlaid items old_items

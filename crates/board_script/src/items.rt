@@ -1,9 +1,9 @@
 //! What a caller in C gets for each record of a script.
 ghost use Rattle.std.specs.Prelude.{◌≡◌, true};
 ghost use Rattle.board_text.specs.Text.{is_served};
-ghost use Rattle.board_script.specs.Items.{item_as, item_with, only_kind, placed_at};
+ghost use Rattle.board_script.specs.Items.{item_as, item_with, only_kind, with_span};
 
-use crate::lines::LinePlace;
+use crate::lines::LineSpan;
 use board_text::{Limits, Request};
 use c_values::{BoardCommand, PUBLISH, READ, command_for, number_for};
 use council_core::Order;
@@ -40,44 +40,44 @@ fn only_kind(kind: u32) -> BoardCommand
     }
 }
 
-// An item at a place.
+// An item with its span.
 fn item_with(
     number: u32,
-    place: LinePlace,
+    span: LineSpan,
     command: BoardCommand,
     reader: u32,
     majority: u32,
 ) -> BoardItem
-    ensures { result ≡ placed_at place.from place.to (item_with number command reader majority) }
+    ensures { result ≡ with_span span.from span.to (item_with number command reader majority) }
 {
     BoardItem {
         command,
         number,
         reader,
         majority,
-        from: place.from,
-        to: place.to,
+        from: span.from,
+        to: span.to,
     }
 }
 
-// The item of a request whose reader number is in range, at its place.
-pub(crate) fn item_for(number: u32, place: LinePlace, limits: Limits, request: Request) -> BoardItem
+// The item of a request whose reader number is in range, with its span.
+pub(crate) fn item_for(number: u32, span: LineSpan, limits: Limits, request: Request) -> BoardItem
     requires served { is_served limits request ≡ true }
-    ensures item { result ≡ placed_at place.from place.to (item_as number request) }
+    ensures item { result ≡ with_span span.from span.to (item_as number request) }
 {
     match request {
         Request::Order(Order::Submit(command)) => item_with(
             number,
-            place,
+            span,
             command_for(&command),
             0,
             0,
         ),
-        Request::Order(Order::Publish) => item_with(number, place, only_kind(PUBLISH), 0, 0),
+        Request::Order(Order::Publish) => item_with(number, span, only_kind(PUBLISH), 0, 0),
         Request::Read(reader, majority) => {
             item_with(
                 number,
-                place,
+                span,
                 only_kind(READ),
                 reader as u32,
                 number_for(majority),

@@ -1,14 +1,14 @@
-//! The lines of an input, and the place of each.
+//! The lines of an input, and where each stands.
 ghost use Rattle.std.specs.Prelude.{◌≡◌, ◌≤◌, ◌+◌, length, drop};
 ghost use Rattle.std.specs.List.{prefix_len};
-ghost use Rattle.board_script.specs.Places.{is_in_line, is_line_end};
+ghost use Rattle.board_script.specs.Spans.{is_in_line, is_line_end};
 ghost use Rattle.board_script.specs.TextLines.{line_after, lines_end, mark_size};
 
 use board_text::INPUT_LIMIT;
 
 /// The offsets of a line's first byte and of the byte after its last one. The line has a byte.
 #[derive(Clone, Copy)]
-pub(crate) struct LinePlace {
+pub(crate) struct LineSpan {
     pub(crate) from: u32,
     pub(crate) to: u32,
 }
@@ -26,11 +26,11 @@ fn line_start(text: &[u8], at: usize) -> usize
     ensures start { result ≡ at + prefix_len is_line_end (drop at text.now) }
     ensures within { result ≤ length text.now }
 {
-    let mut place = at;
-    'bytes: while place < text.len() && is_line_end(text[place]) {
-        place += 1;
+    let mut index = at;
+    'bytes: while index < text.len() && is_line_end(text[index]) {
+        index += 1;
     }
-    place
+    index
 }
 
 // The offset of the first byte from `from` on that ends a line, or the end of the text.
@@ -39,15 +39,15 @@ fn line_stop(text: &[u8], from: usize) -> usize
     ensures stop { result ≡ from + prefix_len is_in_line (drop from text.now) }
     ensures within { result ≤ length text.now }
 {
-    let mut place = from;
-    'bytes: while place < text.len() && !is_line_end(text[place]) {
-        place += 1;
+    let mut index = from;
+    'bytes: while index < text.len() && !is_line_end(text[index]) {
+        index += 1;
     }
-    place
+    index
 }
 
-// The place of the first line with a byte in it, from `at` on.
-pub(crate) fn line_after(text: &[u8], at: usize) -> LinePlace
+// Where the first line with a byte in it stands, from `at` on.
+pub(crate) fn line_after(text: &[u8], at: usize) -> LineSpan
     requires inside { at ≤ length text.now }
     requires short { length text.now ≤ INPUT_LIMIT }
     ensures line { result ≡ line_after text.now at }
@@ -55,7 +55,7 @@ pub(crate) fn line_after(text: &[u8], at: usize) -> LinePlace
 {
     let from = line_start(text, at);
     let to = line_stop(text, from);
-    LinePlace {
+    LineSpan {
         from: from as u32,
         to: to as u32,
     }

@@ -21,12 +21,12 @@ pub(crate) fn check_opening(
     Ok(())
 }
 
-// Writes an entry at a place, if there is one.
-fn put_entry(entries: &mut [BoardEntry], place: usize, entry: BoardEntry)
-    ensures { entries.new ≡ set entries.old place entry }
+// Writes an entry at an index, if there is one.
+fn put_entry(entries: &mut [BoardEntry], index: usize, entry: BoardEntry)
+    ensures { entries.new ≡ set entries.old index entry }
 {
-    if place < entries.len() {
-        entries[place] = entry;
+    if index < entries.len() {
+        entries[index] = entry;
     }
 }
 
@@ -34,7 +34,7 @@ fn put_entry(entries: &mut [BoardEntry], place: usize, entry: BoardEntry)
 pub(crate) fn write_members(members: &[(MemberCode, Votes)], entries: &mut [BoardEntry])
     ensures { entries.new ≡ overlaid (map entry_as members.now) entries.old }
 {
-    for place in 0..members.len() {
-        put_entry(entries, place, entry_for(&members[place]));
+    for index in 0..members.len() {
+        put_entry(entries, index, entry_for(&members[index]));
     }
 }

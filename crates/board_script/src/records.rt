@@ -7,34 +7,29 @@ ghost use Rattle.board_script.specs.TextLines.{IsLeft};
 ghost use Rattle.board_script.specs.Written.{EndsReading, ReadItems, item_at};
 
 use crate::items::{BoardItem, item_for};
-use crate::lines::{LinePlace, end_of_lines, line_after};
+use crate::lines::{LineSpan, end_of_lines, line_after};
 use board_text::{INPUT_LIMIT, Limits, Script, Stop, request_in};
 use council_core::{ChairId, Command, Order};
 use csv::ByteRecord;
 
 // The item of a record of a script.
-fn item_in(
-    limits: Limits,
-    row: &ByteRecord,
-    number: u32,
-    place: LinePlace,
-) -> Result<BoardItem, Stop>
-    ensures { result ≡ item_at number place (request_within limits (fields_of row.now)) }
+fn item_in(limits: Limits, row: &ByteRecord, number: u32, span: LineSpan) -> Result<BoardItem, Stop>
+    ensures { result ≡ item_at number span (request_within limits (fields_of row.now)) }
 {
     // The prover needs these lines, since a request has an order, whose command may have a chair.
     let _none: Option<Order> = None;
     let _nothing: Option<Command> = None;
     let _nowhere: Option<ChairId> = None;
     let request = request_in(limits, row, number)?;
-    Ok(item_for(number, place, limits, request))
+    Ok(item_for(number, span, limits, request))
 }
 
-// Writes an item at a place, if there is one.
-fn put_item(items: &mut [BoardItem], place: usize, item: BoardItem)
-    ensures { items.new ≡ set items.old place item }
+// Writes an item at an index, if there is one.
+fn put_item(items: &mut [BoardItem], index: usize, item: BoardItem)
+    ensures { items.new ≡ set items.old index item }
 {
-    if place < items.len() {
-        items[place] = item;
+    if index < items.len() {
+        items[index] = item;
     }
 }
 
@@ -64,10 +59,10 @@ pub(crate) fn read_records(
         if !script.next(row)? {
             return Ok(());
         }
-        let place = line_after(text, at);
-        let item = item_in(limits, row, number, place)?;
+        let span = line_after(text, at);
+        let item = item_in(limits, row, number, span)?;
         put_item(items, *count, item);
-        at = place.to as usize;
+        at = span.to as usize;
         *count += 1;
         number += 1;
     }

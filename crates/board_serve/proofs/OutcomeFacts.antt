@@ -6,7 +6,7 @@ use Rattle.council_core.specs.Rolls.{IsLegal, Opening}
 use Rattle.council_core.specs.declared.commands.Command.{Command}
 use Rattle.council_core.specs.Sequential.{AreCuts, Call, Sequential, answered, ordered, replies_of, state_after}
 use Rattle.two_copy_steps.specs.Lawful.{last_front}
-use Rattle.board_share.specs.Openings.{beginning_of, new_publisher, new_readers}
+use Rattle.board_share.specs.Openings.{share_start, new_publisher, new_readers}
 use Rattle.board_share.specs.Readers.{IsLegalSheet, ReaderSeen, new_reader}
 use Rattle.board_share.specs.Writers.{Publisher}
 use Rattle.board_text.specs.Text.{unpublished_register}
@@ -48,15 +48,15 @@ pub record IsSeated (p : Planned) (work : AllWork) : Type 0 where
   pub asked : p.shares.asked ≡ work.first.asked.items ∷ work.second.asked.items ∷ []
 
 -- the first two of the new readers of a board
-new-pair : (register : Ledger) (writer : Publisher) (a b : ReaderSeen) → (a ∷ b ∷ []) ≡ new_readers writer.table (beginning_of register 2) 2 → IsNew register.opening a × IsNew register.opening b
+new-pair : (register : Ledger) (writer : Publisher) (a b : ReaderSeen) → (a ∷ b ∷ []) ≡ new_readers writer.table (share_start register 2) 2 → IsNew register.opening a × IsNew register.opening b
 new-pair register writer a b same =
-    let first : a ≡ new_reader writer.table (beginning_of register 2) 0 = cc in
-    let second : b ≡ new_reader writer.table (beginning_of register 2) 1 = cc in
+    let first : a ≡ new_reader writer.table (share_start register 2) 0 = cc in
+    let second : b ≡ new_reader writer.table (share_start register 2) 1 = cc in
     ((ap (λ (r : ReaderSeen). r.opening) first, ap (λ (r : ReaderSeen). r.readings) first), (ap (λ (r : ReaderSeen). r.opening) second, ap (λ (r : ReaderSeen). r.readings) second))
 
 -- what the start of a board gave to the threads
 pub seated : (register : Ledger) (records : Records) (work : AllWork) → register.journal ≡ [] → work.writer.writer ≡ new_publisher work.writer.writer.table register 2 → work.writer.orders ≡ records.orders
-    → (work.first.analyst.reader ∷ work.second.analyst.reader ∷ []) ≡ new_readers work.writer.writer.table (beginning_of register 2) 2
+    → (work.first.analyst.reader ∷ work.second.analyst.reader ∷ []) ≡ new_readers work.writer.writer.table (share_start register 2) 2
     → (work.first.asked ∷ work.second.asked ∷ []) ≡ records.asked → IsSeated (plan_over register (shares_of records)) work
 seated register records work none writer orders readers asked =
     let new = new-pair register work.writer.writer work.first.analyst.reader work.second.analyst.reader readers in

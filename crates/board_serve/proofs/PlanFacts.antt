@@ -6,8 +6,8 @@ use Rattle.majority_rule.specs.declared.majorities.Majority.{Majority}
 use Rattle.council_core.specs.declared.refusals.Refusal.{Refusal}
 use Rattle.board_text.specs.Lines.{LineBytes}
 use Rattle.board_text.specs.Requests.{Row}
-use Rattle.board_text.specs.Scripts.{begun_run, run_of_script, run_step, script_run, turn_of}
-use Rattle.board_text.specs.Text.{Begun, Run, request_within}
+use Rattle.board_text.specs.Scripts.{started_run, run_of_script, run_step, script_run, turn_of}
+use Rattle.board_text.specs.Text.{Started, Run, request_within}
 use Rattle.board_text.specs.declared.bounds.Limits.{Limits}
 use Rattle.board_text.specs.declared.faults.Fault.{Fault}
 use Rattle.board_text.specs.declared.requests.Request.{Request}
@@ -43,6 +43,6 @@ module _ (lim : Limits) where
       no-line p k (request_within (two_readers lim.journal) r) (λ t. script_run (plan_step lim) t (k + 1) rs) (λ t. no-lines t (k + 1) rs)
 
   -- a plan prints nothing
-  pub plan-lines : (begun : Result Begun Fault) → (begun_run (run_of_script plan_start plan_step lim) begun).lines ≡ []
+  pub plan-lines : (start : Result Started Fault) → (started_run (run_of_script plan_start plan_step lim) start).lines ≡ []
   plan-lines (Err f) = refl
   plan-lines (Ok b) = no-lines (plan_start lim b.0) b.1 b.2

@@ -1,11 +1,11 @@
 //! A plan: the register at the start of a script, and the script's records by thread.
 ghost use Rattle.std.specs.Prelude.{◌≡◌, ◌≤◌, ◌∷◌, [], true, length, map, OnOk};
-ghost use Rattle.board_text.specs.Output.{StartsRun};
+ghost use Rattle.board_text.specs.Output.{StartsScript};
 ghost use Rattle.board_text.specs.Text.{is_served};
 ghost use Rattle.board_serve.specs.Plans.{no_shares, plan_start, plan_step, plan_over, record_count, shares_of};
 ghost use Rattle.board_serve.specs.Plans.{two_readers, with_request};
 
-use board_text::{Interpreter, Limits, Output, Request, RunStart, Stop, request_in};
+use board_text::{Interpreter, Limits, Output, Request, ScriptStart, Stop, request_in};
 use council_core::{ChairId, Command, Order};
 use csv::ByteRecord;
 use majority_rule::Majority;
@@ -53,19 +53,19 @@ impl Records {
 // A register at its start, and the script's records.
 #[derive(Drop)]
 pub(crate) struct Plan {
-    begun: RunStart,
+    start: ScriptStart,
     records: Records,
 }
 
 impl Model for Plan {
-    ghost use Rattle.board_text.specs.Output.{StartsRun};
+    ghost use Rattle.board_text.specs.Output.{StartsScript};
     ghost use Rattle.board_serve.specs.Plans.{Planned, plan_over, shares_of};
 
     ghost Value = { Planned };
 
-    ghost view = { λ p. plan_over p.begun.register (shares_of p.records) };
+    ghost view = { λ p. plan_over p.start.register (shares_of p.records) };
 
-    ghost invariant = { λ p. StartsRun p.begun };
+    ghost invariant = { λ p. StartsScript p.start };
 }
 
 impl Plan {
@@ -78,11 +78,11 @@ impl Plan {
     }
 
     // The start and the records.
-    pub(crate) fn into_parts(self) -> (RunStart, Records)
+    pub(crate) fn into_parts(self) -> (ScriptStart, Records)
         ensures parts { self ≡ plan_over result.0.register (shares_of result.1) }
-        ensures starts { StartsRun result.0 }
+        ensures starts { StartsScript result.0 }
     {
-        (self.begun, self.records)
+        (self.start, self.records)
     }
 }
 
@@ -93,9 +93,9 @@ impl Interpreter for Plan {
 
     ghost kept = { λ number plan. record_count plan.shares ≤ number };
 
-    fn open(alloc: Global, begun: RunStart, _limits: Limits) -> Result<Plan, Stop> {
+    fn open(alloc: Global, start: ScriptStart, _limits: Limits) -> Result<Plan, Stop> {
         Ok(Plan {
-            begun,
+            start,
             records: Records::new(alloc),
         })
     }

@@ -20,10 +20,10 @@ ghost use Rattle.board_serve.specs.Work.{IsHeldUp};
 
 use crate::gates::Gate;
 use crate::plan::{Plan, SERVED_READERS};
-use crate::threads::{put_together, run_all, seat_all};
+use crate::threads::{collect, run_all, seat_all};
 use board_share::{AuditFault, audit, audit_law};
 use board_text::{
-    Fault, INTERRUPTIONS, Limits, Output, READS, RunStart, Stop, end_run, interpret,
+    Fault, INTERRUPTIONS, Limits, Output, READS, ScriptStart, Stop, end_run, interpret,
     line_of_answer, line_of_audit, line_of_count,
 };
 use council_core::{Answer, Command, MAX_COMMANDS, MemberCode, Refusal, Sheet, Votes};
@@ -100,15 +100,15 @@ fn perform<G: Gate, R: Threads + Wait + Sync>(
     ensures differs { IfOk result (λ r. r.2 ≡ false → ServedLegalRecords plan r.1 → ⊥) }
     ensures causes { IfErr result IsHeldUp }
 {
-    let (begun, records) = plan.into_parts();
-    let RunStart {
+    let (start, records) = plan.into_parts();
+    let ScriptStart {
         register,
         members,
         ..
-    } = begun;
+    } = start;
     let work = seat_all(alloc, register, records)?;
     let done = run_all(rt, gate, work)?;
-    let (answers, served) = put_together(alloc, done)?;
+    let (answers, served) = collect(alloc, done)?;
     let legal = are_legal(alloc, members.as_slice(), &served)?;
     Ok((answers, served, legal))
 }

@@ -1,6 +1,6 @@
 //! Starts the threads of a run, waits for them, and combines their results.
 ghost use Rattle.std.specs.Prelude.{◌≡◌, ◌<◌, ◌^◌, ◌∷◌, [], Ok, Err, length, IfOk, IfErr, IsOkUnless};
-ghost use Rattle.board_share.specs.Openings.{beginning_of, new_readers, new_publisher};
+ghost use Rattle.board_share.specs.Openings.{share_start, new_readers, new_publisher};
 ghost use Rattle.board_text.specs.declared.stops.Stop.TheVariants as stop;
 ghost use Rattle.board_serve.specs.Outcomes.{IsBrought};
 ghost use Rattle.board_serve.specs.Plans.{record_count, shares_of};
@@ -44,7 +44,7 @@ fn pair(mut readers: Vec<Reader>) -> (Reader, Reader)
 }
 
 // The records of the writer, of reader 1 and of reader 2.
-fn apart(records: Records) -> (Vec<Order>, Vec<Majority>, Vec<Majority>)
+fn split_records(records: Records) -> (Vec<Order>, Vec<Majority>, Vec<Majority>)
     ensures orders { result.0 ≡ records.orders }
     ensures asked { records.asked ≡ result.1 ∷ result.2 ∷ [] }
 {
@@ -66,14 +66,14 @@ pub(crate) fn seat_all(alloc: Global, register: Register, records: Records) -> R
     ensures orders { IfOk result (λ w. w.writer.orders ≡ records.orders) }
     ensures readers { IfOk result
         (λ w. w.first.analyst.reader ∷ w.second.analyst.reader ∷ []
-        ≡ new_readers w.writer.writer.table (beginning_of register SERVED_READERS) SERVED_READERS) }
+        ≡ new_readers w.writer.writer.table (share_start register SERVED_READERS) SERVED_READERS) }
     ensures asked { IfOk result (λ w. w.first.asked ∷ w.second.asked ∷ [] ≡ records.asked) }
 {
     let Ok((writer, readers)) = start(alloc, register, SERVED_READERS as u8) else {
         return Err(Stop::OutOfMemory);
     };
     let (first, second) = pair(readers);
-    let (orders, of_first, of_second) = apart(records);
+    let (orders, of_first, of_second) = split_records(records);
     let Ok(writer) = WriterWork::new(alloc, writer, orders) else {
         return Err(Stop::OutOfMemory);
     };
@@ -216,10 +216,7 @@ pub(crate) fn run_all<G: Gate, R: Threads + Wait + Sync>(
 
 // Combines the results of the threads: the writer's answers, journal and cuts, and the readings of
 // each reader.
-pub(crate) fn put_together(
-    alloc: Global,
-    done: AllWork,
-) -> Result<(Vec<Answer>, Served), AllocError>
+pub(crate) fn collect(alloc: Global, done: AllWork) -> Result<(Vec<Answer>, Served), AllocError>
     ensures brought { IfOk result (λ r. IsBrought done r.0.items r.1) }
 {
     let AllWork {

@@ -37,7 +37,7 @@ fn submit(writer: &mut Writer, command: Command) -> Result<Answer, Stop>
 
 // Carries out an order, and passes the gate before and after a publication. `publications` counts
 // the publications.
-fn obey<G: Gate, R: Wait>(
+fn carry_out_order<G: Gate, R: Wait>(
     rt: &R,
     gate: &G,
     writer: &mut Writer,
@@ -103,7 +103,7 @@ impl WriterWork {
     {
         let mut publications: u32 = 0;
         for order in self.orders.as_slice() {
-            let answer = obey(rt, gate, &mut self.writer, *order, &mut publications)?;
+            let answer = carry_out_order(rt, gate, &mut self.writer, *order, &mut publications)?;
             self.answers.push_reserved(answer);
             keep_cut(&mut self.cuts, answer);
         }

@@ -11,13 +11,13 @@ use Rattle.two_copy_steps.specs.declared.events.Event.{Event}
 use Rattle.two_copy_steps.specs.Runs.{ReportsReplies}
 use Rattle.two_copy_steps.specs.Auxiliary.{IsApart}
 use Rattle.board_share.specs.declared.views.View.{View}
-use Rattle.board_share.specs.declared.views.Beginning.{Beginning}
+use Rattle.board_share.specs.declared.views.ShareStart.{ShareStart}
 use Rattle.board_share.specs.declared.views.History.{History}
 use Rattle.board_share.specs.Histories.{Adds, history_with, is_writers, known_after}
 use Rattle.board_share.specs.Writers.{Publisher, TookTry, publication}
 use Rattle.board_share.specs.Laws.{HistoryLaw, HoldersLaw, IsKnownIn, OneOrderLaw, SeatStartLaw, SharedRecordsLaw, ApartLaw, SharedRepliesLaw, SplitLaw}
 
-module _ (holds : Beginning → table.State Unit View → Type 0) (begun : Beginning) (s : table.State Unit View) (held : holds begun s) where
+module _ (holds : ShareStart → table.State Unit View → Type 0) (begun : ShareStart) (s : table.State Unit View) (held : holds begun s) where
   of_this_board : HistoryLaw holds → (h : History) × (h.begun ≡ begun)
   of_this_board law = let found = law begun s held in (found.0, found.1)
 
@@ -46,11 +46,11 @@ module _ (holds : Beginning → table.State Unit View → Type 0) (begun : Begin
   replies_on_this_board law ledger = let found = law begun s ledger held in (found.0, found.1, found.3)
 
 -- the rule holds of a board's first seat, and still holds when a seat is split
-start_used : (holds : Beginning → table.State Unit View → Type 0) (first : Beginning → View) → SeatStartLaw holds first → (begun : Beginning) → IsPublishable begun.register.opening begun.register.journal
+start_used : (holds : ShareStart → table.State Unit View → Type 0) (first : ShareStart → View) → SeatStartLaw holds first → (begun : ShareStart) → IsPublishable begun.register.opening begun.register.journal
     → holds begun (table.opening (machine_at_start begun.register begun.readers).words [] (first begun))
 start_used holds first law begun publishable = law begun publishable
 
-split_used : (holds : Beginning → table.State Unit View → Type 0) (left right : View → View) → SplitLaw holds left right → (begun : Beginning) (v : View) → table.Splits (holds begun) 3 v (left v) (right v)
+split_used : (holds : ShareStart → table.State Unit View → Type 0) (left right : View → View) → SplitLaw holds left right → (begun : ShareStart) (v : View) → table.Splits (holds begun) 3 v (left v) (right v)
 split_used holds left right law begun v = law begun 3 v
 
 -- an attempt to publish leaves the writer's published commands, cuts and quiescent readers as its history gives them

@@ -11,11 +11,11 @@ use Rattle.council_core.specs.Rolls.{IsLegal, Opening, sheet}
 use Rattle.council_core.specs.declared.commands.Command.{Command}
 use Rattle.council_core.specs.declared.commands.Command.TheVariants.{Open}
 use Rattle.two_copy_steps.specs.Runs.{KeepsRecordsReported, ReportsReplies}
-use Rattle.two_copy_steps.specs.States.{LawfulFor}
+use Rattle.two_copy_steps.specs.States.{IsLawfulBoard}
 use Rattle.two_copy_steps.specs.declared.events.Event.{Event}
 use Rattle.two_copy_steps.specs.declared.events.Event.TheVariants.{Submit, Publish, Writer, Reader}
 use Rattle.two_copy_steps.specs.declared.views.WriterView.{WriterView}
-use Rattle.board_share.specs.declared.views.Beginning.{Beginning}
+use Rattle.board_share.specs.declared.views.ShareStart.{ShareStart}
 use Rattle.board_share.specs.declared.views.History.{History}
 use Rattle.board_share.specs.declared.views.View.{View}
 use Rattle.board_share.specs.Histories.{Adds, KnowsAfter, first_history, handed_over, history_with, is_readers, is_writers, known_after, machine_of, reported_in}
@@ -106,7 +106,7 @@ module _ (part : View → Option Part) (views : List View) (x : Part) (seated : 
   in_one_seat i j u v at_i at_j in_u in_v = seated.alone i j u v x x at_i at_j in_u in_v
 
 -- where the rule holds, the words and the seats are those after a history of this board, which is lawful and has all readers
-module _ (begun : Beginning) (s : table.State Unit View) (rule : RuleHolds begun s) where
+module _ (begun : ShareStart) (s : table.State Unit View) (rule : RuleHolds begun s) where
   words_after : s.words ≡ (known_after rule.history).words
   words_after = rule.after.words
 
@@ -119,7 +119,7 @@ module _ (begun : Beginning) (s : table.State Unit View) (rule : RuleHolds begun
   register_staged : KnowsAfter rule.history (known_after rule.history).writer
   register_staged = rule.register
 
-  lawful_after : LawfulFor begun.register.opening (known_after rule.history)
+  lawful_after : IsLawfulBoard begun.register.opening (known_after rule.history)
   lawful_after = rule.lawful
 
   all_readers : length (known_after rule.history).readers ≡ begun.readers

@@ -11,7 +11,7 @@ use Rattle.two_copy_steps.specs.Actions.{stage_with_words, reader_action}
 use Rattle.two_copy_steps.specs.States.{IsKnown}
 use Rattle.two_copy_steps.specs.declared.table.TheConstants.{COPY_WORDS}
 use Rattle.board_share.specs.declared.views.View.{View}
-use Rattle.board_share.specs.declared.views.Beginning.{Beginning}
+use Rattle.board_share.specs.declared.views.ShareStart.{ShareStart}
 use Rattle.board_share.specs.Seats.{Part, lone_part, seat_of_reader}
 use Rattle.board_share.specs.Rule.{RuleHolds}
 use Rattle.board_share.specs.Steps.{IsStepOn, bare_seat}
@@ -23,7 +23,7 @@ pub sole_only : (r : ℕ) (x : Part) → sole_part (lone_part r x) ≡ x
 sole_only zero x = refl
 sole_only (suc r) x = sole_only r x
 
-module _ (begun : Beginning) (table seat : TableId) (me : Me Unit View) (p : ReaderSeen) (h : IsReader table seat me p) (slots id : ℕ) where
+module _ (begun : ShareStart) (table seat : TableId) (me : Me Unit View) (p : ReaderSeen) (h : IsReader table seat me p) (slots id : ℕ) where
   pub loads : (i : ℕ) → i ≡ (reader_action p.index (known_by p)).word → ((n : ℕ) → n ≡ (reader_action p.index (known_by p)).becomes n)
       → Allows (RuleHolds begun) slots id me i (λ n. n) (IsStepOn me)
   loads i at_word becomes =

@@ -4,15 +4,15 @@ use mathlib.Core.Option.{some}
 use lib.ListN.{get_elem?}
 use Rattle.atomic_table.specs.Table as table
 use Rattle.two_copy_steps.specs.Lawful.{State}
-use Rattle.two_copy_steps.specs.States.{LawfulFor}
-use Rattle.board_share.specs.declared.views.Beginning.{Beginning}
+use Rattle.two_copy_steps.specs.States.{IsLawfulBoard}
+use Rattle.board_share.specs.declared.views.ShareStart.{ShareStart}
 use Rattle.board_share.specs.declared.views.History.{History}
 use Rattle.board_share.specs.declared.views.View.{View}
 use Rattle.board_share.specs.Histories.{machine_of, known_after}
 use Rattle.board_share.specs.Seats.{as_writer, as_reader, Seated}
 use Rattle.board_share.specs.Rule.{KnowsPrefix, RuleHolds, with_opening}
 
-pub record RuleHoldsByState (begun : Beginning) (s : table.State Unit View) : Type 0 where
+pub record RuleHoldsByState (begun : ShareStart) (s : table.State Unit View) : Type 0 where
   pub history : History
   pub begun_is : history.begun ≡ begun
   pub prefixes : (id : ℕ) (v : View) → get_elem? s.views id ≡ some v → KnowsPrefix v history
@@ -20,12 +20,12 @@ pub record RuleHoldsByState (begun : Beginning) (s : table.State Unit View) : Ty
   pub reached : state ≡ known_after history
   pub register : (machine_of history).ledger ≡ record begun.register { journal = state.writer.state.staged }
   pub words : s.words ≡ state.words
-  pub lawful : LawfulFor begun.register.opening state
+  pub lawful : IsLawfulBoard begun.register.opening state
   pub count : length state.readers ≡ begun.readers
   pub writer : Seated as_writer s.views (Some (begun.register.opening, state.writer))
   pub readers : (r : ℕ) → Seated (as_reader r) s.views (with_opening begun.register.opening (slice_get state.readers r))
 
-module _ (begun : Beginning) (s : table.State Unit View) where
+module _ (begun : ShareStart) (s : table.State Unit View) where
   pub by_state : RuleHolds begun s → RuleHoldsByState begun s
   by_state k =
       let m : State = known_after k.history in
@@ -35,12 +35,12 @@ module _ (begun : Beginning) (s : table.State Unit View) where
         prefixes = k.after.prefixes;
         state = m;
         reached = refl;
-        register = k.register.register ∙ ap (λ (b : Beginning). record b.register { journal = m.writer.state.staged }) k.begun_is;
+        register = k.register.register ∙ ap (λ (b : ShareStart). record b.register { journal = m.writer.state.staged }) k.begun_is;
         words = k.after.words;
         lawful = k.lawful;
         count = k.count;
-        writer = subst (λ (b : Beginning). Seated as_writer s.views (Some (b.register.opening, m.writer))) k.begun_is k.after.writer;
-        readers = λ r. subst (λ (b : Beginning). Seated (as_reader r) s.views (with_opening b.register.opening (slice_get m.readers r))) k.begun_is (k.after.readers r);
+        writer = subst (λ (b : ShareStart). Seated as_writer s.views (Some (b.register.opening, m.writer))) k.begun_is k.after.writer;
+        readers = λ r. subst (λ (b : ShareStart). Seated (as_reader r) s.views (with_opening b.register.opening (slice_get m.readers r))) k.begun_is (k.after.readers r);
       }
 
   pub by_history : RuleHoldsByState begun s → RuleHolds begun s
@@ -53,15 +53,15 @@ module _ (begun : Beginning) (s : table.State Unit View) where
         begun_is = k.begun_is;
         after = record {
           words = k.words ∙ ap (λ (x : State). x.words) e;
-          writer = subst (λ (x : Beginning). Seated as_writer s.views (Some (x.register.opening, m.writer))) b (subst (λ (x : State). Seated as_writer s.views (Some (begun.register.opening, x.writer))) e k.writer);
-          readers = λ r. subst (λ (x : Beginning). Seated (as_reader r) s.views (with_opening x.register.opening (slice_get m.readers r))) b
+          writer = subst (λ (x : ShareStart). Seated as_writer s.views (Some (x.register.opening, m.writer))) b (subst (λ (x : State). Seated as_writer s.views (Some (begun.register.opening, x.writer))) e k.writer);
+          readers = λ r. subst (λ (x : ShareStart). Seated (as_reader r) s.views (with_opening x.register.opening (slice_get m.readers r))) b
               (subst (λ (x : State). Seated (as_reader r) s.views (with_opening begun.register.opening (slice_get x.readers r))) e (k.readers r));
           prefixes = k.prefixes;
         };
         register = record {
           writer = refl;
-          register = k.register ∙ (ap (λ (x : State). record begun.register { journal = x.writer.state.staged }) e ∙ ap (λ (x : Beginning). record x.register { journal = m.writer.state.staged }) b);
+          register = k.register ∙ (ap (λ (x : State). record begun.register { journal = x.writer.state.staged }) e ∙ ap (λ (x : ShareStart). record x.register { journal = m.writer.state.staged }) b);
         };
-        lawful = subst (LawfulFor begun.register.opening) e k.lawful;
+        lawful = subst (IsLawfulBoard begun.register.opening) e k.lawful;
         count = ap (λ (x : State). length x.readers) (sym e) ∙ k.count;
       }

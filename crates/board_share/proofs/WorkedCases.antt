@@ -11,10 +11,10 @@ use Rattle.two_copy_steps.specs.declared.events.Event.TheVariants.{Submit, Publi
 use Rattle.two_copy_steps.specs.declared.events.Note.TheVariants.{Busy, Published, Read}
 use Rattle.two_copy_steps.specs.declared.views.Phase.TheVariants.{Idle}
 use Rattle.two_copy_steps.specs.declared.views.Stage.TheVariants.{AtRest, Arrived}
-use Rattle.board_share.specs.declared.views.Beginning.{Beginning}
+use Rattle.board_share.specs.declared.views.ShareStart.{ShareStart}
 use Rattle.board_share.specs.declared.views.History.{History}
 use Rattle.board_share.specs.Histories.{Adds, first_history, is_writers, last_reported, history_with}
-use Rattle.board_share.specs.Openings.{beginning_of, new_publisher, new_readers}
+use Rattle.board_share.specs.Openings.{share_start, new_publisher, new_readers}
 use Rattle.board_share.specs.Readers.{HasLegalRecord, IsLegalSheet, ReaderSeen, TookStep, WasReported, last_front_of, last_of, new_reader, reader_at, sole_part}
 use Rattle.board_share.specs.Rule.{first_reader, opening_view}
 use Rattle.board_share.specs.Seats.{Part, seat_of_reader}
@@ -38,7 +38,7 @@ abbrev both_done : List ℕ
 both_done = 11 ∷ replicate 31 0 ++ 10 ∷ 2 ∷ []
 
 -- a board over that register, with one reader
-abbrev pub begun : Beginning
+abbrev pub begun : ShareStart
 begun = record { register = record { opening = one_member; journal = []; limit = 100 }; readers = 1 }
 
 -- the events of a publication: the commands are submitted, it begins, and steps are taken
@@ -107,7 +107,7 @@ no_step h = stays (ap (λ v. v.stage) h.knows)
     stays e = cc
 
 -- a board begins with a register and its readers
-pub begins_with : beginning_of begun.register 1 ≡ begun
+pub begins_with : share_start begun.register 1 ≡ begun
 begins_with = refl
 
 -- its writer has published the journal by one cut, and all readers are quiescent

@@ -11,7 +11,7 @@ use Rattle.two_copy_steps.specs.Lawful.{State}
 use Rattle.two_copy_steps.specs.Transitions.{MachineState, machine_at_start, notes}
 use Rattle.two_copy_steps.specs.Auxiliary.{state_of}
 use Rattle.two_copy_steps.specs.Runs.{machine_after, auxiliary_after}
-use Rattle.board_share.specs.declared.views.Beginning.{Beginning}
+use Rattle.board_share.specs.declared.views.ShareStart.{ShareStart}
 use Rattle.board_share.specs.declared.views.History.{History}
 
 -- the machine of one thread after these events
@@ -36,7 +36,7 @@ abbrev pub last_reported : History → Option Note
 last_reported h = last_or None (reported_in h)
 
 -- the history at the start, with no events
-abbrev pub first_history : Beginning → History
+abbrev pub first_history : ShareStart → History
 first_history begun = record { begun = begun; events = [] }
 
 -- a history with more events appended

@@ -19,7 +19,7 @@ use Rattle.two_copy_steps.specs.States.{IsKnown}
 use Rattle.two_copy_steps.specs.Transitions.{stage_note}
 use Rattle.two_copy_steps.specs.declared.table.TheConstants.{READERS}
 use Rattle.board_share.specs.declared.views.View.{View}
-use Rattle.board_share.specs.declared.views.Beginning.{Beginning}
+use Rattle.board_share.specs.declared.views.ShareStart.{ShareStart}
 use Rattle.board_share.specs.declared.views.History.{History}
 use Rattle.board_share.specs.Histories.{Adds, first_history, is_readers, known_after, last_reported}
 use Rattle.board_share.specs.Seats.{Part, seat_of_reader}
@@ -41,7 +41,7 @@ abbrev pub known_by : ReaderSeen → ReaderView
 known_by p = record { stage = p.stage; readings = p.readings }
 
 -- a reader of a table with no readings
-abbrev pub new_reader : TableId → Beginning → ℕ → ReaderSeen
+abbrev pub new_reader : TableId → ShareStart → ℕ → ReaderSeen
 new_reader table begun r = record {
   table = table;
   opening = begun.register.opening;

@@ -73,14 +73,14 @@ abbrev pub next_action : Option (List Command) → Me Unit View → Action Write
 next_action list me = let w = writer_or me.0.writer in writer_action (sheet w.0) (writer_begun_with list w.1)
 
 -- the requirements of a step of the writer's seat: its word, and what the word becomes
-pub record MayWrite (table seat : TableId) (me : Me Unit View) (list : Option (List Command)) (place : ℕ)
+pub record MayWrite (table seat : TableId) (me : Me Unit View) (list : Option (List Command)) (index : ℕ)
     : Type 0 where
   pub same : seat ≡ table
-  pub within : place < table.words
+  pub within : index < table.words
   pub writes : me.0.writer ≡ Some (writer_or me.0.writer)
   pub bare : me.1 ≡ []
   pub may_begin : MayBegin me.0.history (writer_or me.0.writer).0 (writer_or me.0.writer).1 list
-  pub word : place ≡ (next_action list me).word
+  pub word : index ≡ (next_action list me).word
 
 -- the writer's seat took its step, which left this number in its word
 pub record SeatStepped (list : Option (List Command)) (found : ℕ) (seat seat' : TableId) (me me' : Me Unit View)

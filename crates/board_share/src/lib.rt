@@ -18,5 +18,5 @@ pub use laws::{order_laws, rule_laws, seat_laws};
 pub use opening::start;
 pub use readers::{Reader, Reading};
 pub use rule::{Board, TwoCopies};
-pub use views::{Beginning, Members, View};
+pub use views::{Members, ShareStart, View};
 pub use writers::{Busy, Writer};

@@ -3,11 +3,11 @@ ghost use Rattle.std.specs.Prelude.{◌≡◌, ◌-◌, ◌≤◌, IfOk, IfErr, 
 ghost use Rattle.std.specs.Arc.{arc_value};
 ghost use Rattle.council_core.specs.declared.refusals.Refusal.TheVariants.{OutOfMemory, BadLimit};
 ghost use Rattle.two_copy_steps.specs.Machines.{IsFew};
-ghost use Rattle.board_share.specs.Openings.{IsSplitting, beginning_of, new_readers, new_publisher};
+ghost use Rattle.board_share.specs.Openings.{IsSplitting, share_start, new_readers, new_publisher};
 
 use crate::readers::Reader;
 use crate::rule::{Board, SplitOff};
-use crate::views::{Beginning, View};
+use crate::views::{ShareStart, View};
 use crate::writers::Writer;
 use atomic_table::{Seat, Table};
 use council_core::{Refusal, Register};
@@ -39,7 +39,7 @@ pub fn start(
 ) -> Result<(Writer, Vec<Reader>), (Register, Refusal)>
     ensures in_range { OnOk result (IsFew readers) }
     ensures writer { IfOk result (λ b. b.0 ≡ new_publisher b.0.table register readers) }
-    ensures readers { IfOk result (λ b. b.1.items ≡ new_readers b.0.table (beginning_of register readers) readers) }
+    ensures readers { IfOk result (λ b. b.1.items ≡ new_readers b.0.table (share_start register readers) readers) }
     ensures returned { IfErr result (λ e. e.0 ≡ register) }
     ensures limit { IfErr result (λ e. (IsFew readers → ⊥) → e.1 ≡ BadLimit) }
     ensures memory { IfErr result (λ e. IsFew readers → e.1 ≡ OutOfMemory) }
@@ -47,14 +47,14 @@ pub fn start(
     if readers == 0 || READERS < readers as usize {
         return Err((register, Refusal::BadLimit));
     }
-    let begun = Beginning { register, readers };
+    let begun = ShareStart { register, readers };
     match seat_all(alloc, &begun) {
         Ok((board, seat, all)) => {
-            let Beginning { register, .. } = begun;
+            let ShareStart { register, .. } = begun;
             Ok((Writer::new(board, seat, register, readers), all))
         }
         Err(_) => {
-            let Beginning { register, .. } = begun;
+            let ShareStart { register, .. } = begun;
             Err((register, Refusal::OutOfMemory))
         }
     }
@@ -63,7 +63,7 @@ pub fn start(
 // The shared words, the writer's seat and the readers.
 fn seat_all(
     alloc: Global,
-    begun: &Beginning,
+    begun: &ShareStart,
 ) -> Result<(Arc<Board>, Seat<(), View>, Vec<Reader>), AllocError>
     requires bound { begun.now.readers ≤ READERS }
     ensures writer { IfOk result
@@ -71,13 +71,16 @@ fn seat_all(
     ensures readers { IfOk result
         (λ b. b.2.items ≡ new_readers (arc_value b.0).shared.table_id begun.now begun.now.readers) }
 {
-    let (board, mut seat) = lay(alloc, begun)?;
+    let (board, mut seat) = build_board(alloc, begun)?;
     let readers = seat_readers(alloc, &board, &mut seat, begun)?;
     Ok((board, seat, readers))
 }
 
 // The shared words, and one seat for the writer and all readers.
-fn lay(alloc: Global, begun: &Beginning) -> Result<(Arc<Board>, Seat<(), View>), AllocError>
+fn build_board(
+    alloc: Global,
+    begun: &ShareStart,
+) -> Result<(Arc<Board>, Seat<(), View>), AllocError>
     requires bound { begun.now.readers ≤ READERS }
     ensures laid { IfOk result
         (λ b. IsSplitting begun.now (arc_value b.0).shared.table_id b.1.table_id b.1.me 0 begun.now.readers) }
@@ -93,7 +96,7 @@ fn seat_readers(
     alloc: Global,
     board: &Arc<Board>,
     seat: &mut Seat<(), View>,
-    begun: &Beginning,
+    begun: &ShareStart,
 ) -> Result<Vec<Reader>, AllocError>
     requires bound { begun.now.readers ≤ READERS }
     requires whole { IsSplitting begun.now (arc_value board.now).shared.table_id seat.old.table_id seat.old.me 0

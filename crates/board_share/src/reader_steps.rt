@@ -12,7 +12,7 @@ use crate::rule::{Board, ReaderRule};
 use crate::views::View;
 use atomic_table::Seat;
 use council_core::Sheet;
-use two_copy_steps::{Access, COPY_WORDS, ReaderStage, SIDE, Stage, pin, place};
+use two_copy_steps::{Access, COPY_WORDS, ReaderStage, SIDE, Stage, copy_word, pin};
 
 // One step of the reader at r. The last step of a reading returns the reading.
 pub(crate) fn advance(
@@ -41,9 +41,9 @@ fn touch(board: &Board, seat: &mut Seat<(), View>, r: u8, stage: &ReaderStage) -
     ensures step { IsStepOn seat.old.me result seat.new.me }
 {
     match stage.access(r) {
-        Access::Load(place) => board.shared.load::<ReaderRule>(seat, place),
-        Access::Store(place, word) => {
-            board.shared.store::<ReaderRule>(seat, place, word);
+        Access::Load(index) => board.shared.load::<ReaderRule>(seat, index),
+        Access::Store(index, word) => {
+            board.shared.store::<ReaderRule>(seat, index, word);
             word
         }
     }
@@ -105,7 +105,7 @@ fn load_word(
         (reader_at board.now.shared.table_id seat.old.me.0 r (Stage.Reading side (take k words.old)))
         seat.new.table_id seat.new.me (stage_with_words side (take (k + 1) words.new)) }
 {
-    words[k] = board.shared.load::<ReaderRule>(seat, place(side, k));
+    words[k] = board.shared.load::<ReaderRule>(seat, copy_word(side, k));
 }
 
 // The last step: its pin becomes 0.

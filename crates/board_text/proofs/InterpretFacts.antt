@@ -4,33 +4,33 @@ use Rattle.std.proofs.KnownBytes.{Appends-nil}
 use Rattle.csv.specs.Reading.{default_config, records, strip_bom}
 use Rattle.recording_io.specs.Tapes.{Giving, OfInput}
 use Rattle.board_text.specs.Lines.{LineBytes}
-use Rattle.board_text.specs.Text.{Begun, Run, begun_of, run_begun_with, in_range, opened_of}
-use Rattle.board_text.specs.Scripts.{begun_end, begun_run}
+use Rattle.board_text.specs.Text.{Started, Run, started_of, started_after, in_range, opened_of}
+use Rattle.board_text.specs.Scripts.{started_end, started_run}
 use Rattle.board_text.specs.Output.{AppendsLines, Fails, WritesRun, WritesUntilStop}
 use Rattle.board_text.specs.declared.bounds.Limits.{Limits}
 use Rattle.board_text.specs.declared.faults.Fault.{Fault}
 use Rattle.board_text.specs.declared.stops.Stop.{Stop}
 use Rattle.board_text.specs.declared.stops.Stop.TheVariants as stop
 use Rattle.board_text.proofs.RunFacts.{front-none}
-use Rattle.board_text.proofs.BeginningFacts.{begun-records}
+use Rattle.board_text.proofs.StartingFacts.{start-records}
 
 nothing-written : (a : Option (List ℕ)) (lines : List LineBytes) → AppendsLines a a lines
 nothing-written a lines = ([], front-none lines, Appends-nil a)
 
-fails-stop : (a : Option (List ℕ)) (e : Stop) (interpret : Begun → Run) (spec : Result Begun Fault) → Fails e spec → WritesUntilStop a a e (begun_run interpret spec)
+fails-stop : (a : Option (List ℕ)) (e : Stop) (interpret : Started → Run) (spec : Result Started Fault) → Fails e spec → WritesUntilStop a a e (started_run interpret spec)
 fails-stop a stop.OutOfMemory interpret spec p = nothing-written a _
 fails-stop a stop.ReadFault interpret spec p = nothing-written a _
 fails-stop a stop.WriteFault interpret spec p = absurd p
 fails-stop a (stop.Input f) interpret spec p = rw p (refl, Appends-nil a)
 
 -- where nothing came of the input, nothing was written
-pub writes-failed : (a : Option (List ℕ)) (e d : Stop) (interpret : Begun → Run) (spec : Result Begun Fault) → d ≡ e → Fails e spec → WritesUntilStop a a d (begun_run interpret spec)
-writes-failed a e d interpret spec same p = let P : Stop → Type 0 = λ s. WritesUntilStop a a s (begun_run interpret spec) in subst P (sym same) (fails-stop a e interpret spec p)
+pub writes-failed : (a : Option (List ℕ)) (e d : Stop) (interpret : Started → Run) (spec : Result Started Fault) → d ≡ e → Fails e spec → WritesUntilStop a a d (started_run interpret spec)
+writes-failed a e d interpret spec same p = let P : Stop → Type 0 = λ s. WritesUntilStop a a s (started_run interpret spec) in subst P (sym same) (fails-stop a e interpret spec p)
 
 -- the same of an input
-pub writes-failed_input : (from to : Giving) (a : Option (List ℕ)) (e d : Stop) (lim : Limits) (interpret : Begun → Run) → d ≡ e
-    → OfInput from to (λ bytes. Fails e (begun_of lim bytes)) → OfInput from to (λ bytes. WritesUntilStop a a d (begun_run interpret (begun_of lim bytes)))
-writes-failed_input from to a e d lim interpret same p = λ bytes is. writes-failed a e d interpret (begun_of lim bytes) same (p bytes is)
+pub writes-failed_input : (from to : Giving) (a : Option (List ℕ)) (e d : Stop) (lim : Limits) (interpret : Started → Run) → d ≡ e
+    → OfInput from to (λ bytes. Fails e (started_of lim bytes)) → OfInput from to (λ bytes. WritesUntilStop a a d (started_run interpret (started_of lim bytes)))
+writes-failed_input from to a e d lim interpret same p = λ bytes is. writes-failed a e d interpret (started_of lim bytes) same (p bytes is)
 
 -- a text that was read: an input that is not too long, where the limits are in range
 pub record TextRead (lim : Limits) (text : List ℕ) : Type 0 where
@@ -40,16 +40,16 @@ pub record TextRead (lim : Limits) (text : List ℕ) : Type 0 where
   pub short : length input ≤ 4194304
 
 -- the text that was read is the input
-pub interpreted-input : {A : Type 0} (from to : Giving) (a b : Option (List ℕ)) (r : Result A Stop) (lim : Limits) (interpret : Begun → Run) (text : List ℕ) (read : TextRead lim text)
-    → OfInput from to (λ bytes. read.input ≡ bytes) → WritesRun a b r (begun_run interpret (run_begun_with lim (opened_of (records default_config (strip_bom text)))))
-    → OfInput from to (λ bytes. WritesRun a b r (begun_run interpret (begun_of lim bytes)))
+pub interpreted-input : {A : Type 0} (from to : Giving) (a b : Option (List ℕ)) (r : Result A Stop) (lim : Limits) (interpret : Started → Run) (text : List ℕ) (read : TextRead lim text)
+    → OfInput from to (λ bytes. read.input ≡ bytes) → WritesRun a b r (started_run interpret (started_after lim (opened_of (records default_config (strip_bom text)))))
+    → OfInput from to (λ bytes. WritesRun a b r (started_run interpret (started_of lim bytes)))
 interpreted-input from to a b r lim interpret text read whole p = λ bytes is.
-    rw (← whole bytes is, begun-records lim read.input read.fits read.short, ← read.same) p
+    rw (← whole bytes is, start-records lim read.input read.fits read.short, ← read.same) p
 
 -- the same of the state after it
-pub ended-input : {S : Type 0} (from to : Giving) (r : Result S Stop) (lim : Limits) (interpret : Begun → Result S Fault) (text : List ℕ) (read : TextRead lim text)
-    → OfInput from to (λ bytes. read.input ≡ bytes) → IfOk r (λ s. begun_end interpret (run_begun_with lim (opened_of (records default_config (strip_bom text)))) ≡ Ok s)
-    → IfOk r (λ s. OfInput from to (λ bytes. begun_end interpret (begun_of lim bytes) ≡ Ok s))
+pub ended-input : {S : Type 0} (from to : Giving) (r : Result S Stop) (lim : Limits) (interpret : Started → Result S Fault) (text : List ℕ) (read : TextRead lim text)
+    → OfInput from to (λ bytes. read.input ≡ bytes) → IfOk r (λ s. started_end interpret (started_after lim (opened_of (records default_config (strip_bom text)))) ≡ Ok s)
+    → IfOk r (λ s. OfInput from to (λ bytes. started_end interpret (started_of lim bytes) ≡ Ok s))
 ended-input from to (Ok s) lim interpret text read whole p = λ bytes is.
-    rw (← whole bytes is, begun-records lim read.input read.fits read.short, ← read.same) p
+    rw (← whole bytes is, start-records lim read.input read.fits read.short, ← read.same) p
 ended-input from to (Err e) lim interpret text read whole p = tt

@@ -6,7 +6,7 @@ pub mod OpeningFacts
 pub mod MemberFacts
 pub mod RunFacts
 pub mod InputFacts
-pub mod BeginningFacts
+pub mod StartingFacts
 pub mod ReadingFacts
 pub mod RecordFacts
 pub mod InterpretFacts

@@ -15,7 +15,7 @@ abbrev pub HaveNoComma : List (List ℕ) → Type 0
 HaveNoComma [] = Unit {0}
 HaveNoComma (field ∷ fields) = HasNoComma field × HaveNoComma fields
 
--- the fields of a line, of which the first has begun with these bytes
+-- the fields of a line, of which the first has start with these bytes
 abbrev pub fields_from : List ℕ → LineBytes → List (List ℕ)
 fields_from field [] = field ∷ []
 fields_from field (b ∷ bs) = if b == 44 then field ∷ fields_from [] bs else fields_from (field ++ b ∷ []) bs

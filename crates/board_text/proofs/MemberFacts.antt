@@ -112,10 +112,10 @@ same-before rs =
     same-either _ (list_any is_mark rs) _ _ (λ marked. ap (filter_map member_of)
     (none-bad 2 _ none ∙ take_all MAX_MEMBERS (before_mark rs) (ltb-false MAX_MEMBERS _ fits))) (λ unmarked. tt)))
 
-same-begun : (b : Bool) (rs : List Row) (f : Fault) → Same (if b then members_before rs else []) (if b then opening_of rs else Err f)
-same-begun true rs f = same-before rs
-same-begun false rs f = tt
+same-start : (b : Bool) (rs : List Row) (f : Fault) → Same (if b then members_before rs else []) (if b then opening_of rs else Err f)
+same-start true rs f = same-before rs
+same-start false rs f = tt
 
 pub members-opened : (rs : List Row) → IfOk (opened_of rs) (λ o. members_in rs ≡ o.0)
 members-opened [] = tt
-members-opened (r ∷ rs) = same-begun (is_header r) rs _
+members-opened (r ∷ rs) = same-start (is_header r) rs _

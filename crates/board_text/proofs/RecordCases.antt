@@ -11,7 +11,7 @@ use Rattle.majority_rule.specs.declared.majorities.Majority.TheVariants.{Half, S
 use Rattle.board_text.specs.Numbers.{number_of_digits}
 use Rattle.board_text.specs.Requests.{Row, call_of, command_of, is_header, is_mark, member_of, reading_of, request_of}
 use Rattle.board_text.specs.Schedules.{act_of, act_within, count_of}
-use Rattle.board_text.specs.Text.{begun_of, fault_at, in_range, is_reader, ledger_at_start, members_before, members_in, opened_of, opening_of, request_within, run_begun_with, run_limits, unpublished_register}
+use Rattle.board_text.specs.Text.{started_of, fault_at, in_range, is_reader, ledger_at_start, members_before, members_in, opened_of, opening_of, request_within, started_after, run_limits, unpublished_register}
 use Rattle.majority_rule.specs.Majorities.{majority_of}
 use Rattle.board_text.specs.Words.{chair_of, code_of_member, target_chair, votes_of}
 use Rattle.board_text.specs.declared.bounds.Limits.{Limits}
@@ -24,15 +24,15 @@ longest_input : INPUT_LIMIT ≡ 4194304
 longest_input = refl
 
 -- an input of one byte more is refused before anything in it is read, and one of the most bytes is read
-too_long : (lim : Limits) (bytes : List ℕ) → in_range lim ≡ true → length bytes ≡ 4194305 → begun_of lim bytes ≡ Err (fault_at TooLong 0)
-unfolding begun_of
+too_long : (lim : Limits) (bytes : List ℕ) → in_range lim ≡ true → length bytes ≡ 4194305 → started_of lim bytes ≡ Err (fault_at TooLong 0)
+unfolding started_of
 too_long lim bytes range long = rw range (rw long refl)
 
-not_too_long : (lim : Limits) (bytes : List ℕ) → in_range lim ≡ true → length bytes ≡ 4194304 → begun_of lim bytes ≡ run_begun_with lim (opened_of (records default_config (strip_bom bytes)))
-unfolding begun_of
+not_too_long : (lim : Limits) (bytes : List ℕ) → in_range lim ≡ true → length bytes ≡ 4194304 → started_of lim bytes ≡ started_after lim (opened_of (records default_config (strip_bom bytes)))
+unfolding started_of
 not_too_long lim bytes range long = rw range (rw long refl)
 
-zeros_too_long : (n : ℕ) → n ≡ 4194305 → begun_of (run_limits 1 9) (replicate n 48) ≡ Err (fault_at TooLong 0)
+zeros_too_long : (n : ℕ) → n ≡ 4194305 → started_of (run_limits 1 9) (replicate n 48) ≡ Err (fault_at TooLong 0)
 zeros_too_long n long = too_long (run_limits 1 9) (replicate n 48) refl (length-replicate n 48 ∙ long)
 
 -- a number has one to twenty digits and is below 2^64
@@ -172,10 +172,10 @@ unfolding members_before
 members_read = (refl, refl, refl, refl, refl)
 
 -- a register starts with these members and nothing published, or not at all
-register_begun : run_begun_with (run_limits 1 9) (Ok ((AAA, 1) ∷ [], 4, mark ∷ [])) ≡ Ok (ledger_at_start (run_limits 1 9) ((AAA, 1) ∷ []), 4, mark ∷ [])
+register_begun : started_after (run_limits 1 9) (Ok ((AAA, 1) ∷ [], 4, mark ∷ [])) ≡ Ok (ledger_at_start (run_limits 1 9) ((AAA, 1) ∷ []), 4, mark ∷ [])
 register_begun = refl
 
-register_refused : (run_begun_with (run_limits 1 9) (Ok ((AAA, 1) ∷ (AAA, 2) ∷ [], 4, [])) ≡ Err (fault_at DuplicateMember 0)) × (run_begun_with (run_limits 1 0) (Ok ([], 3, [])) ≡ Err (fault_at BadLimit 0)) × (run_begun_with (run_limits 1 9) (Err (fault_at NoScript 0)) ≡ Err (fault_at NoScript 0))
+register_refused : (started_after (run_limits 1 9) (Ok ((AAA, 1) ∷ (AAA, 2) ∷ [], 4, [])) ≡ Err (fault_at DuplicateMember 0)) × (started_after (run_limits 1 0) (Ok ([], 3, [])) ≡ Err (fault_at BadLimit 0)) × (started_after (run_limits 1 9) (Err (fault_at NoScript 0)) ≡ Err (fault_at NoScript 0))
 register_refused = (refl, refl, refl)
 
 nothing_done : (ledger_at_start (run_limits 1 9) [] ≡ record { opening = []; journal = []; limit = 9 }) × ((unpublished_register (ledger_at_start (run_limits 1 9) [])).published ≡ 0)

@@ -3,10 +3,10 @@ use Rattle.std.proofs.Common.{◌≡◌, ◌+◌, IfOk, ℕ, List, [], ◌∷◌
 use Rattle.std.proofs.KnownBytes.{Appends-nil}
 use Rattle.board_text.specs.Requests.{Row}
 use Rattle.council_core.specs.Ledgers.{Ledger}
-use Rattle.board_text.specs.Text.{Begun, Run, fault_at, with_lines, printed_run}
+use Rattle.board_text.specs.Text.{Started, Run, fault_at, with_lines, printed_run}
 use Rattle.board_text.specs.declared.bounds.Limits.{Limits}
 use Rattle.board_text.specs.declared.faults.Fault.{Fault}
-use Rattle.board_text.specs.Scripts.{Turn, begun_end, begun_run, end_of_script, run_of_script, run_step, script_end, script_run, step_run, turn_of, turn_then}
+use Rattle.board_text.specs.Scripts.{Turn, started_end, started_run, end_of_script, run_of_script, run_step, script_end, script_run, step_run, turn_of, turn_then}
 use Rattle.board_text.specs.Lines.{LineBytes}
 use Rattle.board_text.specs.Output.{WritesUntilStop, WritesRun, at_record}
 use Rattle.board_text.specs.declared.stops.Stop.{Stop}
@@ -69,10 +69,10 @@ module _ {S : Type 0} (step : S → Row → Turn S) where
   run-end s k (r ∷ rs) = turn-end k (step s r) rs (λ t. run-end t (k + 1) rs)
 
 -- the same from the start of a script
-pub begun-end : {S : Type 0} (opened : Limits → Ledger → S) (step : Limits → S → Row → Turn S) (lim : Limits) (begun : Result Begun Fault)
-    → (begun_run (run_of_script opened step lim) begun).end ≡ fault_in (begun_end (end_of_script opened step lim) begun)
-begun-end opened step lim (Err f) = refl
-begun-end opened step lim (Ok b) = run-end (step lim) (opened lim b.0) b.1 b.2
+pub start-end : {S : Type 0} (opened : Limits → Ledger → S) (step : Limits → S → Row → Turn S) (lim : Limits) (start : Result Started Fault)
+    → (started_run (run_of_script opened step lim) start).end ≡ fault_in (started_end (end_of_script opened step lim) start)
+start-end opened step lim (Err f) = refl
+start-end opened step lim (Ok b) = run-end (step lim) (opened lim b.0) b.1 b.2
 
 module _ {S A : Type 0} (k : ℕ) (effect : A → List LineBytes × S) where
   -- a record that asks for this takes the turn of it

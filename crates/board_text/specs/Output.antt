@@ -11,7 +11,7 @@ use Rattle.two_copy_steps.specs.Lawful.{IsPrefix}
 use Rattle.board_text.specs.declared.bounds.Limits.{Limits}
 use Rattle.board_text.specs.Lines.{LineBytes, fault_line}
 use Rattle.board_text.specs.Text.{Run, fault_at, line_text, ledger_at_start, text_of}
-use Rattle.board_text.specs.declared.beginning.RunStart.{RunStart}
+use Rattle.board_text.specs.declared.starting.ScriptStart.{ScriptStart}
 use Rattle.board_text.specs.declared.faults.Fault.{Fault}
 use Rattle.board_text.specs.declared.stops.Stop.{Stop}
 use Rattle.board_text.specs.declared.stops.Stop.TheVariants as stop
@@ -77,10 +77,10 @@ Starts lim members (Err (stop.Input f)) = (e : Refusal) × (start_verdict member
 
 -- a register with an empty journal and these members, with which one with the largest journal limit
 -- can start, too
-pub record StartsRun (begun : RunStart) : Type 0 where
-  pub starts : start_verdict begun.members.items MAX_COMMANDS ≡ Ok tt
-  pub members : begun.register.opening ≡ begun.members.items
-  pub none : begun.register.journal ≡ []
+pub record StartsScript (start : ScriptStart) : Type 0 where
+  pub starts : start_verdict start.members.items MAX_COMMANDS ≡ Ok tt
+  pub members : start.register.opening ≡ start.members.items
+  pub none : start.register.journal ≡ []
 
 -- the stop of a refusal that ends a run: out of memory, or a fault of the input at 0
 abbrev pub stop_of : Refusal → Stop

@@ -7,7 +7,7 @@ use Rattle.board_text.specs.Lines.{LineBytes}
 use Rattle.board_text.specs.Requests.{Row}
 use Rattle.board_text.specs.declared.bounds.Limits.{Limits}
 use Rattle.board_text.specs.declared.faults.Fault.{Fault}
-use Rattle.board_text.specs.Text.{Begun, Run, with_lines, begun_of, fault_at, printed_run, stopped_run}
+use Rattle.board_text.specs.Text.{Started, Run, with_lines, started_of, fault_at, printed_run, stopped_run}
 
 -- the effect of a record on a state: the lines that it prints and the state after it, or the
 -- refusal
@@ -46,31 +46,31 @@ script_end step s k [] = Ok s
 script_end step s k (r ∷ rs) = turn_then k (step s r) (λ t. script_end step t (k + 1) rs)
 
 -- the run of a script from its start, or of the fault before it
-abbrev pub begun_run : (Begun → Run) → Result Begun Fault → Run
-begun_run interpret (Err f) = stopped_run f
-begun_run interpret (Ok b) = interpret b
+abbrev pub started_run : (Started → Run) → Result Started Fault → Run
+started_run interpret (Err f) = stopped_run f
+started_run interpret (Ok b) = interpret b
 
 -- the run of a script on the state opened over the register at its start
 abbrev pub run_of_script : {S : Type 0} → (Limits → Ledger → S) → (Limits → S → Row → Turn S)
-    → Limits → Begun → Run
+    → Limits → Started → Run
 run_of_script opened step lim b = script_run (step lim) (opened lim b.0) b.1 b.2
 
 -- the run of these bytes, for an interpreter with this start and this step
 abbrev pub interpreted_run : {S : Type 0} → (Limits → Ledger → S) → (Limits → S → Row → Turn S)
     → Limits → List ℕ → Run
-interpreted_run opened step lim bytes = begun_run (run_of_script opened step lim) (begun_of lim bytes)
+interpreted_run opened step lim bytes = started_run (run_of_script opened step lim) (started_of lim bytes)
 
 -- the end of a script from its start, or the fault before it
-abbrev pub begun_end : {S : Type 0} → (Begun → Result S Fault) → Result Begun Fault → Result S Fault
-begun_end interpret (Err f) = Err f
-begun_end interpret (Ok b) = interpret b
+abbrev pub started_end : {S : Type 0} → (Started → Result S Fault) → Result Started Fault → Result S Fault
+started_end interpret (Err f) = Err f
+started_end interpret (Ok b) = interpret b
 
 -- the end of a script on the state opened over the register at its start
 abbrev pub end_of_script : {S : Type 0} → (Limits → Ledger → S) → (Limits → S → Row → Turn S)
-    → Limits → Begun → Result S Fault
+    → Limits → Started → Result S Fault
 end_of_script opened step lim b = script_end (step lim) (opened lim b.0) b.1 b.2
 
 -- the state after these bytes, for an interpreter with this start and this step, or their fault
 abbrev pub interpreted_end : {S : Type 0} → (Limits → Ledger → S) → (Limits → S → Row → Turn S)
     → Limits → List ℕ → Result S Fault
-interpreted_end opened step lim bytes = begun_end (end_of_script opened step lim) (begun_of lim bytes)
+interpreted_end opened step lim bytes = started_end (end_of_script opened step lim) (started_of lim bytes)

@@ -106,16 +106,16 @@ abbrev pub ledger_at_start : Limits → Opening → Ledger
 ledger_at_start lim members = record { opening = members; journal = []; limit = lim.journal }
 
 -- the start of a script: the register, the number of the script's first record, and its records
-abbrev pub Begun : Type 0
-Begun = Ledger × ℕ × List Row
+abbrev pub Started : Type 0
+Started = Ledger × ℕ × List Row
 
-abbrev pub started_with : Limits → Result ⊤ Refusal → Opened → Result Begun Fault
+abbrev pub started_with : Limits → Result ⊤ Refusal → Opened → Result Started Fault
 started_with lim (Err why) p = Err (fault_at why 0)
 started_with lim (Ok u) p = Ok (ledger_at_start lim p.0, p.1, p.2)
 
-abbrev pub run_begun_with : Limits → Result Opened Fault → Result Begun Fault
-run_begun_with lim (Err f) = Err f
-run_begun_with lim (Ok p) = started_with lim (start_verdict p.0 lim.journal) p
+abbrev pub started_after : Limits → Result Opened Fault → Result Started Fault
+started_after lim (Err f) = Err f
+started_after lim (Ok p) = started_with lim (start_verdict p.0 lim.journal) p
 
 -- the members and the script of the records of an input, or the first fault before the script
 abbrev pub opened_of : List Row → Result Opened Fault
@@ -133,11 +133,11 @@ in_range lim =
     nat_le 1 lim.readers && nat_le lim.readers READERS && nat_le 1 lim.journal && nat_le lim.journal MAX_COMMANDS
 
 -- the start of the script of these bytes, or the fault before it
-unfoldable pub begun_of : Limits → List ℕ → Result Begun Fault
-begun_of lim bytes =
+unfoldable pub started_of : Limits → List ℕ → Result Started Fault
+started_of lim bytes =
     if in_range lim
     then if nat_le (length bytes) INPUT_LIMIT
-    then run_begun_with lim (opened_of (records default_config (strip_bom bytes)))
+    then started_after lim (opened_of (records default_config (strip_bom bytes)))
     else Err (fault_at TooLong 0)
     else Err (fault_at BadLimit 0)
 

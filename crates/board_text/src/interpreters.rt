@@ -7,20 +7,20 @@ ghost use Rattle.csv.specs.Reading.{default_config, records, strip_bom};
 ghost use Rattle.csv.specs.Records.{fields_of};
 ghost use Rattle.council_core.specs.Ledgers.{Ledger};
 ghost use Rattle.board_text.specs.Inputs.{RetriesAtMost, WastesAtMost};
-ghost use Rattle.board_text.specs.Output.{WritesRun, StartsRun};
+ghost use Rattle.board_text.specs.Output.{WritesRun, StartsScript};
 ghost use Rattle.board_text.specs.Sinks.{GoesOn};
 ghost use Rattle.board_text.specs.Requests.{Row};
-ghost use Rattle.board_text.specs.Scripts.{Turn, begun_end, begun_run, end_of_script, interpreted_end, interpreted_run};
+ghost use Rattle.board_text.specs.Scripts.{Turn, started_end, started_run, end_of_script, interpreted_end, interpreted_run};
 ghost use Rattle.board_text.specs.Scripts.{run_of_script, script_end, script_run, step_run};
-ghost use Rattle.board_text.specs.Text.{run_begun_with, fault_at, in_range, opened_of};
+ghost use Rattle.board_text.specs.Text.{started_after, fault_at, in_range, opened_of};
 ghost use Rattle.board_text.specs.declared.bounds.Limits.{Limits};
 ghost use Rattle.board_text.specs.declared.stops.Stop.TheVariants as stop;
 
-use crate::beginning::{RunStart, begin, read_within};
 use crate::bounds::Limits;
 use crate::input::{INPUT_LIMIT, INTERRUPTIONS, READS};
 use crate::output::Output;
 use crate::script::Script;
+use crate::starting::{ScriptStart, read_within, start_script};
 use crate::stops::Stop;
 use csv::ByteRecord;
 use recording_io::RecordingReader;
@@ -69,11 +69,11 @@ pub trait Interpreter: Sized + Drop {
     /// # Errors
     ///
     /// `Stop::OutOfMemory`.
-    fn open(alloc: Global, begun: RunStart, limits: Limits) -> Result<Self, Stop>
-        requires starts { StartsRun begun }
+    fn open(alloc: Global, start: ScriptStart, limits: Limits) -> Result<Self, Stop>
+        requires starts { StartsScript start }
         requires in_range { in_range limits ≡ true }
-        ensures opened { IfOk result (λ interpreter. interpreter ≡ opened limits begun.register) }
-        ensures kept { IfOk result (kept begun.place) }
+        ensures opened { IfOk result (λ interpreter. interpreter ≡ opened limits start.register) }
+        ensures kept { IfOk result (kept start.first) }
         ensures memory { IsOkUnless result stop.OutOfMemory };
 
     /// Carries out the record with this number and writes its lines.
@@ -133,19 +133,19 @@ fn interpret_text<I: Interpreter, W: Write>(
     requires short { length text.now ≤ INPUT_LIMIT }
     requires in_range { in_range limits ≡ true }
     ensures wrote { WritesRun out.old.held out.new.held result
-        (begun_run (run_of_script I.opened I.step limits)
-        (run_begun_with limits (opened_of (records default_config (strip_bom text.now))))) }
+        (started_run (run_of_script I.opened I.step limits)
+        (started_after limits (opened_of (records default_config (strip_bom text.now))))) }
     ensures ended { IfOk result
-        (λ i. begun_end (end_of_script I.opened I.step limits)
-        (run_begun_with limits (opened_of (records default_config (strip_bom text.now)))) ≡ Ok i) }
+        (λ i. started_end (end_of_script I.opened I.step limits)
+        (started_after limits (opened_of (records default_config (strip_bom text.now)))) ≡ Ok i) }
     ensures kept { IfOk result (λ i. (number : ℕ) × (number < 2 ^ 32) × I.kept number i) }
     ensures continues { GoesOn out.old out.new }
 {
     let mut script = Script::new(alloc, text);
     let mut row = ByteRecord::new(alloc);
-    let begun = begin(alloc, &mut script, &mut row, limits)?;
-    let first = begun.place;
-    let interpreter = I::open(alloc, begun, limits)?;
+    let start = start_script(alloc, &mut script, &mut row, limits)?;
+    let first = start.first;
+    let interpreter = I::open(alloc, start, limits)?;
     interpret_script(&mut script, &mut row, limits, interpreter, first, out)
 }
 

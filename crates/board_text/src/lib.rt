@@ -2,7 +2,6 @@
 //! as the lines and bytes of an output.
 #![tactic(auto)]
 
-mod beginning;
 mod bounds;
 mod endings;
 mod faults;
@@ -18,9 +17,9 @@ mod output;
 mod requests;
 mod schedules;
 mod script;
+mod starting;
 mod stops;
 
-pub use beginning::{RunStart, begin, read_within};
 pub use bounds::Limits;
 pub use endings::end_run;
 pub use faults::Fault;
@@ -37,4 +36,5 @@ pub use output::{Output, say};
 pub use requests::{Request, request_in};
 pub use schedules::{Act, MAX_STEPS, act_in};
 pub use script::Script;
+pub use starting::{ScriptStart, read_within, start_script};
 pub use stops::Stop;

@@ -47,7 +47,7 @@ fn read_members(
 ///
 /// # Errors
 ///
-/// Those of `begin` down to `NoScript`, `Stop::OutOfMemory` and `Stop::ReadFault`.
+/// Those of `start_script` down to `NoScript`, `Stop::OutOfMemory` and `Stop::ReadFault`.
 pub fn read_opening(
     script: &mut Script<'_>,
     row: &mut ByteRecord,

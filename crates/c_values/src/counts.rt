@@ -80,8 +80,8 @@ fn rows_of(rows: &[ChairPower]) -> [BoardChair; CHAIRS]
         weight: 0,
         swings: 0,
     }; CHAIRS];
-    for place in 0..rows.len() {
-        chairs[place] = chair_of(&rows[place]);
+    for index in 0..rows.len() {
+        chairs[index] = chair_of(&rows[index]);
     }
     chairs
 }

@@ -65,8 +65,8 @@ pub fn opening_of(
     ensures refused { IfErr result (λ why. (why ≡ OutOfMemory) ⊎ (given_opening entries.now ≡ Err why)) }
 {
     let mut members = Vec::new(alloc);
-    for place in 0..entries.len() {
-        let member = entry_of(&entries[place])?;
+    for index in 0..entries.len() {
+        let member = entry_of(&entries[index])?;
         members.push(member)?;
     }
     Ok(members)

@@ -14,7 +14,7 @@ use Rattle.council_core.specs.declared.commands.Command.{Command}
 use Rattle.council_core.specs.declared.commands.Standing.{Standing}
 use Rattle.council_core.specs.declared.refusals.Refusal.{Refusal}
 use Rattle.council_core.specs.declared.refusals.Refusal.TheVariants.{JournalFull}
-use Rattle.council_core.specs.Rolls.{Roll, RollEntry, same_code, standing_among, place_among, with_standing, members_without, new_entry, new_standing, sits_in, effective_votes, votes_in, weight, total, is_open, roll_with_open, roll_with_closed, has_members, roll_with_member, roll_without_member, step, step, all_accepted, opening_roll}
+use Rattle.council_core.specs.Rolls.{Roll, RollEntry, same_code, standing_among, index_among, with_standing, members_without, new_entry, new_standing, sits_in, effective_votes, votes_in, weight, total, is_open, roll_with_open, roll_with_closed, has_members, roll_with_member, roll_without_member, step, step, all_accepted, opening_roll}
 use Rattle.council_core.specs.Ledgers.{Ledger, roll_of, room_of, verdict, verdict_of, ledger_as_of}
 use Rattle.council_core.specs.Laws.{SetsInRange}
 use Rattle.council_core.specs.Registers.{IsPlanned, OpensChair, IsClosing, IsChange, IsEntry, IsLeaving, members_in_chair, sits_as}
@@ -134,30 +134,30 @@ module _ (l : Ledger) (command : Command) (a : Accepts l command) where
   -- a chair is opened
   pub IsKept-open : (k c : ℕ) → k + 1 ≡ c → k < 32 → k < length a.kept.totals.words → OpensChair (roll_of l) command c
       → IsAfter (record a.kept { totals = record a.kept.totals { words = slice_set a.kept.totals.words k 1 } })
-  IsKept-open k c place small within opening =
+  IsKept-open k c index small within opening =
       let now : Kept = record a.kept { totals = record a.kept.totals { words = slice_set a.kept.totals.words k 1 } } in
-      let m = Mirrors-open (roll_of l) a.kept a.beside.mirrors k small within (ap (is_open (roll_of l)) place ∙ opening.shut) in
-      written (roll_with_open (roll_of l) c) opening.effect now (subst (λ (d : ℕ). IsMirror (roll_with_open (roll_of l) d) now) place m)
+      let m = Mirrors-open (roll_of l) a.kept a.beside.mirrors k small within (ap (is_open (roll_of l)) index ∙ opening.shut) in
+      written (roll_with_open (roll_of l) c) opening.effect now (subst (λ (d : ℕ). IsMirror (roll_with_open (roll_of l) d) now) index m)
 
   -- a chair is closed
   pub IsKept-close : (k c : ℕ) → k + 1 ≡ c → k < 32 → k < length a.kept.totals.words → IsClosing (roll_of l) command c
       → IsAfter (record a.kept { totals = record a.kept.totals { words = slice_set a.kept.totals.words k 0 } })
-  IsKept-close k c place small within closing =
+  IsKept-close k c index small within closing =
       let now : Kept = record a.kept { totals = record a.kept.totals { words = slice_set a.kept.totals.words k 0 } } in
-      let m = Mirrors-close (roll_of l) a.kept a.beside.mirrors k small within (ap (has_members (roll_of l)) place ∙ closing.empty) in
-      written (roll_with_closed (roll_of l) c) closing.effect now (subst (λ (d : ℕ). IsMirror (roll_with_closed (roll_of l) d) now) place m)
+      let m = Mirrors-close (roll_of l) a.kept a.beside.mirrors k small within (ap (has_members (roll_of l)) index ∙ closing.empty) in
+      written (roll_with_closed (roll_of l) c) closing.effect now (subst (λ (d : ℕ). IsMirror (roll_with_closed (roll_of l) d) now) index m)
 
   -- a member's standing is changed
-  pub IsKept-change : (place : ℕ) (old new : Standing) → (code : List ℕ) × (place_among code (roll_of l).members ≡ Some place) × IsChange (roll_of l) command code old new
-      → (now : Kept) → Exchange a.kept.totals now.totals old new → now.entries ≡ set_value_at a.kept.entries place new → IsAfter now
-  IsKept-change place old new planned now x put =
+  pub IsKept-change : (index : ℕ) (old new : Standing) → (code : List ℕ) × (index_among code (roll_of l).members ≡ Some index) × IsChange (roll_of l) command code old new
+      → (now : Kept) → Exchange a.kept.totals now.totals old new → now.entries ≡ set_value_at a.kept.entries index new → IsAfter now
+  IsKept-change index old new planned now x put =
       let es : List RollEntry = a.kept.entries in
       let code = planned.0 in
       let change = planned.2 in
       let there : standing_among code es ≡ Some old = ap (standing_among code) a.beside.mirrors.same_members ∙ change.known in
-      let at : place_among code es ≡ Some place = ap (place_among code) a.beside.mirrors.same_members ∙ planned.1 in
-      let first = (Found-position (same_code code) es place at).first in
-      let same : now.entries ≡ with_standing code new es = put ∙ sym (insert_entry-first same_code code new es place first) ∙ insert-with_standing code new es old there in
+      let at : index_among code es ≡ Some index = ap (index_among code) a.beside.mirrors.same_members ∙ planned.1 in
+      let first = (Found-position (same_code code) es index at).first in
+      let same : now.entries ≡ with_standing code new es = put ∙ sym (insert_entry-first same_code code new es index first) ∙ insert-with_standing code new es old there in
       let roll : Roll = roll_of l in
       let next : Roll = record roll { members = with_standing code new roll.members } in
       let m = Mirrors-update roll a.kept a.beside.mirrors code old new change.known change.seat now.totals x in
@@ -171,15 +171,15 @@ module _ (l : Ledger) (command : Command) (a : Accepts l command) where
       written (roll_with_member (roll_of l) code votes) entry.effect now (subst (λ (e : List RollEntry). IsMirror (roll_with_member (roll_of l) code votes) (record { entries = e; totals = now.totals })) (sym put) m)
 
   -- a member leaves
-  pub IsKept-withdraw : (place : ℕ) (old : Standing) → (code : List ℕ) × (place_among code (roll_of l).members ≡ Some place) × IsLeaving (roll_of l) command code old
-      → (now : Kept) → Loss a.kept.totals now.totals old → now.entries ≡ remove a.kept.entries place → IsAfter now
-  IsKept-withdraw place old planned now loss put =
+  pub IsKept-withdraw : (index : ℕ) (old : Standing) → (code : List ℕ) × (index_among code (roll_of l).members ≡ Some index) × IsLeaving (roll_of l) command code old
+      → (now : Kept) → Loss a.kept.totals now.totals old → now.entries ≡ remove a.kept.entries index → IsAfter now
+  IsKept-withdraw index old planned now loss put =
       let es : List RollEntry = a.kept.entries in
       let code = planned.0 in
       let leaving = planned.2 in
-      let at : place_among code es ≡ Some place = ap (place_among code) a.beside.mirrors.same_members ∙ planned.1 in
-      let first = (Found-position (same_code code) es place at).first in
-      let same : now.entries ≡ members_without code es = put ∙ sym (remove_entry-first (same_code code) es place first) ∙ sym (without-removed code es) in
+      let at : index_among code es ≡ Some index = ap (index_among code) a.beside.mirrors.same_members ∙ planned.1 in
+      let first = (Found-position (same_code code) es index at).first in
+      let same : now.entries ≡ members_without code es = put ∙ sym (remove_entry-first (same_code code) es index first) ∙ sym (without-removed code es) in
       let m = Mirrors-withdraw (roll_of l) a.kept a.beside.mirrors code old leaving.known leaving.unseated now.totals loss in
       written (roll_without_member (roll_of l) code) leaving.effect now (subst (λ (e : List RollEntry). IsMirror (roll_without_member (roll_of l) code) (record { entries = e; totals = now.totals })) (sym same) m)
 

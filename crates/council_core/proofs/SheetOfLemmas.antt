@@ -85,7 +85,7 @@ pub sheet_is : (roll : Roll) (words : List ℕ) (t f n : ℕ) → length words �
 sheet_is roll words t f n long each e g =
     ap (λ (l : List ℕ). l ++ t ∷ f ∷ []) (same_words roll words long each) ∙ ap (λ (x : ℕ). map (chair_word roll) chair_numbers ++ x ∷ f ∷ []) e ∙ ap (λ (x : ℕ). map (chair_word roll) chair_numbers ++ total roll ∷ x ∷ []) g
 
--- a sheet's number at the place of a chair
+-- a sheet's number at the index of a chair
 pub word_at : (roll : Roll) (front k : ℕ) → k < 32 → slice_index (sheet_words roll front) k ≡ chair_word roll (k + 1)
 word_at roll front k h =
     get_or_append_left (map (chair_word roll) chair_numbers) (total roll ∷ front ∷ []) 0 k h

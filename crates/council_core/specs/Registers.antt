@@ -2,7 +2,7 @@
 use Rattle.std.specs.Prelude.{◌≡◌, ℕ, ◌+◌, ◌≤◌, ◌<◌, true, false, if◌then◌else◌}
 use Rattle.std.specs.Prelude.{List, length, sum_by, All, slice_index, None, Some, Ok}
 use Rattle.council_core.specs.Rolls.{Roll, RollEntry, chair_word, sits_in, total, is_open, can_receive, standing_among}
-use Rattle.council_core.specs.Rolls.{place_among, has_members, roll_with_open, roll_with_closed, roll_with_member, roll_without_member, step}
+use Rattle.council_core.specs.Rolls.{index_among, has_members, roll_with_open, roll_with_closed, roll_with_member, roll_without_member, step}
 use Rattle.council_core.specs.Rolls.{update, all_accepted, opening_roll}
 use Rattle.council_core.specs.declared.limits.TheConstants.{CHAIRS, MAX_COMMANDS, MAX_MEMBERS, MAX_VOTES}
 use Rattle.council_core.specs.declared.changes.Change.{Change}
@@ -75,8 +75,8 @@ pub record IsLeaving (roll : Roll) (command : Command) (code : List ℕ) (old : 
 abbrev pub IsPlanned : Roll → Command → Change → Type 0
 IsPlanned roll command (change.Open chair) = OpensChair roll command chair
 IsPlanned roll command (change.Close chair) = IsClosing roll command chair
-IsPlanned roll command (change.Stand place old new) =
-    (code : List ℕ) × (place_among code roll.members ≡ Some place) × IsChange roll command code old new
+IsPlanned roll command (change.Stand index old new) =
+    (code : List ℕ) × (index_among code roll.members ≡ Some index) × IsChange roll command code old new
 IsPlanned roll command (change.Enter code votes) = IsEntry roll command code votes
-IsPlanned roll command (change.Leave place old) =
-    (code : List ℕ) × (place_among code roll.members ≡ Some place) × IsLeaving roll command code old
+IsPlanned roll command (change.Leave index old) =
+    (code : List ℕ) × (index_among code roll.members ≡ Some index) × IsLeaving roll command code old

@@ -75,8 +75,8 @@ members_without code [] = []
 members_without code (m ∷ ms) = if same_code code m.0 then ms else m ∷ members_without code ms
 
 -- the index of the member with this code, or None
-abbrev pub place_among : List ℕ → List RollEntry → Option ℕ
-place_among code ms = position (same_code code) (keys_of ms)
+abbrev pub index_among : List ℕ → List RollEntry → Option ℕ
+index_among code ms = position (same_code code) (keys_of ms)
 
 abbrev pub update : Roll → List ℕ → Standing → Result Roll Refusal
 update r code s = Ok (record r { members = with_standing code s r.members })

@@ -9,17 +9,17 @@ pub(crate) enum Change {
     Open(ChairId),
     // A chair that was open is closed.
     Close(ChairId),
-    // The member at `place`, in the order of entry, gets a new standing.
+    // The member at `index`, in the order of entry, gets a new standing.
     Stand {
-        place: usize,
+        index: usize,
         old: Standing,
         new: Standing,
     },
     // A new member is added with its votes, last.
     Enter(MemberCode, Votes),
-    // The member at `place`, which has this standing, is removed.
+    // The member at `index`, which has this standing, is removed.
     Leave {
-        place: usize,
+        index: usize,
         old: Standing,
     },
 }

@@ -5,7 +5,7 @@ ghost use Rattle.std.specs.List.{All, list_any};
 ghost use Rattle.std.specs.Option.{option_map};
 ghost use Rattle.council_core.specs.Members.{row_of};
 ghost use Rattle.council_core.specs.Sheets.{IsSheet};
-ghost use Rattle.council_core.specs.Rolls.{IsLegal, step, is_open, can_receive, standing_among, place_among, same_code};
+ghost use Rattle.council_core.specs.Rolls.{IsLegal, step, is_open, can_receive, standing_among, index_among, same_code};
 ghost use Rattle.council_core.specs.Rolls.{has_members};
 ghost use Rattle.council_core.specs.Laws.{IsOpening, SetsInRange};
 ghost use Rattle.council_core.specs.Verdicts.{Follows};
@@ -24,7 +24,7 @@ use crate::refusals::Refusal;
 use crate::sheets::Sheet;
 use crate::stores::{append, copied, enter_all, enter_new, make_room, put, take_out};
 use crate::totals::ChairTotals;
-use crate::values::{ChairId, MemberCode, Votes, place_of};
+use crate::values::{ChairId, MemberCode, Votes, index_of};
 use indexmap::IndexMap;
 use std::alloc::Global;
 use std::marker::Model;
@@ -158,8 +158,8 @@ impl Register {
     {
         let mut copy = Register::at_start(alloc, &self.opening, self.limit)?;
         let count = self.journal.len().min(accepted as usize);
-        for place in 0..count {
-            copy.apply(self.journal[place])?;
+        for index in 0..count {
+            copy.apply(self.journal[index])?;
         }
         Ok(copy)
     }
@@ -248,17 +248,17 @@ impl Register {
         Sheet::from_words_unchecked(&words)
     }
 
-    /// One number of the sheet after the accepted commands, without the others. `place` is its
+    /// One number of the sheet after the accepted commands, without the others. `index` is its
     /// index, below `SHEET_WORDS`: a chair's word, the total voting power in votes (`TOTAL`), or
     /// the number of accepted commands (`FRONT`).
-    pub fn sheet_word(&self, place: usize) -> u64
-        requires within { place < SHEET_WORDS }
-        ensures same { result ≡ slice_index (sheet_of self.now) place }
+    pub fn sheet_word(&self, index: usize) -> u64
+        requires within { index < SHEET_WORDS }
+        ensures same { result ≡ slice_index (sheet_of self.now) index }
     {
-        match place {
+        match index {
             TOTAL => self.totals.total,
             FRONT => self.journal.len() as u64,
-            _ => self.totals.words[place],
+            _ => self.totals.words[index],
         }
     }
 
@@ -266,14 +266,14 @@ impl Register {
     fn is_open(&self, chair: ChairId) -> bool
         ensures { result ≡ is_open (roll_of self.now) chair }
     {
-        self.totals.words[place_of(chair)] != 0
+        self.totals.words[index_of(chair)] != 0
     }
 
     // Whether members sit in a chair. Suspended members count.
     fn has_members(&self, chair: ChairId) -> bool
         ensures { result ≡ has_members (roll_of self.now) chair }
     {
-        self.totals.counts[place_of(chair)] != 0
+        self.totals.counts[index_of(chair)] != 0
     }
 
     // Whether a member may be seated here: in no chair, or in an open one.
@@ -288,14 +288,14 @@ impl Register {
 
     // The index and the standing of the member with this code.
     fn find(&self, code: MemberCode) -> Result<(usize, Standing), Refusal>
-        ensures place { IfOk result (λ m. place_among code (roll_of self.now).members ≡ Some m.0) }
+        ensures index { IfOk result (λ m. index_among code (roll_of self.now).members ≡ Some m.0) }
         ensures found { IfOk result (λ m. standing_among code (roll_of self.now).members ≡ Some m.1) }
         ensures seat { IfOk result (λ m. can_receive (roll_of self.now) m.1.chair ≡ true) }
         ensures unknown { IfErr result
             (λ e. (e ≡ UnknownMember) × (standing_among code (roll_of self.now).members ≡ None)) }
     {
         match self.members.get_full(&code) {
-            Some((place, _code, standing)) => Ok((place, *standing)),
+            Some((index, _code, standing)) => Ok((index, *standing)),
             None => Err(Refusal::UnknownMember),
         }
     }
@@ -330,7 +330,7 @@ impl Register {
         ensures refused { IfErr result (λ e. step (roll_of self.now) (Move code to) ≡ Err e) }
         ensures planned { IfOk result (IsPlanned (roll_of self.now) (Move code to)) }
     {
-        let (place, old) = self.find(code)?;
+        let (index, old) = self.find(code)?;
         if old.suspended {
             return Err(Refusal::MemberSuspended);
         }
@@ -341,7 +341,7 @@ impl Register {
             return Err(Refusal::AlreadyThere);
         }
         let new = Standing { chair: to, ..old };
-        Ok(Change::Stand { place, old, new })
+        Ok(Change::Stand { index, old, new })
     }
 
     // The change that `SetVotes` makes, or its refusal.
@@ -349,9 +349,9 @@ impl Register {
         ensures refused { IfErr result (λ e. step (roll_of self.now) (SetVotes code votes) ≡ Err e) }
         ensures planned { IfOk result (IsPlanned (roll_of self.now) (SetVotes code votes)) }
     {
-        let (place, old) = self.find(code)?;
+        let (index, old) = self.find(code)?;
         let new = Standing { votes, ..old };
-        Ok(Change::Stand { place, old, new })
+        Ok(Change::Stand { index, old, new })
     }
 
     // The change that `Suspend` makes, or its refusal.
@@ -359,7 +359,7 @@ impl Register {
         ensures refused { IfErr result (λ e. step (roll_of self.now) (Suspend code) ≡ Err e) }
         ensures planned { IfOk result (IsPlanned (roll_of self.now) (Suspend code)) }
     {
-        let (place, old) = self.find(code)?;
+        let (index, old) = self.find(code)?;
         if old.suspended {
             return Err(Refusal::AlreadySuspended);
         }
@@ -367,7 +367,7 @@ impl Register {
             suspended: true,
             ..old
         };
-        Ok(Change::Stand { place, old, new })
+        Ok(Change::Stand { index, old, new })
     }
 
     // The change that `Restore` makes, or its refusal.
@@ -375,7 +375,7 @@ impl Register {
         ensures refused { IfErr result (λ e. step (roll_of self.now) (Restore code) ≡ Err e) }
         ensures planned { IfOk result (IsPlanned (roll_of self.now) (Restore code)) }
     {
-        let (place, old) = self.find(code)?;
+        let (index, old) = self.find(code)?;
         if !old.suspended {
             return Err(Refusal::NotSuspended);
         }
@@ -383,7 +383,7 @@ impl Register {
             suspended: false,
             ..old
         };
-        Ok(Change::Stand { place, old, new })
+        Ok(Change::Stand { index, old, new })
     }
 
     // The change that `Admit` makes, or its refusal.
@@ -405,11 +405,11 @@ impl Register {
         ensures refused { IfErr result (λ e. step (roll_of self.now) (Withdraw code) ≡ Err e) }
         ensures planned { IfOk result (IsPlanned (roll_of self.now) (Withdraw code)) }
     {
-        let (place, old) = self.find(code)?;
+        let (index, old) = self.find(code)?;
         if old.chair.is_some() {
             return Err(Refusal::MemberSeated);
         }
-        Ok(Change::Leave { place, old })
+        Ok(Change::Leave { index, old })
     }
 
     // The change that a command makes, or the refusal of its step.
@@ -483,22 +483,22 @@ impl Register {
         self.check_room()?;
         make_room(&mut self.journal)?;
         match change {
-            Change::Open(chair) => self.totals.words[place_of(chair)] = 1,
-            Change::Close(chair) => self.totals.words[place_of(chair)] = 0,
-            Change::Stand { place, old, new } => {
+            Change::Open(chair) => self.totals.words[index_of(chair)] = 1,
+            Change::Close(chair) => self.totals.words[index_of(chair)] = 0,
+            Change::Stand { index, old, new } => {
                 // The prover needs this line: the votes are in range.
                 let _votes = new.votes.number();
                 self.totals.withdraw(&old);
                 self.totals.enter(&new);
-                put(&mut self.members, place, new);
+                put(&mut self.members, index, new);
             }
             Change::Enter(code, votes) => {
                 enter_new(&mut self.members, code, votes)?;
                 self.totals.enter(&Standing::fresh(votes));
             }
-            Change::Leave { place, old } => {
+            Change::Leave { index, old } => {
                 self.totals.withdraw(&old);
-                take_out(&mut self.members, place);
+                take_out(&mut self.members, index);
             }
         }
         append(&mut self.journal, &command);

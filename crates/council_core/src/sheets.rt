@@ -7,7 +7,7 @@ ghost use Rattle.council_core.specs.Sheets.{cast_of, total_of, front_of, open_ch
 
 use crate::limits::{CHAIRS, FRONT, MAX_COMMANDS, MAX_TOTAL, SHEET_WORDS, TOTAL};
 use crate::refusals::Refusal;
-use crate::values::{ChairId, chair_at, place_of};
+use crate::values::{ChairId, chair_at, index_of};
 use arrayvec::ArrayVec;
 use std::marker::Model;
 
@@ -107,8 +107,8 @@ impl Sheet {
         ensures bound { array_vec_len result ≤ CHAIRS }
     {
         let mut chairs = ArrayVec::new();
-        for place in 0..CHAIRS {
-            let chair = chair_at(place);
+        for index in 0..CHAIRS {
+            let chair = chair_at(index);
             if let Some(weight) = self.weight(chair) {
                 chairs.push((chair, weight));
             }
@@ -121,7 +121,7 @@ impl Sheet {
     pub fn weight(&self, chair: ChairId) -> Option<u64>
         ensures weight { result ≡ weight_word self.now chair }
     {
-        let word = self.words[place_of(chair)];
+        let word = self.words[index_of(chair)];
         if word == 0 { None } else { Some(word - 1) }
     }
 

@@ -33,21 +33,21 @@ pub(crate) fn append(journal: &mut Vec<Command>, command: &Command)
 }
 
 // Replaces the standing of the member at this index.
-pub(crate) fn put(members: &mut IndexMap<MemberCode, Standing>, place: usize, new: Standing)
-    requires { place < length members.old.entries }
-    ensures { members.new.entries ≡ set_value_at members.old.entries place new }
+pub(crate) fn put(members: &mut IndexMap<MemberCode, Standing>, index: usize, new: Standing)
+    requires { index < length members.old.entries }
+    ensures { members.new.entries ≡ set_value_at members.old.entries index new }
 {
-    match members.get_index_mut(place) {
+    match members.get_index_mut(index) {
         Some(standing) => *standing = new,
         None => unreachable!(),
     }
 }
 
 // Removes the member at this index. The members after it move up.
-pub(crate) fn take_out(members: &mut IndexMap<MemberCode, Standing>, place: usize)
-    ensures { members.new.entries ≡ remove members.old.entries place }
+pub(crate) fn take_out(members: &mut IndexMap<MemberCode, Standing>, index: usize)
+    ensures { members.new.entries ≡ remove members.old.entries index }
 {
-    let _gone = members.shift_remove_index(place);
+    let _gone = members.shift_remove_index(index);
 }
 
 // A copy of the members.

@@ -100,20 +100,20 @@ impl fmt::Display for ChairId {
 }
 
 // The index of a chair's word in a sheet.
-pub(crate) fn place_of(chair: ChairId) -> usize
-    ensures place { result + 1 ≡ chair }
+pub(crate) fn index_of(chair: ChairId) -> usize
+    ensures index { result + 1 ≡ chair }
     ensures within { result < CHAIRS }
 {
     chair.number() as usize - 1
 }
 
 // The chair whose word is at this index of a sheet.
-pub(crate) fn chair_at(place: usize) -> ChairId
-    requires within { place < CHAIRS }
-    ensures number { result ≡ place + 1 }
+pub(crate) fn chair_at(index: usize) -> ChairId
+    requires within { index < CHAIRS }
+    ensures number { result ≡ index + 1 }
 {
     ChairId {
-        number: place as u8 + 1,
+        number: index as u8 + 1,
     }
 }
 

@@ -18,8 +18,8 @@ fn seat_all(register: &mut Register, members: &[(MemberCode, Votes)]) -> Result<
     for chair in 1..=32 {
         register.apply(open(chair)?)?;
     }
-    for (place, member) in members.iter().enumerate() {
-        let chair = ChairId::new((place % 32) as u8 + 1)?;
+    for (index, member) in members.iter().enumerate() {
+        let chair = ChairId::new((index % 32) as u8 + 1)?;
         register.apply(Command::Move(member.0, Some(chair)))?;
     }
     Ok(())
@@ -80,8 +80,8 @@ fn a_board_at_all_limits(rt: HostRuntime) -> Result<(), Fail> {
 fn sheet_of(weights: &[u64], outside: u64) -> Result<Sheet, Refusal> {
     let mut words = [0; SHEET_WORDS];
     let mut total = outside;
-    for (place, weight) in weights.iter().enumerate() {
-        words[place * 3 % CHAIRS] = weight.saturating_add(1);
+    for (index, weight) in weights.iter().enumerate() {
+        words[index * 3 % CHAIRS] = weight.saturating_add(1);
         total = total.saturating_add(*weight);
     }
     words[TOTAL] = total;

@@ -99,11 +99,11 @@ fn sheet_from_words(rt: HostRuntime) -> Result<(), Fail> {
     Ok(())
 }
 
-// The code of the member at index `place`.
-fn code_at(register: &Register, place: usize) -> Option<MemberCode> {
+// The code of the member at index `index`.
+fn code_at(register: &Register, index: usize) -> Option<MemberCode> {
     // The prover needs this line, since a row has a chair.
     let _nowhere: Option<ChairId> = None;
-    Some(register.member_at(place)?.code)
+    Some(register.member_at(index)?.code)
 }
 
 // The codes of the first three members of a register.

@@ -7,7 +7,7 @@ use Rattle.council_core.specs.Sequential.{AreLegalRecords}
 use Rattle.two_copy_steps.specs.declared.events.Event.{Event}
 use Rattle.two_copy_steps.specs.declared.events.Note.{Note}
 use Rattle.two_copy_steps.specs.Transitions.{MachineState, transition, machine_at_start, state_after_events, notes}
-use Rattle.two_copy_steps.specs.Auxiliary.{Auxiliary, auxiliary_start, auxiliary_step, auxiliary_steps, state_of, IsApart, IsLawful}
+use Rattle.two_copy_steps.specs.Auxiliary.{Auxiliary, auxiliary_start, auxiliary_step, auxiliary_steps, state_of, IsApart, IsLawfulMachine}
 use Rattle.two_copy_steps.specs.Laws.{RecordsLaw}
 use Rattle.two_copy_steps.specs.Runs.{machine_after, auxiliary_after}
 use Rattle.two_copy_steps.specs.Effects.{SequentialRun, sequential_start, sequential_step, AllAnswer}
@@ -17,14 +17,14 @@ use Rattle.two_copy_steps.proofs.Replies.{Agrees, event_agrees}
 use Rattle.two_copy_steps.proofs.Journals.{IsAccepted, IsWithin, journal_accepted, journal_within}
 use Rattle.two_copy_steps.proofs.Starts.{start_lawful, start_agrees}
 
-pub always_lawful : (events : List Event) (m : MachineState) (aux : Auxiliary) → IsLawful IsAccepted m aux → IsAccepted m.ledger.opening m.ledger.journal → IsLawful IsAccepted (state_after_events m events) (auxiliary_steps m aux events)
+pub always_lawful : (events : List Event) (m : MachineState) (aux : Auxiliary) → IsLawfulMachine IsAccepted m aux → IsAccepted m.ledger.opening m.ledger.journal → IsLawfulMachine IsAccepted (state_after_events m events) (auxiliary_steps m aux events)
 always_lawful [] m aux l h = l
 always_lawful (event ∷ events) m aux l h = always_lawful events (transition m event).0 (auxiliary_step m aux event) (transition_keeps IsAccepted m aux l h event) (journal_accepted m h event)
 
 -- a machine that meets the invariant and whose journal is accepted, and a run of the sequential
 -- register that agrees with it
 pub record Together (t : SequentialRun) (m : MachineState) (aux : Auxiliary) : Type 0 where
-  pub lawful : IsLawful IsAccepted m aux
+  pub lawful : IsLawfulMachine IsAccepted m aux
   pub accepted : IsAccepted m.ledger.opening m.ledger.journal
   pub agrees : Agrees t m
 
@@ -65,7 +65,7 @@ module _ (ledger : Ledger) (readers : ℕ) (accepted : IsAccepted ledger.opening
   pub start_together : Together (sequential_start ledger) (machine_at_start ledger readers) (auxiliary_start ledger readers)
   start_together = record { lawful = start_lawful IsAccepted ledger readers accepted; accepted = accepted; agrees = start_agrees ledger readers }
 
-  run_lawful : (events : List Event) → IsLawful IsAccepted (state_after_events (machine_at_start ledger readers) events) (auxiliary_steps (machine_at_start ledger readers) (auxiliary_start ledger readers) events)
+  run_lawful : (events : List Event) → IsLawfulMachine IsAccepted (state_after_events (machine_at_start ledger readers) events) (auxiliary_steps (machine_at_start ledger readers) (auxiliary_start ledger readers) events)
   run_lawful events = always_lawful events (machine_at_start ledger readers) (auxiliary_start ledger readers) (start_lawful IsAccepted ledger readers accepted) accepted
 
   pub run_answers : (events : List Event) → AllAnswer (sequential_start ledger) (machine_at_start ledger readers) events

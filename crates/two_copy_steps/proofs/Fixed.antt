@@ -5,7 +5,7 @@ use Rattle.std.proofs.Math.Seq.{take-set-lt}
 use mathlib.Core.Logic.{dite}
 use native.Mathlib.Decide.{ℕ_discrete, dec_le}
 use Rattle.two_copy_steps.specs.declared.table.TheConstants.{COPY_WORDS, READERS}
-use Rattle.two_copy_steps.specs.Actions.{first_false, pin, place}
+use Rattle.two_copy_steps.specs.Actions.{first_false, pin, copy_word}
 use Rattle.two_copy_steps.proofs.Starts.{words_at_start, start_length, start_first, start_second, start_pin}
 
 module _ {A : Type 0} where
@@ -33,21 +33,21 @@ zeros zero k = refl
 zeros (suc n) zero = refl
 zeros (suc n) (suc k) = zeros n k
 
--- the words at the start, filled in place by place
+-- the words at the start, filled in one after another
 module _ (all sheet : List ℕ) (readers : ℕ) (wide : length all ≡ pin READERS) (long : length sheet ≡ COPY_WORDS) (bound : readers ≤ READERS) (side : get_or all 0 0 ≡ 0)
-    (first : (k : ℕ) → k < COPY_WORDS → get_or all (place 0 k) 0 ≡ get_or sheet k 0) (second : (k : ℕ) → k < COPY_WORDS → get_or all (place 1 k) 0 ≡ get_or sheet k 0) (rest : (k : ℕ) → pin 0 ≤ k → k < pin READERS → get_or all k 0 ≡ 0) where
+    (first : (k : ℕ) → k < COPY_WORDS → get_or all (copy_word 0 k) 0 ≡ get_or sheet k 0) (second : (k : ℕ) → k < COPY_WORDS → get_or all (copy_word 1 k) 0 ≡ get_or sheet k 0) (rest : (k : ℕ) → pin 0 ≤ k → k < pin READERS → get_or all k 0 ≡ 0) where
   abbrev Same : ℕ → Type 0
   Same i = get_or all i 0 ≡ get_or (words_at_start sheet (replicate readers 0) long) i 0
 
-  by_first : (i : ℕ) → 1 ≤ i → i < place 1 0 → Same i
+  by_first : (i : ℕ) → 1 ≤ i → i < copy_word 1 0 → Same i
   by_first i low high =
       let k : 1 + (i - 1) ≡ i = omega arith in
       subst Same k (first (i - 1) (omega arith) ∙ sym (start_first sheet (replicate readers 0) long (i - 1) (omega arith)))
 
-  by_second : (i : ℕ) → place 1 0 ≤ i → i < pin 0 → Same i
+  by_second : (i : ℕ) → copy_word 1 0 ≤ i → i < pin 0 → Same i
   by_second i low high =
-      let k : place 1 (i - place 1 0) ≡ i = omega arith in
-      subst Same k (second (i - place 1 0) (omega arith) ∙ sym (start_second sheet (replicate readers 0) long (i - place 1 0) (omega arith)))
+      let k : copy_word 1 (i - copy_word 1 0) ≡ i = omega arith in
+      subst Same k (second (i - copy_word 1 0) (omega arith) ∙ sym (start_second sheet (replicate readers 0) long (i - copy_word 1 0) (omega arith)))
 
   by_rest : (i : ℕ) → pin 0 ≤ i → i < pin readers → Same i
   by_rest i low high =
@@ -58,7 +58,7 @@ module _ (all sheet : List ℕ) (readers : ℕ) (wide : length all ≡ pin READE
   at_place : (i : ℕ) → i < pin readers → Same i
   at_place i h =
       dite (ℕ_discrete i 0) (λ e. subst Same (sym e) side)
-      (λ ne. dite (dec_le (place 1 0) i)
+      (λ ne. dite (dec_le (copy_word 1 0) i)
       (λ b. dite (dec_le (pin 0) i) (λ c. by_rest i c h) (λ c. by_second i b (omega arith)))
       (λ b. by_first i (omega arith) (omega arith)))
 

@@ -17,7 +17,7 @@ use Rattle.two_copy_steps.specs.declared.views.Phase.TheVariants.{Idle, Seeing, 
 use Rattle.two_copy_steps.specs.declared.table.TheConstants.{COPY_WORDS}
 use Rattle.two_copy_steps.specs.Actions.{stage_action, phase_action, first_false}
 use Rattle.two_copy_steps.specs.Transitions.{MachineState, transition, machine_and_note, published_by, is_pending, is_idle, reader_transition, machine_at_start, state_after_events}
-use Rattle.two_copy_steps.specs.Auxiliary.{Auxiliary, auxiliary_start, auxiliary_step, auxiliary_steps, IsLawful}
+use Rattle.two_copy_steps.specs.Auxiliary.{Auxiliary, auxiliary_start, auxiliary_step, auxiliary_steps, IsLawfulMachine}
 use Rattle.two_copy_steps.specs.Effects.{SequentialRun, sequential_start, replied_at, replied_to, sequential_step}
 use Rattle.two_copy_steps.proofs.Lists.{at_set}
 use Rattle.two_copy_steps.proofs.Journals.{IsAccepted}
@@ -25,7 +25,7 @@ use Rattle.two_copy_steps.proofs.EventLists.{Together, together_on, together_aft
 use Rattle.two_copy_steps.proofs.TransitionSteps.{looked_taken}
 
 -- what is published never gets shorter
-published_grows : (m : MachineState) (aux : Auxiliary) → IsLawful IsAccepted m aux → (event : Event) → length m.writer.published ≤ length (transition m event).0.writer.published
+published_grows : (m : MachineState) (aux : Auxiliary) → IsLawfulMachine IsAccepted m aux → (event : Event) → length m.writer.published ≤ length (transition m event).0.writer.published
 published_grows m aux l (Submit command) =
     elim (is_idle m.writer.phase) as (λ b. length m.writer.published ≤ length (cond b (machine_and_note m command (verdict_of m.ledger command)) (m, Skipped)).0.writer.published) [ true ↦ omega arith | false ↦ omega arith ]
 published_grows m aux l Publish =
@@ -57,7 +57,7 @@ FreshAt low given (Leaving side words) = (numbers : List ℕ) × (given ≡ Some
 abbrev Fresh : ℕ → ℕ → SequentialRun → MachineState → Type 0
 Fresh low r t m = (low ≤ length m.writer.published) × ((stage : Stage) → slice_get m.readers r ≡ Some stage → FreshAt low (t.replied (suc r)) stage)
 
-shown_front : (m : MachineState) (aux : Auxiliary) → IsLawful IsAccepted m aux → front_of (sheet m.ledger.opening (take (length m.writer.published) m.ledger.journal)) ≡ length m.writer.published
+shown_front : (m : MachineState) (aux : Auxiliary) → IsLawfulMachine IsAccepted m aux → front_of (sheet m.ledger.opening (take (length m.writer.published) m.ledger.journal)) ≡ length m.writer.published
 shown_front m aux l =
     let begins = ap (length {A = Command}) l.state.writer.begins.1 in
     let extends = ap (length {A = Command}) l.extends.1 in

@@ -13,7 +13,7 @@ use Rattle.two_copy_steps.specs.declared.views.Stage.TheVariants.{AtRest, Arrive
 use Rattle.two_copy_steps.specs.declared.views.Phase.TheVariants.{Filling}
 use Rattle.two_copy_steps.specs.Lawful.{IsPublishable}
 use Rattle.two_copy_steps.specs.Laws.{AtOnceLaw, BusyLaw, StepCountLaw, FreshLaw, GrowthLaw, NeverOlderLaw, RangeLaw, RecordsLaw, RepliesLaw, StayLaw, UnderLaw}
-use Rattle.two_copy_steps.specs.Auxiliary.{Auxiliary, IsApart, IsLawful, side_held}
+use Rattle.two_copy_steps.specs.Auxiliary.{Auxiliary, IsApart, IsLawfulMachine, side_held}
 use Rattle.two_copy_steps.specs.Actions.{reader_action, stage_action}
 use Rattle.two_copy_steps.specs.Records.{FrontsNeverFall}
 use Rattle.two_copy_steps.specs.Stages.{steps_taken}
@@ -127,7 +127,7 @@ never_older_while_held_up law = law one_member 1 ledger blocking
 abbrev pub held_up : MachineState
 held_up = machine_after one_member 1 (take 41 blocking)
 
-busy_used : BusyLaw → (a : Auxiliary) → IsLawful IsPublishable held_up a → (r : ℕ) × (1 ≡ suc r) × IsLeastUnseen held_up.writer.seen_out r
+busy_used : BusyLaw → (a : Auxiliary) → IsLawfulMachine IsPublishable held_up a → (r : ℕ) × (1 ≡ suc r) × IsLeastUnseen held_up.writer.seen_out r
 busy_used law a lawful =
     let found = law held_up a lawful Writer 1 refl in
     (found.0, found.1, found.2)

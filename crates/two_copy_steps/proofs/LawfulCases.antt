@@ -6,7 +6,7 @@ use Rattle.council_core.specs.Ledgers.{IsLedger}
 use Rattle.council_core.specs.Rolls.{sheet}
 use Rattle.council_core.specs.Sequential.{replies_of, state_after}
 use Rattle.two_copy_steps.specs.Actions.{pin, reader_action}
-use Rattle.two_copy_steps.specs.Auxiliary.{Auxiliary, IsApart, IsLawful, auxiliary_start, auxiliary_step, record_at, state_of}
+use Rattle.two_copy_steps.specs.Auxiliary.{Auxiliary, IsApart, IsLawfulMachine, auxiliary_start, auxiliary_step, record_at, state_of}
 use Rattle.two_copy_steps.specs.Effects.{AnswersEvent, effects, sequential_replies, sequential_start, sequential_steps}
 use Rattle.two_copy_steps.specs.Laws.{AfterLaw, BeginLaw, BeginTransitionLaw, BusyLaw, EffectsLaw, EventLaw, GrowthLaw, HasVotesInRange, IdleTransitionLaw, LedgerLaw, NotesLaw, OutputsLaw, RangeLaw, ReaderLaw, ReaderTransitionLaw, StartLaw, StateKnownLaw, StateUnderLaw, StepCountLaw, SubmitTransitionLaw, WriterLaw, WriterTransitionLaw}
 use Rattle.two_copy_steps.specs.Lawful.{Fills, IsPublishable, ShowsSheet, State, Stored, begun_by, read_by, written_by}
@@ -14,7 +14,7 @@ use Rattle.two_copy_steps.specs.Runs.{KeepsRecordsReported, WantsMemoryFrom}
 use Rattle.two_copy_steps.specs.Machines.{IsMachine, WantsMemory}
 use Rattle.two_copy_steps.specs.Publications.{IsLeastUnseen}
 use Rattle.two_copy_steps.specs.Stages.{steps_taken}
-use Rattle.two_copy_steps.specs.States.{IsKnown, LawfulFor}
+use Rattle.two_copy_steps.specs.States.{IsKnown, IsLawfulBoard}
 use Rattle.two_copy_steps.specs.Transitions.{MachineState, machine_at_start, notes, state_after_events, transition}
 use Rattle.two_copy_steps.specs.declared.events.Event.{Event}
 use Rattle.two_copy_steps.specs.declared.events.Event.TheVariants.{Submit, Publish, Writer, Reader}
@@ -56,7 +56,7 @@ abbrev at_rest : List ℕ → Phase → List ℕ → Stage → List (List ℕ) �
 at_rest words phase cuts stage readings = written words 0 [] [] phase true cuts stage readings
 
 abbrev IsLawfulState : State → Type 0
-IsLawfulState s = LawfulFor one_member.opening s
+IsLawfulState s = IsLawfulBoard one_member.opening s
 
 -- the words reach to the pin, and the first is the writer's side, 0 or 1
 words_missing : IsLawfulState (at_rest (0 ∷ first_sheet ++ first_sheet) Idle (0 ∷ []) AtRest []) → ⊥
@@ -185,16 +185,16 @@ machine_with journal staged phase =
       writer = record (machine_at_start one_member 1).writer { staged = staged; phase = phase };
     }
 
-staged_beyond : (a : Auxiliary) → IsLawful IsPublishable (machine_with [] (Open 1 ∷ []) Idle) a → ⊥
+staged_beyond : (a : Auxiliary) → IsLawfulMachine IsPublishable (machine_with [] (Open 1 ∷ []) Idle) a → ⊥
 staged_beyond a h = let e = h.extends.1 in cc e
 
-accepted_in_a_publication : (a : Auxiliary) → IsLawful IsPublishable (machine_with (Open 1 ∷ []) [] (Filling 0)) a → ⊥
+accepted_in_a_publication : (a : Auxiliary) → IsLawfulMachine IsPublishable (machine_with (Open 1 ∷ []) [] (Filling 0)) a → ⊥
 accepted_in_a_publication a h = let e = h.whole refl in cc e
 
-record_missing : IsLawful IsPublishable (machine_at_start one_member 1) (record { cuts = 0 ∷ []; records = [] }) → ⊥
+record_missing : IsLawfulMachine IsPublishable (machine_at_start one_member 1) (record { cuts = 0 ∷ []; records = [] }) → ⊥
 record_missing h = omega (arith, h.each_record)
 
-machine_without_words : (a : Auxiliary) → IsLawful IsPublishable (record (machine_at_start one_member 0) { words = [] }) a → ⊥
+machine_without_words : (a : Auxiliary) → IsLawfulMachine IsPublishable (record (machine_at_start one_member 0) { words = [] }) a → ⊥
 machine_without_words a h = omega (arith, h.state.wide)
 
 machine_kept_without_words : IsMachine one_member [] 0 0 first_sheet Idle [] [] → ⊥
@@ -219,13 +219,13 @@ stored_unbegun : AnswersEvent (sequential_start one_member) (machine_with [] [] 
 stored_unbegun h = true≢false (sym h.1)
 
 -- what a law of steps says of the reader that holds up a publication: its pin is 1, and who is quiescent stays
-busy_pin : BusyLaw → (a : Auxiliary) → IsLawful IsPublishable held_up a → (transition held_up Writer).0.writer.seen_out ≡ held_up.writer.seen_out
+busy_pin : BusyLaw → (a : Auxiliary) → IsLawfulMachine IsPublishable held_up a → (transition held_up Writer).0.writer.seen_out ≡ held_up.writer.seen_out
 busy_pin law a lawful = (law held_up a lawful Writer 1 refl).4
 
-busy_reader_pinned : BusyLaw → (a : Auxiliary) → IsLawful IsPublishable held_up a → (r : ℕ) × (slice_index held_up.words (pin r) ≡ 1)
+busy_reader_pinned : BusyLaw → (a : Auxiliary) → IsLawfulMachine IsPublishable held_up a → (r : ℕ) × (slice_index held_up.words (pin r) ≡ 1)
 busy_reader_pinned law a lawful = let found = law held_up a lawful Writer 1 refl in (found.0, found.3)
 
-busy_reader : BusyLaw → (a : Auxiliary) → IsLawful IsPublishable held_up a → (r : ℕ) × (1 ≡ suc r) × IsLeastUnseen held_up.writer.seen_out r
+busy_reader : BusyLaw → (a : Auxiliary) → IsLawfulMachine IsPublishable held_up a → (r : ℕ) × (1 ≡ suc r) × IsLeastUnseen held_up.writer.seen_out r
 busy_reader law a lawful = let found = law held_up a lawful Writer 1 refl in (found.0, found.1, found.2)
 
 -- a reading has at most 36 steps before its last, and its last load adds the words that it has loaded
@@ -275,7 +275,7 @@ state_started = state_of started auxiliary_started
 abbrev resting : ReaderView
 resting = record { stage = AtRest; readings = [] }
 
-start_used : StartLaw → IsPublishable one_member.opening [] → IsLawful IsPublishable started auxiliary_started
+start_used : StartLaw → IsPublishable one_member.opening [] → IsLawfulMachine IsPublishable started auxiliary_started
 start_used law publishable = law one_member 1 publishable
 
 reader_used : ReaderLaw → IsLawfulState state_started → IsLawfulState (read_by state_started 0 resting)
@@ -310,8 +310,8 @@ idle_transition_used law a = law started a (λ e. cc e)
 submit_transition_used : SubmitTransitionLaw → (a : Auxiliary) → state_of (transition started (Submit (Open 1))).0 (auxiliary_step started a (Submit (Open 1))) ≡ state_of started a
 submit_transition_used law a = law started a (Open 1)
 
-event_used : EventLaw → IsLawful IsPublishable started auxiliary_started → IsPublishable one_member.opening []
-    → IsLawful IsPublishable (transition started (Reader 1)).0 (auxiliary_step started auxiliary_started (Reader 1))
+event_used : EventLaw → IsLawfulMachine IsPublishable started auxiliary_started → IsPublishable one_member.opening []
+    → IsLawfulMachine IsPublishable (transition started (Reader 1)).0 (auxiliary_step started auxiliary_started (Reader 1))
 event_used law lawful publishable = law started auxiliary_started lawful publishable (Reader 1)
 
 ledger_used : LedgerLaw → IsLedger (transition started (Submit (Open 1))).0.ledger

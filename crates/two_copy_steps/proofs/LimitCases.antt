@@ -6,8 +6,8 @@ use Rattle.council_core.specs.Sequential.{Sequential, answered, reading, submit}
 use Rattle.council_core.specs.declared.calls.Answer.TheVariants as answer
 use Rattle.council_core.specs.declared.commands.Command.TheVariants.{Open, Close}
 use Rattle.council_core.specs.declared.refusals.Refusal.TheVariants.{BadLimit}
-use Rattle.two_copy_steps.specs.Actions.{all_true, cuts_past, filling_phase, first_false, other_side, pin, place, readings_after, seeing_phase, stage_with_words}
-use Rattle.two_copy_steps.specs.Auxiliary.{Auxiliary, IsLawful}
+use Rattle.two_copy_steps.specs.Actions.{all_true, cuts_past, filling_phase, first_false, other_side, pin, copy_word, readings_after, seeing_phase, stage_with_words}
+use Rattle.two_copy_steps.specs.Auxiliary.{Auxiliary, IsLawfulMachine}
 use Rattle.two_copy_steps.specs.Effects.{AllAnswer, OutputIsReply, SequentialRun, SwapsOnce}
 use Rattle.two_copy_steps.specs.Laws.{HasVotesInRange}
 use Rattle.two_copy_steps.specs.Lawful.{IsPrefix, IsPublishable, last_front, pin_of}
@@ -15,7 +15,7 @@ use Rattle.two_copy_steps.specs.Machines.{IsFew, IsMachine}
 use Rattle.two_copy_steps.specs.Publications.{seen_out_at}
 use Rattle.two_copy_steps.specs.Records.{FrontsNeverFall, sheets_reported}
 use Rattle.two_copy_steps.specs.Runs.{IsFault}
-use Rattle.two_copy_steps.specs.Stages.{IsReadable, about_to_leave, accessed_place, last_load, last_step, left_by, reading_steps, sheet_read, stage_of}
+use Rattle.two_copy_steps.specs.Stages.{IsReadable, about_to_leave, accessed_word, last_load, last_step, left_by, reading_steps, sheet_read, stage_of}
 use Rattle.two_copy_steps.specs.States.{EndsWith}
 use Rattle.two_copy_steps.specs.Transitions.{MachineState, is_idle, is_pending, machine_at_start, transition}
 use Rattle.two_copy_steps.specs.declared.events.Event.TheVariants.{Submit, Publish, Writer, Reader}
@@ -27,7 +27,7 @@ use Rattle.two_copy_steps.specs.declared.views.Phase.TheVariants.{Idle, Seeing, 
 use Rattle.two_copy_steps.proofs.WorkedCases.{first_sheet, last_sheet, one_member}
 
 -- the first and the last word of each copy, and the pins behind them
-words_of_copies : (place 0 0 ≡ 1) × (place 0 33 ≡ 34) × (place 1 0 ≡ 35) × (place 1 33 ≡ 68)
+words_of_copies : (copy_word 0 0 ≡ 1) × (copy_word 0 33 ≡ 34) × (copy_word 1 0 ≡ 35) × (copy_word 1 33 ≡ 68)
 words_of_copies = (refl, refl, refl, refl)
 
 pins : (pin 0 ≡ 69) × (pin 3 ≡ 72) × (other_side 0 ≡ 1) × (other_side 1 ≡ 0)
@@ -73,7 +73,7 @@ stages_of_counters : (stage_of pc.AtRest 1 (7 ∷ 8 ∷ []) ≡ AtRest) × (stag
 stages_of_counters = (refl, refl, refl, refl, refl)
 
 -- a load leaves the number that it finds, and a store its own
-accesses : (accessed_place (Load 5) ≡ 5) × (accessed_place (Store 69 1) ≡ 69) × (left_by (Load 5) 7 ≡ 7) × (left_by (Store 69 1) 7 ≡ 1)
+accesses : (accessed_word (Load 5) ≡ 5) × (accessed_word (Store 69 1) ≡ 69) × (left_by (Load 5) 7 ≡ 7) × (left_by (Store 69 1) 7 ≡ 1)
 accesses = (refl, refl, refl, refl)
 
 -- a reader loads up to 33 words, and leaves with 34, which are a sheet

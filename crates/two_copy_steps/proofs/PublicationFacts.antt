@@ -20,7 +20,7 @@ use Rattle.two_copy_steps.specs.declared.views.Phase.TheVariants.{Idle, Seeing, 
 use Rattle.two_copy_steps.specs.Actions.{all_true, first_false, pin, writing_with_quiescent, phase_action}
 use Rattle.two_copy_steps.specs.Lawful.{IsPublishable, Fills, pin_of}
 use Rattle.two_copy_steps.specs.Transitions.{MachineState, transition, machine_and_note, published_by, is_pending, is_idle, phase_note, reader_transition, stage_note}
-use Rattle.two_copy_steps.specs.Auxiliary.{Auxiliary, IsLawful, state_of}
+use Rattle.two_copy_steps.specs.Auxiliary.{Auxiliary, IsLawfulMachine, state_of}
 use Rattle.two_copy_steps.specs.Publications.{IsLeastUnseen, StaySeen, stores_side}
 use Rattle.two_copy_steps.proofs.Lists.{set_here, set_else, inside, there}
 use Rattle.two_copy_steps.proofs.WriterSteps.{first_inside}
@@ -54,7 +54,7 @@ pinned_one Arrived found e ne = e
 pinned_one (Reading side words) found e ne = e
 pinned_one (Leaving side words) found e ne = e
 
-module _ (m : MachineState) (aux : Auxiliary) (l : IsLawful IsPublishable m aux) where
+module _ (m : MachineState) (aux : Auxiliary) (l : IsLawfulMachine IsPublishable m aux) where
   abbrev w : Writing
   w = m.writer
 

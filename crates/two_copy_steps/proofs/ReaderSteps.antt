@@ -16,17 +16,17 @@ use Rattle.two_copy_steps.specs.declared.views.Stage.TheVariants.{AtRest, Arrive
 use Rattle.two_copy_steps.specs.declared.views.Phase.{Phase}
 use Rattle.two_copy_steps.specs.declared.views.Phase.TheVariants.{Idle, Seeing, Filling, Swapping}
 use Rattle.two_copy_steps.specs.declared.table.TheConstants.{COPY_WORDS}
-use Rattle.two_copy_steps.specs.Actions.{place, pin, other_side, readings_after}
-use Rattle.two_copy_steps.specs.Lawful.{State, read_by, ShowsSheet, IsLoadedFrom, HoldsCopy, Stands, ReaderOk, Fills, WriterOk, Lawful}
+use Rattle.two_copy_steps.specs.Actions.{copy_word, pin, other_side, readings_after}
+use Rattle.two_copy_steps.specs.Lawful.{State, read_by, ShowsSheet, IsLoadedFrom, HoldsCopy, Stands, ReaderOk, Fills, WriterOk, IsLawfulState}
 use Rattle.two_copy_steps.proofs.Lists.{at_set, inside}
 use Rattle.two_copy_steps.proofs.Records.{sheet_long, front_of_cut, last_front-push, record-push, record-below}
 
 abbrev pub reader : Stage → List (List ℕ) → ReaderView
 reader stage readings = record { stage = stage; readings = readings }
 
-pub place_low : (s i : ℕ) → i < COPY_WORDS → place s i < pin 0
-place_low zero i h = omega arith
-place_low (suc _) i h = omega arith
+pub copy_word_low : (s i : ℕ) → i < COPY_WORDS → copy_word s i < pin 0
+copy_word_low zero i h = omega arith
+copy_word_low (suc _) i h = omega arith
 
 -- two lists of words that differ in the pin of r alone
 pub record Alike (r : ℕ) (ws vs : List ℕ) : Type 0 where
@@ -46,24 +46,24 @@ pin_set r v ws =
     }
 
 -- the words read with one more
-pub read_more : (words ws : List ℕ) (s k : ℕ) → k ≡ get_or words (place s (length ws)) 0 → IsLoadedFrom words s ws
-    → (i : ℕ) → i < length ws + 1 → get_or (ws ++ k ∷ []) i 0 ≡ get_or words (place s i) 0
+pub read_more : (words ws : List ℕ) (s k : ℕ) → k ≡ get_or words (copy_word s (length ws)) 0 → IsLoadedFrom words s ws
+    → (i : ℕ) → i < length ws + 1 → get_or (ws ++ k ∷ []) i 0 ≡ get_or words (copy_word s i) 0
 read_more words ws s k is h i l =
     dite (ℕ_discrete i (length ws))
-    (λ e. subst (λ (z : ℕ). get_or (ws ++ k ∷ []) z 0 ≡ get_or words (place s z) 0) (sym e) (get_or-append_seam ws k [] 0 ∙ is))
+    (λ e. subst (λ (z : ℕ). get_or (ws ++ k ∷ []) z 0 ≡ get_or words (copy_word s z) 0) (sym e) (get_or-append_seam ws k [] 0 ∙ is))
     (λ ne. get_or_append_left ws (k ∷ []) 0 i (omega arith) ∙ h i (omega arith))
 
 module _ (opening : Opening) (Legal : List Command → Type 0) where
   module _ (r : ℕ) (ws vs : List ℕ) (a : Alike r ws vs) where
     shows_alike : (s : ℕ) (numbers : List ℕ) → ShowsSheet ws s numbers → ShowsSheet vs s numbers
-    shows_alike s numbers h i l = a.low (place s i) (place_low s i l) ∙ h i l
+    shows_alike s numbers h i l = a.low (copy_word s i) (copy_word_low s i l) ∙ h i l
 
     holds_alike : (w : WriterView) (seen : List (List ℕ)) (q s : ℕ) → HoldsCopy opening Legal ws w seen q s → HoldsCopy opening Legal vs w seen q s
     holds_alike w seen q s b =
         record { two = b.two; cut = b.cut; is_cut = b.is_cut; shows = shows_alike s (sheet opening (take b.cut w.state.published)) b.shows; above = b.above; late = b.late }
 
     read_alike : (s : ℕ) (xs : List ℕ) → length xs ≤ COPY_WORDS → IsLoadedFrom ws s xs → IsLoadedFrom vs s xs
-    read_alike s xs short h i l = h i l ∙ sym (a.low (place s i) (place_low s i (omega arith)))
+    read_alike s xs short h i l = h i l ∙ sym (a.low (copy_word s i) (copy_word_low s i (omega arith)))
 
     stands_alike : (w : WriterView) (seen : List (List ℕ)) (q : ℕ) (st : Stage) → Stands opening Legal ws w seen q st → Stands opening Legal vs w seen q st
     stands_alike w seen q AtRest h = tt
@@ -79,8 +79,8 @@ module _ (opening : Opening) (Legal : List Command → Type 0) where
     fills_alike w Seeing h = h
     fills_alike w (Filling k) h =
         let short : k < COPY_WORDS = h.0 in
-        (h.0, (h.1.0, λ i l. a.low (place (other_side w.state.side) i) (place_low (other_side w.state.side) i (omega arith)) ∙ h.1.1 i l))
-    fills_alike w Swapping h = (h.0, λ i l. a.low (place (other_side w.state.side) i) (place_low (other_side w.state.side) i l) ∙ h.1 i l)
+        (h.0, (h.1.0, λ i l. a.low (copy_word (other_side w.state.side) i) (copy_word_low (other_side w.state.side) i (omega arith)) ∙ h.1.1 i l))
+    fills_alike w Swapping h = (h.0, λ i l. a.low (copy_word (other_side w.state.side) i) (copy_word_low (other_side w.state.side) i l) ∙ h.1 i l)
 
     writer_alike : (w : WriterView) (k : ℕ) → WriterOk opening Legal ws w k → WriterOk opening Legal vs w k
     writer_alike w k o =
@@ -100,8 +100,8 @@ module _ (opening : Opening) (Legal : List Command → Type 0) where
   abbrev At : List ℕ → WriterView → List ReaderView → State
   At words w readers = record { words = words; writer = w; readers = readers }
 
-  reader_moves : (m : State) (l : Lawful opening Legal m) (r : ℕ) (vs : List ℕ) (v : ReaderView) → Alike r m.words vs → ReaderOk opening Legal vs m.writer r v
-      → Lawful opening Legal (At vs m.writer (set m.readers r v))
+  reader_moves : (m : State) (l : IsLawfulState opening Legal m) (r : ℕ) (vs : List ℕ) (v : ReaderView) → Alike r m.words vs → ReaderOk opening Legal vs m.writer r v
+      → IsLawfulState opening Legal (At vs m.writer (set m.readers r v))
   reader_moves m l r vs v a ok =
       let wide = l.wide in
       let len = a.len in
@@ -151,7 +151,7 @@ module _ (opening : Opening) (Legal : List Command → Type 0) where
       (λ ne. subst (λ (t : Bool). ReaderOk opening Legal words w r (stepped s ws seen t)) (sym (ne_eqb (length ws) COPY_WORDS ne))
       record { pinned = h.pinned; stands = (b, omega arith, h.read_from); record_legal = h.record_legal })
 
-  begins_side : (m : State) (l : Lawful opening Legal m) (r : ℕ) (seen : List (List ℕ)) → IsRecordFrom opening m.writer.state.published m.writer.cuts 0 seen
+  begins_side : (m : State) (l : IsLawfulState opening Legal m) (r : ℕ) (seen : List (List ℕ)) → IsRecordFrom opening m.writer.state.published m.writer.cuts 0 seen
       → HoldsCopy opening Legal m.words m.writer seen r (get_or m.words 0 0)
   begins_side m l r seen legal =
       let o = l.writer in
@@ -168,9 +168,9 @@ module _ (opening : Opening) (Legal : List Command → Type 0) where
       }
 
   abbrev Reads : State → ℕ → List (List ℕ) → Stage → Type 0
-  Reads m r seen st = Lawful opening Legal (read_by m r (reader st seen))
+  Reads m r seen st = IsLawfulState opening Legal (read_by m r (reader st seen))
 
-  reads : (m : State) (l : Lawful opening Legal m) (r : ℕ) (seen : List (List ℕ)) (st : Stage) → r < length m.readers → ReaderOk opening Legal m.words m.writer r (reader st seen)
+  reads : (m : State) (l : IsLawfulState opening Legal m) (r : ℕ) (seen : List (List ℕ)) (st : Stage) → r < length m.readers → ReaderOk opening Legal m.words m.writer r (reader st seen)
       → Reads m r seen st
   reads m l r seen AtRest here k =
       let wide = l.wide in
@@ -178,18 +178,18 @@ module _ (opening : Opening) (Legal : List Command → Type 0) where
       record { pinned = get_or-set_same m.words (pin r) 1 0 (omega arith); stands = tt; record_legal = k.record_legal }
   reads m l r seen Arrived here k =
       let s : ℕ = get_or m.words 0 0 in
-      subst (λ (vs : List ℕ). Lawful opening Legal (At vs m.writer (set m.readers r (reader (Reading s []) seen)))) (sym (set-get_or m.words 0 0))
+      subst (λ (vs : List ℕ). IsLawfulState opening Legal (At vs m.writer (set m.readers r (reader (Reading s []) seen)))) (sym (set-get_or m.words 0 0))
       (reader_moves m l r m.words (reader (Reading s []) seen) (same r m.words)
       record { pinned = k.pinned; stands = (begins_side m l r seen k.record_legal, omega arith, λ i h. absurd (omega arith)); record_legal = k.record_legal })
   reads m l r seen (Reading s ws) here k =
-      let i : ℕ = place s (length ws) in
+      let i : ℕ = copy_word s (length ws) in
       let x : ℕ = get_or m.words i 0 in
       let h = k.stands in
       let b = h.0 in
       let short : length ws < COPY_WORDS = h.1 in
       let more : length (ws ++ x ∷ []) ≡ length ws + 1 = length-append ws (x ∷ []) in
       let v : ReaderView = stepped s (ws ++ x ∷ []) seen (eqb (length (ws ++ x ∷ [])) COPY_WORDS) in
-      subst (λ (vs : List ℕ). Lawful opening Legal (At vs m.writer (set m.readers r v))) (sym (set-get_or m.words i 0))
+      subst (λ (vs : List ℕ). IsLawfulState opening Legal (At vs m.writer (set m.readers r v))) (sym (set-get_or m.words i 0))
       (reader_moves m l r m.words v (same r m.words)
       (loaded_ok m.words m.writer seen r s (ws ++ x ∷ []) record {
         holds = b;
@@ -205,11 +205,11 @@ module _ (opening : Opening) (Legal : List Command → Type 0) where
       record { pinned = get_or-set_same m.words (pin r) 0 0 (omega arith); stands = tt; record_legal = k.record_legal }
 
   -- each step of a reader keeps the invariant of the state
-  pub reader_keeps : (m : State) → Lawful opening Legal m → (r : ℕ) (v : ReaderView) → slice_get m.readers r ≡ Some v → Lawful opening Legal (read_by m r v)
+  pub reader_keeps : (m : State) → IsLawfulState opening Legal m → (r : ℕ) (v : ReaderView) → slice_get m.readers r ≡ Some v → IsLawfulState opening Legal (read_by m r v)
   reader_keeps m l r v at = reads m l r v.readings v.stage (inside m.readers r v at) (l.each_reader r v at)
 
   -- what a reader in its last stage has read is the sheet of a cut
-  pub leaving_reads : (m : State) → Lawful opening Legal m → (r s : ℕ) (ws : List ℕ) (seen : List (List ℕ)) → slice_get m.readers r ≡ Some (reader (Leaving s ws) seen)
+  pub leaving_reads : (m : State) → IsLawfulState opening Legal m → (r s : ℕ) (ws : List ℕ) (seen : List (List ℕ)) → slice_get m.readers r ≡ Some (reader (Leaving s ws) seen)
       → (cut : ℕ) × (ws ≡ sheet opening (take cut m.writer.state.published)) × Legal (take cut m.writer.state.published)
   leaving_reads m l r s ws seen at =
       let h = (l.each_reader r (reader (Leaving s ws) seen) at).stands in

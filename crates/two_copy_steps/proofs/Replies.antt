@@ -22,15 +22,15 @@ use Rattle.two_copy_steps.specs.declared.views.Stage.TheVariants.{AtRest, Arrive
 use Rattle.two_copy_steps.specs.declared.views.Phase.{Phase}
 use Rattle.two_copy_steps.specs.declared.views.Phase.TheVariants.{Idle, Seeing, Filling, Swapping}
 use Rattle.two_copy_steps.specs.declared.table.TheConstants.{COPY_WORDS}
-use Rattle.two_copy_steps.specs.Actions.{first_false, other_side, pin, place, writing_of_staged, writing_with_quiescent, stage_with_words, phase_action}
+use Rattle.two_copy_steps.specs.Actions.{first_false, other_side, pin, copy_word, writing_of_staged, writing_with_quiescent, stage_with_words, phase_action}
 use Rattle.two_copy_steps.specs.Lawful.{ShowsSheet, HoldsCopy, Stands, Fills}
 use Rattle.two_copy_steps.specs.Transitions.{MachineState, transition, machine_and_note, published_by, is_pending, is_idle, after_reader_step, reader_transition, phase_note, stage_note}
-use Rattle.two_copy_steps.specs.Auxiliary.{Auxiliary, record_at, state_of, IsLawful}
+use Rattle.two_copy_steps.specs.Auxiliary.{Auxiliary, record_at, state_of, IsLawfulMachine}
 use Rattle.two_copy_steps.specs.Effects.{phase_effect, stage_effect, reader_effect, SequentialRun, replied_at, replied_to, begun_after, sequential_step, OutputIsReply, SwapsOnce, AnswersEvent}
 use Rattle.two_copy_steps.proofs.Lists.{at_set}
 use Rattle.two_copy_steps.proofs.Records.{sheet_long}
-use Rattle.two_copy_steps.proofs.ReaderSteps.{Alike, same, pin_set, place_low, read_more}
-use Rattle.two_copy_steps.proofs.WriterSteps.{place_above, place_apart, all_at}
+use Rattle.two_copy_steps.proofs.ReaderSteps.{Alike, same, pin_set, copy_word_low, read_more}
+use Rattle.two_copy_steps.proofs.WriterSteps.{copy_word_above, copy_word_apart, all_at}
 use Rattle.two_copy_steps.proofs.TransitionSteps.{view_at, viewed_at, looked_taken}
 
 -- the sequential register that goes with a machine
@@ -64,7 +64,7 @@ module _ (Legal : Opening → List Command → Type 0) where
   held_alike : (r : ℕ) (ws vs : List ℕ) → Alike r ws vs → (given : Option Reply) (stage : Stage) → Held ws given stage → Held vs given stage
   held_alike r ws vs a given AtRest h = tt
   held_alike r ws vs a given Arrived h = tt
-  held_alike r ws vs a given (Reading s xs) h = (h.0, h.1, h.2, λ i l. a.low (place s i) (place_low s i l) ∙ h.3 i l)
+  held_alike r ws vs a given (Reading s xs) h = (h.0, h.1, h.2, λ i l. a.low (copy_word s i) (copy_word_low s i l) ∙ h.3 i l)
   held_alike r ws vs a given (Leaving s xs) h = h
 
   -- one reader moves, and the others hold what they held
@@ -77,7 +77,7 @@ module _ (Legal : Opening → List Command → Type 0) where
       (at_set m.readers r q stage other_side at)
 
   -- what the sequential register shows is what is published
-  is_shown : (m : MachineState) (aux : Auxiliary) → IsLawful Legal m aux → take (length m.writer.published) m.ledger.journal ≡ m.writer.published
+  is_shown : (m : MachineState) (aux : Auxiliary) → IsLawfulMachine Legal m aux → take (length m.writer.published) m.ledger.journal ≡ m.writer.published
   is_shown m aux l =
       let w = m.writer in
       let b = l.state.writer.begins in
@@ -86,7 +86,7 @@ module _ (Legal : Opening → List Command → Type 0) where
       ap (take (length w.published)) whole ∙ take-append_seam w.published (b.0 ++ e.0)
 
   loaded_held : (words : List ℕ) (given : Option Reply) (s : ℕ) (ws numbers : List ℕ) → given ≡ Some (reading numbers) → length numbers ≡ COPY_WORDS → ShowsSheet words s numbers
-      → ((i : ℕ) → i < length ws → get_or ws i 0 ≡ get_or words (place s i) 0) → length ws ≤ COPY_WORDS → Held words given (stage_with_words s ws)
+      → ((i : ℕ) → i < length ws → get_or ws i 0 ≡ get_or words (copy_word s i) 0) → length ws ≤ COPY_WORDS → Held words given (stage_with_words s ws)
   loaded_held words given s ws numbers is long shows after_reader_step short =
       let F : Bool → Type 0 = λ b. Held words given (cond b (Leaving s ws) (Reading s ws)) in
       dite (ℕ_discrete (length ws) COPY_WORDS)
@@ -100,7 +100,7 @@ module _ (Legal : Opening → List Command → Type 0) where
   others_none : (number : ℕ) (given : Option Reply) (replied : ℕ → Option Reply) (k : ℕ) → k ≢ number → cond (eqb k number) given (replied k) ≡ replied k
   others_none number given replied k ne = ap (λ (b : Bool). cond b given (replied k)) (ne_eqb k number ne)
 
-  read_goes : (m : MachineState) (aux : Auxiliary) → IsLawful Legal m aux → (b : Bool) (replied : ℕ → Option Reply) → Agrees (sequential_run m replied b) m
+  read_goes : (m : MachineState) (aux : Auxiliary) → IsLawfulMachine Legal m aux → (b : Bool) (replied : ℕ → Option Reply) → Agrees (sequential_run m replied b) m
       → (r : ℕ) (stage : Stage) → slice_get m.readers r ≡ Some stage → ReadGoes m b replied r stage
   read_goes m aux l b replied a r AtRest at = (
     record {
@@ -118,7 +118,7 @@ module _ (Legal : Opening → List Command → Type 0) where
       let given : Option Reply = Some (reading new) in
       let replied' : ℕ → Option Reply = λ k. cond (eqb k (suc r)) given (replied k) in
       let here : replied' (suc r) ≡ given = ap (λ (z : Bool). cond z given (replied (suc r))) (eq-eqb (suc r) (suc r) refl) in
-      let shows : ShowsSheet words s new = λ i g. ap (λ (z : ℕ). get_or words (place z i) 0) o.side_is ∙ (o.shown i g ∙ ap (λ (z : List Command). get_or (sheet m.ledger.opening z) i 0) (sym (is_shown m aux l))) in
+      let shows : ShowsSheet words s new = λ i g. ap (λ (z : ℕ). get_or words (copy_word z i) 0) o.side_is ∙ (o.shown i g ∙ ap (λ (z : List Command). get_or (sheet m.ledger.opening z) i 0) (sym (is_shown m aux l))) in
       let held : AllHeld words replied' (set m.readers r (Reading s [])) = all_held m r (Reading s []) words replied replied' a.held (same r words) (others_none (suc r) given replied)
       (new, here, sheet_long m.ledger.opening (take (length m.writer.published) m.ledger.journal), shows) in (
         record {
@@ -130,7 +130,7 @@ module _ (Legal : Opening → List Command → Type 0) where
       )
   read_goes m aux l b replied a r (Reading s ws) at =
       let words : List ℕ = m.words in
-      let i : ℕ = place s (length ws) in
+      let i : ℕ = copy_word s (length ws) in
       let x : ℕ = get_or words i 0 in
       let h = (l.state.each_reader r (view_at (Reading s ws) (record_at aux.records r)) (viewed_at m.readers aux.records r (Reading s ws) at)).stands in
       let short : length ws < COPY_WORDS = h.1 in
@@ -158,7 +158,7 @@ module _ (Legal : Opening → List Command → Type 0) where
   abbrev Unharmed : MachineState → Auxiliary → List ℕ → Type 0
   Unharmed m aux vs =
       (r s : ℕ) (readings : List (List ℕ)) → HoldsCopy m.ledger.opening (Legal m.ledger.opening) m.words (state_of m aux).writer readings r s
-      → (i : ℕ) → i < COPY_WORDS → get_or vs (place s i) 0 ≡ get_or m.words (place s i) 0
+      → (i : ℕ) → i < COPY_WORDS → get_or vs (copy_word s i) 0 ≡ get_or m.words (copy_word s i) 0
 
   held_on : (m : MachineState) (aux : Auxiliary) (vs : List ℕ) → Unharmed m aux vs → (given : Option Reply) (readings : List (List ℕ)) (r : ℕ) (stage : Stage)
       → Stands m.ledger.opening (Legal m.ledger.opening) m.words (state_of m aux).writer readings r stage → Held m.words given stage → Held vs given stage
@@ -167,7 +167,7 @@ module _ (Legal : Opening → List Command → Type 0) where
   held_on m aux vs u given readings r (Reading s ws) h k = (k.0, k.1, k.2, λ i l. u r s readings h.0 i l ∙ k.3 i l)
   held_on m aux vs u given readings r (Leaving s ws) h k = k
 
-  all_held_on : (m : MachineState) (aux : Auxiliary) → IsLawful Legal m aux → (vs : List ℕ) → Unharmed m aux vs → (replied : ℕ → Option Reply) → AllHeld m.words replied m.readers → AllHeld vs replied m.readers
+  all_held_on : (m : MachineState) (aux : Auxiliary) → IsLawfulMachine Legal m aux → (vs : List ℕ) → Unharmed m aux vs → (replied : ℕ → Option Reply) → AllHeld m.words replied m.readers → AllHeld vs replied m.readers
   all_held_on m aux l vs u replied all r stage at =
       let ok = l.state.each_reader r (view_at stage (record_at aux.records r)) (viewed_at m.readers aux.records r stage at) in
       held_on m aux vs u (replied (suc r)) (record_at aux.records r) r stage ok.stands (all r stage at)
@@ -188,7 +188,7 @@ module _ (Legal : Opening → List Command → Type 0) where
   looked_reports replied number true = tt
   looked_reports replied number false = refl
 
-  write_goes : (m : MachineState) (aux : Auxiliary) → IsLawful Legal m aux → (b : Bool) (replied : ℕ → Option Reply) → Agrees (sequential_run m replied b) m
+  write_goes : (m : MachineState) (aux : Auxiliary) → IsLawfulMachine Legal m aux → (b : Bool) (replied : ℕ → Option Reply) → Agrees (sequential_run m replied b) m
       → (phase : Phase) → m.writer.phase ≡ phase → WriteGoes m b replied phase
   write_goes m aux l b replied a Idle is = (
     (
@@ -217,17 +217,17 @@ module _ (Legal : Opening → List Command → Type 0) where
       )
   write_goes m aux l b replied a (Filling k) is =
       let w = m.writer in
-      let place' : ℕ = place (other_side w.side) k in
+      let word' : ℕ = copy_word (other_side w.side) k in
       let x : ℕ = get_or (sheet m.ledger.opening w.staged) k 0 in
       let o = l.state.writer in
       let f = subst (Fills m.ledger.opening (Legal m.ledger.opening) m.words w) is o.fills in (
         (
           record {
             register = refl;
-            held = all_held_on m aux l (set m.words place' x)
+            held = all_held_on m aux l (set m.words word' x)
                 (λ r s readings holds i lt.
                 let here : s ≡ w.side = dite (ℕ_discrete s w.side) (λ z. z) (λ ne. absurd (all_at w.seen_out r f.1.0 (holds.late ne))) in
-                get_or-set_other m.words place' (place s i) x 0 (subst (λ (z : ℕ). place z i ≢ place') (sym here) (place_apart w.side i k o.two lt f.0)))
+                get_or-set_other m.words word' (copy_word s i) x 0 (subst (λ (z : ℕ). copy_word z i ≢ word') (sym here) (copy_word_apart w.side i k o.two lt f.0)))
                 replied a.held;
             begun = λ _. a.begun (ap is_idle is);
           },
@@ -243,7 +243,7 @@ module _ (Legal : Opening → List Command → Type 0) where
           record {
             register = ap (λ (z : ℕ). let s : Sequential = record { ledger = m.ledger; published = z } in s) long;
             held = all_held_on m aux l (set m.words 0 (other_side w.side))
-                (λ r s readings holds i lt. get_or-set_other m.words 0 (place s i) (other_side w.side) 0 (λ z. let g = place_above s i in omega arith))
+                (λ r s readings holds i lt. get_or-set_other m.words 0 (copy_word s i) (other_side w.side) 0 (λ z. let g = copy_word_above s i in omega arith))
                 replied a.held;
             begun = λ e. absurd (true≢false e);
           },
@@ -257,14 +257,14 @@ module _ (Legal : Opening → List Command → Type 0) where
       let after = cond idle (published_by m pending) (m, Skipped) in
       Goes m b (cond idle (cond pending [] (publish ∷ [])) []) after.1 after.0 replied replied
 
-  not_pending : (m : MachineState) (aux : Auxiliary) → IsLawful Legal m aux → is_pending m ≡ false → length m.ledger.journal ≡ length m.writer.published
+  not_pending : (m : MachineState) (aux : Auxiliary) → IsLawfulMachine Legal m aux → is_pending m ≡ false → length m.ledger.journal ≡ length m.writer.published
   not_pending m aux l none =
       let b = ap (length {A = Command}) l.state.writer.begins.1 in
       let e = ap (length {A = Command}) l.extends.1 in
       let ge = ltb-false (length m.writer.published) (length m.ledger.journal) none in
       omega (arith, length-append m.writer.published l.state.writer.begins.0, length-append m.writer.staged l.extends.0)
 
-  publish_goes : (m : MachineState) (aux : Auxiliary) → IsLawful Legal m aux → (b : Bool) (replied : ℕ → Option Reply) → Agrees (sequential_run m replied b) m
+  publish_goes : (m : MachineState) (aux : Auxiliary) → IsLawfulMachine Legal m aux → (b : Bool) (replied : ℕ → Option Reply) → Agrees (sequential_run m replied b) m
       → (idle pending : Bool) → is_idle m.writer.phase ≡ idle → is_pending m ≡ pending → PublishGoes m b replied idle pending
   publish_goes m aux l b replied a false pending is now = (a, refl)
   publish_goes m aux l b replied a true true is now = (record { register = refl; held = a.held; begun = λ _. refl }, refl)
@@ -298,7 +298,7 @@ module _ (Legal : Opening → List Command → Type 0) where
   submit_goes m b replied a command false = (a, refl)
   submit_goes m b replied a command true = verdict_goes m b replied a command (verdict_of m.ledger command)
 
-  reader_goes : (m : MachineState) (aux : Auxiliary) → IsLawful Legal m aux → (b : Bool) (replied : ℕ → Option Reply) → Agrees (sequential_run m replied b) m → (r : ℕ) (o : Option Stage) → slice_get m.readers r ≡ o
+  reader_goes : (m : MachineState) (aux : Auxiliary) → IsLawfulMachine Legal m aux → (b : Bool) (replied : ℕ → Option Reply) → Agrees (sequential_run m replied b) m → (r : ℕ) (o : Option Stage) → slice_get m.readers r ≡ o
       → Goes m b (reader_effect o) (reader_transition m r o).1 (reader_transition m r o).0 replied (λ k. replied_to (sequential_run m replied b) (suc r) o k)
   reader_goes m aux l b replied a r None at = (a, refl)
   reader_goes m aux l b replied a r (Some stage) at = read_goes m aux l b replied a r stage at
@@ -306,7 +306,7 @@ module _ (Legal : Opening → List Command → Type 0) where
   abbrev EventGoes : SequentialRun → MachineState → Event → Type 0
   EventGoes t m event = Agrees (sequential_step t m event) (transition m event).0 × AnswersEvent t m event
 
-  event_goes : (m : MachineState) (aux : Auxiliary) → IsLawful Legal m aux → (b : Bool) (replied : ℕ → Option Reply) → Agrees (sequential_run m replied b) m → (event : Event) → EventGoes (sequential_run m replied b) m event
+  event_goes : (m : MachineState) (aux : Auxiliary) → IsLawfulMachine Legal m aux → (b : Bool) (replied : ℕ → Option Reply) → Agrees (sequential_run m replied b) m → (event : Event) → EventGoes (sequential_run m replied b) m event
   event_goes m aux l b replied a (Submit command) = let g = submit_goes m b replied a command (is_idle m.writer.phase) in (g.0, (g.1, tt))
   event_goes m aux l b replied a Publish = let g = publish_goes m aux l b replied a (is_idle m.writer.phase) (is_pending m) refl refl in (g.0, (g.1, tt))
   event_goes m aux l b replied a Writer = let g = write_goes m aux l b replied a m.writer.phase refl in (g.0.0, (g.0.1, g.1))
@@ -315,7 +315,7 @@ module _ (Legal : Opening → List Command → Type 0) where
 
   -- an event keeps the machine in agreement with the sequential register, and an output that
   -- answers a call is that register's reply
-  pub event_agrees : (m : MachineState) (aux : Auxiliary) → IsLawful Legal m aux → (t : SequentialRun) → Agrees t m → (event : Event) → EventGoes t m event
+  pub event_agrees : (m : MachineState) (aux : Auxiliary) → IsLawfulMachine Legal m aux → (t : SequentialRun) → Agrees t m → (event : Event) → EventGoes t m event
   event_agrees m aux l t a event =
       subst (λ (s : Sequential). EventGoes (let z : SequentialRun = record { register = s; replied = t.replied; begun = t.begun } in z) m event) (sym a.register)
       (event_goes m aux l t.begun t.replied record { register = refl; held = a.held; begun = a.begun } event)

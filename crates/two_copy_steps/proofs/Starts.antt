@@ -13,14 +13,14 @@ use Rattle.two_copy_steps.specs.declared.views.Stage.TheVariants.{AtRest}
 use Rattle.two_copy_steps.specs.declared.table.TheConstants.{COPY_WORDS}
 use Rattle.two_copy_steps.specs.Lawful.{ReaderOk, WriterOk}
 use Rattle.two_copy_steps.specs.Transitions.{machine_at_start}
-use Rattle.two_copy_steps.specs.Auxiliary.{auxiliary_start, reader_views, state_of, IsLawful}
+use Rattle.two_copy_steps.specs.Auxiliary.{auxiliary_start, reader_views, state_of, IsLawfulMachine}
 use Rattle.two_copy_steps.specs.Effects.{sequential_start}
 use Rattle.two_copy_steps.proofs.Records.{sheet_long}
 use Rattle.two_copy_steps.proofs.Replies.{Agrees, Held}
 use Rattle.two_copy_steps.proofs.TransitionSteps.{view_at}
-use Rattle.two_copy_steps.specs.Actions.{pin, place}
+use Rattle.two_copy_steps.specs.Actions.{pin, copy_word}
 
--- the words at the start, by place
+-- the words at the start, by index
 module _ (numbers pins : List ℕ) (long : length numbers ≡ COPY_WORDS) where
   abbrev pub words_at_start : List ℕ
   words_at_start = 0 ∷ numbers ++ numbers ++ pins
@@ -28,20 +28,20 @@ module _ (numbers pins : List ℕ) (long : length numbers ≡ COPY_WORDS) where
   pub start_length : length words_at_start ≡ pin (length pins)
   start_length = omega (arith, length-append (0 ∷ numbers ++ numbers) pins, length-append (0 ∷ numbers) numbers)
 
-  pub start_first : (i : ℕ) → i < COPY_WORDS → get_or words_at_start (place 0 i) 0 ≡ get_or numbers i 0
+  pub start_first : (i : ℕ) → i < COPY_WORDS → get_or words_at_start (copy_word 0 i) 0 ≡ get_or numbers i 0
   start_first i h =
-      get_or_append_left (0 ∷ numbers ++ numbers) pins 0 (place 0 i) (omega (arith, length-append (0 ∷ numbers) numbers))
-      ∙ (get_or_append_left (0 ∷ numbers) numbers 0 (place 0 i) (omega arith) ∙ get_or-append-add (0 ∷ []) numbers i 0)
+      get_or_append_left (0 ∷ numbers ++ numbers) pins 0 (copy_word 0 i) (omega (arith, length-append (0 ∷ numbers) numbers))
+      ∙ (get_or_append_left (0 ∷ numbers) numbers 0 (copy_word 0 i) (omega arith) ∙ get_or-append-add (0 ∷ []) numbers i 0)
 
   pub start_pin : (r : ℕ) → get_or words_at_start (pin r) 0 ≡ get_or pins r 0
   start_pin r =
       ap (λ (k : ℕ). get_or words_at_start k 0) (let e : pin r ≡ length (0 ∷ numbers ++ numbers) + r = omega (arith, length-append (0 ∷ numbers) numbers) in e)
       ∙ get_or-append-add (0 ∷ numbers ++ numbers) pins r 0
 
-  pub start_second : (i : ℕ) → i < COPY_WORDS → get_or words_at_start (place 1 i) 0 ≡ get_or numbers i 0
+  pub start_second : (i : ℕ) → i < COPY_WORDS → get_or words_at_start (copy_word 1 i) 0 ≡ get_or numbers i 0
   start_second i h =
-      get_or_append_left (0 ∷ numbers ++ numbers) pins 0 (place 1 i) (omega (arith, length-append (0 ∷ numbers) numbers))
-      ∙ (ap (λ (k : ℕ). get_or (0 ∷ numbers ++ numbers) k 0) (let e : place 1 i ≡ length (0 ∷ numbers) + i = omega arith in e) ∙ get_or-append-add (0 ∷ numbers) numbers i 0)
+      get_or_append_left (0 ∷ numbers ++ numbers) pins 0 (copy_word 1 i) (omega (arith, length-append (0 ∷ numbers) numbers))
+      ∙ (ap (λ (k : ℕ). get_or (0 ∷ numbers ++ numbers) k 0) (let e : copy_word 1 i ≡ length (0 ∷ numbers) + i = omega arith in e) ∙ get_or-append-add (0 ∷ numbers) numbers i 0)
 
 pub viewed_start : (n : ℕ) → reader_views (replicate n AtRest) (replicate n []) ≡ replicate n (view_at AtRest [])
 viewed_start zero = refl
@@ -94,7 +94,7 @@ module _ (Legal : Opening → List Command → Type 0) (ledger : Ledger) (reader
       }
 
   -- the machine at its start meets the invariant
-  pub start_lawful : IsLawful Legal (machine_at_start ledger readers) (auxiliary_start ledger readers)
+  pub start_lawful : IsLawfulMachine Legal (machine_at_start ledger readers) (auxiliary_start ledger readers)
   start_lawful =
       record {
         state = record {

@@ -14,7 +14,7 @@ use Rattle.two_copy_steps.specs.declared.views.Stage.TheVariants.{AtRest, Arrive
 use Rattle.two_copy_steps.specs.declared.views.Phase.{Phase}
 use Rattle.two_copy_steps.specs.declared.views.Phase.TheVariants.{Idle, Seeing, Filling, Swapping}
 use Rattle.two_copy_steps.specs.Actions.{other_side}
-use Rattle.two_copy_steps.specs.Lawful.{State, Lawful, IsPublishable, HoldsCopy, Stands}
+use Rattle.two_copy_steps.specs.Lawful.{State, IsLawfulState, IsPublishable, HoldsCopy, Stands}
 use Rattle.two_copy_steps.specs.Auxiliary.{IsApart, side_held, side_filled}
 use Rattle.two_copy_steps.specs.Laws.{StateRecordsLaw, StateUnderLaw}
 use Rattle.two_copy_steps.specs.Stages.{IsReadable}
@@ -27,7 +27,7 @@ viewer : (stage : Stage) (o : Option ReaderView) → option_map (λ (v : ReaderV
 viewer stage None e = absurd (none-some stage e)
 viewer stage (Some v) e = (v, refl, same_Some v.stage stage e)
 
-module _ (opening : Opening) (Legal : List Command → Type 0) (s : State) (l : Lawful opening Legal s) where
+module _ (opening : Opening) (Legal : List Command → Type 0) (s : State) (l : IsLawfulState opening Legal s) where
   -- the published list meets the requirement
   pub published_legal : Legal s.writer.state.published
   published_legal =
@@ -87,7 +87,7 @@ state_records opening s l = all_records opening (IsPublishable opening) s l (pub
 pub state_apart : StateUnderLaw
 state_apart opening s l = stores_apart opening (IsPublishable opening) s l
 
-module _ (opening : Opening) (s : State) (l : Lawful opening (IsPublishable opening) s) where
+module _ (opening : Opening) (s : State) (l : IsLawfulState opening (IsPublishable opening) s) where
   readable : (r : ℕ) (stage : Stage) (readings : List (List ℕ)) → slice_get s.readers r ≡ Some (reader stage readings) → Stands opening (IsPublishable opening) s.words s.writer readings r stage → IsReadable stage
   readable r AtRest readings at h = tt
   readable r Arrived readings at h = tt

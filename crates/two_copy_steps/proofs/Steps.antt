@@ -20,10 +20,10 @@ use Rattle.two_copy_steps.specs.declared.views.Stage.TheVariants.{AtRest, Arrive
 use Rattle.two_copy_steps.specs.declared.views.Phase.{Phase}
 use Rattle.two_copy_steps.specs.declared.views.Phase.TheVariants.{Idle, Seeing, Filling, Swapping}
 use Rattle.two_copy_steps.specs.declared.table.TheConstants.{COPY_WORDS}
-use Rattle.two_copy_steps.specs.Actions.{all_true, first_false, place, writing_with_quiescent, stage_action, phase_action, pin}
+use Rattle.two_copy_steps.specs.Actions.{all_true, first_false, copy_word, writing_with_quiescent, stage_action, phase_action, pin}
 use Rattle.two_copy_steps.specs.Lawful.{IsPublishable, Stands, Fills}
 use Rattle.two_copy_steps.specs.Transitions.{MachineState, transition, ledger_and_note, machine_at_start, machine_and_note, published_by, is_pending, is_idle, reader_transition, stage_note}
-use Rattle.two_copy_steps.specs.Auxiliary.{Auxiliary, auxiliary_start, auxiliary_step, record_at, state_of, IsLawful}
+use Rattle.two_copy_steps.specs.Auxiliary.{Auxiliary, auxiliary_start, auxiliary_step, record_at, state_of, IsLawfulMachine}
 use Rattle.two_copy_steps.specs.Machines.{seen_as, IsMachine}
 use Rattle.two_copy_steps.specs.Stages.{IsReadable}
 use Rattle.two_copy_steps.proofs.ReaderSteps.{leaving_reads}
@@ -112,11 +112,11 @@ module _ (L : Ledger) (W : List ℕ) (s n : ℕ) (t : List ℕ) (ph : Phase) (so
             (h.1, subst IsSheet (sym is.1) is.2.1)
 
     -- a word is stored
-    pub filled_in : (j : ℕ) (W' : List ℕ) → ph ≡ Filling j → W' ≡ set W (place (1 - s) j) (get_or t j 0)
+    pub filled_in : (j : ℕ) (W' : List ℕ) → ph ≡ Filling j → W' ≡ set W (copy_word (1 - s) j) (get_or t j 0)
         → seen_as L W' s n t (cond (eqb (j + 1) COPY_WORDS) Swapping (Filling (j + 1))) so R ≡ (transition old Writer).0
     filled_in j W' e is =
         ap (λ (words : List ℕ). seen_as L words s n t (cond (eqb (j + 1) COPY_WORDS) Swapping (Filling (j + 1))) so R)
-        (is ∙ ap (λ (numbers : List ℕ). set W (place (1 - s) j) (get_or numbers j 0)) k.sheet_is)
+        (is ∙ ap (λ (numbers : List ℕ). set W (copy_word (1 - s) j) (get_or numbers j 0)) k.sheet_is)
         ∙ wrote_at old (Filling j) e
 
     -- side is stored
@@ -140,7 +140,7 @@ module _ (L : Ledger) (W : List ℕ) (s n : ℕ) (t : List ℕ) (ph : Phase) (so
       pub published_within : published ≤ length L.journal
       pub staged_within : front_of staged ≤ length L.journal
       pub sheet_is : staged ≡ sheet L.opening (take (front_of staged) L.journal)
-      pub lawful : IsLawful IsPublishable (transition old event).0 (auxiliary_step old aux event)
+      pub lawful : IsLawfulMachine IsPublishable (transition old event).0 (auxiliary_step old aux event)
 
     stays : (event : Event) (W' : List ℕ) (s' n' : ℕ) (t' : List ℕ) (ph' : Phase) (so' : List Bool) (R' : List Stage) → KeptAfter event W' s' n' t' ph' so' R' → IsMachine L W' s' n' t' ph' so' R'
     stays event W' s' n' t' ph' so' R' h =
@@ -148,7 +148,7 @@ module _ (L : Ledger) (W : List ℕ) (s n : ℕ) (t : List ℕ) (ph : Phase) (so
           published_within = h.published_within;
           staged_within = h.staged_within;
           sheet_is = h.sheet_is;
-          lawful = (auxiliary_step old aux event, subst (λ (m : MachineState). IsLawful IsPublishable m (auxiliary_step old aux event)) (sym h.machine) h.lawful);
+          lawful = (auxiliary_step old aux event, subst (λ (m : MachineState). IsLawfulMachine IsPublishable m (auxiliary_step old aux event)) (sym h.machine) h.lawful);
         }
 
     -- the writer's steps
@@ -210,7 +210,7 @@ module _ (L : Ledger) (W : List ℕ) (s n : ℕ) (t : List ℕ) (ph : Phase) (so
           published_within = omega arith;
           staged_within = omega arith;
           sheet_is = k.sheet_is ∙ ap (sheet L.opening) (sym (take-append-le (front_of t) L.journal (command ∷ []) k.staged_within));
-          lawful = (aux, subst (λ (m : MachineState). IsLawful IsPublishable m aux) (sym (submitted_in (ledger_with L command) command refl)) (accepted_keeps IsPublishable old aux k.lawful.1 command idle));
+          lawful = (aux, subst (λ (m : MachineState). IsLawfulMachine IsPublishable m aux) (sym (submitted_in (ledger_with L command) command refl)) (accepted_keeps IsPublishable old aux k.lawful.1 command idle));
         }
 
     -- for any verdict
@@ -254,11 +254,11 @@ module _ (L : Ledger) (W : List ℕ) (s n : ℕ) (t : List ℕ) (ph : Phase) (so
           let phase : ph' ≡ cond (all_true (set so (first_false so) true)) (Filling 0) Seeing = next ∙ ap (λ (x : List Bool). let y : Phase = cond (all_true x) (Filling 0) Seeing in y) set_is in
           (λ i. seen_as L W s n t (phase i) (set_is i) R) ∙ saw_out (phase_is Seeing e) (sym (load ∙ ap (λ (x : ℕ). get_or W (pin x) 0) first) ∙ z)
 
-      pub filled_at : (j at : ℕ) (words W' : List ℕ) (ph' : Phase) → now.writer.phase ≡ Filling j → words ≡ t → at ≡ place (1 - s) j → W' ≡ set W at (get_or words j 0)
+      pub filled_at : (j at : ℕ) (words W' : List ℕ) (ph' : Phase) → now.writer.phase ≡ Filling j → words ≡ t → at ≡ copy_word (1 - s) j → W' ≡ set W at (get_or words j 0)
           → ph' ≡ cond (eqb (j + 1) COPY_WORDS) Swapping (Filling (j + 1)) → seen_as L W' s n t ph' so R ≡ (transition old Writer).0
       filled_at j at words W' ph' e same there stored next =
           ap (λ (x : Phase). seen_as L W' s n t x so R) next
-          ∙ filled_in j W' (phase_is (Filling j) e) (stored ∙ ((λ i. set W (there i) (get_or words j 0)) ∙ ap (λ (x : List ℕ). set W (place (1 - s) j) (get_or x j 0)) same))
+          ∙ filled_in j W' (phase_is (Filling j) e) (stored ∙ ((λ i. set W (there i) (get_or words j 0)) ∙ ap (λ (x : List ℕ). set W (copy_word (1 - s) j) (get_or x j 0)) same))
 
       pub swapped_at : (W' : List ℕ) (n' : ℕ) (so' : List Bool) → now.writer.phase ≡ Swapping → W' ≡ set W 0 (1 - s) → n' ≡ front_of t → so' ≡ replicate (length so) false
           → seen_as L W' (1 - s) n' t Idle so' R ≡ (transition old Writer).0
@@ -336,6 +336,6 @@ start_is L readers W n t so R h =
         published_within = omega arith;
         staged_within = omega arith;
         sheet_is = h.staged_all ∙ ap (sheet L.opening) (sym (take-length L.journal) ∙ ap (λ (y : ℕ). take y L.journal) (sym front));
-        lawful = (auxiliary_start L readers, subst (λ (m : MachineState). IsLawful IsPublishable m (auxiliary_start L readers)) (sym is) (start_lawful IsPublishable L readers h.legal));
+        lawful = (auxiliary_start L readers, subst (λ (m : MachineState). IsLawfulMachine IsPublishable m (auxiliary_start L readers)) (sym is) (start_lawful IsPublishable L readers h.legal));
       },
     )

@@ -15,9 +15,9 @@ use Rattle.two_copy_steps.specs.declared.views.Stage.{Stage}
 use Rattle.two_copy_steps.specs.declared.views.Phase.{Phase}
 use Rattle.two_copy_steps.specs.declared.views.Phase.TheVariants.{Idle, Seeing, Filling, Swapping}
 use Rattle.two_copy_steps.specs.Actions.{readings_after, first_false, writing_with_quiescent, stage_action, phase_action, writing_action}
-use Rattle.two_copy_steps.specs.Lawful.{State, Lawful}
+use Rattle.two_copy_steps.specs.Lawful.{State, IsLawfulState}
 use Rattle.two_copy_steps.specs.Transitions.{MachineState, transition, machine_and_note, published_by, is_pending, is_idle, reader_transition}
-use Rattle.two_copy_steps.specs.Auxiliary.{Auxiliary, auxiliary_step, auxiliary_reader_step, record_at, reader_views, state_of, IsLawful}
+use Rattle.two_copy_steps.specs.Auxiliary.{Auxiliary, auxiliary_step, auxiliary_reader_step, record_at, reader_views, state_of, IsLawfulMachine}
 use Rattle.two_copy_steps.proofs.Lists.{inside}
 use Rattle.two_copy_steps.proofs.ReaderSteps.{reader_keeps}
 use Rattle.two_copy_steps.proofs.WriterSteps.{writer_keeps, begin_keeps}
@@ -79,11 +79,11 @@ still_whole opening w Swapping found journal e h = λ _. h (ap is_idle e)
 
 module _ (Legal : Opening → List Command → Type 0) where
   abbrev Keeps : MachineState → Auxiliary → Event → Type 0
-  Keeps m aux event = IsLawful Legal (transition m event).0 (auxiliary_step m aux event)
+  Keeps m aux event = IsLawfulMachine Legal (transition m event).0 (auxiliary_step m aux event)
 
   -- a reader's step
-  read_keeps : (m : MachineState) (aux : Auxiliary) → IsLawful Legal m aux → (r : ℕ) (o : Option Stage) → slice_get m.readers r ≡ o
-      → IsLawful Legal (reader_transition m r o).0 (auxiliary_reader_step m aux r o)
+  read_keeps : (m : MachineState) (aux : Auxiliary) → IsLawfulMachine Legal m aux → (r : ℕ) (o : Option Stage) → slice_get m.readers r ≡ o
+      → IsLawfulMachine Legal (reader_transition m r o).0 (auxiliary_reader_step m aux r o)
   read_keeps m aux l r None at = l
   read_keeps m aux l r (Some stage) at =
       let d = stage_action r stage in
@@ -92,7 +92,7 @@ module _ (Legal : Opening → List Command → Type 0) where
       let here : r < length aux.records = subst (λ (n : ℕ). r < n) (sym l.each_record) (inside m.readers r stage at) in
       let kept = reader_keeps m.ledger.opening (Legal m.ledger.opening) (state_of m aux) l.state r (view_at stage (record_at aux.records r)) (viewed_at m.readers aux.records r stage at) in
       record {
-        state = subst (λ (views : List ReaderView). Lawful m.ledger.opening (Legal m.ledger.opening)
+        state = subst (λ (views : List ReaderView). IsLawfulState m.ledger.opening (Legal m.ledger.opening)
             (let s : State = record { words = set m.words d.word (d.becomes found); writer = record { state = m.writer; cuts = aux.cuts }; readers = views } in s))
             (sym (viewed_set m.readers aux.records r (d.after found) readings here)) kept;
         extends = l.extends;
@@ -101,7 +101,7 @@ module _ (Legal : Opening → List Command → Type 0) where
       }
 
   -- the writer's step
-  pub written_keeps : (m : MachineState) (aux : Auxiliary) → IsLawful Legal m aux → Keeps m aux Writer
+  pub written_keeps : (m : MachineState) (aux : Auxiliary) → IsLawfulMachine Legal m aux → Keeps m aux Writer
   written_keeps m aux l =
       let w = m.writer in
       let opening = m.ledger.opening in
@@ -114,7 +114,7 @@ module _ (Legal : Opening → List Command → Type 0) where
       }
 
   -- a publication begins, or nothing is pending
-  published_keeps : (m : MachineState) (aux : Auxiliary) → IsLawful Legal m aux → Legal m.ledger.opening m.ledger.journal → (b : Bool) → IsLawful Legal (published_by m b).0 aux
+  published_keeps : (m : MachineState) (aux : Auxiliary) → IsLawfulMachine Legal m aux → Legal m.ledger.opening m.ledger.journal → (b : Bool) → IsLawfulMachine Legal (published_by m b).0 aux
   published_keeps m aux l legal false = l
   published_keeps m aux l legal true =
       record {
@@ -124,12 +124,12 @@ module _ (Legal : Opening → List Command → Type 0) where
         each_record = l.each_record;
       }
 
-  pub publish_keeps : (m : MachineState) (aux : Auxiliary) → IsLawful Legal m aux → Legal m.ledger.opening m.ledger.journal → Keeps m aux Publish
+  pub publish_keeps : (m : MachineState) (aux : Auxiliary) → IsLawfulMachine Legal m aux → Legal m.ledger.opening m.ledger.journal → Keeps m aux Publish
   publish_keeps m aux l legal =
-      elim (is_idle m.writer.phase) as (λ b. IsLawful Legal (cond b (published_by m (is_pending m)) (m, Skipped)).0 aux) [ true ↦ published_keeps m aux l legal (is_pending m) | false ↦ l ]
+      elim (is_idle m.writer.phase) as (λ b. IsLawfulMachine Legal (cond b (published_by m (is_pending m)) (m, Skipped)).0 aux) [ true ↦ published_keeps m aux l legal (is_pending m) | false ↦ l ]
 
   -- the register accepts a command
-  pub accepted_keeps : (m : MachineState) (aux : Auxiliary) → IsLawful Legal m aux → (command : Command) → is_idle m.writer.phase ≡ true → IsLawful Legal (record m { ledger = ledger_with m.ledger command }) aux
+  pub accepted_keeps : (m : MachineState) (aux : Auxiliary) → IsLawfulMachine Legal m aux → (command : Command) → is_idle m.writer.phase ≡ true → IsLawfulMachine Legal (record m { ledger = ledger_with m.ledger command }) aux
   accepted_keeps m aux l command idle =
       record {
         state = l.state;
@@ -138,22 +138,22 @@ module _ (Legal : Opening → List Command → Type 0) where
         each_record = l.each_record;
       }
 
-  submitted_keeps : (m : MachineState) (aux : Auxiliary) → IsLawful Legal m aux → (command : Command) (v : Result ⊤ Refusal) → is_idle m.writer.phase ≡ true → IsLawful Legal (machine_and_note m command v).0 aux
+  submitted_keeps : (m : MachineState) (aux : Auxiliary) → IsLawfulMachine Legal m aux → (command : Command) (v : Result ⊤ Refusal) → is_idle m.writer.phase ≡ true → IsLawfulMachine Legal (machine_and_note m command v).0 aux
   submitted_keeps m aux l command (Ok u) idle = accepted_keeps m aux l command idle
   submitted_keeps m aux l command (Err refusal) idle = l
 
-  pub submit_keeps : (m : MachineState) (aux : Auxiliary) → IsLawful Legal m aux → (command : Command) → Keeps m aux (Submit command)
+  pub submit_keeps : (m : MachineState) (aux : Auxiliary) → IsLawfulMachine Legal m aux → (command : Command) → Keeps m aux (Submit command)
   submit_keeps m aux l command =
-      elim (is_idle m.writer.phase) as (λ b. is_idle m.writer.phase ≡ b → IsLawful Legal (cond b (machine_and_note m command (verdict_of m.ledger command)) (m, Skipped)).0 aux)
+      elim (is_idle m.writer.phase) as (λ b. is_idle m.writer.phase ≡ b → IsLawfulMachine Legal (cond b (machine_and_note m command (verdict_of m.ledger command)) (m, Skipped)).0 aux)
       [ true ↦ λ idle. submitted_keeps m aux l command (verdict_of m.ledger command) idle | false ↦ λ busy. l ] refl
 
   -- the step of an actor
-  pub step_keeps : (m : MachineState) (aux : Auxiliary) → IsLawful Legal m aux → (number : ℕ) → Keeps m aux (Reader number)
+  pub step_keeps : (m : MachineState) (aux : Auxiliary) → IsLawfulMachine Legal m aux → (number : ℕ) → Keeps m aux (Reader number)
   step_keeps m aux l zero = l
   step_keeps m aux l (suc r) = read_keeps m aux l r (slice_get m.readers r) refl
 
   -- for any event
-  pub transition_keeps : (m : MachineState) (aux : Auxiliary) → IsLawful Legal m aux → Legal m.ledger.opening m.ledger.journal → (event : Event) → Keeps m aux event
+  pub transition_keeps : (m : MachineState) (aux : Auxiliary) → IsLawfulMachine Legal m aux → Legal m.ledger.opening m.ledger.journal → (event : Event) → Keeps m aux event
   transition_keeps m aux l legal (Submit command) = submit_keeps m aux l command
   transition_keeps m aux l legal Publish = publish_keeps m aux l legal
   transition_keeps m aux l legal Writer = written_keeps m aux l

@@ -17,7 +17,7 @@ use Rattle.two_copy_steps.specs.Auxiliary.{IsApart, side_filled, side_held}
 use Rattle.two_copy_steps.specs.Lawful.{State}
 use Rattle.two_copy_steps.specs.Publications.{stores_side}
 use Rattle.two_copy_steps.specs.Stages.{reading_steps, steps_taken}
-use Rattle.two_copy_steps.specs.States.{LawfulFor}
+use Rattle.two_copy_steps.specs.States.{IsLawfulBoard}
 use Rattle.two_copy_steps.specs.Transitions.{MachineState, machine_at_start, notes}
 
 abbrev pub one_member : Ledger
@@ -123,7 +123,7 @@ with_reading words = record {
   readers = record { stage = AtRest; readings = words ∷ [] } ∷ [];
 }
 
-no_cut : StateRecordsLaw → LawfulFor one_member.opening (with_reading []) → ⊥
+no_cut : StateRecordsLaw → IsLawfulBoard one_member.opening (with_reading []) → ⊥
 no_cut law lawful = absurd_words (law one_member.opening (with_reading []) lawful).readings.0.0.2
   where
     absurd_words : {x : ℕ} {xs : List ℕ} → [] ≡ x ∷ xs → ⊥

@@ -16,11 +16,11 @@ use Rattle.two_copy_steps.specs.declared.views.Stage.TheVariants.{AtRest, Arrive
 use Rattle.two_copy_steps.specs.declared.views.Phase.{Phase}
 use Rattle.two_copy_steps.specs.declared.views.Phase.TheVariants.{Idle, Seeing, Filling, Swapping}
 use Rattle.two_copy_steps.specs.declared.table.TheConstants.{COPY_WORDS}
-use Rattle.two_copy_steps.specs.Actions.{all_true, first_false, other_side, cuts_past, place, pin, writing_with_quiescent, writing_of_staged, filled_writing, swapped_writing, phase_action}
-use Rattle.two_copy_steps.specs.Lawful.{State, written_by, begun_by, pin_of, IsLoadedFrom, HoldsCopy, Stands, ReaderOk, Stored, Fills, WriterOk, Lawful}
+use Rattle.two_copy_steps.specs.Actions.{all_true, first_false, other_side, cuts_past, copy_word, pin, writing_with_quiescent, writing_of_staged, filled_writing, swapped_writing, phase_action}
+use Rattle.two_copy_steps.specs.Lawful.{State, written_by, begun_by, pin_of, IsLoadedFrom, HoldsCopy, Stands, ReaderOk, Stored, Fills, WriterOk, IsLawfulState}
 use Rattle.two_copy_steps.proofs.Lists.{set_else, inside}
 use Rattle.two_copy_steps.proofs.Records.{record-grows, ascends-push}
-use Rattle.two_copy_steps.proofs.ReaderSteps.{place_low}
+use Rattle.two_copy_steps.proofs.ReaderSteps.{copy_word_low}
 
 -- no item of a list that is all true is false
 pub all_at : (bs : List Bool) (q : ℕ) → all_true bs ≡ true → slice_get bs q ≡ Some false → ⊥
@@ -40,18 +40,18 @@ at_replicate zero q h = absurd (omega arith)
 at_replicate (suc k) zero h = refl
 at_replicate (suc k) (suc q) h = at_replicate k q (omega arith)
 
-pub place_above : (s i : ℕ) → 0 < place s i
-place_above zero i = omega arith
-place_above (suc _) i = omega arith
+pub copy_word_above : (s i : ℕ) → 0 < copy_word s i
+copy_word_above zero i = omega arith
+copy_word_above (suc _) i = omega arith
 
-pub place_apart : (s i k : ℕ) → s < 2 → i < COPY_WORDS → k < COPY_WORDS → place s i ≢ place (other_side s) k
-place_apart zero i k h a b e = omega arith
-place_apart (suc zero) i k h a b e = omega arith
-place_apart (suc (suc s)) i k h a b e = absurd (omega arith)
+pub copy_word_apart : (s i k : ℕ) → s < 2 → i < COPY_WORDS → k < COPY_WORDS → copy_word s i ≢ copy_word (other_side s) k
+copy_word_apart zero i k h a b e = omega arith
+copy_word_apart (suc zero) i k h a b e = omega arith
+copy_word_apart (suc (suc s)) i k h a b e = absurd (omega arith)
 
-place_once : (s i k : ℕ) → i ≢ k → place s i ≢ place s k
-place_once zero i k h e = h (omega arith)
-place_once (suc _) i k h e = h (omega arith)
+copy_word_once : (s i k : ℕ) → i ≢ k → copy_word s i ≢ copy_word s k
+copy_word_once zero i k h e = h (omega arith)
+copy_word_once (suc _) i k h e = h (omega arith)
 
 module _ (opening : Opening) (Legal : List Command → Type 0) where
   -- what a step of the writer has to leave to the reader at q
@@ -59,7 +59,7 @@ module _ (opening : Opening) (Legal : List Command → Type 0) where
     pins : get_or vs (pin q) 0 ≡ get_or words (pin q) 0
     cuts : (f : ℕ) → Contains w.cuts f → Contains w'.cuts f × (take f w'.state.published ≡ take f w.state.published)
     sides : (s : ℕ) → s < 2 → get_or words (pin q) 0 ≡ 1 → (s ≢ w.state.side → slice_get w.state.seen_out q ≡ Some false)
-        → ((i : ℕ) → i < COPY_WORDS → get_or vs (place s i) 0 ≡ get_or words (place s i) 0) × (s ≢ w'.state.side → slice_get w'.state.seen_out q ≡ Some false)
+        → ((i : ℕ) → i < COPY_WORDS → get_or vs (copy_word s i) 0 ≡ get_or words (copy_word s i) 0) × (s ≢ w'.state.side → slice_get w'.state.seen_out q ≡ Some false)
 
   module _ (words vs : List ℕ) (w w' : WriterView) (q : ℕ) (k : Leaves words vs w w' q) where
     holds_left : (seen : List (List ℕ)) (s : ℕ) → get_or words (pin q) 0 ≡ 1 → (b : HoldsCopy opening Legal words w seen q s) → HoldsCopy opening Legal vs w' seen q s
@@ -97,8 +97,8 @@ module _ (opening : Opening) (Legal : List Command → Type 0) where
   abbrev Known : Writing → List ℕ → WriterView
   Known w cuts = record { state = w; cuts = cuts }
 
-  moved : (words vs : List ℕ) (w w' : WriterView) (rs : List ReaderView) → Lawful opening Legal (At words w rs) → length vs ≡ length words → WriterOk opening Legal vs w' (length rs)
-      → ((q : ℕ) → q < length rs → Leaves words vs w w' q) → Lawful opening Legal (At vs w' rs)
+  moved : (words vs : List ℕ) (w w' : WriterView) (rs : List ReaderView) → IsLawfulState opening Legal (At words w rs) → length vs ≡ length words → WriterOk opening Legal vs w' (length rs)
+      → ((q : ℕ) → q < length rs → Leaves words vs w w' q) → IsLawfulState opening Legal (At vs w' rs)
   moved words vs w w' rs l len ok each =
       let wide = l.wide in
       record {
@@ -113,7 +113,7 @@ module _ (opening : Opening) (Legal : List Command → Type 0) where
   fills_tested words w out false e = e
 
   -- the writer begins to publish a longer list
-  pub begin_keeps : (m : State) → Lawful opening Legal m → (list rest : List Command) → Legal list → m.writer.state.staged ++ rest ≡ list → Lawful opening Legal (begun_by m list)
+  pub begin_keeps : (m : State) → IsLawfulState opening Legal m → (list rest : List Command) → Legal list → m.writer.state.staged ++ rest ≡ list → IsLawfulState opening Legal (begun_by m list)
   begin_keeps m l list rest legal longer =
       let w = m.writer.state in
       let w' : WriterView = Known (writing_of_staged list w) m.writer.cuts in
@@ -132,8 +132,8 @@ module _ (opening : Opening) (Legal : List Command → Type 0) where
       } (λ q _. record { pins = refl; cuts = λ f h. (h, refl); sides = λ s two p late. ((λ i _. refl), late) })
 
   -- a pin was loaded
-  sees_out : (m : State) → Lawful opening Legal m → (r : ℕ) → get_or m.words (pin r) 0 ≡ 0
-      → Lawful opening Legal (At m.words (Known (writing_with_quiescent m.writer.state (set m.writer.state.seen_out r true)) m.writer.cuts) m.readers)
+  sees_out : (m : State) → IsLawfulState opening Legal m → (r : ℕ) → get_or m.words (pin r) 0 ≡ 0
+      → IsLawfulState opening Legal (At m.words (Known (writing_with_quiescent m.writer.state (set m.writer.state.seen_out r true)) m.writer.cuts) m.readers)
   sees_out m l r found =
       let w = m.writer.state in
       let out : List Bool = set w.seen_out r true in
@@ -160,7 +160,7 @@ module _ (opening : Opening) (Legal : List Command → Type 0) where
         );
       })
 
-  gives_up : (m : State) → Lawful opening Legal m → Lawful opening Legal (At m.words (Known (record m.writer.state { phase = Idle }) m.writer.cuts) m.readers)
+  gives_up : (m : State) → IsLawfulState opening Legal m → IsLawfulState opening Legal (At m.words (Known (record m.writer.state { phase = Idle }) m.writer.cuts) m.readers)
   gives_up m l =
       let w = m.writer.state in
       let o = l.writer in
@@ -171,10 +171,10 @@ module _ (opening : Opening) (Legal : List Command → Type 0) where
   abbrev looked : Writing → ℕ → Bool → Writing
   looked w r b = cond b (writing_with_quiescent w (set w.seen_out r true)) (record w { phase = Idle })
 
-  sees : (m : State) (k : ℕ) → Lawful opening Legal m → (r : ℕ) → get_or m.words (pin r) 0 ≡ k
-      → Lawful opening Legal (At m.words (Known (looked m.writer.state r (eqb k 0)) m.writer.cuts) m.readers)
+  sees : (m : State) (k : ℕ) → IsLawfulState opening Legal m → (r : ℕ) → get_or m.words (pin r) 0 ≡ k
+      → IsLawfulState opening Legal (At m.words (Known (looked m.writer.state r (eqb k 0)) m.writer.cuts) m.readers)
   sees m k l r found =
-      let F : Bool → Type 0 = λ b. Lawful opening Legal (At m.words (Known (looked m.writer.state r b) m.writer.cuts) m.readers) in
+      let F : Bool → Type 0 = λ b. IsLawfulState opening Legal (At m.words (Known (looked m.writer.state r b) m.writer.cuts) m.readers) in
       dite (ℕ_discrete k 0) (λ e. subst F (sym (eq-eqb k 0 e)) (sees_out m l r (found ∙ e))) (λ ne. subst F (sym (ne_eqb k 0 ne)) (gives_up m l))
 
   -- a word was stored
@@ -188,19 +188,19 @@ module _ (opening : Opening) (Legal : List Command → Type 0) where
       (λ e. subst F (sym (eq-eqb (k + 1) COPY_WORDS e)) (h.0, λ i l. h.1 i (omega arith)))
       (λ ne. subst F (sym (ne_eqb (k + 1) COPY_WORDS ne)) (omega arith, h))
 
-  fills : (m : State) (k : ℕ) → Lawful opening Legal m → k < COPY_WORDS → Stored opening Legal m.words m.writer.state k
-      → Lawful opening Legal (At (set m.words (place (other_side m.writer.state.side) k) (get_or (sheet opening m.writer.state.staged) k 0)) (Known (filled_writing m.writer.state k) m.writer.cuts) m.readers)
+  fills : (m : State) (k : ℕ) → IsLawfulState opening Legal m → k < COPY_WORDS → Stored opening Legal m.words m.writer.state k
+      → IsLawfulState opening Legal (At (set m.words (copy_word (other_side m.writer.state.side) k) (get_or (sheet opening m.writer.state.staged) k 0)) (Known (filled_writing m.writer.state k) m.writer.cuts) m.readers)
   fills m k l short h =
       let w = m.writer.state in
       let o = l.writer in
-      let p : ℕ = place (other_side w.side) k in
+      let p : ℕ = copy_word (other_side w.side) k in
       let x : ℕ = get_or (sheet opening w.staged) k 0 in
       let vs : List ℕ = set m.words p x in
-      let low : p < pin 0 = place_low (other_side w.side) k short in
-      let some : 0 < p = place_above (other_side w.side) k in
+      let low : p < pin 0 = copy_word_low (other_side w.side) k short in
+      let some : 0 < p = copy_word_above (other_side w.side) k in
       let wide = l.wide in
-      let kept : (i : ℕ) → i < COPY_WORDS → get_or vs (place w.side i) 0 ≡ get_or m.words (place w.side i) 0 =
-      λ i g. get_or-set_other m.words p (place w.side i) x 0 (place_apart w.side i k o.two g short) in
+      let kept : (i : ℕ) → i < COPY_WORDS → get_or vs (copy_word w.side i) 0 ≡ get_or m.words (copy_word w.side i) 0 =
+      λ i g. get_or-set_other m.words p (copy_word w.side i) x 0 (copy_word_apart w.side i k o.two g short) in
       moved m.words vs m.writer (Known (filled_writing w k) m.writer.cuts) m.readers l (length-set m.words p x) record {
         two = o.two;
         side_is = get_or-set_other m.words p 0 x 0 (λ e. omega arith) ∙ o.side_is;
@@ -214,14 +214,14 @@ module _ (opening : Opening) (Legal : List Command → Type 0) where
         fills = fills_next vs w k short (
           h.0,
           λ i g. dite (ℕ_discrete i k)
-              (λ e. subst (λ (z : ℕ). get_or vs (place (other_side w.side) z) 0 ≡ get_or (sheet opening w.staged) z 0) (sym e) (get_or-set_same m.words p x 0 (omega arith)))
-              (λ ne. get_or-set_other m.words p (place (other_side w.side) i) x 0 (place_once (other_side w.side) i k ne) ∙ h.1 i (omega arith)),
+              (λ e. subst (λ (z : ℕ). get_or vs (copy_word (other_side w.side) z) 0 ≡ get_or (sheet opening w.staged) z 0) (sym e) (get_or-set_same m.words p x 0 (omega arith)))
+              (λ ne. get_or-set_other m.words p (copy_word (other_side w.side) i) x 0 (copy_word_once (other_side w.side) i k ne) ∙ h.1 i (omega arith)),
         );
       } (λ q _. record {
         pins = get_or-set_other m.words p (pin q) x 0 (λ e. omega arith);
         cuts = λ f g. (g, refl);
         sides = λ s two pinned late. dite (ℕ_discrete s w.side)
-            (λ e. ((λ i g. subst (λ (z : ℕ). get_or vs (place z i) 0 ≡ get_or m.words (place z i) 0) (sym e) (kept i g)), late))
+            (λ e. ((λ i g. subst (λ (z : ℕ). get_or vs (copy_word z i) 0 ≡ get_or m.words (copy_word z i) 0) (sym e) (kept i g)), late))
             (λ ne. absurd (all_at w.seen_out q h.0 (late ne)));
       })
 
@@ -229,8 +229,8 @@ module _ (opening : Opening) (Legal : List Command → Type 0) where
   cut_stays : (w : Writing) (rest : List Command) → w.staged ≡ w.published ++ rest → (f : ℕ) → f ≤ length w.published → take f w.staged ≡ take f w.published
   cut_stays w rest begins f le = ap (take f) begins ∙ take-append-le f w.published rest le
 
-  swaps : (m : State) → Lawful opening Legal m → Stored opening Legal m.words m.writer.state COPY_WORDS
-      → Lawful opening Legal (At (set m.words 0 (other_side m.writer.state.side)) (Known (swapped_writing m.writer.state) (m.writer.cuts ++ length m.writer.state.staged ∷ [])) m.readers)
+  swaps : (m : State) → IsLawfulState opening Legal m → Stored opening Legal m.words m.writer.state COPY_WORDS
+      → IsLawfulState opening Legal (At (set m.words 0 (other_side m.writer.state.side)) (Known (swapped_writing m.writer.state) (m.writer.cuts ++ length m.writer.state.staged ∷ [])) m.readers)
   swaps m l h =
       let w = m.writer.state in
       let cuts : List ℕ = m.writer.cuts in
@@ -242,7 +242,7 @@ module _ (opening : Opening) (Legal : List Command → Type 0) where
       let begins = o.begins in
       let last : ℕ = length w.staged in
       let longer : length w.published ≤ last = (let g = ap (length {A = Command}) begins.1 in omega (arith, length-append w.published begins.0)) in
-      let kept : (s i : ℕ) → get_or vs (place s i) 0 ≡ get_or m.words (place s i) 0 = λ s i. get_or-set_other m.words 0 (place s i) t 0 (λ e. let g = place_above s i in omega arith) in
+      let kept : (s i : ℕ) → get_or vs (copy_word s i) 0 ≡ get_or m.words (copy_word s i) 0 = λ s i. get_or-set_other m.words 0 (copy_word s i) t 0 (λ e. let g = copy_word_above s i in omega arith) in
       moved m.words vs m.writer (Known (swapped_writing w) (cuts ++ last ∷ [])) m.readers l (length-set m.words 0 t) record {
         two = omega arith;
         side_is = get_or-set_same m.words 0 t 0 (omega arith);
@@ -269,22 +269,22 @@ module _ (opening : Opening) (Legal : List Command → Type 0) where
       let found = get_or m.words d.word 0 in
       At (set m.words d.word (d.becomes found)) (Known (d.after found) (cuts_past p m.writer.state.staged m.writer.cuts)) m.readers
 
-  writes : (m : State) (p : Phase) → Lawful opening Legal m → Fills opening Legal m.words m.writer.state p → Lawful opening Legal (wrote m p)
-  writes m Idle l h = subst (λ (vs : List ℕ). Lawful opening Legal (At vs m.writer m.readers)) (sym (set-get_or m.words 0 0)) l
+  writes : (m : State) (p : Phase) → IsLawfulState opening Legal m → Fills opening Legal m.words m.writer.state p → IsLawfulState opening Legal (wrote m p)
+  writes m Idle l h = subst (λ (vs : List ℕ). IsLawfulState opening Legal (At vs m.writer m.readers)) (sym (set-get_or m.words 0 0)) l
   writes m Seeing l h =
       let w = m.writer.state in
       let r : ℕ = first_false w.seen_out in
       let k : ℕ = get_or m.words (pin r) 0 in
-      subst (λ (vs : List ℕ). Lawful opening Legal (At vs (Known (looked w r (eqb k 0)) m.writer.cuts) m.readers)) (sym (set-get_or m.words (pin r) 0)) (sees m k l r refl)
+      subst (λ (vs : List ℕ). IsLawfulState opening Legal (At vs (Known (looked w r (eqb k 0)) m.writer.cuts) m.readers)) (sym (set-get_or m.words (pin r) 0)) (sees m k l r refl)
   writes m (Filling k) l h = fills m k l h.0 h.1
   writes m Swapping l h = swaps m l h
 
   -- each step of the writer keeps the invariant of the state
-  pub writer_keeps : (m : State) → Lawful opening Legal m → Lawful opening Legal (written_by opening m)
+  pub writer_keeps : (m : State) → IsLawfulState opening Legal m → IsLawfulState opening Legal (written_by opening m)
   writer_keeps m l = writes m m.writer.state.phase l l.writer.fills
 
   -- where the writer stores a word, no reader is between a load of that side and its leave
-  pub no_reader_there : (m : State) (k : ℕ) → Lawful opening Legal m → m.writer.state.phase ≡ Filling k → (q s : ℕ) (seen : List (List ℕ)) → HoldsCopy opening Legal m.words m.writer seen q s → s ≡ m.writer.state.side
+  pub no_reader_there : (m : State) (k : ℕ) → IsLawfulState opening Legal m → m.writer.state.phase ≡ Filling k → (q s : ℕ) (seen : List (List ℕ)) → HoldsCopy opening Legal m.words m.writer seen q s → s ≡ m.writer.state.side
   no_reader_there m k l is q s seen b =
       let h = subst (Fills opening Legal m.words m.writer.state) is l.writer.fills in
       dite (ℕ_discrete s m.writer.state.side) (λ e. e) (λ ne. absurd (all_at m.writer.state.seen_out q h.1.0 (b.late ne)))

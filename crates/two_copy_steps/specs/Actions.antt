@@ -56,9 +56,9 @@ cuts_past (Filling k) staged cuts = cuts
 
 -- the index of word i of the copy that a side names: word 0 is side, the two copies follow, and
 -- then a pin for each reader
-abbrev pub place : ℕ → ℕ → ℕ
-place zero i = 1 + i
-place (suc _) i = 1 + COPY_WORDS + i
+abbrev pub copy_word : ℕ → ℕ → ℕ
+copy_word zero i = 1 + i
+copy_word (suc _) i = 1 + COPY_WORDS + i
 
 -- the index of the pin of the reader at r, counted from 0
 abbrev pub pin : ℕ → ℕ
@@ -72,7 +72,7 @@ abbrev pub stage_action : ℕ → Stage → Action Stage
 stage_action r AtRest = record { word = pin r; becomes = λ _. 1; after = λ _. Arrived }
 stage_action r Arrived = record { word = 0; becomes = λ found. found; after = λ found. Reading found [] }
 stage_action r (Reading side words) = record {
-  word = place side (length words);
+  word = copy_word side (length words);
   becomes = λ found. found;
   after = λ found. stage_with_words side (words ++ found ∷ []);
 }
@@ -131,7 +131,7 @@ module _ (sheet : List Command → List ℕ) where
       }
   phase_action w (Filling k) =
       record {
-        word = place (other_side w.side) k;
+        word = copy_word (other_side w.side) k;
         becomes = λ _. slice_index (sheet w.staged) k;
         after = λ _. filled_writing w k;
       }

@@ -14,7 +14,7 @@ use Rattle.two_copy_steps.specs.declared.views.Phase.{Phase}
 use Rattle.two_copy_steps.specs.declared.views.Phase.TheVariants.{Filling}
 use Rattle.two_copy_steps.specs.declared.views.Stage.TheVariants.{AtRest, Arrived, Reading, Leaving}
 use Rattle.two_copy_steps.specs.Actions.{readings_after, cuts_past, stage_action, other_side}
-use Rattle.two_copy_steps.specs.Lawful.{State, Lawful, IsPrefix}
+use Rattle.two_copy_steps.specs.Lawful.{State, IsLawfulState, IsPrefix}
 use Rattle.two_copy_steps.specs.Transitions.{MachineState, transition, is_idle}
 
 pub record Auxiliary : Type 0 where
@@ -65,8 +65,8 @@ state_of m a = record
 
 -- the invariant of the machine: words and views meet their invariant, and the journal extends the
 -- list last staged, and equals it while a publication is in progress
-pub record IsLawful (Legal : Opening → List Command → Type 0) (m : MachineState) (a : Auxiliary) : Type 0 where
-  pub state : Lawful m.ledger.opening (Legal m.ledger.opening) (state_of m a)
+pub record IsLawfulMachine (Legal : Opening → List Command → Type 0) (m : MachineState) (a : Auxiliary) : Type 0 where
+  pub state : IsLawfulState m.ledger.opening (Legal m.ledger.opening) (state_of m a)
   pub extends : IsPrefix m.writer.staged m.ledger.journal
   pub whole : is_idle m.writer.phase ≡ false → m.writer.staged ≡ m.ledger.journal
   pub each_record : length a.records ≡ length m.readers

@@ -14,7 +14,7 @@ use Rattle.two_copy_steps.specs.declared.views.Stage.TheVariants.{AtRest, Arrive
 use Rattle.two_copy_steps.specs.declared.views.Phase.{Phase}
 use Rattle.two_copy_steps.specs.declared.views.Phase.TheVariants.{Idle, Seeing, Filling, Swapping}
 use Rattle.two_copy_steps.specs.declared.table.TheConstants.{COPY_WORDS}
-use Rattle.two_copy_steps.specs.Actions.{all_true, other_side, place, pin, reader_action, writer_action, writing_of_staged}
+use Rattle.two_copy_steps.specs.Actions.{all_true, other_side, copy_word, pin, reader_action, writer_action, writing_of_staged}
 
 pub record State : Type 0 where
   pub words : List ℕ
@@ -58,7 +58,7 @@ last_front low (words ∷ rest) = last_front (front_of words) rest
 
 -- the first k words of the copy that a side names are those of `numbers`
 abbrev pub ShowsFirst : ℕ → List ℕ → ℕ → List ℕ → Type 0
-ShowsFirst k words side numbers = (i : ℕ) → i < k → slice_index words (place side i) ≡ slice_index numbers i
+ShowsFirst k words side numbers = (i : ℕ) → i < k → slice_index words (copy_word side i) ≡ slice_index numbers i
 
 -- all words of that copy are those of `numbers`
 abbrev pub ShowsSheet : List ℕ → ℕ → List ℕ → Type 0
@@ -67,7 +67,7 @@ ShowsSheet words side numbers = ShowsFirst COPY_WORDS words side numbers
 -- the loaded words are the first words of the copy that a side names
 abbrev pub IsLoadedFrom : List ℕ → ℕ → List ℕ → Type 0
 IsLoadedFrom words side loaded =
-    (i : ℕ) → i < length loaded → slice_index loaded i ≡ slice_index words (place side i)
+    (i : ℕ) → i < length loaded → slice_index loaded i ≡ slice_index words (copy_word side i)
 
 -- the first list is a prefix of the second
 abbrev pub IsPrefix : {A : Type 0} → List A → List A → Type 0
@@ -129,7 +129,7 @@ module _ (opening : Opening) (Legal : List Command → Type 0) where
     pub ascending : IsNonDecreasing v.cuts
     pub fills : Fills words v.state v.state.phase
 
-  pub record Lawful (s : State) : Type 0 where
+  pub record IsLawfulState (s : State) : Type 0 where
     pub wide : pin (length s.readers) ≤ length s.words
     pub writer : WriterOk s.words s.writer (length s.readers)
     pub each_reader : (r : ℕ) (v : ReaderView) → slice_get s.readers r ≡ Some v → ReaderOk s.words s.writer r v

@@ -14,9 +14,9 @@ use Rattle.two_copy_steps.specs.declared.views.Stage.TheVariants.{AtRest}
 use Rattle.two_copy_steps.specs.declared.views.Phase.TheVariants.{Filling}
 use Rattle.two_copy_steps.specs.declared.views.ReaderView.{ReaderView}
 use Rattle.two_copy_steps.specs.Lawful.{State, IsPublishable, read_by, written_by, begun_by}
-use Rattle.two_copy_steps.specs.States.{LawfulFor, IsKnown}
+use Rattle.two_copy_steps.specs.States.{IsLawfulBoard, IsKnown}
 use Rattle.two_copy_steps.specs.Transitions.{MachineState, transition, machine_at_start, state_after_events, notes}
-use Rattle.two_copy_steps.specs.Auxiliary.{Auxiliary, auxiliary_start, auxiliary_step, record_at, state_of, IsLawful}
+use Rattle.two_copy_steps.specs.Auxiliary.{Auxiliary, auxiliary_start, auxiliary_step, record_at, state_of, IsLawfulMachine}
 use Rattle.two_copy_steps.specs.Auxiliary.{IsApart}
 use Rattle.two_copy_steps.specs.Actions.{all_true, pin, stage_action, reader_action}
 use Rattle.two_copy_steps.specs.Stages.{steps_taken, last_load, last_step, sheet_read, IsReadable}
@@ -29,37 +29,37 @@ use Rattle.two_copy_steps.specs.Runs.{machine_after, auxiliary_after, ReportsRep
 -- the start over a legal journal whose sheet is in range meets the invariant
 abbrev pub StartLaw : Type 0
 StartLaw = (ledger : Ledger) (readers : ℕ) → IsPublishable ledger.opening ledger.journal
-    → IsLawful IsPublishable (machine_at_start ledger readers) (auxiliary_start ledger readers)
+    → IsLawfulMachine IsPublishable (machine_at_start ledger readers) (auxiliary_start ledger readers)
 
 -- a reader's step keeps the invariant of words and views
 abbrev pub ReaderLaw : Type 0
-ReaderLaw = (opening : Opening) (s : State) → LawfulFor opening s → (r : ℕ) (v : ReaderView)
-    → slice_get s.readers r ≡ Some v → LawfulFor opening (read_by s r v)
+ReaderLaw = (opening : Opening) (s : State) → IsLawfulBoard opening s → (r : ℕ) (v : ReaderView)
+    → slice_get s.readers r ≡ Some v → IsLawfulBoard opening (read_by s r v)
 
 -- the writer's step keeps the invariant of words and views
 abbrev pub WriterLaw : Type 0
-WriterLaw = (opening : Opening) (s : State) → LawfulFor opening s → LawfulFor opening (written_by opening s)
+WriterLaw = (opening : Opening) (s : State) → IsLawfulBoard opening s → IsLawfulBoard opening (written_by opening s)
 
 -- the beginning of a publication keeps the invariant of words and views, for any legal list that
 -- extends the one last staged and whose sheet is in range
 abbrev pub BeginLaw : Type 0
-BeginLaw = (opening : Opening) (s : State) → LawfulFor opening s → (commands rest : List Command)
+BeginLaw = (opening : Opening) (s : State) → IsLawfulBoard opening s → (commands rest : List Command)
     → IsPublishable opening commands → s.writer.state.staged ++ rest ≡ commands
-    → LawfulFor opening (begun_by s commands)
+    → IsLawfulBoard opening (begun_by s commands)
 
 -- in every state that meets the invariant the records are legal
 abbrev pub StateRecordsLaw : Type 0
-StateRecordsLaw = (opening : Opening) (s : State) → LawfulFor opening s
+StateRecordsLaw = (opening : Opening) (s : State) → IsLawfulBoard opening s
     → AreLegalRecords opening s.writer.state.published s.writer.cuts (map (λ v. v.readings) s.readers)
 
 -- in every such state no reader holds the copy into which the writer's next step stores a word
 abbrev pub StateUnderLaw : Type 0
-StateUnderLaw = (opening : Opening) (s : State) → LawfulFor opening s
+StateUnderLaw = (opening : Opening) (s : State) → IsLawfulBoard opening s
     → IsApart s.writer.state (map (λ v. v.stage) s.readers)
 
 -- in every such state each reader has a legal record and words of a sheet
 abbrev pub StateKnownLaw : Type 0
-StateKnownLaw = (opening : Opening) (s : State) → LawfulFor opening s → (r : ℕ) (v : ReaderView)
+StateKnownLaw = (opening : Opening) (s : State) → IsLawfulBoard opening s → (r : ℕ) (v : ReaderView)
     → slice_get s.readers r ≡ Some v → IsKnown opening v
 
 -- the transition at a step of the writer is the writer's step of words and views
@@ -93,7 +93,7 @@ SubmitTransitionLaw = (m : MachineState) (a : Auxiliary) (command : Command)
 -- does not change which readers are quiescent
 abbrev pub BusyLaw : Type 0
 BusyLaw =
-    (m : MachineState) (a : Auxiliary) → IsLawful IsPublishable m a → (event : Event) (number : ℕ)
+    (m : MachineState) (a : Auxiliary) → IsLawfulMachine IsPublishable m a → (event : Event) (number : ℕ)
     → (transition m event).1 ≡ Busy number
     → (r : ℕ) × (number ≡ suc r) × IsLeastUnseen m.writer.seen_out r × (slice_index m.words (pin r) ≡ 1)
     × ((transition m event).0.writer.seen_out ≡ m.writer.seen_out)
@@ -127,9 +127,9 @@ GrowthLaw =
 
 -- each event keeps the machine's invariant, with its cuts and records
 abbrev pub EventLaw : Type 0
-EventLaw = (m : MachineState) (a : Auxiliary) → IsLawful IsPublishable m a
+EventLaw = (m : MachineState) (a : Auxiliary) → IsLawfulMachine IsPublishable m a
     → IsPublishable m.ledger.opening m.ledger.journal
-    → (event : Event) → IsLawful IsPublishable (transition m event).0 (auxiliary_step m a event)
+    → (event : Event) → IsLawfulMachine IsPublishable (transition m event).0 (auxiliary_step m a event)
 
 -- each event keeps the journal legal and within its limit
 abbrev pub LedgerLaw : Type 0

@@ -10,7 +10,7 @@ use Rattle.two_copy_steps.specs.declared.views.Phase.{Phase}
 use Rattle.two_copy_steps.specs.declared.table.TheConstants.{READERS}
 use Rattle.two_copy_steps.specs.Lawful.{IsPublishable}
 use Rattle.two_copy_steps.specs.Transitions.{MachineState, is_idle}
-use Rattle.two_copy_steps.specs.Auxiliary.{Auxiliary, IsLawful}
+use Rattle.two_copy_steps.specs.Auxiliary.{Auxiliary, IsLawfulMachine}
 
 -- the machine by its fields, which have the number of published commands and the sheet of the
 -- staged ones
@@ -37,7 +37,7 @@ pub record IsMachine (ledger : Ledger) (words : List ℕ) (side published : ℕ)
   pub staged_within : front_of staged ≤ length ledger.journal
   pub sheet_is : staged ≡ sheet ledger.opening (take (front_of staged) ledger.journal)
   pub lawful : (a : Auxiliary)
-      × IsLawful IsPublishable (seen_as ledger words side published staged phase seen_out readers) a
+      × IsLawfulMachine IsPublishable (seen_as ledger words side published staged phase seen_out readers) a
 
 -- from one to READERS readers
 abbrev pub IsFew : ℕ → Type 0

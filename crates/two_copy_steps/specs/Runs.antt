@@ -46,9 +46,9 @@ KeepsRecordsReported ledger readers events reported =
 
 -- the event at this index can need memory, in a run from this machine
 abbrev pub WantsMemoryFrom : MachineState → List Event → ℕ → Type 0
-WantsMemoryFrom m events place =
-    (event : Event) × (slice_get events place ≡ Some event)
-    × WantsMemory (state_after_events m (take place events)) event
+WantsMemoryFrom m events index =
+    (event : Event) × (slice_get events index ≡ Some event)
+    × WantsMemory (state_after_events m (take index events)) event
 
 -- memory for the outputs ran out before any event, or the next event can need memory
 abbrev pub RunsOutOfMemory : Ledger → ℕ → List Event → ℕ → Type 0

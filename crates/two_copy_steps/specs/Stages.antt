@@ -63,11 +63,11 @@ IsPcPast k pc = (side : ℕ) (words : List ℕ) → length words ≡ COPY_WORDS
     → stage_of pc side words ≡ stage_with_words side (take (k + 1) words)
 
 -- the index of the word that is accessed
-abbrev pub accessed_place : Access → ℕ
-accessed_place (Load place) = place
-accessed_place (Store place word) = place
+abbrev pub accessed_word : Access → ℕ
+accessed_word (Load index) = index
+accessed_word (Store index word) = index
 
 -- the number that is left in the word, if `found` was in it
 abbrev pub left_by : Access → ℕ → ℕ
-left_by (Load place) found = found
-left_by (Store place word) found = word
+left_by (Load index) found = found
+left_by (Store index word) found = word

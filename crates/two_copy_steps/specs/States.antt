@@ -6,11 +6,11 @@ use Rattle.council_core.specs.Sequential.{AreLegalRecords}
 use Rattle.two_copy_steps.specs.declared.views.ReaderView.{ReaderView}
 use Rattle.two_copy_steps.specs.declared.views.Stage.{Stage}
 use Rattle.two_copy_steps.specs.declared.views.Stage.TheVariants.{AtRest, Arrived, Reading, Leaving}
-use Rattle.two_copy_steps.specs.Lawful.{State, Lawful, IsPublishable}
+use Rattle.two_copy_steps.specs.Lawful.{State, IsLawfulState, IsPublishable}
 use Rattle.two_copy_steps.specs.Stages.{IsReadable}
 
-abbrev pub LawfulFor : Opening → State → Type 0
-LawfulFor opening s = Lawful opening (IsPublishable opening) s
+abbrev pub IsLawfulBoard : Opening → State → Type 0
+IsLawfulBoard opening s = IsLawfulState opening (IsPublishable opening) s
 
 -- the last sheet in the record of a reader that has loaded all words has these words
 abbrev pub EndsWith : List (List ℕ) → Stage → Type 0

@@ -21,5 +21,5 @@ pub use laws::{
 pub use machine::Machine;
 pub use runs::{Notes, RunFault, RunLog, run};
 pub use stages::{Access, ReaderStage};
-pub use table::{COPY_WORDS, READERS, SIDE, Table, pin, place};
+pub use table::{COPY_WORDS, READERS, SIDE, Table, copy_word, pin};
 pub use views::{Phase, ReaderView, Stage, WriterView, Writing};

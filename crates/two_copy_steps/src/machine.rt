@@ -13,7 +13,7 @@ ghost use Rattle.two_copy_steps.specs.Publications.{seen_out_at};
 use crate::events::{Event, Note};
 use crate::flags::Flags;
 use crate::readers::ReaderStages;
-use crate::table::{COPY_WORDS, READERS, SIDE, Table, pin, place};
+use crate::table::{COPY_WORDS, READERS, SIDE, Table, copy_word, pin};
 use crate::views::Phase;
 use council_core::{Command, Refusal, Register, Sheet};
 use std::marker::Model;
@@ -43,7 +43,7 @@ impl Model for Machine {
 }
 
 // Submits a command to the register. The output says whether it was accepted.
-fn hand_over(register: &mut Register, command: Command) -> Result<Note, Refusal>
+fn submit_to(register: &mut Register, command: Command) -> Result<Note, Refusal>
     ensures handed { IfOk result
         (λ note. (register.new, note) ≡ ledger_and_note register.old command (verdict_of register.old command)) }
     ensures unchanged { OnErr result (register.new ≡ register.old) }
@@ -152,7 +152,7 @@ impl Machine {
         if !self.is_idle() {
             return Ok(Note::Skipped);
         }
-        hand_over(&mut self.register, command)
+        submit_to(&mut self.register, command)
     }
 
     // Whether no publication is in progress.
@@ -214,7 +214,7 @@ impl Machine {
         ensures note { result ≡ (transition self.old Writer).1 }
     {
         let word = self.staged.words()[k as usize];
-        self.table.store(place(1 - self.side, k as usize), word);
+        self.table.store(copy_word(1 - self.side, k as usize), word);
         self.phase = phase_past(k);
         Note::Moved
     }

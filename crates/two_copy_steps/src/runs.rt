@@ -122,7 +122,7 @@ pub fn run(
         Ok(reported) => reported,
         Err(_) => return Err(fault(machine, 0)),
     };
-    match take_all(&mut machine, &mut reported, events) {
+    match step_all(&mut machine, &mut reported, events) {
         Ok(()) => {
             Ok(RunLog {
                 notes: Notes { list: reported },
@@ -148,7 +148,7 @@ fn fault(machine: Machine, done: usize) -> RunFault
 
 // Carries out the events in turn. If one runs out of memory, returns the number of completed events
 // as the error.
-fn take_all(machine: &mut Machine, reported: &mut Vec<Note>, events: &[Event]) -> Result<(), usize>
+fn step_all(machine: &mut Machine, reported: &mut Vec<Note>, events: &[Event]) -> Result<(), usize>
     requires empty { reported.old.items ≡ [] }
     requires room { length events.now ≤ vec_capacity reported.old }
     ensures machine { OnOk result (machine.new ≡ state_after_events machine.old events.now) }

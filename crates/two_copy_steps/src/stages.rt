@@ -2,9 +2,9 @@
 ghost use Rattle.std.specs.Prelude.{◌≡◌, ◌↔◌, ℕ, ◌<◌, ◌≤◌, IsTrue};
 ghost use Rattle.two_copy_steps.specs.declared.views.Stage.TheVariants.{AtRest};
 ghost use Rattle.two_copy_steps.specs.Actions.{pin, stage_action};
-ghost use Rattle.two_copy_steps.specs.Stages.{IsReadable, IsPcPast, accessed_place, left_by, sheet_read};
+ghost use Rattle.two_copy_steps.specs.Stages.{IsReadable, IsPcPast, accessed_word, left_by, sheet_read};
 
-use crate::table::{COPY_WORDS, SIDE, pin, place};
+use crate::table::{COPY_WORDS, SIDE, copy_word, pin};
 use council_core::Sheet;
 use std::marker::Model;
 
@@ -74,8 +74,8 @@ impl ReaderStage {
     /// The access of the next step of reader `r`, counted from 0, to its word.
     pub fn access(&self, r: u8) -> Access
         requires readable { IsReadable self.now }
-        ensures word { accessed_place result ≡ (stage_action r self.now).word }
-        ensures low { accessed_place result ≤ pin r }
+        ensures word { accessed_word result ≡ (stage_action r self.now).word }
+        ensures low { accessed_word result ≤ pin r }
         ensures becomes { (n : ℕ) → left_by result n ≡ (stage_action r self.now).becomes n }
         ensures after { (n : ℕ)
             → (stage_action r self.now).after (left_by result n)
@@ -84,7 +84,7 @@ impl ReaderStage {
         match self.pc {
             ReaderPc::AtRest => Access::Store(pin(r), 1),
             ReaderPc::Arrived => Access::Load(SIDE),
-            ReaderPc::Reading(k) => Access::Load(place(self.side, k)),
+            ReaderPc::Reading(k) => Access::Load(copy_word(self.side, k)),
             ReaderPc::Leaving => Access::Store(pin(r), 0),
         }
     }

@@ -7,8 +7,8 @@
 ghost use Rattle.std.specs.Prelude.{◌≡◌, ℕ, List, ◌<◌, ◌≤◌, ◌++◌, ◌∷◌, length, replicate};
 ghost use Rattle.std.specs.Prelude.{take, slice_index, slice_set};
 ghost use Rattle.two_copy_steps.specs.declared.table.TheConstants.{READERS, WORDS};
-ghost use Rattle.two_copy_steps.specs.Actions.{pin, place};
-ghost use Rattle.two_copy_steps.specs.Stages.{accessed_place, left_by};
+ghost use Rattle.two_copy_steps.specs.Actions.{pin, copy_word};
+ghost use Rattle.two_copy_steps.specs.Stages.{accessed_word, left_by};
 
 use crate::stages::Access;
 use council_core::SHEET_WORDS;
@@ -77,42 +77,42 @@ impl Table {
 
     // Carries out a step's access to its word, and returns the number that is then in it.
     pub(crate) fn touch(&mut self, access: Access) -> u64
-        requires within { accessed_place access < length self.old }
+        requires within { accessed_word access < length self.old }
         ensures words { self.new
-            ≡ slice_set self.old (accessed_place access)
-            (left_by access (slice_index self.old (accessed_place access))) }
-        ensures found { result ≡ left_by access (slice_index self.old (accessed_place access)) }
+            ≡ slice_set self.old (accessed_word access)
+            (left_by access (slice_index self.old (accessed_word access))) }
+        ensures found { result ≡ left_by access (slice_index self.old (accessed_word access)) }
     {
         match access {
-            Access::Load(place) => self.load(place),
-            Access::Store(place, word) => {
-                self.store(place, word);
+            Access::Load(index) => self.load(index),
+            Access::Store(index, word) => {
+                self.store(index, word);
                 word
             }
         }
     }
 
     // The word at this index.
-    pub(crate) fn load(&self, place: usize) -> u64
-        requires within { place < length self.now }
-        ensures { result ≡ slice_index self.now place }
+    pub(crate) fn load(&self, index: usize) -> u64
+        requires within { index < length self.now }
+        ensures { result ≡ slice_index self.now index }
     {
-        self.as_slice()[place]
+        self.as_slice()[index]
     }
 
     // Stores a word at this index.
-    pub(crate) fn store(&mut self, place: usize, word: u64)
-        requires within { place < length self.old }
-        ensures { self.new ≡ slice_set self.old place word }
+    pub(crate) fn store(&mut self, index: usize, word: u64)
+        requires within { index < length self.old }
+        ensures { self.new ≡ slice_set self.old index word }
     {
-        self.all[..self.len][place] = word;
+        self.all[..self.len][index] = word;
     }
 }
 
 /// The index of word `k`, below `COPY_WORDS`, of the copy that `side` names.
-pub fn place(side: u64, k: usize) -> usize
+pub fn copy_word(side: u64, k: usize) -> usize
     requires within { k < COPY_WORDS }
-    ensures same { result ≡ place side k }
+    ensures same { result ≡ copy_word side k }
     ensures low { result < PINS }
 {
     if side == 0 { COPY_0 + k } else { COPY_1 + k }

@@ -14,7 +14,7 @@ word_at weights total at inside =
 
 pub returns-in_default-clause-refused : goal.returns-in_default-clause-refused
 returns-in_default-clause-refused c =
-    let at = c.loop-place.place in (
+    let at = c.loop-index.index in (
       refl,
       λ whole.
           let w = word_at c.args.weights.now c.args.total at (omega arith) in
@@ -22,11 +22,11 @@ returns-in_default-clause-refused c =
           c.in_default.ensures (omega (arith, w)),
     )
 
-pub loop-place-preserved : goal.loop-place-preserved
-loop-place-preserved c =
-    let at = c.loop-place.place in
+pub loop-index-preserved : goal.loop-index-preserved
+loop-index-preserved c =
+    let at = c.loop-index.index in
     let weights = c.args.weights.now in
     let back = replicate (32 - (at + 1)) 0 ++ c.args.total ∷ 0 ∷ [] in
     let weight = get_or weights at 0 in
     let next = next_image (λ w. w + 1) weights at weight 0 back (omega arith) (get_or_default weights at 0 weight (omega arith)) in
-    rw (c.loop-place.invariant, first_left {X = ℕ} 32 at 0 (omega arith), c.in-Some.ensures.1) next
+    rw (c.loop-index.invariant, first_left {X = ℕ} 32 at 0 (omega arith), c.in-Some.ensures.1) next

@@ -6,9 +6,9 @@ use Rattle.std.proofs.lemmas.List.Sums.{sum_by_more}
 use Rattle.board_c.proofs.MemberSums.{seated_more, no_member}
 use Rattle.board_c.proofs.members.total_of.Goals as goal
 
-pub loop-place-preserved : goal.loop-place-preserved
-loop-place-preserved c = record {
-  total = omega (arith, c.loop-place.invariant.total, c.counted_votes-votes.ensures, sum_by_more (λ (m : BoardMember). effective_votes (standing_of m)) c.args.members.now c.loop-place.place no_member c.loop-place-test.true);
+pub loop-index-preserved : goal.loop-index-preserved
+loop-index-preserved c = record {
+  total = omega (arith, c.loop-index.invariant.total, c.counted_votes-votes.ensures, sum_by_more (λ (m : BoardMember). effective_votes (standing_of m)) c.args.members.now c.loop-index.index no_member c.loop-index-test.true);
   high = omega (arith, c.if-votes-total.false);
-  seated = seated_more c.args.members.now c.loop-place.place c.loop-place-test.true c.loop-place.invariant.seated c.if-members-place.false;
+  seated = seated_more c.args.members.now c.loop-index.index c.loop-index-test.true c.loop-index.invariant.seated c.if-members-index.false;
 }

@@ -4,8 +4,8 @@ use Rattle.council_core.specs.Rolls.{sits_in, votes_in}
 use Rattle.board_c.specs.Members.{standing_of}
 use Rattle.board_c.proofs.members.word_of.Given as goal
 
-abbrev pub invariant-loop-place : goal.invariant-loop-place
-invariant-loop-place l = record {
-  is_taken : l.is_taken ≡ list_any (λ m. sits_in l.chair (standing_of m)) (take l.place l.members);
-  votes : l.votes ≡ sum_by (λ m. votes_in l.chair (standing_of m)) (take l.place l.members);
+abbrev pub invariant-loop-index : goal.invariant-loop-index
+invariant-loop-index l = record {
+  is_taken : l.is_taken ≡ list_any (λ m. sits_in l.chair (standing_of m)) (take l.index l.members);
+  votes : l.votes ≡ sum_by (λ m. votes_in l.chair (standing_of m)) (take l.index l.members);
 }

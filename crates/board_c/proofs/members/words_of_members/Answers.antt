@@ -5,10 +5,10 @@ use Rattle.board_c.specs.Members.{member_word}
 use Rattle.c_values.proofs.RowLemmas.{first_left, next_image}
 use Rattle.board_c.proofs.members.words_of_members.Goals as goal
 
-pub loop-place-preserved : goal.loop-place-preserved
-loop-place-preserved c =
-    let at = c.loop-place.place in
+pub loop-index-preserved : goal.loop-index-preserved
+loop-index-preserved c =
+    let at = c.loop-index.index in
     let back = replicate (32 - (at + 1)) 0 ++ c.in_ok-total.total ∷ 0 ∷ [] in
     let here : at + 1 ≡ get_or chair_numbers at (at + 1) = omega (arith, get_or-range_with_len 1 32 at (at + 1) (omega arith)) in
     let next = next_image (member_word c.args.members.now c.args.mask) chair_numbers at (at + 1) 0 back (omega (arith, length-range_with_len 1 32)) here in
-    rw (c.loop-place.invariant, first_left {X = ℕ} 32 at 0 (omega arith), c.word_of.ensures.word) next
+    rw (c.loop-index.invariant, first_left {X = ℕ} 32 at 0 (omega arith), c.word_of.ensures.word) next

@@ -3,5 +3,5 @@ use Rattle.council_core.specs.Rolls.{chair_numbers}
 use Rattle.board_c.specs.Members.{member_word}
 use Rattle.board_c.proofs.members.words_of_members.Given as goal
 
-abbrev pub invariant-loop-place : goal.invariant-loop-place
-invariant-loop-place l = l.words ≡ map (member_word l.members l.mask) (take l.place chair_numbers) ++ (replicate (32 - l.place) 0 ++ l.total ∷ 0 ∷ [])
+abbrev pub invariant-loop-index : goal.invariant-loop-index
+invariant-loop-index l = l.words ≡ map (member_word l.members l.mask) (take l.index chair_numbers) ++ (replicate (32 - l.index) 0 ++ l.total ∷ 0 ∷ [])

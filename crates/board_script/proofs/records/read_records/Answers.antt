@@ -39,14 +39,14 @@ returns-in_err-item-clause-items c =
     let next : c.records.script ≡ fields_of c.next.new.row ∷ c.next.new.self = rw c.if-not-branch.false at c.in_ok-next.ensures.taken in
     let p = err_from_is_err_and c.from_residual-in_err-item.result c.from_residual-in_err-item.ensures.1 in
     rw p.1 (items-passed c.args.text.now c.args.limits c.args.first c.args.script.now c.records.number c.records.at c.records.script c.args.items.now c.records.items c.records.count c.records.invariant.so _ _ next
-    c.line_after-place.result c.item_in.result c.in_err-item.field-0.0 p.0 c.in_err-item.was c.item_in.ensures p.2)
+    c.line_after-span.result c.item_in.result c.in_err-item.field-0.0 p.0 c.in_err-item.was c.item_in.ensures p.2)
 
 pub returns-in_err-item-clause-end : goal.returns-in_err-item-clause-end
 returns-in_err-item-clause-end c =
     let next : c.records.script ≡ fields_of c.next.new.row ∷ c.next.new.self = rw c.if-not-branch.false at c.in_ok-next.ensures.taken in
     let p = err_from_is_err_and c.from_residual-in_err-item.result c.from_residual-in_err-item.ensures.1 in
     rw p.1 (end-passed c.args.text.now c.args.limits c.args.first c.args.script.now c.records.number c.records.at c.records.script c.args.items.now c.records.items c.records.count c.records.invariant.so _ _ next
-    c.line_after-place.result c.item_in.result c.in_err-item.field-0.0 p.0 c.in_err-item.was c.item_in.ensures p.2)
+    c.line_after-span.result c.item_in.result c.in_err-item.field-0.0 p.0 c.in_err-item.was c.item_in.ensures p.2)
 
 pub records-preserved : goal.records-preserved
 records-preserved c =
@@ -54,8 +54,8 @@ records-preserved c =
     let fewer = ap length next in
     record {
       so = read-item c.args.text.now c.args.limits c.args.first c.args.script.now c.records.number c.records.at c.records.script c.args.items.now c.records.items c.records.count c.records.invariant.so _ _ next
-          c.line_after-place.result c.item_in.result c.in_ok-item.item c.put_item.new.items c.line_after-place.ensures.line c.in_ok-item.was c.item_in.ensures c.put_item.ensures;
-      inside = c.line_after-place.ensures.within;
+          c.line_after-span.result c.item_in.result c.in_ok-item.item c.put_item.new.items c.line_after-span.ensures.line c.in_ok-item.was c.item_in.ensures c.put_item.ensures;
+      inside = c.line_after-span.ensures.within;
       numbers = omega (arith, c.records.invariant.numbers, fewer);
       few = omega (arith, c.records.invariant.few);
     }

@@ -4,7 +4,7 @@ use Rattle.board_serve.proofs.serving.perform.Goals as goal
 
 pub are_legal-requires-clause-legal : goal.are_legal-requires-clause-legal
 are_legal-requires-clause-legal g c =
-    let parts = c.into_parts-begun in
+    let parts = c.into_parts-start in
     let work = c.in_ok-work.work in
     let start = c.in_ok-work.ensures in
     let seats = seated parts.result.0.register parts.result.1 work parts.ensures.starts.none start.writer start.orders start.readers start.asked in
@@ -13,7 +13,7 @@ are_legal-requires-clause-legal g c =
 
 pub are_legal-requires-clause-in_order : goal.are_legal-requires-clause-in_order
 are_legal-requires-clause-in_order g c =
-    let parts = c.into_parts-begun in
+    let parts = c.into_parts-start in
     let p = plan_over parts.result.0.register (shares_of parts.result.1) in
     let work = c.in_ok-work.work in
     let start = c.in_ok-work.ensures in
@@ -22,7 +22,7 @@ are_legal-requires-clause-in_order g c =
 
 pub returns-clause-done : goal.returns-clause-done
 returns-clause-done g c =
-    let parts = c.into_parts-begun in
+    let parts = c.into_parts-start in
     let work = c.in_ok-work.work in
     let start = c.in_ok-work.ensures in
     let seats = seated parts.result.0.register parts.result.1 work parts.ensures.starts.none start.writer start.orders start.readers start.asked in
@@ -30,7 +30,7 @@ returns-clause-done g c =
     (outcome-of (plan_over parts.result.0.register (shares_of parts.result.1)) work c.in_ok-done.done c.in_ok-answers.answers.items c.in_ok-answers.served seats c.in_ok-done.ensures.done c.in_ok-answers.ensures.brought)
 
 pub returns-clause-records : goal.returns-clause-records
-returns-clause-records g c = rw (c.into_parts-begun.ensures.parts, c.into_parts-begun.ensures.starts.members, ← c.as_slice.ensures.value) c.in_ok-legal.ensures.legal
+returns-clause-records g c = rw (c.into_parts-start.ensures.parts, c.into_parts-start.ensures.starts.members, ← c.as_slice.ensures.value) c.in_ok-legal.ensures.legal
 
 pub returns-clause-differs : goal.returns-clause-differs
-returns-clause-differs g c = rw (c.into_parts-begun.ensures.parts, c.into_parts-begun.ensures.starts.members, ← c.as_slice.ensures.value) c.in_ok-legal.ensures.broken
+returns-clause-differs g c = rw (c.into_parts-start.ensures.parts, c.into_parts-start.ensures.starts.members, ← c.as_slice.ensures.value) c.in_ok-legal.ensures.broken

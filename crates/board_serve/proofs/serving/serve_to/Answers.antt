@@ -1,12 +1,12 @@
 use Rattle.std.proofs.Common.{Result, ap, subst, sym}
 use Rattle.std.proofs.lemmas.Result.{err_from_is_err_and}
 use Rattle.board_text.specs.Scripts.{interpreted_run}
-use Rattle.board_text.specs.Text.{begun_of, text_of}
+use Rattle.board_text.specs.Text.{started_of, text_of}
 use Rattle.board_text.specs.declared.faults.Fault.{Fault}
 use Rattle.board_text.specs.declared.input.TheConstants.{INTERRUPTIONS}
 use Rattle.board_text.proofs.RunFacts.{appends-same}
 use Rattle.board_text.proofs.ReadingFacts.{retries-on, retries-passed}
-use Rattle.board_text.proofs.RecordFacts.{begun-end}
+use Rattle.board_text.proofs.RecordFacts.{start-end}
 use Rattle.board_serve.specs.Plans.{Planned, plan_of, plan_start, plan_step, two_readers}
 use Rattle.board_serve.specs.Serving.{WritesServeRun}
 use Rattle.board_serve.proofs.PlanFacts.{plan-lines}
@@ -18,12 +18,12 @@ returns-in_err-plan-clause-wrote g c = λ bytes is.
     let p = err_from_is_err_and c.from_residual.result c.from_residual.ensures.1 in
     let lim = two_readers c.args.journal_limit in
     rw p.1 (fails-serve c.args.out.now.held c.interpret.new.out.held c.in_err-plan.field-0.0 p.0 (interpreted_run plan_start plan_step lim bytes) (plan_of c.args.journal_limit bytes) p.2
-    (plan-lines lim (begun_of lim bytes)) (begun-end plan_start plan_step lim (begun_of lim bytes)) (c.in_err-plan.ensures.wrote bytes is))
+    (plan-lines lim (started_of lim bytes)) (start-end plan_start plan_step lim (started_of lim bytes)) (c.in_err-plan.ensures.wrote bytes is))
 
 pub returns-clause-wrote : goal.returns-clause-wrote
 returns-clause-wrote g c = λ bytes is.
     let lim = two_readers c.args.journal_limit in
-    let nothing = appends-same _ _ _ _ (ap text_of (plan-lines lim (begun_of lim bytes))) (c.in_ok-plan.ensures.wrote bytes is).1 in
+    let nothing = appends-same _ _ _ _ (ap text_of (plan-lines lim (started_of lim bytes))) (c.in_ok-plan.ensures.wrote bytes is).1 in
     let P : Result Planned Fault → Type 0 = WritesServeRun c.interpret.new.out.held c.serve_plan.new.out.held c.serve_plan.result in
     after-nothing c.args.out.now.held c.interpret.new.out.held c.serve_plan.new.out.held c.serve_plan.result (plan_of c.args.journal_limit bytes) nothing
     (subst P (sym (c.in_ok-plan.ensures.ended bytes is)) c.serve_plan.ensures.wrote)

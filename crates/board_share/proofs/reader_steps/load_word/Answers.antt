@@ -1,15 +1,15 @@
 use Rattle.std.proofs.Common.{◌∙◌, refl, sym, ap, arith}
 use Rattle.std.proofs.lemmas.List.{take_more_set, length-take-le}
-use Rattle.two_copy_steps.specs.Actions.{place, stage_with_words}
+use Rattle.two_copy_steps.specs.Actions.{copy_word, stage_with_words}
 use Rattle.board_share.proofs.ReaderSeats.{loads, left}
 use Rattle.board_share.proofs.reader_steps.load_word.Goals as goal
 
 pub load-requires : goal.load-requires
 load-requires c =
     let h = c.requires.reader in
-    let low = c.place.ensures.low in
+    let low = c.copy_word.ensures.low in
     let wide = h.within in
-    (h.same, omega arith, loads _ _ _ _ _ h _ _ _ (c.place.ensures.same ∙ ap (place c.args.side) (sym (length-take-le c.args.k c.args.words.now (omega arith)))) (λ n. refl))
+    (h.same, omega arith, loads _ _ _ _ _ h _ _ _ (c.copy_word.ensures.same ∙ ap (copy_word c.args.side) (sym (length-take-le c.args.k c.args.words.now (omega arith)))) (λ n. refl))
 
 pub returns : goal.returns
 returns c =

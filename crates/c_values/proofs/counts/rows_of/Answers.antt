@@ -4,8 +4,8 @@ use Rattle.c_values.specs.Rows.{without_indices}
 use Rattle.c_values.proofs.RowLemmas.{first_left, next_image}
 use Rattle.c_values.proofs.counts.rows_of.Goals as goal
 
-pub loop-place-preserved : goal.loop-place-preserved
-loop-place-preserved c =
-    let at = c.loop-place.place in
-    let next = next_image without_indices c.args.rows.now at c.index-rows-place.result no_chair (replicate (32 - (at + 1)) no_chair) (omega arith) c.index-rows-place.is in
-    rw (c.loop-place.invariant, first_left 32 at no_chair (omega arith), c.chair_of.ensures) next
+pub loop-index-preserved : goal.loop-index-preserved
+loop-index-preserved c =
+    let at = c.loop-index.index in
+    let next = next_image without_indices c.args.rows.now at c.index-rows-index.result no_chair (replicate (32 - (at + 1)) no_chair) (omega arith) c.index-rows-index.is in
+    rw (c.loop-index.invariant, first_left 32 at no_chair (omega arith), c.chair_of.ensures) next

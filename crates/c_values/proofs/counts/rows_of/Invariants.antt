@@ -3,5 +3,5 @@ use Rattle.c_values.specs.Counts.{no_chair}
 use Rattle.c_values.specs.Rows.{without_indices}
 use Rattle.c_values.proofs.counts.rows_of.Given as goal
 
-abbrev pub invariant-loop-place : goal.invariant-loop-place
-invariant-loop-place l = l.chairs ≡ map without_indices (take l.place l.rows) ++ replicate (32 - l.place) no_chair
+abbrev pub invariant-loop-index : goal.invariant-loop-index
+invariant-loop-index l = l.chairs ≡ map without_indices (take l.index l.rows) ++ replicate (32 - l.index) no_chair

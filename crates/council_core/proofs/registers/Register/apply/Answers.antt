@@ -71,16 +71,16 @@ invariant_of-self-2 c =
       | in-Open w ↦
           let opening = planned_as _ _ c.args.command _ _ c.self.view_is w.in-Open.is c.in_ok-change.ensures.planned in
           rw w.self-inside-is (IsKept-open l c.args.command (accepts (ap (λ s. s.journal.items) w.self-inside-is))
-          w.place_of.result w.in-Open.chair w.place_of.ensures.place w.place_of.ensures.within (search rules) opening)
+          w.index_of.result w.in-Open.chair w.index_of.ensures.index w.index_of.ensures.within (search rules) opening)
       | in-Close w ↦
           let closing = planned_as _ _ c.args.command _ _ c.self.view_is w.in-Close.is c.in_ok-change.ensures.planned in
           rw w.self-inside-is (IsKept-close l c.args.command (accepts (ap (λ s. s.journal.items) w.self-inside-is))
-          w.place_of-in-Close.result w.in-Close.chair w.place_of-in-Close.ensures.place w.place_of-in-Close.ensures.within (search rules) closing)
+          w.index_of-in-Close.result w.in-Close.chair w.index_of-in-Close.ensures.index w.index_of-in-Close.ensures.within (search rules) closing)
       | in-Stand w ↦
           let stand = planned_as _ _ c.args.command _ _ c.self.view_is w.in-Stand.is c.in_ok-change.ensures.planned in
           let now : Kept = record { entries = w.put.new.members.entries; totals = w.enter.new.self } in
           rw w.self-inside-is (IsKept-change l c.args.command (accepts (ap (λ s. s.journal.items) w.self-inside-is))
-          w.in-Stand.place w.in-Stand.old w.in-Stand.new stand now
+          w.in-Stand.index w.in-Stand.old w.in-Stand.new stand now
           (exchange i.totals w.withdraw.new.self w.enter.new.self w.in-Stand.old w.in-Stand.new
           (record { words = w.withdraw.ensures.words; counts = w.withdraw.ensures.counts; total = w.withdraw.ensures.total })
           (record { words = w.enter.ensures.words; counts = w.enter.ensures.counts; total = w.enter.ensures.total; high = w.enter.ensures.high }))
@@ -102,7 +102,7 @@ invariant_of-self-2 c =
           let leave = planned_as _ _ c.args.command _ _ c.self.view_is w.in-Leave.is c.in_ok-change.ensures.planned in
           let now : Kept = record { entries = w.take_out.new.members.entries; totals = w.withdraw-in-Leave.new.self } in
           rw w.self-inside-is (IsKept-withdraw l c.args.command (accepts (ap (λ s. s.journal.items) w.self-inside-is))
-          w.in-Leave.place w.in-Leave.old leave now
+          w.in-Leave.index w.in-Leave.old leave now
           (record { words = w.withdraw-in-Leave.ensures.words; counts = w.withdraw-in-Leave.ensures.counts; total = w.withdraw-in-Leave.ensures.total })
           w.take_out.ensures)
     ]

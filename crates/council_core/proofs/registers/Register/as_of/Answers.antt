@@ -11,9 +11,9 @@ returns-in_err-apply-clause-memory c =
     let i = c.self.inside in
     let l : Ledger = record { opening = i.opening.items; journal = i.journal.items; limit = i.limit } in
     let command = c.index.result.now in
-    let within : c.loop-place.place < length i.journal.items = omega (arith, c.len.ensures, c.min-count.ensures, c.loop-place-test.true) in
-    let copied : c.loop-place.copy ≡ ledger_as_of l c.loop-place.place = c.loop-place.invariant ∙ ap (λ v. ledger_as_of v c.loop-place.place) (sym c.self.view_is) in
-    let accepted : verdict_of c.loop-place.copy command ≡ Ok tt =
-    ap (λ v. verdict_of v command) copied ∙ accepted_again l c.loop-place.place command c.self.invariant.legal c.self.invariant.within within c.index.ensures in
+    let within : c.loop-index.index < length i.journal.items = omega (arith, c.len.ensures, c.min-count.ensures, c.loop-index-test.true) in
+    let copied : c.loop-index.copy ≡ ledger_as_of l c.loop-index.index = c.loop-index.invariant ∙ ap (λ v. ledger_as_of v c.loop-index.index) (sym c.self.view_is) in
+    let accepted : verdict_of c.loop-index.copy command ≡ Ok tt =
+    ap (λ v. verdict_of v command) copied ∙ accepted_again l c.loop-index.index command c.self.invariant.legal c.self.invariant.within within c.index.ensures in
     let p = err_from_is_err_and c.from_residual-in_err-apply.result c.from_residual-in_err-apply.ensures.1 in
     rw p.1 (p.2 ∙ subst (λ v. Follows {B = ℕ} v (Err c.in_err-apply.field-0.0) OutOfMemory) accepted c.in_err-apply.ensures.verdict)

@@ -8,7 +8,7 @@ pub returns : goal.returns
 returns c =
     let m = c.self.invariant.mirrors in
     let l : Ledger = record { opening = c.self.inside.opening.items; journal = c.self.inside.journal.items; limit = c.self.inside.limit } in
-    ap (λ n. not (n == 0)) (m.each_count c.place_of.result c.place_of.ensures.within)
-    ∙ sym (has_members_is (c.place_of.result + 1) (roll_of l).members)
-    ∙ ap (has_members (roll_of l)) c.place_of.ensures.place
+    ap (λ n. not (n == 0)) (m.each_count c.index_of.result c.index_of.ensures.within)
+    ∙ sym (has_members_is (c.index_of.result + 1) (roll_of l).members)
+    ∙ ap (has_members (roll_of l)) c.index_of.ensures.index
     ∙ ap (λ v. has_members (roll_of v) c.args.chair) c.self.view_is

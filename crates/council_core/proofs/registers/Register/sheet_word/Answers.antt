@@ -7,9 +7,9 @@ pub returns-in_default : goal.returns-in_default
 returns-in_default c =
     let i = c.self.inside in
     let l : Ledger = record { opening = i.opening.items; journal = i.journal.items; limit = i.limit } in
-    let below : c.args.place < 32 = omega arith in
+    let below : c.args.index < 32 = omega arith in
     record {
-      same = c.self.invariant.mirrors.each_word c.args.place below
-          ∙ sym (word_at (roll_of l) (length l.journal) c.args.place below)
-          ∙ ap (λ (l : Ledger). slice_index (sheet_of l) c.args.place) c.self.view_is;
+      same = c.self.invariant.mirrors.each_word c.args.index below
+          ∙ sym (word_at (roll_of l) (length l.journal) c.args.index below)
+          ∙ ap (λ (l : Ledger). slice_index (sheet_of l) c.args.index) c.self.view_is;
     }

@@ -7,10 +7,10 @@ use Rattle.two_copy_steps.proofs.machine.Machine.fill.Goals as goal
 pub invariant_of-self : goal.invariant_of-self
 invariant_of-self c =
     writer_stays _ _ _ _ _ _ _ _ c.self.invariant _ _ _ _ _
-    (filled_at _ _ _ _ _ _ _ _ c.self.invariant _ c.self.view_is _ _ _ _ _ c.requires c.words.ensures.same c.place.ensures.same c.store.ensures c.phase_past-self-inside.ensures)
+    (filled_at _ _ _ _ _ _ _ _ c.self.invariant _ c.self.view_is _ _ _ _ _ c.requires c.words.ensures.same c.copy_word.ensures.same c.store.ensures c.phase_past-self-inside.ensures)
     c.self.invariant.published_within
 
 pub returns-clause-machine : goal.returns-clause-machine
 returns-clause-machine c =
-    filled_at _ _ _ _ _ _ _ _ c.self.invariant _ c.self.view_is _ _ _ _ _ c.requires c.words.ensures.same c.place.ensures.same c.store.ensures c.phase_past-self-inside.ensures
+    filled_at _ _ _ _ _ _ _ _ c.self.invariant _ c.self.view_is _ _ _ _ _ c.requires c.words.ensures.same c.copy_word.ensures.same c.store.ensures c.phase_past-self-inside.ensures
     ∙ ap (λ (m : MachineState). (transition m Writer).0) c.self.view_is

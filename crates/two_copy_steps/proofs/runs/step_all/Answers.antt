@@ -1,7 +1,7 @@
 use Rattle.std.proofs.Common.{◌<◌, ◌++◌, ◌∷◌, [], length, ap, sym, ◌∙◌, arith}
 use Rattle.two_copy_steps.specs.Transitions.{MachineState, transition}
 use Rattle.two_copy_steps.proofs.EventLists.{after_more, notes_more}
-use Rattle.two_copy_steps.proofs.runs.take_all.Goals as goal
+use Rattle.two_copy_steps.proofs.runs.step_all.Goals as goal
 
 pub loop-done-preserved : goal.loop-done-preserved
 loop-done-preserved c =

@@ -1,7 +1,7 @@
 use Rattle.std.proofs.Common.{◌∙◌, arith}
 use Rattle.two_copy_steps.proofs.Steps.{publishable}
 use Rattle.board_share.proofs.Openings.{words_kept, words_long}
-use Rattle.board_share.proofs.opening.lay.Goals as goal
+use Rattle.board_share.proofs.opening.build_board.Goals as goal
 
 pub of_words-requires : goal.of_words-requires
 of_words-requires c =

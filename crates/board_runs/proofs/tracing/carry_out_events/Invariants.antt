@@ -5,7 +5,7 @@ use Rattle.board_text.specs.Lines.{LineBytes}
 use Rattle.board_text.specs.Sinks.{GoesOn}
 use Rattle.board_text.specs.Text.{text_of}
 use Rattle.board_runs.specs.Traces.{output_lines}
-use Rattle.board_runs.proofs.tracing.take_all.Given as goal
+use Rattle.board_runs.proofs.tracing.carry_out_events.Given as goal
 
 -- the lines so far, and then those of the events that are left, are the lines of all
 abbrev pub invariant-loop-turn : goal.invariant-loop-turn

@@ -5,8 +5,8 @@ ghost use Rattle.recording_io.specs.Tapes.{OfInput};
 ghost use Rattle.council_core.specs.declared.refusals.Refusal.TheVariants as why;
 ghost use Rattle.council_core.specs.Ledgers.{start_verdict};
 ghost use Rattle.board_text.specs.Inputs.{NoReadInVain, RetriesAtMost};
-ghost use Rattle.board_text.specs.Output.{Fails, Starts, StartsRun};
-ghost use Rattle.board_text.specs.Text.{begun_of, run_begun_with, fault_at, in_range, opened_of};
+ghost use Rattle.board_text.specs.Output.{Fails, Starts, StartsScript};
+ghost use Rattle.board_text.specs.Text.{started_of, started_after, fault_at, in_range, opened_of};
 
 use crate::bounds::Limits;
 use crate::input::{INPUT_LIMIT, INTERRUPTIONS, READS, read_input};
@@ -21,13 +21,13 @@ use std::io::Read;
 
 /// The start of a script: a register with the members of the input's opening.
 #[derive(Debug, Drop)]
-pub struct RunStart {
+pub struct ScriptStart {
     /// The register, with an empty journal.
     pub register: Register,
     /// The members of the opening, in input order.
     pub members: Vec<(MemberCode, Votes)>,
     /// The number of the script's first record, counted from 1 over all records of the input.
-    pub place: u32,
+    pub first: u32,
 }
 
 /// Reads the whole input, if the limits are in range.
@@ -51,7 +51,7 @@ pub fn read_within<R: Read + Drop>(
     ensures asks { input.new.asks ≤ input.old.asks + READS }
     ensures vain { NoReadInVain input.old input.new result }
     ensures retried { RetriesAtMost INTERRUPTIONS input.old input.new result }
-    ensures fault { IfErr result (λ e. OfInput input.old input.new (λ bytes. Fails e (begun_of limits bytes))) }
+    ensures fault { IfErr result (λ e. OfInput input.old input.new (λ bytes. Fails e (started_of limits bytes))) }
     ensures limits_first { in_range limits ≡ false
         → IsErrOf result (Stop.Input (fault_at why.BadLimit 0)) × (input.new ≡ input.old) }
 {
@@ -88,29 +88,29 @@ fn start_register(
 /// - `BadLimit` at 0: the journal limit is out of range; `DuplicateMember` at 0: two members have
 ///   the same code.
 /// - `Stop::OutOfMemory` and `Stop::ReadFault`: possible at any record.
-pub fn begin(
+pub fn start_script(
     alloc: Global,
     script: &mut Script<'_>,
     row: &mut ByteRecord,
     limits: Limits,
-) -> Result<RunStart, Stop>
+) -> Result<ScriptStart, Stop>
     requires { length script.old < 2 ^ 31 }
 
     // The contents of the records, or the first fault in them.
-    ensures begun { IfOk result
-        (λ b. run_begun_with limits (opened_of script.old) ≡ Ok (b.register, b.place, script.new)) }
-    ensures fault { IfErr result (λ e. Fails e (run_begun_with limits (opened_of script.old))) }
+    ensures start { IfOk result
+        (λ b. started_after limits (opened_of script.old) ≡ Ok (b.register, b.first, script.new)) }
+    ensures fault { IfErr result (λ e. Fails e (started_after limits (opened_of script.old))) }
 
     // The register is at its start, and the remaining records can be numbered.
-    ensures starts { IfOk result StartsRun }
-    ensures numbers { IfOk result (λ b. b.place + length script.new < 2 ^ 32) }
+    ensures starts { IfOk result StartsScript }
+    ensures numbers { IfOk result (λ b. b.first + length script.new < 2 ^ 32) }
 {
     let mut members = Vec::new(alloc);
-    let place = read_opening(script, row, &mut members)?;
+    let first = read_opening(script, row, &mut members)?;
     let register = start_register(alloc, members.as_slice(), limits)?;
-    Ok(RunStart {
+    Ok(ScriptStart {
         register,
         members,
-        place,
+        first,
     })
 }

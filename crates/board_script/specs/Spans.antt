@@ -38,5 +38,5 @@ pub record IsRecordAt (input : List ℕ) (number from to : ℕ) : Type 0 where
   pub counted : number ≡ length (input_rows (take from input)) + 1
 
 -- an item stands where it says
-abbrev pub IsPlaced : List ℕ → BoardItem → Type 0
-IsPlaced input item = IsRecordAt input item.number item.from item.to
+abbrev pub SpansItsLine : List ℕ → BoardItem → Type 0
+SpansItsLine input item = IsRecordAt input item.number item.from item.to

@@ -1,6 +1,6 @@
 use Rattle.std.proofs.Common.{◌≡◌, ◌≤◌, length, take, vec_len, vec_capacity}
 use Rattle.two_copy_steps.specs.Transitions.{state_after_events, notes}
-use Rattle.two_copy_steps.proofs.runs.take_all.Given as goal
+use Rattle.two_copy_steps.proofs.runs.step_all.Given as goal
 
 abbrev pub invariant-loop-done : goal.invariant-loop-done
 invariant-loop-done l =

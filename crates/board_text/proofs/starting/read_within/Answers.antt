@@ -1,6 +1,6 @@
 use Rattle.std.proofs.Common.{sym}
-use Rattle.board_text.proofs.BeginningFacts.{fails-by_limits, fails-input}
-use Rattle.board_text.proofs.beginning.read_within.Goals as goal
+use Rattle.board_text.proofs.StartingFacts.{fails-by_limits, fails-input}
+use Rattle.board_text.proofs.starting.read_within.Goals as goal
 
 pub returns-then-not-is_in_range-clause-fault : goal.returns-then-not-is_in_range-clause-fault
 returns-then-not-is_in_range-clause-fault g c =
