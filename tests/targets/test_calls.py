@@ -4,11 +4,12 @@ from __future__ import annotations
 
 import struct
 from collections.abc import Callable
+from math import comb
 from pathlib import Path
 
 import pytest
 
-from tests.shared.boards import boards
+from tests.shared.boards import CHAIRS, boards
 from tests.shared.commands import TOP, Say, Words, printed
 from tests.shared.inputs import Call, at_limits, mutated, of_cases
 from tests.shared.kept import Kept
@@ -119,6 +120,30 @@ def test_counts(built: Build, name: str, record_property: Say) -> None:
     some = [struct.pack(f"<{len(it)}Q", *it) for it in boards(SEED, BOARDS)][::every]
     record_property("boards", len(some))
     assert printed(words or programs.there, b"".join(some)) == printed(programs.here, b"".join(some))
+
+
+# What counts.c writes for a call: the answer, and the words of struct board_counts. Those of the first call for members
+# stand behind five for weights, and one by all four majorities.
+COUNTS = struct.Struct("<B103Q")
+OF_MEMBERS = 5 * COUNTS.size + 1 + 4 * (COUNTS.size - 1)
+
+
+def counts(head: list[int], rows: list[tuple[int, int, int]]) -> tuple[int, ...]:
+    """The words of struct board_counts, behind the answer of a call that counted."""
+    return (0, *head, *(word for row in rows for word in row), *[0, 0, 0] * (CHAIRS - len(rows)))
+
+
+@pytest.mark.parametrize("chairs", [0, 1, CHAIRS - 1, CHAIRS])
+def test_equal_chairs(built: Build, chairs: int) -> None:
+    # Catches: wrong counts without chairs, with all of them, or of the last one alone. Each chair has one vote, so more
+    # than half of the chairs win; and one member with seven votes sits in the last chair.
+    board = [chairs, *[1] * chairs, chairs, 1, 7, CHAIRS, 0, 0]
+    found = printed(built("targets/counts").here, struct.pack(f"<{len(board)}Q", *board))
+    quota = chairs // 2 + 1
+    omega = sum(comb(chairs, size) for size in range(quota, chairs + 1))
+    rows = [(chair, 1, comb(chairs - 1, quota - 1)) for chair in range(1, chairs + 1)]
+    assert COUNTS.unpack_from(found) == counts([quota, 0, chairs, chairs, chairs, omega, 2**chairs], rows)
+    assert COUNTS.unpack_from(found, OF_MEMBERS) == counts([4, 0, 7, 7, 1, 1, 2], [(CHAIRS, 7, 1)])
 
 
 COMMANDING = {

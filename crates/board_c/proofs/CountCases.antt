@@ -21,6 +21,17 @@ three = words_of_weights (50 ∷ 49 ∷ 1 ∷ []) 100
 three_words : three ≡ 51 ∷ 50 ∷ 2 ∷ replicate 29 0 ++ 100 ∷ 0 ∷ []
 three_words = refl
 
+-- no chair at all, and all 32
+no_weights : words_of_weights [] 0 ≡ replicate 32 0 ++ 0 ∷ 0 ∷ []
+no_weights = refl
+
+all_weights : words_of_weights (replicate 32 3) 96 ≡ replicate 32 4 ++ 96 ∷ 0 ∷ []
+all_weights = refl
+
+-- one weight more, and these are no words of a sheet: there are 35
+too_many_weights : IsRefusedAs 0 (words_of_weights (replicate 33 1) 33) BadSheet
+too_many_weights whole = omega (arith, whole.long)
+
 -- the answer of a call that has counted
 done : DONE ≡ 0
 done = refl
@@ -86,6 +97,10 @@ no_reason_of_none why h = h
 
 no_refusal_of_none : (answer : ℕ) → IsRefusalOfMembers 0 [] answer → ⊥
 no_refusal_of_none answer h = no_reason_of_none h.0 h.2
+
+-- a member in the last chair is a board's
+in_the_last_chair : IsBoard (member 5 32 0 ∷ [])
+in_the_last_chair = record { seated = All-from_recursion (λ (m : BoardMember). m.chair ≤ 32) (member 5 32 0 ∷ []) (omega arith, tt); small = omega arith }
 
 members_come_first : AreRefusedAs 4 (member 1 33 0 ∷ []) BadRecord → ⊥
 members_come_first h = omega (arith, (recursion_from_All (λ (m : BoardMember). m.chair ≤ 32) (member 1 33 0 ∷ []) h.0.seated).0)

@@ -24,6 +24,10 @@ seated_chairs_named = refl
 pub last_chair_named : member_words [] (2147483648) ≡ replicate 31 0 ++ 1 ∷ 0 ∷ 0 ∷ []
 last_chair_named = refl
 
+-- a member in the last chair
+pub last_chair_taken : member_words (member 5 32 0 ∷ []) 0 ≡ replicate 31 0 ++ 6 ∷ 5 ∷ 0 ∷ []
+last_chair_taken = refl
+
 -- the same members by the commands of a register
 abbrev opening : Opening
 opening = (65 ∷ [], 50) ∷ (66 ∷ [], 7) ∷ (67 ∷ [], 3) ∷ (68 ∷ [], 40) ∷ []

@@ -6,8 +6,8 @@ from collections.abc import Mapping, Sequence
 from dataclasses import dataclass
 from fractions import Fraction
 
-from .names import KINDS, MEMBER_VOTES
-from .results import Member
+from .names import KINDS, MEMBER_VOTES, Kind
+from .results import Command, Member
 
 DECIMAL = r"[0-9]{1,9}(?:\.[0-9]{1,9})?"
 CODE = "[A-Z]{3}"
@@ -15,6 +15,13 @@ CHAIR = re.compile("chair ([1-9][0-9]?)")
 PERCENT = re.compile(rf"([+-]?)({DECIMAL}) ?%( of total)?")
 GROUP = re.compile(rf"{CODE}(?:\+{CODE})+|{CHAIR.pattern}")
 Members = Mapping[str, Member]
+OPPOSITES: dict[Kind, Kind] = {
+    "open": "close",
+    "close": "open",
+    "suspend": "restore",
+    "restore": "suspend",
+    "admit": "withdraw",
+}
 
 
 class BadStudy(ValueError):
@@ -136,14 +143,15 @@ def records_of(members: Members, command: str) -> list[str]:
     return records_for(members, codes, percent.votes(members, codes) if percent else int(amount))
 
 
-def undone(members: Members, record: str) -> list[str]:
-    """The records that undo an accepted record, for which the members were these before it."""
-    kind, *fields = record.split(",")
-    opposite = {"open": "close", "close": "open", "suspend": "restore", "restore": "suspend", "admit": "withdraw"}
-    if kind in opposite:
-        return [f"{opposite[kind]},{fields[0]}"]
-    before = members[fields[0]]
-    if kind == "withdraw":
-        suspension = [f"suspend,{fields[0]}"] * before.suspended
-        return [f"admit,{fields[0]},{before.votes}", *suspension]
-    return [f"{kind},{fields[0]},{before.votes if kind == 'votes' else before.chair or 'none'}"]
+def undone(members: Members, done: Command) -> list[Command]:
+    """The commands that undo an accepted command, before which the members were these."""
+    if kind := OPPOSITES.get(done.kind):
+        return [done._replace(kind=kind, votes=None)]
+    assert done.code
+    before = members[done.code]
+    if done.kind == "withdraw":
+        suspension = [Command("suspend", done.code)] * before.suspended
+        return [Command("admit", done.code, votes=before.votes), *suspension]
+    if done.kind == "votes":
+        return [done._replace(votes=before.votes)]
+    return [done._replace(chair=before.chair)]

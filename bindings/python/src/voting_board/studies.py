@@ -26,7 +26,7 @@ from .names import MAJORITIES, Majority
 from .refusals import Refused
 from .registers import Register
 from .replays import replay_text
-from .results import INDEX_NAMES, Cell, Chair, IndexName, Indices
+from .results import INDEX_NAMES, Cell, Chair, Command, IndexName, Indices
 from .scenarios import BASE, Asked, Scenario, Sweep, each, scenarios_of, sweep_of
 from .strict import StrictTable, read_table
 from .tables import Table, columns_of, is_missing
@@ -73,8 +73,8 @@ def base_of(given: Given) -> Base:
     return Base(Register(columns), {code: str(name) for code, name in pairs if not is_missing(name)})
 
 
-#: Commands, each with the records for it.
-Taken = tuple[tuple[str, tuple[str, ...]], ...]
+#: Commands of a scenario, each with the register's commands for it.
+Taken = tuple[tuple[str, tuple[Command, ...]], ...]
 
 
 @dataclass(frozen=True)
@@ -84,8 +84,8 @@ class Result:
     label: the scenario's label, "base", or the sweep's subject and step, such as "XAA 10.5 %"
     indices: the counts by majority
     names: the names of chairs: as given, else of the member with the most votes and how many others there are
-    taken: the commands that lead there from the base, each with its records, which have numbers of votes
-    back: the records that lead back
+    taken: the commands that lead there from the base, each with the register's commands for it
+    back: the register's commands that lead back
     base: the result of the base, or None in the base itself
     sweep, percent: the text of the sweep and the step's share in per cent, else empty
     votes: the votes of the sweep's subject at this step
@@ -95,21 +95,21 @@ class Result:
     indices: dict[Majority, Indices]
     names: dict[int, str]
     taken: Taken = ()
-    back: tuple[str, ...] = field(default=(), repr=False)
+    back: tuple[Command, ...] = field(default=(), repr=False)
     base: Optional[Result] = field(default=None, repr=False)
     sweep: str = ""
     percent: str = ""
     votes: int = 0
 
     @cached_property
-    def records(self) -> tuple[str, ...]:
-        """The records that lead there from the base."""
-        return tuple(record for _, records in self.taken for record in records)
+    def commands(self) -> tuple[Command, ...]:
+        """The register's commands that lead there from the base."""
+        return tuple(it for _, commands in self.taken for it in commands)
 
     @cached_property
     def opened(self) -> frozenset[int]:
         """The chairs that they open, which can't be compared with the base's."""
-        return frozenset(int(it[5:]) for it in self.records if it.startswith("open,"))
+        return frozenset(it.chair for it in self.commands if it.kind == "open" and it.chair)
 
     @cached_property
     def chairs(self) -> dict[Majority, dict[int, Chair]]:
@@ -213,9 +213,9 @@ class Study:
         """An input of `board replay` that gives the same readings: those of each result, in the order of tables, and
         then those of both sides of each threshold."""
         reads = ["publish", *(f"read,1,{it}" for it in self.majorities)]
-        parts = [[*it.records, *reads, *it.back] for it in self.results.values()]
+        parts: list[list[Command | str]] = [[*it.commands, *reads, *it.back] for it in self.results.values()]
         sides = [pair for swept in self.sweeps for pair in swept.sides]
-        parts += [[*it.records, "publish", f"read,1,{majority}", *it.back] for majority, it in sides]
+        parts += [[*it.commands, "publish", f"read,1,{majority}", *it.back] for majority, it in sides]
         return self.base.register.script() + "".join(f"{line}\n" for part in parts for line in part)
 
     def hashes(self) -> dict[str, str]:
@@ -279,11 +279,11 @@ def with_names(found: Result, moved: Moved, members: Mapping[str, str]) -> Resul
 
 @dataclass(frozen=True)
 class Moved:
-    """A register after commands: the register, the commands with their records, and the records that lead back."""
+    """A register after commands of scenarios: the register, what it carried out for each, and what leads back."""
 
     register: Register
     taken: Taken = ()
-    back: tuple[str, ...] = ()
+    back: tuple[Command, ...] = ()
 
     @cached_property
     def members(self) -> Members:
@@ -294,16 +294,17 @@ class Moved:
         register, taken, back, members = self.register.copy(), list(self.taken), list(self.back), self.members
         for number, command in enumerate(commands):
             members = register.members if number else members
+            accepted = register.accepted
             try:
-                records = records_of(members, command)
-                for record in records:
+                for record in records_of(members, command):
                     register.submit(record)
             except Refused as why:
                 raise BadStudy(str(why)) from None
             except BadStudy as why:
                 raise BadStudy(f"{command!r}: {why}") from None
-            taken.append((command, tuple(records)))
-            back = [*(it for record in reversed(records) for it in undone(members, record)), *back]
+            done = register.journal[accepted:]
+            taken.append((command, done))
+            back = [*(it for one in reversed(done) for it in undone(members, one)), *back]
         return Moved(register, tuple(taken), tuple(back))
 
 

@@ -15,7 +15,7 @@ from .answers import decimal
 from .files import csv_text
 from .library import path_of
 from .names import KINDS, VERSION, Majority
-from .results import INDEX_NAMES, IndexName, Indices
+from .results import INDEX_NAMES, Command, IndexName, Indices
 from .scenarios import BASE, Sweep, plain
 from .studies import Base, Result, Study
 
@@ -94,25 +94,22 @@ def study_table(study: Study, lines: Sequence[str]) -> str:
     return csv_text(lines, STUDY_COLUMNS, (row for it in study.results.values() for row in rows_of(it, bases)))
 
 
-def command_data(record: str) -> dict[str, object]:
-    """A record as a command of the page's format."""
-    kind, *fields = record.split(",")
-    parts = dict(zip(next(it for name, it in KINDS.items() if name == kind), fields))
-    whole = {part: None if it == "none" else int(it) for part, it in parts.items() if part != "code"}
-    return {"kind": kind, **parts, **whole}
+def command_data(done: Command) -> dict[str, object]:
+    """A command of the register in the page's format."""
+    return {"kind": done.kind, **{part: getattr(done, part) for part in KINDS[done.kind]}}
 
 
 def changes_of(result: Result, first: int) -> list[dict[str, object]]:
     """The changes of a scenario in the page's format: per cent stay per cent, and several members get numbers."""
     found = list[dict[str, object]]()
-    for command, records in result.taken:
+    for command, carried_out in result.taken:
         _, who, amount = [*command.split(","), "", ""][:3]
         percent = percent_of(amount)
         if percent and re.fullmatch(CODE, who):
             of = "own" if percent.sign else "total"
             found.append({"kind": "percent", "of": of, "code": who, "percent": percent.sign + percent.number})
         else:
-            found += map(command_data, records)
+            found += map(command_data, carried_out)
     return [{"id": first + at, "on": True, "what": what} for at, what in enumerate(found)]
 
 
