@@ -30,7 +30,7 @@ pub(crate) fn run<I: Interpreter, R: Read + Drop, W: Write>(
     let mut output = Output::new(out);
     let carried = interpret::<I, R, W>(alloc, input, &mut output, limits);
     let result = end_run(&mut output, carried);
-    let _out = output.finish();
+    let _out = output.into_inner();
     result?;
     Ok(())
 }

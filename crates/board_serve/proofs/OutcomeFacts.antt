@@ -13,7 +13,7 @@ use Rattle.board_text.specs.Text.{unpublished_register}
 use Rattle.council_core.specs.declared.calls.Answer.{Answer}
 use Rattle.board_text.specs.declared.stops.Stop.{Stop}
 use Rattle.board_serve.specs.Outcomes.{IsBrought, IsOutcome, IsServed, calls_of, reported_by}
-use Rattle.board_serve.specs.Plans.{Planned, plan_over, shares_of}
+use Rattle.board_serve.specs.Plans.{Planned, plan_over, records_of}
 use Rattle.board_serve.specs.Work.{AreDone, AreRead, HasAsked, HasWritten, IsRising, cuts_of, register_of}
 use Rattle.board_serve.specs.declared.plan.Records.{Records}
 use Rattle.board_serve.specs.declared.reader_work.ReaderWork.{ReaderWork}
@@ -42,10 +42,10 @@ IsNew opening reader = (reader.opening ≡ opening) × (reader.readings ≡ [])
 -- a new writer and new readers have the plan's records
 pub record IsSeated (p : Planned) (work : AllWork) : Type 0 where
   pub start : register_of work.writer.writer ≡ p.start
-  pub orders : work.writer.orders.items ≡ p.shares.orders
+  pub orders : work.writer.orders.items ≡ p.records.orders
   pub first : IsNew p.start.ledger.opening work.first.analyst.reader
   pub second : IsNew p.start.ledger.opening work.second.analyst.reader
-  pub asked : p.shares.asked ≡ work.first.asked.items ∷ work.second.asked.items ∷ []
+  pub asked : p.records.asked ≡ work.first.asked.items ∷ work.second.asked.items ∷ []
 
 -- the first two of the new readers of a board
 new-pair : (register : Ledger) (writer : Publisher) (a b : ReaderSeen) → (a ∷ b ∷ []) ≡ new_readers writer.table (share_start register 2) 2 → IsNew register.opening a × IsNew register.opening b
@@ -57,7 +57,7 @@ new-pair register writer a b same =
 -- what the start of a board gave to the threads
 pub seated : (register : Ledger) (records : Records) (work : AllWork) → register.journal ≡ [] → work.writer.writer ≡ new_publisher work.writer.writer.table register 2 → work.writer.orders ≡ records.orders
     → (work.first.analyst.reader ∷ work.second.analyst.reader ∷ []) ≡ new_readers work.writer.writer.table (share_start register 2) 2
-    → (work.first.asked ∷ work.second.asked ∷ []) ≡ records.asked → IsSeated (plan_over register (shares_of records)) work
+    → (work.first.asked ∷ work.second.asked ∷ []) ≡ records.asked → IsSeated (plan_over register (records_of records)) work
 seated register records work none writer orders readers asked =
     let new = new-pair register work.writer.writer work.first.analyst.reader work.second.analyst.reader readers in
     record {

@@ -12,7 +12,7 @@ use Rattle.board_text.specs.declared.bounds.Limits.{Limits}
 use Rattle.board_text.specs.declared.faults.Fault.{Fault}
 use Rattle.board_text.specs.declared.requests.Request.{Request}
 use Rattle.board_text.specs.declared.requests.Request.TheVariants as ask
-use Rattle.board_serve.specs.Plans.{Planned, Shares, add_at, plan_start, plan_step, record_count, two_readers, with_request}
+use Rattle.board_serve.specs.Plans.{Planned, ThreadRecords, add_at, plan_start, plan_step, record_count, two_readers, with_request}
 
 size-at : (index : ℕ) (m : Majority) (lists : List (List Majority)) → sum_by length (add_at index m lists) ≤ sum_by length lists + 1
 size-at index m [] = omega arith
@@ -22,13 +22,13 @@ size-at (suc index) m (list ∷ lists) =
     omega (arith, more, sum_by-cons length list (add_at index m lists), sum_by-cons length list lists)
 
 -- one request more is at most one more
-pub size-request : (s : Shares) (q : Request) → record_count (with_request s q) ≤ record_count s + 1
+pub size-request : (s : ThreadRecords) (q : Request) → record_count (with_request s q) ≤ record_count s + 1
 size-request s (ask.Order o) = omega (arith, length-append s.orders (o ∷ []))
 size-request s (ask.Read reader m) = let more = size-at (reader - 1) m s.asked in omega (arith, more)
 
 -- the plan's effect of a request
 abbrev pub added : Planned → Request → List LineBytes × Planned
-added p q = ([], record p { shares = with_request p.shares q })
+added p q = ([], record p { records = with_request p.records q })
 
 module _ (lim : Limits) where
   -- a turn of a plan prints nothing

@@ -144,7 +144,7 @@ pub record Audited (p : Planned) (s : Served) (legal : Bool) (answers : List Ans
   pub records : legal ≡ true → ServedLegalRecords p s
   pub differs : legal ≡ false → ServedLegalRecords p s → ⊥
   pub replies : map answered answers ≡ reported_by p
-  pub counted : counts ≡ map length p.shares.asked
+  pub counted : counts ≡ map length p.records.asked
 
 module _ (a b : Option (List ℕ)) (p : Planned) (s : Served) (legal : Bool) (answers : List Answer) (counts : List ℕ) (done : Audited p s legal answers counts) where
   as-done : (r : Result (Unit {0}) Stop) → WritesRun a b r (report_run answers counts legal) → WritesRun a b r (done_run p legal)

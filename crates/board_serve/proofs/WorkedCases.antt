@@ -32,7 +32,7 @@ abbrev register : Sequential
 register = record { ledger = record { opening = (65 ∷ 65 ∷ 65 ∷ [], 10) ∷ []; journal = []; limit = 100 }; published = 0 }
 
 abbrev pub one_reading : Planned
-one_reading = record { start = register; shares = record { orders = []; asked = (Half ∷ []) ∷ [] ∷ [] } }
+one_reading = record { start = register; records = record { orders = []; asked = (Half ∷ []) ∷ [] ∷ [] } }
 
 has_lines : work_lines one_reading ≡ [] → ⊥
 has_lines e = cc

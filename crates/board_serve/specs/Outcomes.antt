@@ -31,7 +31,7 @@ pub record IsBrought (done : AllWork) (answers : List Answer) (s : Served) : Typ
 
 -- the sequential register's calls for the writer's records
 abbrev pub calls_of : Planned → List Call
-calls_of p = map ordered p.shares.orders
+calls_of p = map ordered p.records.orders
 
 -- the sequential register's replies to the writer's records
 abbrev pub reported_by : Planned → List Reply
@@ -50,10 +50,10 @@ pub record IsServed (p : Planned) (s : Served) : Type 0 where
   pub journal : s.journal.items ≡ (state_after p.start (calls_of p)).ledger.journal
   pub legal_journal : IsLegal p.start.ledger.opening s.journal.items
   pub cuts : s.cuts.items ≡ cuts_of (reported_by p)
-  pub counts : map length (sheets_of s) ≡ map length p.shares.asked
+  pub counts : map length (sheets_of s) ≡ map length p.records.asked
   pub legal : All (λ sheets. All (IsLegalSheet p.start.ledger.opening) sheets) (sheets_of s)
   pub rising : All (IsRising 0) (sheets_of s)
-  pub winning : winning_of s ≡ omegas_by p.shares.asked (sheets_of s)
+  pub winning : winning_of s ≡ omegas_by p.records.asked (sheets_of s)
 
 -- the journal, the cuts, with the start's cut 0 before them, and the readings are legal records
 abbrev pub ServedLegalRecords : Planned → Served → Type 0

@@ -15,28 +15,28 @@ use Rattle.board_serve.specs.declared.plan.Records.{Records}
 use Rattle.board_serve.specs.declared.plan.TheConstants.{SERVED_READERS}
 
 -- the writer's records, and by reader the majorities of its readings
-pub record Shares : Type 0 where
+pub record ThreadRecords : Type 0 where
   pub orders : List Order
   pub asked : List (List Majority)
 
 -- no records yet, for a writer and two readers
-abbrev pub no_shares : Shares
-no_shares = record { orders = []; asked = [] ∷ [] ∷ [] }
+abbrev pub no_records : ThreadRecords
+no_records = record { orders = []; asked = [] ∷ [] ∷ [] }
 
-abbrev pub shares_of : Records → Shares
-shares_of r = record { orders = r.orders.items; asked = map (λ v. v.items) r.asked }
+abbrev pub records_of : Records → ThreadRecords
+records_of r = record { orders = r.orders.items; asked = map (λ v. v.items) r.asked }
 
 -- the number of records
-abbrev pub record_count : Shares → ℕ
+abbrev pub record_count : ThreadRecords → ℕ
 record_count s = length s.orders + sum_by length s.asked
 
 -- the register at its start, and the records
 pub record Planned : Type 0 where
   pub start : Sequential
-  pub shares : Shares
+  pub records : ThreadRecords
 
-abbrev pub plan_over : Ledger → Shares → Planned
-plan_over ledger shares = record { start = unpublished_register ledger; shares = shares }
+abbrev pub plan_over : Ledger → ThreadRecords → Planned
+plan_over ledger records = record { start = unpublished_register ledger; records = records }
 
 -- limits of two readers and a journal of at most `journal` commands
 abbrev pub two_readers : ℕ → Limits
@@ -49,18 +49,18 @@ add_at zero a (list ∷ lists) = (list ++ a ∷ []) ∷ lists
 add_at (suc index) a (list ∷ lists) = list ∷ add_at index a lists
 
 -- appends one request to the records of the writer or of its reader; readers are numbered from 1
-abbrev pub with_request : Shares → Request → Shares
+abbrev pub with_request : ThreadRecords → Request → ThreadRecords
 with_request s (ask.Order o) = record s { orders = s.orders ++ o ∷ [] }
 with_request s (ask.Read reader m) = record s { asked = add_at (reader - 1) m s.asked }
 
 -- a plan at the start of a script
 abbrev pub plan_start : Limits → Ledger → Planned
-plan_start lim ledger = plan_over ledger no_shares
+plan_start lim ledger = plan_over ledger no_records
 
 -- a record is added to the plan and prints nothing
 abbrev pub plan_step : Limits → Planned → Row → Turn Planned
 plan_step lim p row =
-    turn_of (λ q. ([], record p { shares = with_request p.shares q })) (request_within (two_readers lim.journal) row)
+    turn_of (λ q. ([], record p { records = with_request p.records q })) (request_within (two_readers lim.journal) row)
 
 -- the plan of these bytes, or their fault: all records of the script are looked at before any is
 -- carried out

@@ -25,7 +25,7 @@ lines_of_work replies counts = map reply_line replies ++ count_lines 1 counts
 
 -- the lines written before the result of the audit
 abbrev pub work_lines : Planned → List LineBytes
-work_lines p = lines_of_work (reported_by p) (map length p.shares.asked)
+work_lines p = lines_of_work (reported_by p) (map length p.records.asked)
 
 -- the result of the audit: its line, or a fault
 abbrev pub audited_run : Bool → Run

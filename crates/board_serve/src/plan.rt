@@ -2,7 +2,7 @@
 ghost use Rattle.std.specs.Prelude.{◌≡◌, ◌≤◌, ◌∷◌, [], true, length, map, OnOk};
 ghost use Rattle.board_text.specs.Output.{StartsScript};
 ghost use Rattle.board_text.specs.Text.{is_served};
-ghost use Rattle.board_serve.specs.Plans.{no_shares, plan_start, plan_step, plan_over, record_count, shares_of};
+ghost use Rattle.board_serve.specs.Plans.{no_records, plan_start, plan_step, plan_over, record_count, records_of};
 ghost use Rattle.board_serve.specs.Plans.{two_readers, with_request};
 
 use board_text::{Interpreter, Limits, Output, Request, ScriptStart, Stop, request_in};
@@ -26,7 +26,7 @@ pub(crate) struct Records {
 impl Records {
     // No records.
     fn new(alloc: Global) -> Records
-        ensures none { shares_of result ≡ no_shares }
+        ensures none { records_of result ≡ no_records }
     {
         Records {
             orders: Vec::new(alloc),
@@ -37,7 +37,7 @@ impl Records {
     // Appends a request to the records of the writer or of its reader.
     fn add(&mut self, request: Request) -> Result<(), AllocError>
         requires served { is_served (two_readers 0) request ≡ true }
-        ensures added { OnOk result (shares_of self.new ≡ with_request (shares_of self.old) request) }
+        ensures added { OnOk result (records_of self.new ≡ with_request (records_of self.old) request) }
     {
         // The prover needs these lines, since an order has a command, which may have a chair.
         let _nothing: Option<Command> = None;
@@ -59,11 +59,11 @@ pub(crate) struct Plan {
 
 impl Model for Plan {
     ghost use Rattle.board_text.specs.Output.{StartsScript};
-    ghost use Rattle.board_serve.specs.Plans.{Planned, plan_over, shares_of};
+    ghost use Rattle.board_serve.specs.Plans.{Planned, plan_over, records_of};
 
     ghost Value = { Planned };
 
-    ghost view = { λ p. plan_over p.start.register (shares_of p.records) };
+    ghost view = { λ p. plan_over p.start.register (records_of p.records) };
 
     ghost invariant = { λ p. StartsScript p.start };
 }
@@ -71,7 +71,7 @@ impl Model for Plan {
 impl Plan {
     // The number of readings of each reader.
     pub(crate) fn counts(&self) -> (u64, u64)
-        ensures same { result.0 ∷ result.1 ∷ [] ≡ map length self.now.shares.asked }
+        ensures same { result.0 ∷ result.1 ∷ [] ≡ map length self.now.records.asked }
     {
         let [first, second] = &self.records.asked;
         (first.len() as u64, second.len() as u64)
@@ -79,7 +79,7 @@ impl Plan {
 
     // The start and the records.
     pub(crate) fn into_parts(self) -> (ScriptStart, Records)
-        ensures parts { self ≡ plan_over result.0.register (shares_of result.1) }
+        ensures parts { self ≡ plan_over result.0.register (records_of result.1) }
         ensures starts { StartsScript result.0 }
     {
         (self.start, self.records)
@@ -91,7 +91,7 @@ impl Interpreter for Plan {
 
     ghost step = { plan_step };
 
-    ghost kept = { λ number plan. record_count plan.shares ≤ number };
+    ghost kept = { λ number plan. record_count plan.records ≤ number };
 
     fn open(alloc: Global, start: ScriptStart, _limits: Limits) -> Result<Plan, Stop> {
         Ok(Plan {

@@ -94,7 +94,7 @@ fn perform<G: Gate, R: Threads + Wait + Sync>(
     gate: &G,
     plan: Plan,
 ) -> Result<(Vec<Answer>, Served, bool), Stop>
-    requires bound { record_count plan.shares < 2 ^ 32 }
+    requires bound { record_count plan.records < 2 ^ 32 }
     ensures done { IfOk result (λ r. IsOutcome plan r.0.items r.1) }
     ensures records { IfOk result (λ r. r.2 ≡ true → ServedLegalRecords plan r.1) }
     ensures differs { IfOk result (λ r. r.2 ≡ false → ServedLegalRecords plan r.1 → ⊥) }
@@ -165,7 +165,7 @@ fn serve_plan<G: Gate, T: Threads + Wait + Sync, W: Write>(
     plan: Plan,
     out: &mut Output<'_, W>,
 ) -> Result<Served, Stop>
-    requires bound { record_count plan.shares < 2 ^ 32 }
+    requires bound { record_count plan.records < 2 ^ 32 }
     ensures wrote { WritesServeRun out.old.held out.new.held result (Ok plan) }
     ensures continues { GoesOn out.old out.new }
 {
@@ -254,6 +254,6 @@ pub fn serve<G: Gate, T: Threads + Wait + Sync, R: Read + Drop, W: Write>(
     let mut output = Output::new(out);
     let carried = serve_to(rt, alloc, gate, input, &mut output, journal_limit);
     let result = end_run(&mut output, carried);
-    let _out = output.finish();
+    let _out = output.into_inner();
     result
 }

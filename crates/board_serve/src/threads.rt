@@ -3,7 +3,7 @@ ghost use Rattle.std.specs.Prelude.{◌≡◌, ◌<◌, ◌^◌, ◌∷◌, [], 
 ghost use Rattle.board_share.specs.Openings.{share_start, new_readers, new_publisher};
 ghost use Rattle.board_text.specs.declared.stops.Stop.TheVariants as stop;
 ghost use Rattle.board_serve.specs.Outcomes.{IsBrought};
-ghost use Rattle.board_serve.specs.Plans.{record_count, shares_of};
+ghost use Rattle.board_serve.specs.Plans.{record_count, records_of};
 ghost use Rattle.board_serve.specs.Work.{AreDone, AreReady, CanAsk, CanWrite, HasAsked, HasWritten, IsClosed, IsHeldUp};
 
 use crate::gates::Gate;
@@ -57,7 +57,7 @@ fn split_records(records: Records) -> (Vec<Order>, Vec<Majority>, Vec<Majority>)
 
 // Starts a board over a register, and gives the writer and each reader their records.
 pub(crate) fn seat_all(alloc: Global, register: Register, records: Records) -> Result<AllWork, Stop>
-    requires bound { record_count (shares_of records) < 2 ^ 32 }
+    requires bound { record_count (records_of records) < 2 ^ 32 }
     ensures ready { IfOk result AreReady }
     ensures memory { IsOkUnless result stop.OutOfMemory }
 

@@ -51,11 +51,11 @@ impl<'a, W: Write> Output<'a, W> {
     }
 
     /// Returns the borrowed writer. Writes nothing.
-    pub fn finish(self) -> &'a mut W
+    pub fn into_inner(self) -> &'a mut W
         ensures lender { result.ghost_name ≡ self.entry.lender }
         ensures held { W.contents result.now ≡ self.entry.held }
     {
-        self.out.finish()
+        self.out.into_inner()
     }
 
     // One write: the number of bytes of the text that the writer accepted, or 0 if the write was
@@ -133,5 +133,5 @@ pub fn say<W: Write>(out: &mut W, text: &[u8])
 {
     let mut output = Output::new(out);
     output.write_front(text);
-    let _out = output.finish();
+    let _out = output.into_inner();
 }

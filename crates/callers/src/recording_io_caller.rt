@@ -19,6 +19,6 @@ pub fn forward<R: Read + Drop, W: Write>(
     let mut bytes = [0; 512];
     let read = reader.read(&mut bytes)?;
     let written = writer.write(&bytes[..read])?;
-    let _to = writer.finish();
+    let _to = writer.into_inner();
     Ok((reader, written))
 }

@@ -52,7 +52,7 @@ impl<'a, W: Write> RecordingWriter<'a, W> {
     /// let mut stdout = rt.stdout();
     /// let mut out = RecordingWriter::new(&mut stdout);
     /// let written = out.write(b"accepted,1\n");
-    /// let _stdout = out.finish();
+    /// let _stdout = out.into_inner();
     /// ```
     pub fn new(to: &'a mut W) -> RecordingWriter<'a, W>
         ensures lender { result.lender ≡ to.entry.ghost_name }
@@ -69,7 +69,7 @@ impl<'a, W: Write> RecordingWriter<'a, W> {
     }
 
     /// Returns the borrowed writer and drops the record. Writes nothing.
-    pub fn finish(self) -> &'a mut W
+    pub fn into_inner(self) -> &'a mut W
         ensures lender { result.ghost_name ≡ self.entry.lender }
         ensures held { W.contents result.now ≡ self.entry.held }
     {

@@ -1,4 +1,4 @@
-use Rattle.board_serve.specs.Plans.{plan_over, shares_of}
+use Rattle.board_serve.specs.Plans.{plan_over, records_of}
 use Rattle.board_serve.proofs.OutcomeFacts.{outcome-of, seated, served-cuts}
 use Rattle.board_serve.proofs.serving.perform.Goals as goal
 
@@ -9,12 +9,12 @@ are_legal-requires-clause-legal g c =
     let start = c.in_ok-work.ensures in
     let seats = seated parts.result.0.register parts.result.1 work parts.ensures.starts.none start.writer start.orders start.readers start.asked in
     rw (c.as_slice.ensures.value, ← parts.ensures.starts.members)
-    (outcome-of (plan_over parts.result.0.register (shares_of parts.result.1)) work c.in_ok-done.done c.in_ok-answers.answers.items c.in_ok-answers.served seats c.in_ok-done.ensures.done c.in_ok-answers.ensures.brought).served.legal_journal
+    (outcome-of (plan_over parts.result.0.register (records_of parts.result.1)) work c.in_ok-done.done c.in_ok-answers.answers.items c.in_ok-answers.served seats c.in_ok-done.ensures.done c.in_ok-answers.ensures.brought).served.legal_journal
 
 pub are_legal-requires-clause-in_order : goal.are_legal-requires-clause-in_order
 are_legal-requires-clause-in_order g c =
     let parts = c.into_parts-start in
-    let p = plan_over parts.result.0.register (shares_of parts.result.1) in
+    let p = plan_over parts.result.0.register (records_of parts.result.1) in
     let work = c.in_ok-work.work in
     let start = c.in_ok-work.ensures in
     let seats = seated parts.result.0.register parts.result.1 work parts.ensures.starts.none start.writer start.orders start.readers start.asked in
@@ -27,7 +27,7 @@ returns-clause-done g c =
     let start = c.in_ok-work.ensures in
     let seats = seated parts.result.0.register parts.result.1 work parts.ensures.starts.none start.writer start.orders start.readers start.asked in
     rw parts.ensures.parts
-    (outcome-of (plan_over parts.result.0.register (shares_of parts.result.1)) work c.in_ok-done.done c.in_ok-answers.answers.items c.in_ok-answers.served seats c.in_ok-done.ensures.done c.in_ok-answers.ensures.brought)
+    (outcome-of (plan_over parts.result.0.register (records_of parts.result.1)) work c.in_ok-done.done c.in_ok-answers.answers.items c.in_ok-answers.served seats c.in_ok-done.ensures.done c.in_ok-answers.ensures.brought)
 
 pub returns-clause-records : goal.returns-clause-records
 returns-clause-records g c = rw (c.into_parts-start.ensures.parts, c.into_parts-start.ensures.starts.members, ← c.as_slice.ensures.value) c.in_ok-legal.ensures.legal

@@ -3,7 +3,7 @@ use Rattle.csv.specs.Records.{fields_of}
 use Rattle.board_text.specs.Text.{request_within}
 use Rattle.board_text.proofs.RunFacts.{writes-nothing}
 use Rattle.board_text.proofs.RecordFacts.{turn-refused, turn-valid}
-use Rattle.board_serve.specs.Plans.{Planned, record_count, shares_of, two_readers}
+use Rattle.board_serve.specs.Plans.{Planned, record_count, records_of, two_readers}
 use Rattle.board_serve.proofs.PlanFacts.{added, size-request}
 use Rattle.board_serve.proofs.plan.PlanInterpreter.carry_out.Goals as goal
 
@@ -21,6 +21,6 @@ returns-clause-state g c =
 
 pub returns-clause-kept : goal.returns-clause-kept
 returns-clause-kept g c =
-    let one = size-request (shares_of c.self.inside.records) c.in-Ok.request in
-    let before : record_count (shares_of c.self.inside.records) ≡ record_count c.args.self.now.shares = ap (λ (p : Planned). record_count p.shares) c.self.view_is in
+    let one = size-request (records_of c.self.inside.records) c.in-Ok.request in
+    let before : record_count (records_of c.self.inside.records) ≡ record_count c.args.self.now.records = ap (λ (p : Planned). record_count p.records) c.self.view_is in
     omega (arith, ap record_count c.in_ok-add.ensures.added, one, before, c.requires.kept)
