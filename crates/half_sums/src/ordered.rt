@@ -77,7 +77,7 @@ impl OrderedSums {
     }
 }
 
-// Makes a column that has room for `count` items that long. What its items are then has no meaning.
+// Sets the length of a column that has room for `count` items. It leaves the items unspecified.
 fn set_length<T: Copy>(column: &mut Vec<T>, count: usize, zero: T)
     requires room { count ≤ vec_capacity column.old }
     ensures count { vec_len column.new ≡ count }
