@@ -1,7 +1,7 @@
 -- The call that was answered, and how often it was interrupted.
-use Rattle.std.proofs.Common.{◌≡◌, ◌≤◌, ◌+◌, ℕ, inl, inr, Result, Ok, Err, arith}
+use Rattle.std.proofs.Common.{◌≡◌, ◌+◌, ℕ, inl, inr, Result, Ok, Err, arith}
 use Rattle.recording_io.specs.Tapes.{Giving}
-use Rattle.board_text.specs.Inputs.{InterruptedAtMost, RunRetriesAtMost}
+use Rattle.board_text.specs.Inputs.{InterruptedAtMost, IsOfDevice, RetriesAtMost}
 use Rattle.board_text.specs.declared.faults.Fault.{Fault}
 use Rattle.board_report.specs.Calls.{IsAnswered}
 use Rattle.board_report.specs.declared.calls.Invocation.{Invocation}
@@ -11,7 +11,7 @@ answered-as given call (inl same) = cc
 answered-as given call (inr lacks) = cc lacks
 
 -- a run was interrupted once more at most than interruptions are retried
-pub run-interrupted : (count : ℕ) (from to : Giving) (r : Result (Unit {0}) Fault) → RunRetriesAtMost count from to r → InterruptedAtMost (count + 1) from to
+pub run-interrupted : (count : ℕ) (from to : Giving) (r : Result (Unit {0}) Fault) → RetriesAtMost IsOfDevice count from to r → InterruptedAtMost (count + 1) from to
 run-interrupted count from to (Ok u) p = omega (arith, p)
 run-interrupted count from to (Err f) (inl bound) = omega (arith, bound)
 run-interrupted count from to (Err f) (inr (device, more)) = more

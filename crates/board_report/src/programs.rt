@@ -10,7 +10,7 @@ ghost use Rattle.board_report.specs.declared.calls.Invocation.TheVariants.{Serve
 ghost use Rattle.board_report.specs.declared.calls.NoCall.TheVariants as none;
 ghost use Rattle.board_report.specs.Programs.{AnswersWords, CallEnds, CallExits, LacksMemory, failure_text};
 ghost use Rattle.board_report.specs.Programs.{no_text, written_streams};
-ghost use Rattle.board_text.specs.Inputs.{InterruptedAtMost, RunRetriesAtMost, WastesAtMost};
+ghost use Rattle.board_text.specs.Inputs.{InterruptedAtMost, IsOfDevice, ReadsWithin, WastesAtMost};
 ghost use Rattle.board_text.specs.Output.{AppendsFront};
 
 use crate::calls::{Invocation, NoCall};
@@ -78,9 +78,7 @@ fn run_serve<T: Threads + Wait + Sync, R: Read + Drop, W: Write>(
 ) -> Result<(), Fault>
     ensures ends { OfInput input.old input.new
         (λ bytes. CallEnds (Serve journal) bytes (W.contents out.old) (W.contents out.new) result) }
-    ensures asks { input.new.asks ≤ input.old.asks + READS }
-    ensures vain { WastesAtMost 1 input.old input.new }
-    ensures retried { RunRetriesAtMost INTERRUPTIONS input.old input.new result }
+    ensures reads { ReadsWithin IsOfDevice input.old input.new result }
 {
     match serve(rt, alloc, &FreeGate, input, out, journal) {
         Ok(_served) => Ok(()),
@@ -98,9 +96,7 @@ fn run<T: Threads + Wait + Sync, R: Read + Drop, W: Write>(
 ) -> Result<(), Fault>
     ensures ends { OfInput input.old input.new
         (λ bytes. CallEnds call bytes (W.contents out.old) (W.contents out.new) result) }
-    ensures asks { input.new.asks ≤ input.old.asks + READS }
-    ensures vain { WastesAtMost 1 input.old input.new }
-    ensures retried { RunRetriesAtMost INTERRUPTIONS input.old input.new result }
+    ensures reads { ReadsWithin IsOfDevice input.old input.new result }
 {
     match call {
         Invocation::Replay { readers, journal } => {

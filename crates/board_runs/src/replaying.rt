@@ -1,8 +1,8 @@
 //! Replays an input on the register.
-ghost use Rattle.std.specs.Prelude.{◌≡◌, ◌≤◌, ◌+◌, map, false, OnOk};
+ghost use Rattle.std.specs.Prelude.{◌≡◌, map, false, OnOk};
 ghost use Rattle.council_core.specs.Sequential.{response_to, published_sheet};
 ghost use Rattle.board_text.specs.Lines.{chair_line, reading_lines, reply_lines};
-ghost use Rattle.board_text.specs.Inputs.{RunRetriesAtMost, WastesAtMost};
+ghost use Rattle.board_text.specs.Inputs.{IsOfDevice, ReadsWithin};
 ghost use Rattle.board_text.specs.Output.{IsBadLimit, WritesRun};
 ghost use Rattle.board_runs.specs.Ended.{WritesOutput};
 ghost use Rattle.board_text.specs.Sinks.{GoesOn};
@@ -14,8 +14,8 @@ ghost use Rattle.board_runs.specs.Replays.{replay_start, replay_step, run_of};
 use crate::desks::Desk;
 use crate::runs::run;
 use board_text::{
-    Fault, INTERRUPTIONS, Interpreter, Limits, Output, READS, Request, ScriptStart, Stop,
-    line_of_answer, line_of_chair, line_of_reading, request_in,
+    Fault, Interpreter, Limits, Output, Request, ScriptStart, Stop, line_of_answer, line_of_chair,
+    line_of_reading, request_in,
 };
 use csv::ByteRecord;
 use majority_rule::Majority;
@@ -81,8 +81,6 @@ impl Interpreter for Desk {
 
     ghost step = { replay_step };
 
-    ghost kept = { λ number desk. Unit {0} };
-
     fn open(alloc: Global, start: ScriptStart, _limits: Limits) -> Result<Desk, Stop> {
         Desk::open(alloc, start.register)
     }
@@ -140,9 +138,7 @@ pub fn replay<R: Read + Drop, W: Write>(
     ensures wrote { OfInput input.old input.new
         (λ bytes. WritesOutput (W.contents out.old) (W.contents out.new) result (run_of limits bytes)) }
     ensures limits_first { in_range limits ≡ false → IsBadLimit result × (input.new ≡ input.old) }
-    ensures asks { input.new.asks ≤ input.old.asks + READS }
-    ensures vain { WastesAtMost 1 input.old input.new }
-    ensures retried { RunRetriesAtMost INTERRUPTIONS input.old input.new result }
+    ensures reads { ReadsWithin IsOfDevice input.old input.new result }
 {
     run::<Desk, R, W>(alloc, input, out, limits)
 }

@@ -1,13 +1,13 @@
 //! The frame of a run.
-ghost use Rattle.std.specs.Prelude.{◌≡◌, ◌≤◌, ◌+◌, false};
+ghost use Rattle.std.specs.Prelude.{◌≡◌, false};
 ghost use Rattle.recording_io.specs.Tapes.{OfInput};
-ghost use Rattle.board_text.specs.Inputs.{RunRetriesAtMost, WastesAtMost};
+ghost use Rattle.board_text.specs.Inputs.{IsOfDevice, ReadsWithin};
 ghost use Rattle.board_text.specs.Output.{IsBadLimit};
 ghost use Rattle.board_text.specs.Scripts.{interpreted_run};
 ghost use Rattle.board_text.specs.Text.{in_range};
 ghost use Rattle.board_runs.specs.Ended.{WritesOutput};
 
-use board_text::{Fault, INTERRUPTIONS, Interpreter, Limits, Output, READS, end_run, interpret};
+use board_text::{Fault, Interpreter, Limits, Output, end_run, interpret};
 use recording_io::RecordingReader;
 use std::alloc::Global;
 use std::io::{Read, Write};
@@ -23,9 +23,7 @@ pub(crate) fn run<I: Interpreter, R: Read + Drop, W: Write>(
         (λ bytes. WritesOutput (W.contents out.old) (W.contents out.new) result
         (interpreted_run I.opened I.step limits bytes)) }
     ensures limits_first { in_range limits ≡ false → IsBadLimit result × (input.new ≡ input.old) }
-    ensures asks { input.new.asks ≤ input.old.asks + READS }
-    ensures vain { WastesAtMost 1 input.old input.new }
-    ensures retried { RunRetriesAtMost INTERRUPTIONS input.old input.new result }
+    ensures reads { ReadsWithin IsOfDevice input.old input.new result }
 {
     let mut output = Output::new(out);
     let carried = interpret::<I, R, W>(alloc, input, &mut output, limits);

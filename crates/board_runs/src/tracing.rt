@@ -1,8 +1,8 @@
 //! Runs the two-copy machine on a schedule.
-ghost use Rattle.std.specs.Prelude.{◌≡◌, ◌≤◌, ◌+◌, true, false, replicate, OnOk};
+ghost use Rattle.std.specs.Prelude.{◌≡◌, true, false, replicate, OnOk};
 ghost use Rattle.two_copy_steps.specs.Transitions.{state_after_events, transition};
 ghost use Rattle.board_text.specs.Lines.{note_lines};
-ghost use Rattle.board_text.specs.Inputs.{RunRetriesAtMost, WastesAtMost};
+ghost use Rattle.board_text.specs.Inputs.{IsOfDevice, ReadsWithin};
 ghost use Rattle.board_text.specs.Output.{IsBadLimit, WritesRun};
 ghost use Rattle.board_runs.specs.Ended.{WritesOutput};
 ghost use Rattle.board_text.specs.Sinks.{GoesOn};
@@ -13,8 +13,7 @@ ghost use Rattle.board_text.specs.Schedules.{is_scheduled};
 
 use crate::runs::run;
 use board_text::{
-    Act, Fault, INTERRUPTIONS, Interpreter, Limits, Output, READS, ScriptStart, Stop, act_in,
-    line_of_note,
+    Act, Fault, Interpreter, Limits, Output, ScriptStart, Stop, act_in, line_of_note,
 };
 use csv::ByteRecord;
 use recording_io::RecordingReader;
@@ -111,8 +110,6 @@ impl Interpreter for Scheduled {
 
     ghost step = { trace_step };
 
-    ghost kept = { λ number machine. Unit {0} };
-
     fn open(_alloc: Global, start: ScriptStart, limits: Limits) -> Result<Scheduled, Stop> {
         match Machine::start(start.register, limits.readers) {
             Ok(machine) => Ok(Scheduled { machine }),
@@ -159,9 +156,7 @@ pub fn trace<R: Read + Drop, W: Write>(
     ensures wrote { OfInput input.old input.new
         (λ bytes. WritesOutput (W.contents out.old) (W.contents out.new) result (trace_of limits bytes)) }
     ensures limits_first { in_range limits ≡ false → IsBadLimit result × (input.new ≡ input.old) }
-    ensures asks { input.new.asks ≤ input.old.asks + READS }
-    ensures vain { WastesAtMost 1 input.old input.new }
-    ensures retried { RunRetriesAtMost INTERRUPTIONS input.old input.new result }
+    ensures reads { ReadsWithin IsOfDevice input.old input.new result }
 {
     run::<Scheduled, R, W>(alloc, input, out, limits)
 }

@@ -19,7 +19,7 @@ use Rattle.board_text.specs.declared.stops.Stop.TheVariants as stop
 use Rattle.std.proofs.lemmas.List.{length-append}
 use Rattle.board_text.specs.declared.requests.Request.TheVariants as ask
 use Rattle.board_serve.specs.Outcomes.{IsServed, ServedLegalRecords, sheets_of}
-use Rattle.board_serve.specs.Plans.{Planned, ThreadRecords, add_at, no_records, plan_of, plan_over, record_count, with_request}
+use Rattle.board_serve.specs.Plans.{Planned, ThreadRecords, add_at, no_records, plan_of, plan_over, with_request}
 use Rattle.board_serve.specs.Serving.{Differs, EndsAfter, EndsBroken, EndsInInputFault, WritesServeRun, WritesAllOfServe, WritesServeUntilStop, count_lines, lines_of_work, work_lines}
 use Rattle.board_serve.specs.declared.serving.Served.{Served}
 use Rattle.board_serve.proofs.WorkedCases.{one_reading}
@@ -34,9 +34,6 @@ shared = with_request (with_request (with_request (with_request no_records (ask.
 
 shares_of_four : shared ≡ record { orders = order.Publish ∷ []; asked = (Half ∷ Quorum ∷ []) ∷ (Seventy ∷ []) ∷ [] }
 shares_of_four = refl
-
-four_records : (record_count shared ≡ 4) × (record_count no_records ≡ 0)
-four_records = (refl, refl)
 
 -- the plan of an input, and its fault: a third reader, or a record that isn't well formed
 abbrev start : List ℕ

@@ -1,8 +1,5 @@
 -- The plan of a run of the threads, from its input.
-use Rattle.std.proofs.Common.{◌≡◌, ◌≤◌, ◌+◌, ◌-◌, ℕ, zero, suc, List, [], ◌∷◌, ◌++◌, length, sum_by, Result, Ok, Err, refl, arith}
-use Rattle.std.proofs.lemmas.List.{length-append}
-use Rattle.std.proofs.lemmas.List.Sums.{sum_by-cons}
-use Rattle.majority_rule.specs.declared.majorities.Majority.{Majority}
+use Rattle.std.proofs.Common.{◌≡◌, ◌+◌, ℕ, List, [], ◌∷◌, Result, Ok, Err, refl}
 use Rattle.council_core.specs.declared.refusals.Refusal.{Refusal}
 use Rattle.board_text.specs.Lines.{LineBytes}
 use Rattle.board_text.specs.Requests.{Row}
@@ -11,20 +8,7 @@ use Rattle.board_text.specs.Text.{Started, Run, request_within}
 use Rattle.board_text.specs.declared.bounds.Limits.{Limits}
 use Rattle.board_text.specs.declared.faults.Fault.{Fault}
 use Rattle.board_text.specs.declared.requests.Request.{Request}
-use Rattle.board_text.specs.declared.requests.Request.TheVariants as ask
-use Rattle.board_serve.specs.Plans.{Planned, ThreadRecords, add_at, plan_start, plan_step, record_count, two_readers, with_request}
-
-size-at : (index : ℕ) (m : Majority) (lists : List (List Majority)) → sum_by length (add_at index m lists) ≤ sum_by length lists + 1
-size-at index m [] = omega arith
-size-at zero m (list ∷ lists) = omega (arith, length-append list (m ∷ []), sum_by-cons length (list ++ m ∷ []) lists, sum_by-cons length list lists)
-size-at (suc index) m (list ∷ lists) =
-    let more = size-at index m lists in
-    omega (arith, more, sum_by-cons length list (add_at index m lists), sum_by-cons length list lists)
-
--- one request more is at most one more
-pub size-request : (s : ThreadRecords) (q : Request) → record_count (with_request s q) ≤ record_count s + 1
-size-request s (ask.Order o) = omega (arith, length-append s.orders (o ∷ []))
-size-request s (ask.Read reader m) = let more = size-at (reader - 1) m s.asked in omega (arith, more)
+use Rattle.board_serve.specs.Plans.{Planned, plan_start, plan_step, two_readers, with_request}
 
 -- the plan's effect of a request
 abbrev pub added : Planned → Request → List LineBytes × Planned

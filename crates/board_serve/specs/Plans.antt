@@ -1,5 +1,5 @@
 -- The plan of a run with threads, as a function of the bytes that it reads.
-use Rattle.std.specs.Prelude.{ℕ, zero, suc, ◌+◌, ◌-◌, ◌++◌, List, [], ◌∷◌, length, map, sum_by, Result}
+use Rattle.std.specs.Prelude.{ℕ, zero, suc, ◌+◌, ◌-◌, ◌++◌, List, [], ◌∷◌, map, Result}
 use Rattle.council_core.specs.Ledgers.{Ledger}
 use Rattle.council_core.specs.Sequential.{Sequential}
 use Rattle.majority_rule.specs.declared.majorities.Majority.{Majority}
@@ -25,10 +25,6 @@ no_records = record { orders = []; asked = [] ∷ [] ∷ [] }
 
 abbrev pub records_of : Records → ThreadRecords
 records_of r = record { orders = r.orders.items; asked = map (λ v. v.items) r.asked }
-
--- the number of records
-abbrev pub record_count : ThreadRecords → ℕ
-record_count s = length s.orders + sum_by length s.asked
 
 -- the register at its start, and the records
 pub record Planned : Type 0 where

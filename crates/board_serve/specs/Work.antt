@@ -1,5 +1,5 @@
 -- The work of the threads of a run.
-use Rattle.std.specs.Prelude.{◌≡◌, ℕ, ◌≤◌, ◌<◌, ◌^◌, ◌*◌, ◌⊎◌, ◌++◌, List, [], ◌∷◌, length, map, replicate, All}
+use Rattle.std.specs.Prelude.{◌≡◌, ℕ, ◌≤◌, ◌*◌, ◌⊎◌, ◌++◌, List, [], ◌∷◌, length, map, replicate, All}
 use Rattle.std.specs.Prelude.{vec_len, Result, Ok, Err}
 use Rattle.std.specs.List.{flat_map}
 use Rattle.std.specs.Vec.{vec_capacity}
@@ -50,7 +50,6 @@ IsHeldUp e = (e ≡ stop.OutOfMemory) ⊎ IsClosed e
 
 -- nothing is stored yet, and there is room for each of the orders
 pub record CanWrite (work : WriterWork) : Type 0 where
-  pub bound : vec_len work.orders < 2 ^ 32
   pub no_answers : work.answers.items ≡ []
   pub no_cuts : work.cuts.items ≡ []
   pub answers_fit : vec_len work.orders ≤ vec_capacity work.answers
@@ -72,7 +71,6 @@ HasWritten work (Err e) = IsHeldUp e
 
 -- nothing is stored yet, and there is room for each of the readings
 pub record CanAsk (work : ReaderWork) : Type 0 where
-  pub bound : vec_len work.asked < 2 ^ 32
   pub no_sheets : work.sheets.items ≡ []
   pub no_winning : work.winning.items ≡ []
   pub sheets_fit : vec_len work.asked ≤ vec_capacity work.sheets

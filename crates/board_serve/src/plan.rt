@@ -1,12 +1,11 @@
 //! A plan: the register at the start of a script, and the script's records by thread.
-ghost use Rattle.std.specs.Prelude.{◌≡◌, ◌≤◌, ◌∷◌, [], true, length, map, OnOk};
-ghost use Rattle.board_text.specs.Output.{StartsScript};
+ghost use Rattle.std.specs.Prelude.{◌≡◌, ◌∷◌, [], true, length, map, OnOk};
 ghost use Rattle.board_text.specs.Text.{is_served};
-ghost use Rattle.board_serve.specs.Plans.{no_records, plan_start, plan_step, plan_over, record_count, records_of};
+ghost use Rattle.board_serve.specs.Plans.{no_records, plan_start, plan_step, plan_over, records_of};
 ghost use Rattle.board_serve.specs.Plans.{two_readers, with_request};
 
 use board_text::{Interpreter, Limits, Output, Request, ScriptStart, Stop, request_in};
-use council_core::{ChairId, Command, Order};
+use council_core::{ChairId, Command, Order, Register};
 use csv::ByteRecord;
 use majority_rule::Majority;
 use std::alloc::{AllocError, Global};
@@ -53,19 +52,19 @@ impl Records {
 // A register at its start, and the script's records.
 #[derive(Drop)]
 pub(crate) struct Plan {
-    start: ScriptStart,
+    register: Register,
     records: Records,
 }
 
 impl Model for Plan {
-    ghost use Rattle.board_text.specs.Output.{StartsScript};
+    ghost use Rattle.std.specs.Prelude.{◌≡◌, []};
     ghost use Rattle.board_serve.specs.Plans.{Planned, plan_over, records_of};
 
     ghost Value = { Planned };
 
-    ghost view = { λ p. plan_over p.start.register (records_of p.records) };
+    ghost view = { λ p. plan_over p.register (records_of p.records) };
 
-    ghost invariant = { λ p. StartsScript p.start };
+    ghost invariant = { λ p. p.register.journal ≡ [] };
 }
 
 impl Plan {
@@ -77,12 +76,12 @@ impl Plan {
         (first.len() as u64, second.len() as u64)
     }
 
-    // The start and the records.
-    pub(crate) fn into_parts(self) -> (ScriptStart, Records)
-        ensures parts { self ≡ plan_over result.0.register (records_of result.1) }
-        ensures starts { StartsScript result.0 }
+    // The register and the records.
+    pub(crate) fn into_parts(self) -> (Register, Records)
+        ensures parts { self ≡ plan_over result.0 (records_of result.1) }
+        ensures starts { result.0.journal ≡ [] }
     {
-        (self.start, self.records)
+        (self.register, self.records)
     }
 }
 
@@ -91,11 +90,9 @@ impl Interpreter for Plan {
 
     ghost step = { plan_step };
 
-    ghost kept = { λ number plan. record_count plan.records ≤ number };
-
     fn open(alloc: Global, start: ScriptStart, _limits: Limits) -> Result<Plan, Stop> {
         Ok(Plan {
-            start,
+            register: start.register,
             records: Records::new(alloc),
         })
     }

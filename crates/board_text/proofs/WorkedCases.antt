@@ -6,7 +6,7 @@ use Rattle.council_core.specs.declared.commands.Command.TheVariants.{Open, Move}
 use Rattle.council_core.specs.Rolls.{Opening}
 use Rattle.council_core.specs.declared.refusals.Refusal.TheVariants.{BadHeader, BadLimit, BadRecord, ChairOpen, OutOfMemory, ReadFault, TooLong, WriteFault}
 use Rattle.recording_io.specs.Tapes.{Giving}
-use Rattle.board_text.specs.Inputs.{IsOfDevice, NoReadInVain, RetriesAtMost, RunRetriesAtMost}
+use Rattle.board_text.specs.Inputs.{IsOfDevice, IsReadFault, NoReadInVain, RetriesAtMost}
 use Rattle.board_text.specs.Output.{Fails, IsBadLimit, IsBroken, WritesRun, Starts}
 use Rattle.board_text.specs.Text.{fault_at, printed_run, stopped_run}
 use Rattle.board_text.specs.declared.bounds.Limits.{Limits}
@@ -132,26 +132,30 @@ read_behind_too_long : NoReadInVain {A = Unit {0}} (reader 0 0) (reader 1 0) (Er
 read_behind_too_long h = absurd (omega (arith, h))
 
 -- of at most two retries the third interruption is a failed read, and there is no fourth
-retried_twice : RetriesAtMost {A = Unit {0}} 2 (reader 0 0) (reader 3 2) (Ok tt)
+retried_twice : RetriesAtMost {A = Unit {0}} IsReadFault 2 (reader 0 0) (reader 3 2) (Ok tt)
 retried_twice = omega arith
 
-retried_thrice : RetriesAtMost {A = Unit {0}} 2 (reader 0 0) (reader 4 3) (Ok tt) → ⊥
+retried_thrice : RetriesAtMost {A = Unit {0}} IsReadFault 2 (reader 0 0) (reader 4 3) (Ok tt) → ⊥
 retried_thrice h = absurd (omega (arith, h))
 
-third_interruption : RetriesAtMost {A = Unit {0}} 2 (reader 0 0) (reader 3 3) (Err stop.ReadFault)
-third_interruption = omega arith
+third_interruption : RetriesAtMost {A = Unit {0}} IsReadFault 2 (reader 0 0) (reader 3 3) (Err stop.ReadFault)
+third_interruption = inr (refl, omega arith)
 
-fourth_interruption : RetriesAtMost {A = Unit {0}} 2 (reader 0 0) (reader 4 4) (Err stop.ReadFault) → ⊥
-fourth_interruption h = absurd (omega (arith, h))
+fourth_interruption : RetriesAtMost {A = Unit {0}} IsReadFault 2 (reader 0 0) (reader 4 4) (Err stop.ReadFault) → ⊥
+fourth_interruption (inl bound) = absurd (omega (arith, bound))
+fourth_interruption (inr more) = absurd (omega (arith, more.1))
 
-retried_thrice_without_memory : RetriesAtMost {A = Unit {0}} 2 (reader 0 0) (reader 3 3) (Err stop.OutOfMemory) → ⊥
-retried_thrice_without_memory h = absurd (omega (arith, h))
+retried_thrice_without_memory : RetriesAtMost {A = Unit {0}} IsReadFault 2 (reader 0 0) (reader 3 3) (Err stop.OutOfMemory) → ⊥
+retried_thrice_without_memory (inl bound) = absurd (omega (arith, bound))
+retried_thrice_without_memory (inr more) = let e = more.0 in cc e
 
-retried_thrice_for_a_failed_write : RetriesAtMost {A = Unit {0}} 2 (reader 0 0) (reader 3 3) (Err stop.WriteFault) → ⊥
-retried_thrice_for_a_failed_write h = absurd (omega (arith, h))
+retried_thrice_for_a_failed_write : RetriesAtMost {A = Unit {0}} IsReadFault 2 (reader 0 0) (reader 3 3) (Err stop.WriteFault) → ⊥
+retried_thrice_for_a_failed_write (inl bound) = absurd (omega (arith, bound))
+retried_thrice_for_a_failed_write (inr more) = let e = more.0 in cc e
 
-retried_thrice_and_too_long : RetriesAtMost {A = Unit {0}} 2 (reader 0 0) (reader 3 3) (Err (stop.Input (fault_at TooLong 0))) → ⊥
-retried_thrice_and_too_long h = absurd (omega (arith, h))
+retried_thrice_and_too_long : RetriesAtMost {A = Unit {0}} IsReadFault 2 (reader 0 0) (reader 3 3) (Err (stop.Input (fault_at TooLong 0))) → ⊥
+retried_thrice_and_too_long (inl bound) = absurd (omega (arith, bound))
+retried_thrice_and_too_long (inr more) = let e = more.0 in cc e
 
 -- the number of a fault's refusal, and of its record
 code : {f g : Fault} → f ≡ g → f.code ≡ g.code
@@ -167,15 +171,15 @@ reported : {f g : Fault} → fails f ≡ fails g → f ≡ g
 reported e = cc e
 
 -- the same of whole runs
-run_retried_thrice : RunRetriesAtMost {A = Unit {0}} 2 (reader 0 0) (reader 4 3) (Ok tt) → ⊥
+run_retried_thrice : RetriesAtMost {A = Unit {0}} IsOfDevice 2 (reader 0 0) (reader 4 3) (Ok tt) → ⊥
 run_retried_thrice h = absurd (omega (arith, h))
 
-bad_record_behind_three : RunRetriesAtMost {A = Unit {0}} 2 (reader 0 0) (reader 4 3) (Err (fault_at BadRecord 5)) → ⊥
+bad_record_behind_three : RetriesAtMost {A = Unit {0}} IsOfDevice 2 (reader 0 0) (reader 4 3) (Err (fault_at BadRecord 5)) → ⊥
 bad_record_behind_three (inl bound) = absurd (omega (arith, bound))
 bad_record_behind_three (inr (inl e, more)) = absurd (omega (arith, code e))
 bad_record_behind_three (inr (inr e, more)) = absurd (omega (arith, code e))
 
-failed_run_behind_four : RunRetriesAtMost {A = Unit {0}} 2 (reader 0 0) (reader 4 4) (Err (fault_at ReadFault 0)) → ⊥
+failed_run_behind_four : RetriesAtMost {A = Unit {0}} IsOfDevice 2 (reader 0 0) (reader 4 4) (Err (fault_at ReadFault 0)) → ⊥
 failed_run_behind_four (inl bound) = absurd (omega (arith, bound))
 failed_run_behind_four (inr more) = absurd (omega (arith, more.1))
 

@@ -3,6 +3,7 @@ use Rattle.std.specs.Prelude.{◌≡◌, ◌⊎◌, ℕ, ◌+◌, ◌<◌, ◌�
 use Rattle.council_core.specs.declared.refusals.Refusal.TheVariants as why
 use Rattle.board_text.specs.Text.{fault_at}
 use Rattle.board_text.specs.declared.faults.Fault.{Fault}
+use Rattle.board_text.specs.declared.input.TheConstants.{INTERRUPTIONS, READS}
 use Rattle.board_text.specs.declared.stops.Stop.{Stop}
 use Rattle.board_text.specs.declared.stops.Stop.TheVariants as stop
 use Rattle.recording_io.specs.Tapes.{Giving, HasEnded, WasGiven}
@@ -23,25 +24,28 @@ NoReadInVain from to (Err (stop.Input f)) = WastesAtMost 0 from to
 abbrev pub InterruptedAtMost : ℕ → Giving → Giving → Type 0
 InterruptedAtMost count from to = to.interruptions ≤ from.interruptions + count
 
--- at most `count` interruptions were retried; one more occurred only if the read that it
--- interrupted failed for good
-abbrev pub RetriesAtMost : {A : Type 0} → ℕ → Giving → Giving → Result A Stop → Type 0
-RetriesAtMost count from to (Ok _) = InterruptedAtMost count from to
-RetriesAtMost count from to (Err stop.ReadFault) = InterruptedAtMost (count + 1) from to
-RetriesAtMost count from to (Err stop.OutOfMemory) = InterruptedAtMost count from to
-RetriesAtMost count from to (Err stop.WriteFault) = InterruptedAtMost count from to
-RetriesAtMost count from to (Err (stop.Input f)) = InterruptedAtMost count from to
+-- a read failed
+abbrev pub IsReadFault : Stop → Type 0
+IsReadFault e = e ≡ stop.ReadFault
 
 -- a device failed: the input (ReadFault) or the output (WriteFault, which also replaces a fault
 -- whose line can't be written)
 abbrev pub IsOfDevice : Fault → Type 0
 IsOfDevice f = (f ≡ fault_at why.ReadFault 0) ⊎ (f ≡ fault_at why.WriteFault 0)
 
--- the bound of RetriesAtMost, for the result of a whole run
-abbrev pub RunRetriesAtMost : {A : Type 0} → ℕ → Giving → Giving → Result A Fault → Type 0
-RunRetriesAtMost count from to (Ok _) = InterruptedAtMost count from to
-RunRetriesAtMost count from to (Err f) =
-    InterruptedAtMost count from to ⊎ (IsOfDevice f × InterruptedAtMost (count + 1) from to)
+-- at most `count` interruptions were retried; one more occurred only if the read that it interrupted failed for good,
+-- of which such an error tells
+abbrev pub RetriesAtMost : {A E : Type 0} → (E → Type 0) → ℕ → Giving → Giving → Result A E → Type 0
+RetriesAtMost Tells count from to (Ok _) = InterruptedAtMost count from to
+RetriesAtMost Tells count from to (Err e) =
+    InterruptedAtMost count from to ⊎ (Tells e × InterruptedAtMost (count + 1) from to)
+
+-- the reads of a run are bounded: in all; in vain, by one that reported the end or failed, and interrupted ones; and
+-- interrupted ones, by those that are retried
+pub record ReadsWithin {A E : Type 0} (Tells : E → Type 0) (from to : Giving) (r : Result A E) : Type 0 where
+  pub asks : to.asks ≤ from.asks + READS
+  pub vain : WastesAtMost 1 from to
+  pub retried : RetriesAtMost Tells INTERRUPTIONS from to r
 
 -- one read that did not fail. `None`: the read was interrupted, the interruption was counted, and
 -- no byte came. `Some n`: the first n bytes of the piece were filled, and n is 0 for a piece with

@@ -1,17 +1,15 @@
 -- The text that a run has written, by its result.
-use Rattle.std.specs.Prelude.{◌≡◌, ◌≤◌, ℕ, length, take, ◌⊎◌, List, [], Option}
+use Rattle.std.specs.Prelude.{◌≡◌, ◌≤◌, ℕ, length, take, ◌⊎◌, List, Option}
 use Rattle.std.specs.Prelude.{Some, None, Result, Ok, Err}
 use Rattle.std.specs.Io.KnownBytes.{Appends}
 use Rattle.council_core.specs.Ledgers.{Ledger, start_verdict}
 use Rattle.council_core.specs.Rolls.{Opening}
-use Rattle.council_core.specs.declared.limits.TheConstants.{MAX_COMMANDS}
 use Rattle.council_core.specs.declared.refusals.Refusal.{Refusal}
 use Rattle.council_core.specs.declared.refusals.Refusal.TheVariants as why
 use Rattle.two_copy_steps.specs.Lawful.{IsPrefix}
 use Rattle.board_text.specs.declared.bounds.Limits.{Limits}
 use Rattle.board_text.specs.Lines.{LineBytes, fault_line}
 use Rattle.board_text.specs.Text.{Run, fault_at, line_text, ledger_at_start, text_of}
-use Rattle.board_text.specs.declared.starting.ScriptStart.{ScriptStart}
 use Rattle.board_text.specs.declared.faults.Fault.{Fault}
 use Rattle.board_text.specs.declared.stops.Stop.{Stop}
 use Rattle.board_text.specs.declared.stops.Stop.TheVariants as stop
@@ -74,13 +72,6 @@ Starts lim members (Err stop.ReadFault) = ⊥
 Starts lim members (Err stop.WriteFault) = ⊥
 Starts lim members (Err (stop.Input f)) = (e : Refusal) × (start_verdict members lim.journal ≡ Err e)
     × (f ≡ fault_at e 0)
-
--- a register with an empty journal and these members, with which one with the largest journal limit
--- can start, too
-pub record StartsScript (start : ScriptStart) : Type 0 where
-  pub starts : start_verdict start.members.items MAX_COMMANDS ≡ Ok tt
-  pub members : start.register.opening ≡ start.members.items
-  pub none : start.register.journal ≡ []
 
 -- the stop of a refusal that ends a run: out of memory, or a fault of the input at 0
 abbrev pub stop_of : Refusal → Stop

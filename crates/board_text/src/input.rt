@@ -2,7 +2,7 @@
 ghost use Rattle.std.specs.Prelude.{◌≡◌, ◌≤◌, ◌<◌, ◌+◌, length, IfOk, IfErr, ◌⊎◌, IsErrOf, IsOkUnless};
 ghost use Rattle.recording_io.specs.Tapes.{OfInput};
 ghost use Rattle.council_core.specs.declared.refusals.Refusal.TheVariants as why;
-ghost use Rattle.board_text.specs.Inputs.{InterruptedAtMost, NoReadInVain, Reads, RetriesAtMost, WastesAtMost};
+ghost use Rattle.board_text.specs.Inputs.{InterruptedAtMost, IsReadFault, NoReadInVain, Reads, ReadsWithin, WastesAtMost};
 ghost use Rattle.board_text.specs.Text.{fault_at};
 ghost use Rattle.board_text.specs.declared.stops.Stop.TheVariants as stop;
 
@@ -58,9 +58,8 @@ pub(crate) fn read_input<R: Read + Drop>(
     ensures whole { IfOk result (λ text. OfInput input.old input.new (λ bytes. text.items ≡ bytes)) }
     ensures causes { IfErr result
         (λ e. (e ≡ Stop.OutOfMemory) ⊎ (e ≡ Stop.ReadFault) ⊎ (e ≡ Stop.Input (fault_at why.TooLong 0))) }
-    ensures asks { input.new.asks ≤ input.old.asks + READS }
+    ensures reads { ReadsWithin IsReadFault input.old input.new result }
     ensures vain { NoReadInVain input.old input.new result }
-    ensures retried { RetriesAtMost INTERRUPTIONS input.old input.new result }
     ensures fits { IfOk result (λ text. length text.items ≤ INPUT_LIMIT) }
     ensures too_long { IsErrOf result (Stop.Input (fault_at why.TooLong 0))
         → OfInput input.old input.new (λ bytes. INPUT_LIMIT < length bytes) }

@@ -1,13 +1,13 @@
 //! Interprets an input: the part of a run that all three commands share.
-ghost use Rattle.std.specs.Prelude.{◌≡◌, ◌≤◌, ◌<◌, ◌+◌, ◌^◌, Ok, [], ℕ, true, false, length};
+ghost use Rattle.std.specs.Prelude.{◌≡◌, ◌≤◌, ◌<◌, ◌+◌, ◌^◌, Ok, [], true, false, length};
 ghost use Rattle.std.specs.Prelude.{IfOk, IsErrOf, OnOk, IsOkUnless};
 ghost use Rattle.recording_io.specs.Tapes.{OfInput};
 ghost use Rattle.council_core.specs.declared.refusals.Refusal.TheVariants as why;
 ghost use Rattle.csv.specs.Reading.{default_config, records, strip_bom};
 ghost use Rattle.csv.specs.Records.{fields_of};
 ghost use Rattle.council_core.specs.Ledgers.{Ledger};
-ghost use Rattle.board_text.specs.Inputs.{RetriesAtMost, WastesAtMost};
-ghost use Rattle.board_text.specs.Output.{WritesRun, StartsScript};
+ghost use Rattle.board_text.specs.Inputs.{IsReadFault, ReadsWithin};
+ghost use Rattle.board_text.specs.Output.{WritesRun};
 ghost use Rattle.board_text.specs.Sinks.{GoesOn};
 ghost use Rattle.board_text.specs.Requests.{Row};
 ghost use Rattle.board_text.specs.Scripts.{Turn, started_end, started_run, end_of_script, interpreted_end, interpreted_run};
@@ -17,7 +17,7 @@ ghost use Rattle.board_text.specs.declared.bounds.Limits.{Limits};
 ghost use Rattle.board_text.specs.declared.stops.Stop.TheVariants as stop;
 
 use crate::bounds::Limits;
-use crate::input::{INPUT_LIMIT, INTERRUPTIONS, READS};
+use crate::input::INPUT_LIMIT;
 use crate::output::Output;
 use crate::script::Script;
 use crate::starting::{ScriptStart, read_within, start_script};
@@ -35,14 +35,12 @@ use std::io::{Read, Write};
 /// means, and what is printed of it, is left to an interpreter: `replay` carries out a record on
 /// the register, `trace` on the two-copy machine, and `serve` only stores it for its threads.
 ///
-/// An implementation says in three ghost members what it does, as functions that the contracts
+/// An implementation says in two ghost members what it does, as functions that the contracts
 /// cite:
 ///
 /// - `opened` gives the state over a register at its start.
 /// - `step` gives, for a state and a record, the lines that the record prints and the state after
 ///   it, or the refusal that ends the run.
-/// - `kept` is what holds of the state before the record with a number; `Unit {0}` where there is
-///   nothing to say.
 ///
 /// and has two methods. `interpret` calls `open` once, with a register at its start, if the limits
 /// are in range and no fault was found before the script. Then it calls `carry_out` once for each
@@ -61,19 +59,15 @@ pub trait Interpreter: Sized + Drop {
     // The effect of a record, and the lines that it prints.
     ghost step: { Limits → Self → Row → Turn Self };
 
-    // What holds of the state before the record with a number.
-    ghost kept: { ℕ → Self → Type 0 };
-
     /// Opens the state over the start of a script.
     ///
     /// # Errors
     ///
     /// `Stop::OutOfMemory`.
     fn open(alloc: Global, start: ScriptStart, limits: Limits) -> Result<Self, Stop>
-        requires starts { StartsScript start }
+        requires starts { start.register.journal ≡ [] }
         requires in_range { in_range limits ≡ true }
         ensures opened { IfOk result (λ interpreter. interpreter ≡ opened limits start.register) }
-        ensures kept { IfOk result (kept start.first) }
         ensures memory { IsOkUnless result stop.OutOfMemory };
 
     /// Carries out the record with this number and writes its lines.
@@ -88,11 +82,9 @@ pub trait Interpreter: Sized + Drop {
         number: u32,
         out: &mut Output<'_, W>,
     ) -> Result<(), Stop>
-        requires kept { kept number self.old }
         ensures wrote { WritesRun out.old.held out.new.held result
             (step_run number (step limits self.old (fields_of row.now))) }
         ensures state { OnOk result (IfOk (step limits self.old (fields_of row.now)) (λ p. self.new ≡ p.1)) }
-        ensures kept { OnOk result (kept (number + 1) self.new) }
         ensures continues { GoesOn out.old out.new };
 }
 
@@ -106,11 +98,9 @@ fn interpret_script<I: Interpreter, W: Write>(
     out: &mut Output<'_, W>,
 ) -> Result<I, Stop>
     requires numbers { first + length script.old < 2 ^ 32 }
-    requires kept { I.kept first interpreter }
     ensures wrote { WritesRun out.old.held out.new.held result
         (script_run (I.step limits) interpreter first script.old) }
     ensures ended { IfOk result (λ i. script_end (I.step limits) interpreter first script.old ≡ Ok i) }
-    ensures kept { IfOk result (λ i. (number : ℕ) × (number < 2 ^ 32) × I.kept number i) }
     ensures continues { GoesOn out.old out.new }
 {
     let mut number = first;
@@ -138,7 +128,6 @@ fn interpret_text<I: Interpreter, W: Write>(
     ensures ended { IfOk result
         (λ i. started_end (end_of_script I.opened I.step limits)
         (started_after limits (opened_of (records default_config (strip_bom text.now)))) ≡ Ok i) }
-    ensures kept { IfOk result (λ i. (number : ℕ) × (number < 2 ^ 32) × I.kept number i) }
     ensures continues { GoesOn out.old out.new }
 {
     let mut script = Script::new(alloc, text);
@@ -164,12 +153,9 @@ pub fn interpret<I: Interpreter, R: Read + Drop, W: Write>(
         (λ bytes. WritesRun out.old.held out.new.held result (interpreted_run I.opened I.step limits bytes)) }
     ensures ended { IfOk result
         (λ i. OfInput input.old input.new (λ bytes. interpreted_end I.opened I.step limits bytes ≡ Ok i)) }
-    ensures kept { IfOk result (λ i. (number : ℕ) × (number < 2 ^ 32) × I.kept number i) }
     ensures limits_first { in_range limits ≡ false
         → IsErrOf result (stop.Input (fault_at why.BadLimit 0)) × (input.new ≡ input.old) }
-    ensures asks { input.new.asks ≤ input.old.asks + READS }
-    ensures vain { WastesAtMost 1 input.old input.new }
-    ensures retried { RetriesAtMost INTERRUPTIONS input.old input.new result }
+    ensures reads { ReadsWithin IsReadFault input.old input.new result }
     ensures continues { GoesOn out.old out.new }
 {
     let text = read_within(alloc, input, limits)?;

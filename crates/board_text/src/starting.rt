@@ -3,17 +3,16 @@ ghost use Rattle.std.specs.Prelude.{◌≡◌, ◌≤◌, ◌<◌, ◌+◌, ◌^
 ghost use Rattle.std.specs.Prelude.{IfOk, IfErr, IsErrOf, OnOk};
 ghost use Rattle.recording_io.specs.Tapes.{OfInput};
 ghost use Rattle.council_core.specs.declared.refusals.Refusal.TheVariants as why;
-ghost use Rattle.council_core.specs.Ledgers.{start_verdict};
-ghost use Rattle.board_text.specs.Inputs.{NoReadInVain, RetriesAtMost};
-ghost use Rattle.board_text.specs.Output.{Fails, Starts, StartsScript};
+ghost use Rattle.board_text.specs.Inputs.{IsReadFault, NoReadInVain, ReadsWithin};
+ghost use Rattle.board_text.specs.Output.{Fails, Starts};
 ghost use Rattle.board_text.specs.Text.{started_of, started_after, fault_at, in_range, opened_of};
 
 use crate::bounds::Limits;
-use crate::input::{INPUT_LIMIT, INTERRUPTIONS, READS, read_input};
+use crate::input::{INPUT_LIMIT, read_input};
 use crate::opening::read_opening;
 use crate::script::Script;
 use crate::stops::Stop;
-use council_core::{MAX_COMMANDS, MemberCode, Refusal, Register, Votes};
+use council_core::{MemberCode, Refusal, Register, Votes};
 use csv::ByteRecord;
 use recording_io::RecordingReader;
 use std::alloc::Global;
@@ -24,8 +23,6 @@ use std::io::Read;
 pub struct ScriptStart {
     /// The register, with an empty journal.
     pub register: Register,
-    /// The members of the opening, in input order.
-    pub members: Vec<(MemberCode, Votes)>,
     /// The number of the script's first record, counted from 1 over all records of the input.
     pub first: u32,
 }
@@ -48,9 +45,8 @@ pub fn read_within<R: Read + Drop>(
     ensures whole { IfOk result (λ text. OfInput input.old input.new (λ bytes. text.items ≡ bytes)) }
     ensures fits { IfOk result (λ text. length text.items ≤ INPUT_LIMIT) }
     ensures in_range { OnOk result (in_range limits ≡ true) }
-    ensures asks { input.new.asks ≤ input.old.asks + READS }
+    ensures reads { ReadsWithin IsReadFault input.old input.new result }
     ensures vain { NoReadInVain input.old input.new result }
-    ensures retried { RetriesAtMost INTERRUPTIONS input.old input.new result }
     ensures fault { IfErr result (λ e. OfInput input.old input.new (λ bytes. Fails e (started_of limits bytes))) }
     ensures limits_first { in_range limits ≡ false
         → IsErrOf result (Stop.Input (fault_at why.BadLimit 0)) × (input.new ≡ input.old) }
@@ -68,7 +64,6 @@ fn start_register(
     limits: Limits,
 ) -> Result<Register, Stop>
     ensures started { Starts limits members.now result }
-    ensures starts { OnOk result (start_verdict members.now MAX_COMMANDS ≡ Ok tt) }
 {
     Ok(Register::start(alloc, members, limits.journal)?)
 }
@@ -102,15 +97,11 @@ pub fn start_script(
     ensures fault { IfErr result (λ e. Fails e (started_after limits (opened_of script.old))) }
 
     // The register is at its start, and the remaining records can be numbered.
-    ensures starts { IfOk result StartsScript }
+    ensures starts { IfOk result (λ b. b.register.journal ≡ []) }
     ensures numbers { IfOk result (λ b. b.first + length script.new < 2 ^ 32) }
 {
     let mut members = Vec::new(alloc);
     let first = read_opening(script, row, &mut members)?;
     let register = start_register(alloc, members.as_slice(), limits)?;
-    Ok(ScriptStart {
-        register,
-        members,
-        first,
-    })
+    Ok(ScriptStart { register, place })
 }

@@ -19,8 +19,6 @@ use std::{fmt, io};
 pub struct RecordingReader<R: Read + Drop> {
     from: R,
     tape: Tape,
-    // counts one call for each interruption
-    interruptions: Tape,
 }
 
 impl<R: Read + Drop> Model for RecordingReader<R> {
@@ -34,7 +32,7 @@ impl<R: Read + Drop> Model for RecordingReader<R> {
       ended = g.tape.ended;
       asks = g.tape.asks;
       vain = g.tape.vain;
-      interruptions = g.interruptions.asks;
+      interruptions = g.tape.interruptions;
     } };
 }
 
@@ -62,7 +60,6 @@ impl<R: Read + Drop> RecordingReader<R> {
         RecordingReader {
             from,
             tape: Tape::new(),
-            interruptions: Tape::new(),
         }
     }
 }
@@ -84,14 +81,11 @@ impl<R: Read + Drop> Read for RecordingReader<R> {
     {
         match self.from.read(buf) {
             Ok(count) => {
-                self.tape.note(buf, count);
+                self.tape.note(buf, count, false);
                 Ok(count)
             }
             Err(e) => {
-                self.tape.note(&[], 0);
-                if e.kind() == ErrorKind::Interrupted {
-                    self.interruptions.note(&[], 0);
-                }
+                self.tape.note(&[], 0, e.kind() == ErrorKind::Interrupted);
                 Err(e)
             }
         }

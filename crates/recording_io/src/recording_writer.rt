@@ -20,8 +20,6 @@ use std::{fmt, io};
 pub struct RecordingWriter<'a, W: Write> {
     to: &'a mut W,
     tape: Tape,
-    // counts one call for each interruption
-    interruptions: Tape,
 }
 
 impl<'a, W: Write> Model for RecordingWriter<'a, W> {
@@ -35,7 +33,7 @@ impl<'a, W: Write> Model for RecordingWriter<'a, W> {
       took = t.tape.bytes;
       asks = t.tape.asks;
       vain = t.tape.vain;
-      interruptions = t.interruptions.asks;
+      interruptions = t.tape.interruptions;
     } };
 }
 
@@ -64,7 +62,6 @@ impl<'a, W: Write> RecordingWriter<'a, W> {
         RecordingWriter {
             to,
             tape: Tape::new(),
-            interruptions: Tape::new(),
         }
     }
 
@@ -98,14 +95,11 @@ impl<'a, W: Write> Write for RecordingWriter<'a, W> {
     {
         match self.to.write(buf) {
             Ok(count) => {
-                self.tape.note(buf, count);
+                self.tape.note(buf, count, false);
                 Ok(count)
             }
             Err(e) => {
-                self.tape.note(&[], 0);
-                if e.kind() == ErrorKind::Interrupted {
-                    self.interruptions.note(&[], 0);
-                }
+                self.tape.note(&[], 0, e.kind() == ErrorKind::Interrupted);
                 Err(e)
             }
         }

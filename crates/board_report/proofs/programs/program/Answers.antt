@@ -23,7 +23,7 @@ returns-in-Err-run-clause-calls g c = λ call asks bytes is.
     inr (inl (c.fail.ensures.status, (c.in-Err-run.fault, subst P same (c.in-Err-run.ensures.ends bytes is), c.fail.ensures.said)))
 
 pub returns-in-Ok-run-clause-interrupted : goal.returns-in-Ok-run-clause-interrupted
-returns-in-Ok-run-clause-interrupted g c = run-interrupted INTERRUPTIONS c.args.streams.now.input c.run.new.input c.run.result c.run.ensures.retried
+returns-in-Ok-run-clause-interrupted g c = run-interrupted INTERRUPTIONS c.args.streams.now.input c.run.new.input c.run.result c.run.ensures.reads.retried
 
 pub returns-in-Err-run-clause-interrupted : goal.returns-in-Err-run-clause-interrupted
-returns-in-Err-run-clause-interrupted g c = run-interrupted INTERRUPTIONS c.args.streams.now.input c.run.new.input c.run.result c.run.ensures.retried
+returns-in-Err-run-clause-interrupted g c = run-interrupted INTERRUPTIONS c.args.streams.now.input c.run.new.input c.run.result c.run.ensures.reads.retried

@@ -4,33 +4,33 @@ use Rattle.board_serve.proofs.serving.perform.Goals as goal
 
 pub are_legal-requires-clause-legal : goal.are_legal-requires-clause-legal
 are_legal-requires-clause-legal g c =
-    let parts = c.into_parts-start in
+    let parts = c.into_parts-register in
     let work = c.in_ok-work.work in
     let start = c.in_ok-work.ensures in
-    let seats = seated parts.result.0.register parts.result.1 work parts.ensures.starts.none start.writer start.orders start.readers start.asked in
+    let seats = seated parts.result.0 parts.result.1 work parts.ensures.starts start.writer start.orders start.readers start.asked in
     rw (c.as_slice.ensures.value, ← parts.ensures.starts.members)
-    (outcome-of (plan_over parts.result.0.register (records_of parts.result.1)) work c.in_ok-done.done c.in_ok-answers.answers.items c.in_ok-answers.served seats c.in_ok-done.ensures.done c.in_ok-answers.ensures.brought).served.legal_journal
+    (outcome-of (plan_over parts.result.0 (records_of parts.result.1)) work c.in_ok-done.done c.in_ok-answers.answers.items c.in_ok-answers.served seats c.in_ok-done.ensures.done c.in_ok-answers.ensures.brought).served.legal_journal
 
 pub are_legal-requires-clause-in_order : goal.are_legal-requires-clause-in_order
 are_legal-requires-clause-in_order g c =
-    let parts = c.into_parts-start in
-    let p = plan_over parts.result.0.register (records_of parts.result.1) in
+    let parts = c.into_parts-register in
+    let p = plan_over parts.result.0 (records_of parts.result.1) in
     let work = c.in_ok-work.work in
     let start = c.in_ok-work.ensures in
-    let seats = seated parts.result.0.register parts.result.1 work parts.ensures.starts.none start.writer start.orders start.readers start.asked in
+    let seats = seated parts.result.0 parts.result.1 work parts.ensures.starts start.writer start.orders start.readers start.asked in
     served-cuts p c.in_ok-answers.served (outcome-of p work c.in_ok-done.done c.in_ok-answers.answers.items c.in_ok-answers.served seats c.in_ok-done.ensures.done c.in_ok-answers.ensures.brought).served
 
 pub returns-clause-done : goal.returns-clause-done
 returns-clause-done g c =
-    let parts = c.into_parts-start in
+    let parts = c.into_parts-register in
     let work = c.in_ok-work.work in
     let start = c.in_ok-work.ensures in
-    let seats = seated parts.result.0.register parts.result.1 work parts.ensures.starts.none start.writer start.orders start.readers start.asked in
+    let seats = seated parts.result.0 parts.result.1 work parts.ensures.starts start.writer start.orders start.readers start.asked in
     rw parts.ensures.parts
-    (outcome-of (plan_over parts.result.0.register (records_of parts.result.1)) work c.in_ok-done.done c.in_ok-answers.answers.items c.in_ok-answers.served seats c.in_ok-done.ensures.done c.in_ok-answers.ensures.brought)
+    (outcome-of (plan_over parts.result.0 (records_of parts.result.1)) work c.in_ok-done.done c.in_ok-answers.answers.items c.in_ok-answers.served seats c.in_ok-done.ensures.done c.in_ok-answers.ensures.brought)
 
 pub returns-clause-records : goal.returns-clause-records
-returns-clause-records g c = rw (c.into_parts-start.ensures.parts, c.into_parts-start.ensures.starts.members, ← c.as_slice.ensures.value) c.in_ok-legal.ensures.legal
+returns-clause-records g c = rw (c.into_parts-register.ensures.parts, c.into_parts-register.ensures.starts.members, ← c.as_slice.ensures.value) c.in_ok-legal.ensures.legal
 
 pub returns-clause-differs : goal.returns-clause-differs
-returns-clause-differs g c = rw (c.into_parts-start.ensures.parts, c.into_parts-start.ensures.starts.members, ← c.as_slice.ensures.value) c.in_ok-legal.ensures.broken
+returns-clause-differs g c = rw (c.into_parts-register.ensures.parts, c.into_parts-register.ensures.starts.members, ← c.as_slice.ensures.value) c.in_ok-legal.ensures.broken

@@ -1,6 +1,5 @@
 use Rattle.std.proofs.Common.{rules}
-use Rattle.board_text.specs.declared.input.TheConstants.{INTERRUPTIONS}
-use Rattle.board_text.proofs.ReadingFacts.{retries-ended}
+use Rattle.board_text.proofs.ReadingFacts.{reads-ended}
 use Rattle.board_serve.specs.Plans.{plan_of}
 use Rattle.board_serve.specs.declared.serving.Served.{Served}
 use Rattle.board_serve.proofs.ServeFacts.{ended-serve}
@@ -12,7 +11,7 @@ returns-clause-wrote g c = λ bytes is.
     (c.serve_to-carried.ensures.wrote bytes is) c.end_run-result.ensures.ends in
     search rules
 
-pub returns-clause-retried : goal.returns-clause-retried
-returns-clause-retried g c =
-    retries-ended c.args.input.now c.serve_to-carried.new.input INTERRUPTIONS Served c.serve_to-carried.new.out.held c.end_run-result.new.out.held
-    c.serve_to-carried.result c.end_run-result.result c.end_run-result.ensures.ends c.serve_to-carried.ensures.retried
+pub returns-clause-reads : goal.returns-clause-reads
+returns-clause-reads g c =
+    reads-ended c.args.input.now c.serve_to-carried.new.input Served c.serve_to-carried.new.out.held c.end_run-result.new.out.held
+    c.serve_to-carried.result c.end_run-result.result c.end_run-result.ensures.ends c.serve_to-carried.ensures.reads

@@ -3,9 +3,9 @@ use Rattle.std.proofs.lemmas.Result.{err_from_is_err_and}
 use Rattle.board_text.specs.Scripts.{interpreted_run}
 use Rattle.board_text.specs.Text.{started_of, text_of}
 use Rattle.board_text.specs.declared.faults.Fault.{Fault}
-use Rattle.board_text.specs.declared.input.TheConstants.{INTERRUPTIONS}
 use Rattle.board_text.proofs.RunFacts.{appends-same}
-use Rattle.board_text.proofs.ReadingFacts.{retries-on, retries-passed}
+use Rattle.board_text.specs.Inputs.{IsReadFault}
+use Rattle.board_text.proofs.ReadingFacts.{reads-on, reads-passed}
 use Rattle.board_text.proofs.RecordFacts.{start-end}
 use Rattle.board_serve.specs.Plans.{Planned, plan_of, plan_start, plan_step, two_readers}
 use Rattle.board_serve.specs.Serving.{WritesServeRun}
@@ -28,10 +28,10 @@ returns-clause-wrote g c = λ bytes is.
     after-nothing c.args.out.now.held c.interpret.new.out.held c.serve_plan.new.out.held c.serve_plan.result (plan_of c.args.journal_limit bytes) nothing
     (subst P (sym (c.in_ok-plan.ensures.ended bytes is)) c.serve_plan.ensures.wrote)
 
-pub returns-in_err-plan-clause-retried : goal.returns-in_err-plan-clause-retried
-returns-in_err-plan-clause-retried g c =
+pub returns-in_err-plan-clause-reads : goal.returns-in_err-plan-clause-reads
+returns-in_err-plan-clause-reads g c =
     let p = err_from_is_err_and c.from_residual.result c.from_residual.ensures.1 in
-    rw p.1 (retries-passed c.args.input.now c.interpret.new.input INTERRUPTIONS (Unit {0}) (Unit {0}) c.in_err-plan.field-0.0 p.0 p.2 c.in_err-plan.ensures.retried)
+    rw p.1 (reads-passed c.args.input.now c.interpret.new.input IsReadFault c.in_err-plan.field-0.0 p.0 p.2 c.in_err-plan.ensures.reads)
 
-pub returns-clause-retried : goal.returns-clause-retried
-returns-clause-retried g c = retries-on c.args.input.now c.interpret.new.input INTERRUPTIONS c.serve_plan.result c.in_ok-plan.ensures.retried
+pub returns-clause-reads : goal.returns-clause-reads
+returns-clause-reads g c = reads-on c.args.input.now c.interpret.new.input IsReadFault c.in_ok-plan.plan c.serve_plan.result c.in_ok-plan.ensures.reads

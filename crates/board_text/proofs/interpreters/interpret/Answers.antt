@@ -1,8 +1,8 @@
 use Rattle.std.proofs.lemmas.Result.{err_from_is_err_and}
 use Rattle.board_text.specs.Scripts.{end_of_script, run_of_script}
 use Rattle.board_text.proofs.InterpretFacts.{TextRead, ended-input, interpreted-input, writes-failed_input}
-use Rattle.board_text.specs.declared.input.TheConstants.{INTERRUPTIONS}
-use Rattle.board_text.proofs.ReadingFacts.{retries-on, retries-passed, wastes-one}
+use Rattle.board_text.specs.Inputs.{IsReadFault}
+use Rattle.board_text.proofs.ReadingFacts.{reads-on, reads-passed}
 use Rattle.board_text.proofs.interpreters.interpret.Goals as goal
 
 pub returns-in_err-text-clause-wrote : goal.returns-in_err-text-clause-wrote
@@ -24,16 +24,10 @@ returns-clause-ended g c =
     ended-input c.args.input.now c.read_within.new.input c.interpret_text.result c.args.limits (end_of_script g.I.Interpreter.opened g.I.Interpreter.step c.args.limits)
     c.as_slice.result.now read c.in_ok-text.ensures.whole c.interpret_text.ensures.ended
 
-pub returns-in_err-text-clause-vain : goal.returns-in_err-text-clause-vain
-returns-in_err-text-clause-vain g c = wastes-one c.args.input.now c.read_within.new.input c.read_within.result c.read_within.ensures.vain
-
-pub returns-clause-vain : goal.returns-clause-vain
-returns-clause-vain g c = wastes-one c.args.input.now c.read_within.new.input c.read_within.result c.read_within.ensures.vain
-
-pub returns-in_err-text-clause-retried : goal.returns-in_err-text-clause-retried
-returns-in_err-text-clause-retried g c =
+pub returns-in_err-text-clause-reads : goal.returns-in_err-text-clause-reads
+returns-in_err-text-clause-reads g c =
     let p = err_from_is_err_and c.from_residual.result c.from_residual.ensures.1 in
-    rw p.1 (retries-passed c.args.input.now c.read_within.new.input INTERRUPTIONS (Unit {0}) (Unit {0}) c.in_err-text.field-0.0 p.0 p.2 c.in_err-text.ensures.retried)
+    rw p.1 (reads-passed c.args.input.now c.read_within.new.input IsReadFault c.in_err-text.field-0.0 p.0 p.2 c.in_err-text.ensures.reads)
 
-pub returns-clause-retried : goal.returns-clause-retried
-returns-clause-retried g c = retries-on c.args.input.now c.read_within.new.input INTERRUPTIONS c.interpret_text.result c.in_ok-text.ensures.retried
+pub returns-clause-reads : goal.returns-clause-reads
+returns-clause-reads g c = reads-on c.args.input.now c.read_within.new.input IsReadFault c.in_ok-text.text c.interpret_text.result c.in_ok-text.ensures.reads

@@ -7,7 +7,7 @@ use Rattle.board_text.proofs.RecordFacts.{end-ends, end-goes, end-on, script-end
 use Rattle.board_text.proofs.interpreters.interpret_script.Goals as goal
 
 pub records-init : goal.records-init
-records-init g c = record { so_far = written-none _ _; ended = refl; kept = c.requires.kept; continues = (refl, omega arith); numbers = c.requires.numbers }
+records-init g c = record { so_far = written-none _ _; ended = refl; continues = (refl, omega arith); numbers = c.requires.numbers }
 
 pub returns-then-not-branch-clause-wrote : goal.returns-then-not-branch-clause-wrote
 returns-then-not-branch-clause-wrote g c =
@@ -20,9 +20,6 @@ pub returns-then-not-branch-clause-ended : goal.returns-then-not-branch-clause-e
 returns-then-not-branch-clause-ended g c =
     let none : c.records.script ≡ [] = rw c.if-not-branch.true at c.in_ok-next.ensures.taken in
     c.records.invariant.ended ∙ end-ends (g.I.Interpreter.step c.args.limits) c.records.interpreter c.records.number c.records.script none
-
-pub returns-then-not-branch-clause-kept : goal.returns-then-not-branch-clause-kept
-returns-then-not-branch-clause-kept g c = (c.records.number, omega (arith, c.records.invariant.numbers), c.records.invariant.kept)
 
 pub returns-in_err-carry_out-clause-wrote : goal.returns-in_err-carry_out-clause-wrote
 returns-in_err-carry_out-clause-wrote g c =
@@ -49,7 +46,6 @@ records-preserved g c =
           ∙ end-on c.records.out.held c.carry_out.new.out.held tt c.records.number (g.I.Interpreter.step c.args.limits c.records.interpreter (fields_of c.next.new.row))
           (λ x. script_end (g.I.Interpreter.step c.args.limits) x (c.records.number + 1) c.next.new.self) c.carry_out.new.self
           c.in_ok-carry_out.ensures.wrote c.in_ok-carry_out.ensures.state;
-      kept = c.in_ok-carry_out.ensures.kept;
       continues = (c.in_ok-carry_out.ensures.continues.0 ∙ c.records.invariant.continues.0, omega (arith, c.records.invariant.continues.1, c.in_ok-carry_out.ensures.continues.1));
       numbers = let fewer = ap length next in omega arith;
     }

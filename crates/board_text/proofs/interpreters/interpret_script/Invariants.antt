@@ -10,7 +10,6 @@ invariant-records g l = record {
   so_far : WrittenTo l.fn.out.held l.out.held
       (script_run (g.I.Interpreter.step l.fn.limits) l.fn.interpreter l.fn.first l.fn.script) (script_run (g.I.Interpreter.step l.limits) l.interpreter l.number l.script);
   ended : script_end (g.I.Interpreter.step l.fn.limits) l.fn.interpreter l.fn.first l.fn.script ≡ script_end (g.I.Interpreter.step l.limits) l.interpreter l.number l.script;
-  kept : g.I.Interpreter.kept l.number l.interpreter;
   continues : GoesOn l.fn.out l.out;
   numbers : l.number + length l.script < 2 ^ 32;
 }

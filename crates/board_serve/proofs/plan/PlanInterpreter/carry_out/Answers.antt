@@ -1,10 +1,10 @@
-use Rattle.std.proofs.Common.{◌≡◌, ap, refl, arith}
+use Rattle.std.proofs.Common.{refl}
 use Rattle.csv.specs.Records.{fields_of}
 use Rattle.board_text.specs.Text.{request_within}
 use Rattle.board_text.proofs.RunFacts.{writes-nothing}
 use Rattle.board_text.proofs.RecordFacts.{turn-refused, turn-valid}
-use Rattle.board_serve.specs.Plans.{Planned, record_count, records_of, two_readers}
-use Rattle.board_serve.proofs.PlanFacts.{added, size-request}
+use Rattle.board_serve.specs.Plans.{two_readers}
+use Rattle.board_serve.proofs.PlanFacts.{added}
 use Rattle.board_serve.proofs.plan.PlanInterpreter.carry_out.Goals as goal
 
 pub returns-in-Err-clause-wrote : goal.returns-in-Err-clause-wrote
@@ -18,9 +18,3 @@ returns-clause-wrote g c =
 pub returns-clause-state : goal.returns-clause-state
 returns-clause-state g c =
     rw (turn-valid c.args.number (added c.args.self.now) (request_within (two_readers c.args.limits.journal) (fields_of c.args.row.now)) c.in-Ok.request c.in-Ok.ensures.same, ← c.self.view_is, c.in_ok-add.ensures.added) refl
-
-pub returns-clause-kept : goal.returns-clause-kept
-returns-clause-kept g c =
-    let one = size-request (records_of c.self.inside.records) c.in-Ok.request in
-    let before : record_count (records_of c.self.inside.records) ≡ record_count c.args.self.now.records = ap (λ (p : Planned). record_count p.records) c.self.view_is in
-    omega (arith, ap record_count c.in_ok-add.ensures.added, one, before, c.requires.kept)

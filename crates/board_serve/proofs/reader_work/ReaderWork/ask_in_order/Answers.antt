@@ -13,7 +13,6 @@ loop-majority-init g c = record {
   winning_stored = search rules;
   sheets_fit = search rules;
   winning_fit = search rules;
-  counted = search rules;
 }
 
 pub loop-majority-preserved : goal.loop-majority-preserved
@@ -46,5 +45,4 @@ loop-majority-preserved g c =
       winning_stored = omega (arith, done.winning_stored, c.push_reserved-in-loop-majority.ensures.len);
       sheets_fit = search rules;
       winning_fit = search rules;
-      counted = omega (arith, done.counted);
     }

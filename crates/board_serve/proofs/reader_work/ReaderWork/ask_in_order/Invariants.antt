@@ -16,5 +16,4 @@ invariant-loop-majority g l =
       winning_stored : vec_len work.winning ≡ l.majority-index;
       sheets_fit : vec_len l.fn.self.asked ≤ vec_capacity work.sheets;
       winning_fit : vec_len l.fn.self.asked ≤ vec_capacity work.winning;
-      counted : l.count ≡ l.majority-index;
     }

@@ -19,5 +19,4 @@ loop-order-preserved g c =
       cuts_stored = omega (arith, done.cuts_stored, c.keep_cut.ensures.count);
       answers_fit = search rules;
       cuts_fit = search rules;
-      bound = omega (arith, done.bound, c.in_ok-answer.ensures.counted);
     }

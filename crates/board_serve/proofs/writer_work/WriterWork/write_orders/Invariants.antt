@@ -15,5 +15,4 @@ invariant-loop-order g l =
       cuts_stored : vec_len work.cuts ≤ l.order-index;
       answers_fit : vec_len l.fn.self.orders ≤ vec_capacity work.answers;
       cuts_fit : vec_len l.fn.self.orders ≤ vec_capacity work.cuts;
-      bound : l.publications ≤ l.order-index;
     }
