@@ -10,8 +10,12 @@ use Rattle.std.proofs.lemmas.List.Sums.{count_by-le-length}
 use Rattle.half_sums.specs.declared.entry.Entry.{Entry}
 use Rattle.half_sums.specs.Groups.{size_of}
 use Rattle.half_sums.specs.declared.lists.TheConstants.{ROOM}
-use Rattle.swing_walk.specs.Pairs.{pairs_where, reaches, has_slot, is_large, is_enough}
-use Rattle.swing_walk.specs.Sizes.{partners_of}
+use Rattle.swing_walk.specs.Pairs.{pairs_where, reaches, has_slot, is_large, is_enough, with_slot}
+use Rattle.swing_walk.specs.Sizes.{partners_next, partners_of}
+use Rattle.swing_walk.specs.Walks.{position_after}
+use Rattle.swing_walk.specs.declared.positions.Next.{Next}
+use Rattle.swing_walk.specs.declared.positions.Position.{Position}
+use Rattle.swing_walk.specs.declared.positions.Route.{Route}
 use Rattle.swing_walk.proofs.Counting.{Splits, count_none, count_agree, count_all, count_split, bit_times}
 use Rattle.swing_walk.proofs.Steps.{pairs_swap, pairs_agree, turned}
 
@@ -25,17 +29,17 @@ partners-any least mask entries none =
     count_agree (λ e. nat_le least (count_ones mask + size_of e)) (λ e. true) entries (λ k d h. le-leb least _ (omega (arith, none))) ∙ count_all entries
 
 -- by the position of a chain, once the set is passed
-pub any_partners : (least high low : ℕ) (falls : Bool) (up rest : ℕ) (rising falling : List Entry) → least ≡ 0 →
-    cond falls (length rising - (up + cond falls 0 1)) (length falling - (rest - cond falls 1 0)) ≡ cond falls (partners_of least high (drop up rising)) (partners_of least low (drop rest falling))
-any_partners least high low true up rest rising falling none = omega (arith, partners-any least high (drop up rising) none, length-drop up rising)
-any_partners least high low false up rest rising falling none = omega (arith, partners-any least low (drop rest falling) none, length-drop rest falling)
+pub any_partners : (falls : Bool) (next : Next) (route : Route) (position : Position) → route.least_size ≡ 0 → let after : Position = position_after falls position in
+    cond falls (length route.rising - after.up) (length route.falling - after.rest) ≡ partners_next falls next route position
+any_partners true next route position none = omega (arith, partners-any route.least_size next.high.mask (drop position.up route.rising) none, length-drop position.up route.rising)
+any_partners false next route position none = omega (arith, partners-any route.least_size next.low.mask (drop position.rest route.falling) none, length-drop position.rest route.falling)
 
 few_partners : (least mask : ℕ) (entries : List Entry) → partners_of least mask entries ≤ length entries
 few_partners least mask entries = count_by-le-length (λ (e : Entry). nat_le least (count_ones mask + size_of e)) entries
 
-pub partners_room : (least high low : ℕ) (falls : Bool) (up rest : ℕ) (rising falling : List Entry) → length rising ≤ ROOM → length falling ≤ ROOM → cond falls (partners_of least high (drop up rising)) (partners_of least low (drop rest falling)) ≤ ROOM
-partners_room least high low true up rest rising falling few_rising few_falling = omega (arith, few_partners least high (drop up rising), length-drop up rising)
-partners_room least high low false up rest rising falling few_rising few_falling = omega (arith, few_partners least low (drop rest falling), length-drop rest falling)
+pub partners_room : (falls : Bool) (next : Next) (route : Route) (position : Position) → partners_next falls next route position ≤ ROOM
+partners_room true next route position = omega (arith, few_partners route.least_size next.high.mask (drop position.up route.rising), length-drop position.up route.rising, route.rising_half.bound)
+partners_room false next route position = omega (arith, few_partners route.least_size next.low.mask (drop position.rest route.falling), length-drop position.rest route.falling, route.falling_half.bound)
 
 and_true : (a b : Bool) → b ≡ true → (a && b) ≡ a
 and_true true b h = h
@@ -60,7 +64,7 @@ turned_enough quota least a b =
     ap (λ t. t && is_large least b a) (turned quota a b) ∙ ap (λ n. reaches quota a b && nat_le least n) swap
 
 -- the pairs with a slot, seen from the right entries
-pub turned_marks : (quota least slot : ℕ) (left right : List Entry) → pairs_where (λ a b. is_enough quota least a b && has_slot slot a) right left ≡ pairs_where (λ l r. is_enough quota least l r && has_slot slot r) left right
+pub turned_marks : (quota least slot : ℕ) (left right : List Entry) → pairs_where (with_slot slot (is_enough quota least)) right left ≡ pairs_where (λ l r. is_enough quota least l r && has_slot slot r) left right
 turned_marks quota least slot left right =
-    let test : Entry → Entry → Bool = λ a b. is_enough quota least a b && has_slot slot a in
+    let test : Entry → Entry → Bool = with_slot slot (is_enough quota least) in
     pairs_swap test right left ∙ pairs_agree (λ a b. test b a) (λ a b. is_enough quota least a b && has_slot slot b) left right (λ a b. ap (λ t. t && has_slot slot b) (turned_enough quota least a b))

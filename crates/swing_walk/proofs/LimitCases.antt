@@ -83,8 +83,9 @@ pairs_counted from to h = (h.winning, h.with_chair 0, h.with_chair 1, h.with_cha
 counts_met : (from to : List Entry) → CountsMeet 51 0 three_chairs [] from to
     → (large_pairs 51 0 from to ≤ 2 ^ 32) × (large_with 51 0 1 from to ≤ large_pairs 51 0 from to) × (0 < large_with 51 0 1 from to → large_pairs 51 0 from to ≤ 2 * large_with 51 0 1 from to)
     × (swings_of (large_pairs 51 0 from to) (large_with 51 0 0 from to) ≡ 3) × (swings_of (large_pairs 51 0 from to) (large_with 51 0 1 from to) ≡ 1)
+    × (swings_of (large_pairs 51 0 from to) (large_with 51 0 3 from to) ≡ 0)
 counts_met from to h =
-    (h.bound, h.within 1, h.half 1, h.swings [] ((1, 49) ∷ (2, 1) ∷ []) (0, 50) refl, h.swings ((0, 50) ∷ []) ((2, 1) ∷ []) (1, 49) refl)
+    (h.bound, h.within 1, h.half 1, h.swings [] ((1, 49) ∷ (2, 1) ∷ []) (0, 50) refl, h.swings ((0, 50) ∷ []) ((2, 1) ∷ []) (1, 49) refl, h.vacant 3 refl)
 
 -- what the laws say of three chairs by any rule, quota or lists
 swings_used : SwingLaw → (wins : Rule) → IsRule wins → eta_of wins (0, 50) three_chairs + omega_of wins three_chairs ≡ 2 * omega_with wins 0 three_chairs

@@ -1,5 +1,5 @@
 -- A walk's steps, and that two walks from its ends meet.
-use Rattle.std.proofs.Common.{◌≡◌, ℕ, ◌+◌, ◌-◌, ◌*◌, ◌<◌, ◌≤◌, Bool, true, false, cond, not, List, length, take, drop, arith, sym, ap, inl, inr, ◌∙◌, ltb}
+use Rattle.std.proofs.Common.{◌≡◌, ℕ, ◌+◌, ◌-◌, ◌*◌, ◌<◌, ◌≤◌, Bool, true, false, cond, not, List, length, take, drop, arith, sym, ap, subst, inl, inr, ◌∙◌, ltb}
 use Rattle.std.specs.Prelude.{◌&&◌, ◌||◌, nat_le}
 use Rattle.std.specs.List.{count_by}
 use Rattle.std.specs.List.Sorted.{IsNonDecreasingBy}
@@ -11,139 +11,101 @@ use Rattle.half_sums.specs.declared.entry.Entry.{Entry}
 use Rattle.half_sums.specs.Entries.{zero_entry}
 use Rattle.half_sums.proofs.Merging.{sum_default}
 use Rattle.half_sums.specs.Merges.{entry_at}
-use Rattle.swing_walk.specs.Pairs.{pairs_where, is_enough, has_slot}
-use Rattle.swing_walk.specs.Sizes.{partners_of}
-use Rattle.swing_walk.specs.Walks.{IsBetween, IsPassed, HasCredited}
+use Rattle.swing_walk.specs.Pairs.{pairs_where, with_slot}
+use Rattle.swing_walk.specs.Sizes.{partners_next}
+use Rattle.swing_walk.specs.Walks.{IsBetween, IsPassed, HasCredited, PartnerCounts, StandsAt, enough, position_after, turned_route, votes_at}
 use Rattle.swing_walk.specs.Tallies.{slot_amount, tally_total, CreditsEach}
 use Rattle.swing_walk.specs.Sides.{side}
+use Rattle.swing_walk.specs.declared.positions.Next.{Next}
+use Rattle.swing_walk.specs.declared.positions.Position.{Position}
+use Rattle.swing_walk.specs.declared.positions.Route.{Route}
 use Rattle.swing_walk.specs.declared.tally.MaskTally.{MaskTally}
 use Rattle.swing_walk.proofs.Counting.{Splits, pairs_more}
 use Rattle.swing_walk.proofs.LargePairs.{count_enough, count_slot}
 
--- the position of a walk over two ascending lists
-pub record At (quota up rest : ℕ) (rising falling : List Entry) : Type 0 where
-  pub rising_up : IsNonDecreasingBy (λ e. e.sum) rising
-  pub falling_up : IsNonDecreasingBy (λ e. e.sum) falling
-  pub between : IsBetween quota up rest rising falling
+-- a step comes to the next position, and adds the partners of the entry that it passes, also at each of that entry's slots
+record Rises (next : Next) (route : Route) (position : Position) : Type 0 where
+  pub between : IsBetween route (record { up = position.up + 1; rest = position.rest })
+  pub total : pairs_where (enough route) (take (position.up + 1) route.rising) route.falling ≡ pairs_where (enough route) (take position.up route.rising) route.falling + partners_next false next route position
+  pub marks : (slot : ℕ) → pairs_where (with_slot slot (enough route)) (take (position.up + 1) route.rising) route.falling
+      ≡ pairs_where (with_slot slot (enough route)) (take position.up route.rising) route.falling + bit_at next.low.mask slot * partners_next false next route position
 
--- the next rising entry is passed
-pub record Rises (quota least up rest : ℕ) (rising falling : List Entry) : Type 0 where
-  pub between : IsBetween quota (up + 1) rest rising falling
-  pub total : pairs_where (is_enough quota least) (take (up + 1) rising) falling ≡ pairs_where (is_enough quota least) (take up rising) falling + partners_of least (entry_at rising up).mask (drop rest falling)
-  pub marks : (slot : ℕ) → pairs_where (λ a b. is_enough quota least a b && has_slot slot a) (take (up + 1) rising) falling
-      ≡ pairs_where (λ a b. is_enough quota least a b && has_slot slot a) (take up rising) falling + bit_at (entry_at rising up).mask slot * partners_of least (entry_at rising up).mask (drop rest falling)
+record Falls (next : Next) (route : Route) (position : Position) : Type 0 where
+  pub between : IsBetween route (record { up = position.up; rest = position.rest - 1 })
+  pub total : pairs_where (enough route) (drop (position.rest - 1) route.falling) route.rising ≡ pairs_where (enough route) (drop position.rest route.falling) route.rising + partners_next true next route position
+  pub marks : (slot : ℕ) → pairs_where (with_slot slot (enough route)) (drop (position.rest - 1) route.falling) route.rising
+      ≡ pairs_where (with_slot slot (enough route)) (drop position.rest route.falling) route.rising + bit_at next.high.mask slot * partners_next true next route position
 
--- the next falling entry is passed
-pub record Falls (quota least up rest : ℕ) (rising falling : List Entry) : Type 0 where
-  pub between : IsBetween quota up (rest - 1) rising falling
-  pub total : pairs_where (is_enough quota least) (drop (rest - 1) falling) rising ≡ pairs_where (is_enough quota least) (drop rest falling) rising + partners_of least (entry_at falling (rest - 1)).mask (drop up rising)
-  pub marks : (slot : ℕ) → pairs_where (λ a b. is_enough quota least a b && has_slot slot a) (drop (rest - 1) falling) rising
-      ≡ pairs_where (λ a b. is_enough quota least a b && has_slot slot a) (drop rest falling) rising + bit_at (entry_at falling (rest - 1)).mask slot * partners_of least (entry_at falling (rest - 1)).mask (drop up rising)
+module _ (next : Next) (route : Route) (position : Position) (b : IsBetween route position) where
+  ups : IsNonDecreasingBy (λ e. e.sum) route.rising
+  ups = route.rising_half.ascending
 
--- the rising entry falls short with all falling ones but those that are passed
-rising_splits : (quota up rest : ℕ) (rising falling : List Entry) → At quota up rest rising falling → up < length rising →
-    (0 < rest → (entry_at rising up).sum + (entry_at falling (rest - 1)).sum < quota) →
-    Splits quota (entry_at rising up).sum (rest) falling
-rising_splits quota up rest rising falling s inside low =
-    let n : ℕ = length falling in
-    record {
-      within = omega arith;
-      short = λ k d h.
-          let below : k < rest = omega (arith, length-take rest falling) in
-          rw (get_or-take rest falling k d below) (omega (arith, low (omega arith), s.falling_up k (rest - 1) zero_entry (omega arith) (omega arith), sum_default falling k d zero_entry (omega arith)));
-      reached = λ k d h.
-          let within : rest + k < n = omega (arith, length-drop rest falling) in
-          rw (get_or-drop rest falling k d) (omega (arith, s.between.reached up (rest + k) (omega arith) inside (omega arith) within, sum_default falling (rest + k) d zero_entry within));
-    }
+  downs : IsNonDecreasingBy (λ e. e.sum) route.falling
+  downs = route.falling_half.ascending
 
--- the falling entry reaches with all rising ones but those that are passed
-falling_splits : (quota up rest : ℕ) (rising falling : List Entry) → At quota up rest rising falling → 0 < rest →
-    (up < length rising → quota ≤ (entry_at rising up).sum + (entry_at falling (rest - 1)).sum) →
-    Splits quota (entry_at falling (rest - 1)).sum up rising
-falling_splits quota up rest rising falling s inside high =
-    let n : ℕ = length falling in
-    let up_in : up ≤ length rising = s.between.up_in in
-    record {
-      within = up_in;
-      short = λ k d h.
-          let before : k < up = omega (arith, length-take up rising) in
-          rw (get_or-take up rising k d before) (omega (arith, s.between.apart k (rest - 1) before (omega arith), sum_default rising k d zero_entry (omega arith)));
-      reached = λ k d h.
-          let within : up + k < length rising = omega (arith, length-drop up rising) in
-          rw (get_or-drop up rising k d) (omega (arith, high (omega arith), s.rising_up up (up + k) zero_entry (omega arith) within, sum_default rising (up + k) d zero_entry within));
-    }
+  -- the rising entry falls short with all falling ones but those that are passed
+  rising_splits : IsPassed false next route position → Splits route.quota (entry_at route.rising position.up).sum position.rest route.falling
+  rising_splits is = record {
+    within = b.rest_in;
+    short = λ k d h.
+        let below : k < position.rest = omega (arith, length-take position.rest route.falling) in
+        rw (get_or-take position.rest route.falling k d below) (omega (arith, is.2 (omega arith), downs k (position.rest - 1) zero_entry (omega arith) (omega (arith, b.rest_in)), sum_default route.falling k d zero_entry (omega (arith, b.rest_in))));
+    reached = λ k d h.
+        let within : position.rest + k < length route.falling = omega (arith, length-drop position.rest route.falling) in
+        rw (get_or-drop position.rest route.falling k d) (omega (arith, b.reached position.up (position.rest + k) (omega arith) is.0 (omega arith) within, sum_default route.falling (position.rest + k) d zero_entry within));
+  }
 
-pub rises : (quota least up rest : ℕ) (rising falling : List Entry) → At quota up rest rising falling → up < length rising →
-    (0 < rest → (entry_at rising up).sum + (entry_at falling (rest - 1)).sum < quota) →
-    Rises quota least up rest rising falling
-rises quota least up rest rising falling s inside low =
-    let r : Entry = entry_at rising up in
-    let b : IsBetween quota up rest rising falling = s.between in
-    let test : ℕ → Entry → Entry → Bool = λ slot a b. is_enough quota least a b && has_slot slot a in
-    let partners = count_enough quota least rest r falling (rising_splits quota up rest rising falling s inside low) in
-    record {
-      between = record {
-        up_in = omega arith;
-        rest_in = b.rest_in;
-        apart = λ k m before below. omega (arith, low (omega arith), s.rising_up k up zero_entry (omega arith) inside, s.falling_up m (rest - 1) zero_entry (omega arith) (omega arith));
-        reached = λ k m from within above below. b.reached k m (omega arith) within above below;
-      };
-      total = pairs_more (is_enough quota least) rising falling up zero_entry inside
-          ∙ ap (λ c. pairs_where (is_enough quota least) (take up rising) falling + c) partners;
-      marks = λ slot. pairs_more (test slot) rising falling up zero_entry inside
-          ∙ ap (λ c. pairs_where (test slot) (take up rising) falling + c) (count_slot (is_enough quota least r) slot r falling ∙ ap (λ n. bit_at r.mask slot * n) partners);
-    }
+  -- the falling entry reaches with all rising ones but those that are passed
+  falling_splits : IsPassed true next route position → Splits route.quota (entry_at route.falling (position.rest - 1)).sum position.up route.rising
+  falling_splits is = record {
+    within = b.up_in;
+    short = λ k d h.
+        let before : k < position.up = omega (arith, length-take position.up route.rising) in
+        rw (get_or-take position.up route.rising k d before) (omega (arith, b.apart k (position.rest - 1) before (omega (arith, is.0)), sum_default route.rising k d zero_entry (omega (arith, b.up_in))));
+    reached = λ k d h.
+        let within : position.up + k < length route.rising = omega (arith, length-drop position.up route.rising) in
+        rw (get_or-drop position.up route.rising k d) (omega (arith, is.2 (omega arith), ups position.up (position.up + k) zero_entry (omega arith) within, sum_default route.rising (position.up + k) d zero_entry within));
+  }
 
-pub falls_at : (quota least up rest : ℕ) (rising falling : List Entry) → At quota up rest rising falling → 0 < rest →
-    (up < length rising → quota ≤ (entry_at rising up).sum + (entry_at falling (rest - 1)).sum) →
-    Falls quota least up rest rising falling
-falls_at quota least up rest rising falling s inside high =
-    let at : ℕ = rest - 1 in
-    let f : Entry = entry_at falling at in
-    let b : IsBetween quota up rest rising falling = s.between in
-    let partners = count_enough quota least up f rising (falling_splits quota up rest rising falling s inside high) in
-    let behind : at + 1 ≡ rest = omega arith in
-    let test : ℕ → Entry → Entry → Bool = λ slot a b. is_enough quota least a b && has_slot slot a in
-    record {
-      between = record {
-        up_in = b.up_in;
-        rest_in = omega arith;
-        apart = λ k m before below. b.apart k m before (omega arith);
-        reached = λ k m from within above below. elim (cases_lt m rest) as (λ _. quota ≤ (entry_at rising k).sum + (entry_at falling m).sum) [
-          | inl fresh ↦ (let same : at ≡ m = omega arith in omega (arith, ap (λ i. (entry_at falling i).sum) same, high (omega arith), s.rising_up up k zero_entry from within))
-          | inr passed ↦ b.reached k m from within passed below
-        ];
-      };
-      total = omega (arith, sum_by-drop_more (λ b. count_by (λ a. is_enough quota least b a) rising) falling at zero_entry (omega arith), ap (λ i. pairs_where (is_enough quota least) (drop i falling) rising) behind, partners);
-      marks = λ slot. omega (arith, sum_by-drop_more (λ b. count_by (λ a. is_enough quota least b a && has_slot slot b) rising) falling at zero_entry (omega arith), ap (λ i. pairs_where (test slot) (drop i falling) rising) behind, count_slot (is_enough quota least f) slot f rising, ap (λ n. bit_at f.mask slot * n) partners);
-    }
+  rises : IsPassed false next route position → Rises next route position
+  rises is =
+      let partners : count_by (enough route next.low) route.falling ≡ partners_next false next route position =
+      count_enough route.quota route.least_size position.rest next.low route.falling (subst (λ (e : Entry). Splits route.quota e.sum position.rest route.falling) (sym is.1) (rising_splits is)) in
+      let more : (test : Entry → Entry → Bool) → pairs_where test (take (position.up + 1) route.rising) route.falling ≡ pairs_where test (take position.up route.rising) route.falling + count_by (test next.low) route.falling =
+      λ test. rw is.1 (pairs_more test route.rising route.falling position.up zero_entry is.0) in
+      record {
+        between = record {
+          up_in = omega (arith, is.0);
+          rest_in = b.rest_in;
+          apart = λ k m before below. omega (arith, is.2 (omega arith), ups k position.up zero_entry (omega arith) is.0, downs m (position.rest - 1) zero_entry (omega arith) (omega (arith, b.rest_in)));
+          reached = λ k m from. b.reached k m (omega arith);
+        };
+        total = omega (arith, more (enough route), partners);
+        marks = λ slot. omega (arith, more (with_slot slot (enough route)), count_slot (enough route next.low) slot next.low route.falling, ap (λ n. bit_at next.low.mask slot * n) partners);
+      }
 
--- two walks from both ends, which have passed all entries between them
-pub record Ends (quota up rest back_up back_rest : ℕ) (left right : List Entry) : Type 0 where
-  pub front : IsBetween quota up rest left right
-  pub back : IsBetween quota back_up back_rest right left
-  pub all : up + back_up ≡ rest + back_rest
-
--- they meet: the left entries that the back walk has left are exactly those that the front one has
--- passed
-pub meet : (quota up rest back_up back_rest : ℕ) (left right : List Entry) → Ends quota up rest back_up back_rest left right → (up ≡ back_rest) × (back_up ≡ rest)
-meet quota up rest back_up back_rest left right e =
-    let up_in : up ≤ length left = e.front.up_in in
-    let rest_in : rest ≤ length right = e.front.rest_in in
-    let back_up_in : back_up ≤ length right = e.back.up_in in
-    let back_rest_in : back_rest ≤ length left = e.back.rest_in in
-    let all : up + back_up ≡ rest + back_rest = e.all in
-    let lefts : up ≡ back_rest = elim (cases_lt up back_rest) as (λ _. up ≡ back_rest) [
-      | inl fewer ↦ (
-          -- a pair that reaches by the front walk, and falls short by the back one
-          absurd (omega (arith, e.front.reached up rest (omega arith) (omega arith) (omega arith) (omega arith), e.back.apart rest up (omega arith) (omega arith))))
-      | inr most ↦ elim (cases_lt back_rest up) as (λ _. up ≡ back_rest) [
-        | inl more ↦ (let k : ℕ = up - 1 in let m : ℕ = rest - 1 in
-            absurd (omega (arith, e.front.apart k m (omega arith) (omega arith), e.back.reached m k (omega arith) (omega arith) (omega arith) (omega arith))))
-        | inr least ↦ omega arith
-      ]
-    ] in
-    (lefts, omega arith)
+  falls_at : IsPassed true next route position → Falls next route position
+  falls_at is =
+      let last : ℕ = position.rest - 1 in
+      let behind : last + 1 ≡ position.rest = omega (arith, is.0) in
+      let within : last < length route.falling = omega (arith, is.0, b.rest_in) in
+      let partners : count_by (enough route next.high) route.rising ≡ partners_next true next route position =
+      count_enough route.quota route.least_size position.up next.high route.rising (subst (λ (e : Entry). Splits route.quota e.sum position.up route.rising) (sym is.1) (falling_splits is)) in
+      let more : (test : Entry → Entry → Bool) → pairs_where test (drop last route.falling) route.rising ≡ pairs_where test (drop position.rest route.falling) route.rising + count_by (test next.high) route.rising =
+      λ test. omega (arith, sum_by-drop_more (λ e. count_by (test e) route.rising) route.falling last zero_entry within, ap (λ i. pairs_where test (drop i route.falling) route.rising) behind, ap (λ e. count_by (test e) route.rising) is.1) in
+      record {
+        between = record {
+          up_in = b.up_in;
+          rest_in = omega (arith, b.rest_in);
+          apart = λ k m before below. b.apart k m before (omega arith);
+          reached = λ k m from inside above below. elim (cases_lt m position.rest) as (λ _. route.quota ≤ votes_at route k m) [
+            | inl fresh ↦ (let same : last ≡ m = omega arith in omega (arith, ap (λ i. (entry_at route.falling i).sum) same, is.2 (omega arith), ups position.up k zero_entry from inside))
+            | inr passed ↦ b.reached k m from inside passed below
+          ];
+        };
+        total = omega (arith, more (enough route), partners);
+        marks = λ slot. omega (arith, more (with_slot slot (enough route)), count_slot (enough route next.high) slot next.high route.rising, ap (λ n. bit_at next.high.mask slot * n) partners);
+      }
 
 -- what the first entries and those from there on come to is what all do
 pub both_parts : (test : Entry → Entry → Bool) (entries others : List Entry) (up rest : ℕ) → up ≡ rest →
@@ -152,26 +114,24 @@ both_parts test entries others up rest same =
     rw same (sum_by-take-drop (λ l. count_by (test l) others) entries rest)
 
 -- a step: which entry is passed, and what the tallies of the two lists have then
-pub record Pass (quota least up rest p q : ℕ) (rising falling : List Entry) (low high : Entry) (amount : ℕ) (old new : List MaskTally) (falls : Bool) : Type 0 where
-  pub at : At quota up rest rising falling
-  pub next : IsPassed falls quota low high up rest rising falling
-  pub credited : HasCredited quota least up rest rising falling old
-  pub partners : amount ≡ cond falls (partners_of least high.mask (drop up rising)) (partners_of least low.mask (drop rest falling))
+pub record Pass (falls : Bool) (next : Next) (route : Route) (position : Position) (amount : ℕ) (old new : List MaskTally) : Type 0 where
+  pub between : IsBetween route position
+  pub is_next : IsPassed falls next route position
+  pub credited : HasCredited route position old
+  pub partners : amount ≡ partners_next falls next route position
   pub rising_total : tally_total (side 0 new) ≡ tally_total (side 0 old) + cond falls 0 amount
-  pub rising_marked : (slot : ℕ) → slot_amount slot (side 0 new) ≡ slot_amount slot (side 0 old) + bit_at (cond falls high.mask low.mask) slot * cond falls 0 amount
+  pub rising_marked : (slot : ℕ) → slot_amount slot (side 0 new) ≡ slot_amount slot (side 0 old) + bit_at (cond falls next.high.mask next.low.mask) slot * cond falls 0 amount
   pub falling_total : tally_total (side 1 new) ≡ tally_total (side 1 old) + cond falls amount 0
-  pub falling_marked : (slot : ℕ) → slot_amount slot (side 1 new) ≡ slot_amount slot (side 1 old) + bit_at (cond falls high.mask low.mask) slot * cond falls amount 0
-  pub next_up : p ≡ up + cond falls 0 1
-  pub next_rest : q ≡ rest - cond falls 1 0
+  pub falling_marked : (slot : ℕ) → slot_amount slot (side 1 new) ≡ slot_amount slot (side 1 old) + bit_at (cond falls next.high.mask next.low.mask) slot * cond falls amount 0
 
-pub record Passed (quota least p q : ℕ) (rising falling : List Entry) (new : List MaskTally) : Type 0 where
-  pub between : IsBetween quota p q rising falling
-  pub credited : HasCredited quota least p q rising falling new
+pub record Passed (route : Route) (position : Position) (new : List MaskTally) : Type 0 where
+  pub between : IsBetween route position
+  pub credited : HasCredited route position new
 
 -- where a falling entry is next, one is left
-pub one_left : (quota : ℕ) (falls : Bool) (low high : Entry) (up rest : ℕ) (rising falling : List Entry) → IsPassed falls quota low high up rest rising falling → cond falls 1 0 ≤ rest
-one_left quota true low high up rest rising falling next = omega (arith, next.0)
-one_left quota false low high up rest rising falling next = omega arith
+pub one_left : (falls : Bool) (next : Next) (route : Route) (position : Position) → IsPassed falls next route position → cond falls 1 0 ≤ position.rest
+one_left true next route position is = omega (arith, is.0)
+one_left false next route position is = omega arith
 
 -- and each step passes one
 pub one_step : (falls : Bool) (up rest : ℕ) → cond falls 1 0 ≤ rest → up + cond falls 0 1 + rest ≡ up + (rest - cond falls 1 0) + 1
@@ -179,29 +139,33 @@ one_step true up rest some = omega (arith, some)
 one_step false up rest some = omega arith
 
 -- what is known of the next entries of two lists, and of the test which of them is next
-pub record Looked (quota up rest : ℕ) (rising falling : List Entry) (low high : Entry) (falls : Bool) : Type 0 where
-  pub within : up ≤ length rising
-  pub some : up < length rising + rest
-  pub low_is : up < length rising → low ≡ entry_at rising up
-  pub high_is : 0 < rest → high ≡ entry_at falling (rest - 1)
-  pub test : falls ≡ (not (ltb up (length rising)) || (ltb 0 rest && nat_le quota (low.sum + high.sum)))
+pub record Looked (falls : Bool) (next : Next) (route : Route) (position : Position) : Type 0 where
+  pub within : position.up ≤ length route.rising
+  pub some : position.up < length route.rising + position.rest
+  pub low_is : position.up < length route.rising → next.low ≡ entry_at route.rising position.up
+  pub high_is : 0 < position.rest → next.high ≡ entry_at route.falling (position.rest - 1)
+  pub test : falls ≡ (not (ltb position.up (length route.rising)) || (ltb 0 position.rest && nat_le route.quota (next.low.sum + next.high.sum)))
 
 -- the test says which is next
-pub looked : (quota up rest : ℕ) (rising falling : List Entry) (low high : Entry) (falls : Bool) → Looked quota up rest rising falling low high falls → IsPassed falls quota low high up rest rising falling
-looked quota up rest rising falling low high true s =
-    let more : up < length rising → (ltb 0 rest && nat_le quota (low.sum + high.sum)) ≡ true = λ h. sym (s.test ∙ ap (λ b. not b || (ltb 0 rest && nat_le quota (low.sum + high.sum))) (lt-ltb up (length rising) h)) in
-    let some : 0 < rest = elim (cases_lt up (length rising)) as (λ _. 0 < rest) [
-      | inl before ↦ ltb-true 0 rest (and_parts (ltb 0 rest) (nat_le quota (low.sum + high.sum)) (more before)).0
+pub looked : (falls : Bool) (next : Next) (route : Route) (position : Position) → Looked falls next route position → IsPassed falls next route position
+looked true next route position s =
+    let n : ℕ = length route.rising in
+    let reach : Bool = nat_le route.quota (next.low.sum + next.high.sum) in
+    let more : position.up < n → (ltb 0 position.rest && reach) ≡ true = λ h. sym (s.test ∙ ap (λ b. not b || (ltb 0 position.rest && reach)) (lt-ltb position.up n h)) in
+    let some : 0 < position.rest = elim (cases_lt position.up n) as (λ _. 0 < position.rest) [
+      | inl before ↦ ltb-true 0 position.rest (and_parts (ltb 0 position.rest) reach (more before)).0
       | inr end ↦ omega (arith, s.some)
     ] in
-    (some, s.high_is some, λ h. omega (arith, leb-true quota (low.sum + high.sum) (and_parts (ltb 0 rest) (nat_le quota (low.sum + high.sum)) (more h)).1, ap (λ (e : Entry). e.sum) (s.low_is h), ap (λ (e : Entry). e.sum) (s.high_is some)))
-looked quota up rest rising falling low high false s =
-    let none = or_parts (not (ltb up (length rising))) (ltb 0 rest && nat_le quota (low.sum + high.sum)) (sym s.test) in
-    let some : up < length rising = elim (cases_lt up (length rising)) as (λ _. up < length rising) [
+    (some, s.high_is some, λ h. omega (arith, leb-true route.quota (next.low.sum + next.high.sum) (and_parts (ltb 0 position.rest) reach (more h)).1, ap (λ (e : Entry). e.sum) (s.low_is h), ap (λ (e : Entry). e.sum) (s.high_is some)))
+looked false next route position s =
+    let n : ℕ = length route.rising in
+    let reach : Bool = nat_le route.quota (next.low.sum + next.high.sum) in
+    let none = or_parts (not (ltb position.up n)) (ltb 0 position.rest && reach) (sym s.test) in
+    let some : position.up < n = elim (cases_lt position.up n) as (λ _. position.up < n) [
       | inl before ↦ before
-      | inr end ↦ absurd (let bad : true ≡ false = sym (ap not (le-ltb up (length rising) end)) ∙ none.0 in cc)
+      | inr end ↦ absurd (let bad : true ≡ false = sym (ap not (le-ltb position.up n end)) ∙ none.0 in cc)
     ] in
-    (some, s.low_is some, λ h. omega (arith, leb-false quota (low.sum + high.sum) (sym (ap (λ b. b && nat_le quota (low.sum + high.sum)) (lt-ltb 0 rest h)) ∙ none.1), ap (λ (e : Entry). e.sum) (s.low_is some), ap (λ (e : Entry). e.sum) (s.high_is h)))
+    (some, s.low_is some, λ h. omega (arith, leb-false route.quota (next.low.sum + next.high.sum) (sym (ap (λ b. b && reach) (lt-ltb 0 position.rest h)) ∙ none.1), ap (λ (e : Entry). e.sum) (s.low_is some), ap (λ (e : Entry). e.sum) (s.high_is h)))
 
 -- where neither list has ended, the sums alone say which entry is next
 pub both_last : (up n rest : ℕ) (reach : Bool) → up < n → 0 < rest → reach ≡ (not (ltb up n) || (ltb 0 rest && reach))
@@ -210,58 +174,57 @@ both_last up n rest reach before some = sym (ap (λ b. not b || (ltb 0 rest && r
 zero_times : (m : ℕ) → m * 0 ≡ 0
 zero_times m = omega arith
 
-pub pass : (quota least up rest p q : ℕ) (rising falling : List Entry) (low high : Entry) (amount : ℕ) (old new : List MaskTally) (falls : Bool) → Pass quota least up rest p q rising falling low high amount old new falls → Passed quota least p q rising falling new
-pass quota least up rest p q rising falling low high amount old new true s =
-    let f : Entry = entry_at falling (rest - 1) in
-    let high_is : high ≡ f = s.next.1 in
-    let step : Falls quota least up rest rising falling = falls_at quota least up rest rising falling s.at s.next.0 (λ h. omega (arith, s.next.2 h, ap (λ (e : Entry). e.sum) high_is)) in
-    let same_up : p ≡ up = omega (arith, s.next_up) in
-    let same_rest : q ≡ rest - 1 = omega (arith, s.next_rest) in
-    let partners : amount ≡ partners_of least f.mask (drop up rising) = s.partners ∙ ap (λ (e : Entry). partners_of least e.mask (drop up rising)) high_is in
-    record {
-      between = rw (same_up, same_rest) step.between;
-      credited = rw (same_up, same_rest) (record {
+pub pass : (falls : Bool) (next : Next) (route : Route) (position : Position) (amount : ℕ) (old new : List MaskTally) → Pass falls next route position amount old new → Passed route (position_after falls position) new
+pass true next route position amount old new s =
+    let step = falls_at next route position s.between s.is_next in
+    let same : position.up + 0 ≡ position.up = omega arith in
+    rw same (record {
+      between = step.between;
+      credited = record {
         rising_total = omega (arith, s.rising_total, s.credited.rising_total);
-        rising_marked = λ slot. omega (arith, s.rising_marked slot, s.credited.rising_marked slot, zero_times (bit_at high.mask slot));
-        falling_total = omega (arith, s.falling_total, s.credited.falling_total, step.total, partners);
-        falling_marked = λ slot. omega (arith, s.falling_marked slot, s.credited.falling_marked slot, step.marks slot, ap (λ (e : Entry). bit_at e.mask slot * amount) high_is, ap (λ n. bit_at f.mask slot * n) partners);
-      });
-    }
-pass quota least up rest p q rising falling low high amount old new false s =
-    let r : Entry = entry_at rising up in
-    let low_is : low ≡ r = s.next.1 in
-    let step : Rises quota least up rest rising falling = rises quota least up rest rising falling s.at s.next.0 (λ h. omega (arith, s.next.2 h, ap (λ (e : Entry). e.sum) low_is)) in
-    let same_up : p ≡ up + 1 = omega (arith, s.next_up) in
-    let same_rest : q ≡ rest = omega (arith, s.next_rest) in
-    let partners : amount ≡ partners_of least r.mask (drop rest falling) = s.partners ∙ ap (λ (e : Entry). partners_of least e.mask (drop rest falling)) low_is in
-    record {
-      between = rw (same_up, same_rest) step.between;
-      credited = rw (same_up, same_rest) (record {
-        rising_total = omega (arith, s.rising_total, s.credited.rising_total, step.total, partners);
-        rising_marked = λ slot. omega (arith, s.rising_marked slot, s.credited.rising_marked slot, step.marks slot, ap (λ (e : Entry). bit_at e.mask slot * amount) low_is, ap (λ n. bit_at r.mask slot * n) partners);
+        rising_marked = λ slot. omega (arith, s.rising_marked slot, s.credited.rising_marked slot, zero_times (bit_at next.high.mask slot));
+        falling_total = omega (arith, s.falling_total, s.credited.falling_total, step.total, s.partners);
+        falling_marked = λ slot. omega (arith, s.falling_marked slot, s.credited.falling_marked slot, step.marks slot, ap (λ n. bit_at next.high.mask slot * n) s.partners);
+      };
+    })
+pass false next route position amount old new s =
+    let step = rises next route position s.between s.is_next in
+    let same : position.rest - 0 ≡ position.rest = omega arith in
+    rw same (record {
+      between = step.between;
+      credited = record {
+        rising_total = omega (arith, s.rising_total, s.credited.rising_total, step.total, s.partners);
+        rising_marked = λ slot. omega (arith, s.rising_marked slot, s.credited.rising_marked slot, step.marks slot, ap (λ n. bit_at next.low.mask slot * n) s.partners);
         falling_total = omega (arith, s.falling_total, s.credited.falling_total);
-        falling_marked = λ slot. omega (arith, s.falling_marked slot, s.credited.falling_marked slot, zero_times (bit_at low.mask slot));
-      });
-    }
+        falling_marked = λ slot. omega (arith, s.falling_marked slot, s.credited.falling_marked slot, zero_times (bit_at next.low.mask slot));
+      };
+    })
 
--- both walks with what they have credited, once they have passed all entries between them
-pub record Walked (quota least up rest back_up back_rest : ℕ) (left right : List Entry) (front back : List MaskTally) : Type 0 where
-  pub ends : Ends quota up rest back_up back_rest left right
-  pub front_credits : HasCredited quota least up rest left right front
-  pub back_credits : HasCredited quota least back_up back_rest right left back
+-- two chains from both ends, which have passed all entries between them
+module _ {P Q : PartnerCounts} (route : Route) (front back : Position) (front_tallies back_tallies : List MaskTally) (f : StandsAt P route front front_tallies) (b : StandsAt Q (turned_route route) back back_tallies) (all : front.up + back.up ≡ front.rest + back.rest) where
+  -- they meet: the rising entries that the back one has left are exactly those that the front one has passed
+  meet : (front.up ≡ back.rest) × (back.up ≡ front.rest)
+  meet =
+      let lefts : front.up ≡ back.rest = elim (cases_lt front.up back.rest) as (λ _. front.up ≡ back.rest) [
+        | inl fewer ↦ (
+            -- a pair that reaches by the front chain, and falls short by the back one
+            absurd (omega (arith, all, f.between.reached front.up front.rest (omega arith) (omega (arith, b.between.rest_in)) (omega arith) (omega (arith, all, b.between.up_in)), b.between.apart front.rest front.up (omega (arith, all)) (omega arith))))
+        | inr most ↦ elim (cases_lt back.rest front.up) as (λ _. front.up ≡ back.rest) [
+          | inl more ↦ (let k : ℕ = front.up - 1 in let m : ℕ = front.rest - 1 in
+              absurd (omega (arith, f.between.apart k m (omega arith) (omega (arith, all)), b.between.reached m k (omega (arith, all)) (omega (arith, all, f.between.rest_in)) (omega arith) (omega (arith, f.between.up_in)))))
+          | inr least ↦ omega arith
+        ]
+      ] in
+      (lefts, omega (arith, all))
 
-pub lefts_credited : (quota least up rest back_up back_rest : ℕ) (left right : List Entry) (front back : List MaskTally) → Walked quota least up rest back_up back_rest left right front back → CreditsEach (is_enough quota least) left right (side 0 front) (side 1 back)
-lefts_credited quota least up rest back_up back_rest left right front back w =
-    let same : up ≡ back_rest = (meet quota up rest back_up back_rest left right w.ends).0 in
-    record {
-      totals = omega (arith, w.front_credits.rising_total, w.back_credits.falling_total, both_parts (is_enough quota least) left right up back_rest same);
-      marks = λ slot. omega (arith, w.front_credits.rising_marked slot, w.back_credits.falling_marked slot, both_parts (λ a b. is_enough quota least a b && has_slot slot a) left right up back_rest same);
-    }
+  pub lefts_credited : CreditsEach (enough route) route.rising route.falling (side 0 front_tallies) (side 1 back_tallies)
+  lefts_credited = record {
+    totals = omega (arith, f.credited.rising_total, b.credited.falling_total, both_parts (enough route) route.rising route.falling front.up back.rest meet.0);
+    marks = λ slot. omega (arith, f.credited.rising_marked slot, b.credited.falling_marked slot, both_parts (with_slot slot (enough route)) route.rising route.falling front.up back.rest meet.0);
+  }
 
-pub rights_credited : (quota least up rest back_up back_rest : ℕ) (left right : List Entry) (front back : List MaskTally) → Walked quota least up rest back_up back_rest left right front back → CreditsEach (is_enough quota least) right left (side 0 back) (side 1 front)
-rights_credited quota least up rest back_up back_rest left right front back w =
-    let same : back_up ≡ rest = (meet quota up rest back_up back_rest left right w.ends).1 in
-    record {
-      totals = omega (arith, w.back_credits.rising_total, w.front_credits.falling_total, both_parts (is_enough quota least) right left back_up rest same);
-      marks = λ slot. omega (arith, w.back_credits.rising_marked slot, w.front_credits.falling_marked slot, both_parts (λ a b. is_enough quota least a b && has_slot slot a) right left back_up rest same);
-    }
+  pub rights_credited : CreditsEach (enough route) route.falling route.rising (side 0 back_tallies) (side 1 front_tallies)
+  rights_credited = record {
+    totals = omega (arith, b.credited.rising_total, f.credited.falling_total, both_parts (enough route) route.falling route.rising back.up front.rest meet.1);
+    marks = λ slot. omega (arith, b.credited.rising_marked slot, f.credited.falling_marked slot, both_parts (with_slot slot (enough route)) route.falling route.rising back.up front.rest meet.1);
+  }

@@ -10,10 +10,13 @@ use Rattle.half_sums.specs.declared.entry.Entry.{Entry}
 use Rattle.half_sums.specs.Groups.{size_of, fewer_than}
 use Rattle.half_sums.specs.Merges.{entry_at}
 use Rattle.half_sums.proofs.GroupFacts.{sizes_few}
-use Rattle.swing_walk.specs.Sizes.{partners_of, at_least, one_at, tally_of_size, CountsBySize}
+use Rattle.swing_walk.specs.Sizes.{partners_next, partners_of, at_least, one_at, tally_of_size, CountsBySize}
 use Rattle.swing_walk.specs.Sides.{size_side}
-use Rattle.swing_walk.specs.Walks.{IsPassed}
+use Rattle.swing_walk.specs.Walks.{IsPassed, position_after}
 use Rattle.swing_walk.specs.declared.partners.BySize.{BySize}
+use Rattle.swing_walk.specs.declared.positions.Next.{Next}
+use Rattle.swing_walk.specs.declared.positions.Position.{Position}
+use Rattle.swing_walk.specs.declared.positions.Route.{Route}
 use Rattle.swing_walk.specs.declared.sizes.TheConstants.{LANES}
 use Rattle.swing_walk.proofs.Counting.{count_none, count_agree}
 use Rattle.half_sums.specs.Entries.{zero_entry}
@@ -104,54 +107,53 @@ both_kinds size (e ∷ entries) =
     omega (arith, one_kind size (size_of e), both_kinds size entries, sum_by-cons (λ (x : Entry). cond (nat_lt (size_of x) size) 1 0) e entries, sum_by-cons (λ (x : Entry). cond (nat_le size (size_of x)) 1 0) e entries)
 
 -- what is read at a size, as long as fewer sets were passed than a number of 16 bits holds
-pub record Reads (by : BySize) (size up rest : ℕ) (rising falling : List Entry) : Type 0 where
-  pub room : get_or by.fewer size 0 + tally_of_size size (size_side 0 by.passed) ≤ length rising
-  pub left : get_or by.fewer size 0 + tally_of_size size (size_side 0 by.passed) + at_least size (drop up rising) ≡ length rising
-  pub gone : tally_of_size size (size_side 1 by.passed) ≡ at_least size (drop rest falling)
+module _ (by : BySize) (size : ℕ) (route : Route) (position : Position) where
+  pub record Reads : Type 0 where
+    pub room : get_or by.fewer size 0 + tally_of_size size (size_side 0 by.passed) ≤ length route.rising
+    pub left : get_or by.fewer size 0 + tally_of_size size (size_side 0 by.passed) + at_least size (drop position.up route.rising) ≡ length route.rising
+    pub gone : tally_of_size size (size_side 1 by.passed) ≡ at_least size (drop position.rest route.falling)
 
-pub reads : (by : BySize) (size up rest : ℕ) (rising falling : List Entry) → CountsBySize by up rest rising falling → size ≤ SIZES → up + length falling < rest + ROOM → rest ≤ length falling → Reads by size up rest rising falling
-reads by size up rest rising falling counts bound early within =
-    let test : Entry → Bool = λ e. nat_le size (size_of e) in
-    let left : get_or by.fewer size 0 + tally_of_size size (size_side 0 by.passed) + at_least size (drop up rising) ≡ length rising =
-    omega (arith, counts.fewer size bound, counts.risen size (omega arith), both_kinds size rising, sum_by-take-drop (λ (e : Entry). cond (nat_le size (size_of e)) 1 0) rising up, count_by-le-length test (take up rising), length-take up rising) in
-    record {
-      room = omega (arith, left);
-      left = left;
-      gone = omega (arith, counts.fallen size (omega arith), count_by-le-length test (drop rest falling), length-drop rest falling);
-    }
+  pub reads : CountsBySize by route position → size ≤ SIZES → position.up + length route.falling < position.rest + ROOM → position.rest ≤ length route.falling → Reads
+  reads counts bound early within =
+      let test : Entry → Bool = λ e. nat_le size (size_of e) in
+      let left : get_or by.fewer size 0 + tally_of_size size (size_side 0 by.passed) + at_least size (drop position.up route.rising) ≡ length route.rising =
+      omega (arith, counts.fewer size bound, counts.risen size (omega arith), both_kinds size route.rising, sum_by-take-drop (λ (e : Entry). cond (nat_le size (size_of e)) 1 0) route.rising position.up, count_by-le-length test (take position.up route.rising), length-take position.up route.rising) in
+      record {
+        room = omega (arith, left);
+        left = left;
+        gone = omega (arith, counts.fallen size (omega arith), count_by-le-length test (drop position.rest route.falling), length-drop position.rest route.falling);
+      }
 
 -- which are the partners of a set
-pub partners-read : (by : BySize) (least high low lane up rest : ℕ) (rising falling : List Entry) (falls : Bool) (left gone : ℕ) → Reads by lane up rest rising falling → lane ≡ min (least - count_ones (cond falls high low)) SIZES →
-    All (λ e. e.mask < 2 ^ SLOTS) rising → All (λ e. e.mask < 2 ^ SLOTS) falling → left ≡ length rising - get_or by.fewer lane 0 - tally_of_size lane (size_side 0 by.passed) → gone ≡ tally_of_size lane (size_side 1 by.passed) →
-    cond falls left gone ≡ cond falls (partners_of least high (drop up rising)) (partners_of least low (drop rest falling))
-partners-read by least high low lane up rest rising falling true left gone r is rising_slots falling_slots is_left is_gone =
-    omega (arith, is_left, r.left, partners-lacking least high lane (drop up rising) (All-drop (λ (e : Entry). e.mask < 2 ^ SLOTS) up rising rising_slots) is)
-partners-read by least high low lane up rest rising falling false left gone r is rising_slots falling_slots is_left is_gone =
-    omega (arith, is_gone, r.gone, partners-lacking least low lane (drop rest falling) (All-drop (λ (e : Entry). e.mask < 2 ^ SLOTS) rest falling falling_slots) is)
+pub partners-read : (falls : Bool) (by : BySize) (next : Next) (route : Route) (position : Position) (lane left gone : ℕ) → Reads by lane route position → lane ≡ min (route.least_size - count_ones (cond falls next.high.mask next.low.mask)) SIZES →
+    left ≡ length route.rising - get_or by.fewer lane 0 - tally_of_size lane (size_side 0 by.passed) → gone ≡ tally_of_size lane (size_side 1 by.passed) → cond falls left gone ≡ partners_next falls next route position
+partners-read true by next route position lane left gone r is is_left is_gone =
+    omega (arith, is_left, r.left, partners-lacking route.least_size next.high.mask lane (drop position.up route.rising) (All-drop (λ (e : Entry). e.mask < 2 ^ SLOTS) position.up route.rising route.rising_half.slots) is)
+partners-read false by next route position lane left gone r is is_left is_gone =
+    omega (arith, is_gone, r.gone, partners-lacking route.least_size next.low.mask lane (drop position.rest route.falling) (All-drop (λ (e : Entry). e.mask < 2 ^ SLOTS) position.rest route.falling route.falling_half.slots) is)
 
 -- a set is passed
-pub record Counted (old new : BySize) (mask : ℕ) (falls : Bool) : Type 0 where
+pub record Counted (falls : Bool) (next : Next) (old new : BySize) (mask : ℕ) : Type 0 where
+  pub is_mask : mask ≡ cond falls next.high.mask next.low.mask
   pub fewer : new.fewer ≡ old.fewer
   pub rising : (size : ℕ) → size < LANES → tally_of_size size (size_side 0 new.passed)
       ≡ cond falls (tally_of_size size (size_side 0 old.passed)) ((tally_of_size size (size_side 0 old.passed) + one_at size mask) % 2 ^ 16)
   pub falling : (size : ℕ) → size < LANES → tally_of_size size (size_side 1 new.passed)
       ≡ cond falls ((tally_of_size size (size_side 1 old.passed) + one_at size mask) % 2 ^ 16) (tally_of_size size (size_side 1 old.passed))
 
-pub passed : (quota up rest p q : ℕ) (rising falling : List Entry) (old new : BySize) (low high : Entry) (mask : ℕ) (falls : Bool) → CountsBySize old up rest rising falling → IsPassed falls quota low high up rest rising falling → rest ≤ length falling →
-    Counted old new mask falls → mask ≡ cond falls high.mask low.mask → p ≡ up + cond falls 0 1 → q ≡ rest - cond falls 1 0 → CountsBySize new p q rising falling
-passed quota up rest p q rising falling old new low high mask true counts next within c is_mask is_up is_rest =
-    let same_up : p ≡ up = omega (arith, is_up) in
-    let same_rest : q ≡ rest - 1 = omega (arith, is_rest) in
-    rw (same_up, same_rest) (record {
+pub passed : (falls : Bool) (next : Next) (route : Route) (position : Position) (old new : BySize) (mask : ℕ) → CountsBySize old route position → IsPassed falls next route position → position.rest ≤ length route.falling → Counted falls next old new mask →
+    CountsBySize new route (position_after falls position)
+passed true next route position old new mask counts is_next within c =
+    let same : position.up + 0 ≡ position.up = omega arith in
+    rw same (record {
       fewer = λ size bound. ap (λ xs. get_or xs size 0) c.fewer ∙ counts.fewer size bound;
       risen = λ size bound. c.rising size bound ∙ counts.risen size bound;
-      fallen = λ size bound. omega (arith, c.falling size bound, counts.fallen size bound, dropped_more size rest falling next.0 within, ap (one_at size) (is_mask ∙ ap (λ (e : Entry). e.mask) next.1));
+      fallen = λ size bound. omega (arith, c.falling size bound, counts.fallen size bound, dropped_more size position.rest route.falling is_next.0 within, ap (one_at size) (c.is_mask ∙ ap (λ (e : Entry). e.mask) is_next.1));
     })
-passed quota up rest p q rising falling old new low high mask false counts next within c is_mask is_up is_rest =
-    let same_up : p ≡ up + 1 = omega (arith, is_up) in
-    let same_rest : q ≡ rest = omega (arith, is_rest) in
-    rw (same_up, same_rest) (record {
+passed false next route position old new mask counts is_next within c =
+    let same : position.rest - 0 ≡ position.rest = omega arith in
+    rw same (record {
       fewer = λ size bound. ap (λ xs. get_or xs size 0) c.fewer ∙ counts.fewer size bound;
-      risen = λ size bound. omega (arith, c.rising size bound, counts.risen size bound, taken_more size up rising next.0, ap (one_at size) (is_mask ∙ ap (λ (e : Entry). e.mask) next.1));
+      risen = λ size bound. omega (arith, c.rising size bound, counts.risen size bound, taken_more size position.up route.rising is_next.0, ap (one_at size) (c.is_mask ∙ ap (λ (e : Entry). e.mask) is_next.1));
       fallen = λ size bound. c.falling size bound ∙ counts.fallen size bound;
     })

@@ -19,6 +19,10 @@ reaches quota l r = nat_le quota (l.sum + r.sum)
 abbrev pub has_slot : ℕ → Entry → Bool
 has_slot slot e = bit_at e.mask slot == 1
 
+-- a test of pairs, and the first entry has the chair at a slot
+abbrev pub with_slot : ℕ → (Entry → Entry → Bool) → Entry → Entry → Bool
+with_slot slot test l r = test l r && has_slot slot l
+
 -- whether a pair has the chair at a place: 0 to 15 on the left, 16 to 31 on the right
 abbrev pub has_place : ℕ → Entry → Entry → Bool
 has_place place l r = if nat_lt place SLOTS then has_slot place l else has_slot (place - SLOTS) r

@@ -1,6 +1,6 @@
 -- Sets counted by size, and the partners of a set that is passed.
 use Rattle.std.specs.Prelude.{ℕ, ◌≡◌, ◌+◌, ◌<◌, ◌≤◌, ◌%◌, ◌^◌, List, slice_index_or, take, drop, count_ones}
-use Rattle.std.specs.Prelude.{nat_le, if◌then◌else◌}
+use Rattle.std.specs.Prelude.{nat_le, if◌then◌else◌, Bool, true, false}
 use Rattle.std.specs.List.{count_by}
 use Rattle.half_sums.specs.declared.entry.Entry.{Entry}
 use Rattle.half_sums.specs.Groups.{size_of, fewer_than}
@@ -9,6 +9,9 @@ use Rattle.swing_walk.specs.declared.sizes.SizeTally.{SizeTally}
 use Rattle.swing_walk.specs.declared.sizes.TheConstants.{LANES}
 use Rattle.swing_walk.specs.Sides.{size_side}
 use Rattle.swing_walk.specs.declared.partners.BySize.{BySize}
+use Rattle.swing_walk.specs.declared.positions.Next.{Next}
+use Rattle.swing_walk.specs.declared.positions.Position.{Position}
+use Rattle.swing_walk.specs.declared.positions.Route.{Route}
 
 -- the number of entries that have enough chairs together with the set of this mask
 abbrev pub partners_of : ℕ → ℕ → List Entry → ℕ
@@ -30,9 +33,14 @@ tally_of_size size t = slice_index_or t.at_least size 0
 abbrev pub IsSizeTally : List Entry → SizeTally → Type 0
 IsSizeTally entries t = (size : ℕ) → size < LANES → tally_of_size size t ≡ at_least size entries % 2 ^ 16
 
+-- the number of partners of the falling entry, if it is passed next, or otherwise of the rising one
+abbrev pub partners_next : Bool → Next → Route → Position → ℕ
+partners_next true next route position = partners_of route.least_size next.high.mask (drop position.up route.rising)
+partners_next false next route position = partners_of route.least_size next.low.mask (drop position.rest route.falling)
+
 -- a counter by size has counted the first `up` rising sets, the falling sets from `rest` on, and,
 -- by their sizes, all rising sets
-pub record CountsBySize (by : BySize) (up rest : ℕ) (rising falling : List Entry) : Type 0 where
-  pub fewer : (size : ℕ) → size ≤ SIZES → slice_index_or by.fewer size 0 ≡ fewer_than size rising
-  pub risen : IsSizeTally (take up rising) (size_side 0 by.passed)
-  pub fallen : IsSizeTally (drop rest falling) (size_side 1 by.passed)
+pub record CountsBySize (by : BySize) (route : Route) (position : Position) : Type 0 where
+  pub fewer : (size : ℕ) → size ≤ SIZES → slice_index_or by.fewer size 0 ≡ fewer_than size route.rising
+  pub risen : IsSizeTally (take position.up route.rising) (size_side 0 by.passed)
+  pub fallen : IsSizeTally (drop position.rest route.falling) (size_side 1 by.passed)

@@ -1,8 +1,8 @@
 -- Amounts stored by the bytes of a mask, and the amounts that walks add.
-use Rattle.std.specs.Prelude.{ℕ, ◌≡◌, ◌+◌, Bool, List, ◌&&◌}
+use Rattle.std.specs.Prelude.{ℕ, ◌≡◌, ◌+◌, Bool, List}
 use Rattle.std.specs.List.{sum_by}
 use Rattle.half_sums.specs.declared.entry.Entry.{Entry}
-use Rattle.swing_walk.specs.Pairs.{pairs_where, has_slot}
+use Rattle.swing_walk.specs.Pairs.{pairs_where, with_slot}
 use Rattle.swing_walk.specs.Tables.{weighted_sum, low_weight, high_weight}
 use Rattle.swing_walk.specs.declared.tally.MaskTally.{MaskTally}
 
@@ -20,4 +20,4 @@ pub record CreditsEach (test : Entry → Entry → Bool) (entries others : List 
     : Type 0 where
   pub totals : tally_total one + tally_total two ≡ pairs_where test entries others
   pub marks : (slot : ℕ)
-      → slot_amount slot one + slot_amount slot two ≡ pairs_where (λ a b. test a b && has_slot slot a) entries others
+      → slot_amount slot one + slot_amount slot two ≡ pairs_where (with_slot slot test) entries others

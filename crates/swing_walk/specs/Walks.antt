@@ -1,10 +1,8 @@
 -- The position of a walk between a rising and a falling list, and what it has credited.
-use Rattle.std.specs.Prelude.{ℕ, ◌≡◌, ◌+◌, ◌-◌, ◌<◌, ◌≤◌, List, length, take, drop, slice_index_or, ◌&&◌}
-use Rattle.std.specs.Prelude.{Bool, true, false}
+use Rattle.std.specs.Prelude.{ℕ, ◌≡◌, ◌+◌, ◌-◌, ◌<◌, ◌≤◌, List, length, take, drop, cond, Bool, true, false}
 use Rattle.half_sums.specs.declared.entry.Entry.{Entry}
-use Rattle.half_sums.specs.Entries.{zero_entry}
 use Rattle.half_sums.specs.Merges.{entry_at}
-use Rattle.swing_walk.specs.Pairs.{pairs_where, is_enough, has_slot}
+use Rattle.swing_walk.specs.Pairs.{pairs_where, is_enough, with_slot}
 use Rattle.swing_walk.specs.Tallies.{slot_amount, tally_total}
 use Rattle.swing_walk.specs.Sides.{side}
 use Rattle.swing_walk.specs.declared.positions.Route.{Route}
@@ -29,64 +27,62 @@ turned_route route =
       falling_half = route.rising_half;
     }
 
--- no pair of the first `i` left entries and the first `j` right ones reaches the quota
-abbrev pub NoneReach : ℕ → ℕ → ℕ → List Entry → List Entry → Type 0
-NoneReach quota i j left right = (k m : ℕ) → k < i → m < j
-    → (slice_index_or left k zero_entry).sum + (slice_index_or right m zero_entry).sum < quota
+-- the votes that the rising entry at `k` and the falling one at `m` have together
+abbrev pub votes_at : Route → ℕ → ℕ → ℕ
+votes_at route k m = (entry_at route.rising k).sum + (entry_at route.falling m).sum
 
--- each pair of a left entry from `i` on and a right one from `j` on reaches the quota
-abbrev pub AllReach : ℕ → ℕ → ℕ → List Entry → List Entry → Type 0
-AllReach quota i j left right = (k m : ℕ) → i ≤ k → k < length left → j ≤ m → m < length right
-    → quota ≤ (slice_index_or left k zero_entry).sum + (slice_index_or right m zero_entry).sum
-
--- a walk has passed the first `up` rising entries and the falling entries from `rest` on: the
--- passed rising entries fall short with the falling entries that are left, and the passed falling
--- entries reach the quota with the rising entries that are left
-pub record IsBetween (quota up rest : ℕ) (rising falling : List Entry) : Type 0 where
-  pub up_in : up ≤ length rising
-  pub rest_in : rest ≤ length falling
-  pub apart : NoneReach quota up rest rising falling
-  pub reached : AllReach quota up rest rising falling
+-- the passed rising entries fall short with the falling entries that are left, and the passed
+-- falling entries reach the quota with the rising entries that are left
+pub record IsBetween (route : Route) (position : Position) : Type 0 where
+  pub up_in : position.up ≤ length route.rising
+  pub rest_in : position.rest ≤ length route.falling
+  pub apart : (k m : ℕ) → k < position.up → m < position.rest → votes_at route k m < route.quota
+  pub reached : (k m : ℕ) → position.up ≤ k → k < length route.rising → position.rest ≤ m
+      → m < length route.falling → route.quota ≤ votes_at route k m
 
 -- the entry that is passed next is the falling one if it reaches the quota with the rising one, or
 -- if there is no rising one; otherwise it is the rising one, which falls short with the falling
 -- one, if there is one
-abbrev pub IsPassed : Bool → ℕ → Entry → Entry → ℕ → ℕ → List Entry → List Entry → Type 0
-IsPassed true quota low high up rest rising falling = (0 < rest) × (high ≡ entry_at falling (rest - 1))
-    × (up < length rising → quota ≤ (entry_at rising up).sum + high.sum)
-IsPassed false quota low high up rest rising falling = (up < length rising) × (low ≡ entry_at rising up)
-    × (0 < rest → low.sum + (entry_at falling (rest - 1)).sum < quota)
+abbrev pub IsPassed : Bool → Next → Route → Position → Type 0
+IsPassed true next route position = (0 < position.rest) × (next.high ≡ entry_at route.falling (position.rest - 1))
+    × (position.up < length route.rising → route.quota ≤ votes_at route position.up (position.rest - 1))
+IsPassed false next route position = (position.up < length route.rising) × (next.low ≡ entry_at route.rising position.up)
+    × (0 < position.rest → votes_at route position.up (position.rest - 1) < route.quota)
 
 abbrev pub IsNext : Next → Route → Position → Type 0
-IsNext next route position =
-    IsPassed next.falls route.quota next.low next.high position.up position.rest route.rising route.falling
+IsNext next = IsPassed next.falls next
 
 -- the first tally has, at each passed rising entry, the number of falling entries that are enough
 -- with it, and the second tally has, at each passed falling entry, the number of such rising
 -- entries
-pub record HasCredited (quota least up rest : ℕ) (rising falling : List Entry) (tallies : List MaskTally) : Type 0 where
-  pub rising_total : tally_total (side 0 tallies) ≡ pairs_where (is_enough quota least) (take up rising) falling
+pub record HasCredited (route : Route) (position : Position) (tallies : List MaskTally) : Type 0 where
+  pub rising_total : tally_total (side 0 tallies)
+      ≡ pairs_where (enough route) (take position.up route.rising) route.falling
   pub rising_marked : (slot : ℕ) → slot_amount slot (side 0 tallies)
-      ≡ pairs_where (λ a b. is_enough quota least a b && has_slot slot a) (take up rising) falling
-  pub falling_total : tally_total (side 1 tallies) ≡ pairs_where (is_enough quota least) (drop rest falling) rising
+      ≡ pairs_where (with_slot slot (enough route)) (take position.up route.rising) route.falling
+  pub falling_total : tally_total (side 1 tallies)
+      ≡ pairs_where (enough route) (drop position.rest route.falling) route.rising
   pub falling_marked : (slot : ℕ) → slot_amount slot (side 1 tallies)
-      ≡ pairs_where (λ a b. is_enough quota least a b && has_slot slot a) (drop rest falling) rising
+      ≡ pairs_where (with_slot slot (enough route)) (drop position.rest route.falling) route.rising
 
--- what a counter of partners has counted, at a least size, once the first `up` rising entries and
--- the falling entries from `rest` on are passed
+-- what a counter of partners has counted of a route, once the entries before a position are passed
 abbrev pub PartnerCounts : Type 1
-PartnerCounts = ℕ → ℕ → ℕ → List Entry → List Entry → Type 0
+PartnerCounts = Route → Position → Type 0
 
 -- a chain at this position of its route: it has credited and counted the entries that it passed
 pub record StandsAt (counts : PartnerCounts) (route : Route) (position : Position) (tallies : List MaskTally)
     : Type 0 where
-  pub between : IsBetween route.quota position.up position.rest route.rising route.falling
-  pub credited : HasCredited route.quota route.least_size position.up position.rest route.rising route.falling tallies
-  pub counted : counts route.least_size position.up position.rest route.rising route.falling
+  pub between : IsBetween route position
+  pub credited : HasCredited route position tallies
+  pub counted : counts route position
 
 -- the position at which no entry is passed
 abbrev pub at_start : Route → Position
 at_start route = record { up = 0; rest = length route.falling }
+
+-- the position after the falling entry is passed, or otherwise the rising one
+abbrev pub position_after : Bool → Position → Position
+position_after falls position = record { up = position.up + cond falls 0 1; rest = position.rest - cond falls 1 0 }
 
 -- `passed` entries are passed at this position
 abbrev pub HasPassed : ℕ → Position → List Entry → Type 0

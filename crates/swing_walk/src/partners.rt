@@ -5,10 +5,9 @@
 //! size is required, these are its partners, and their number follows from the positions. Otherwise
 //! its partners are those of them with which it has enough chairs, counted with tables of the
 //! passed sets.
-ghost use Rattle.std.specs.Prelude.{◌≡◌, ℕ, ◌+◌, ◌-◌, ◌<◌, ◌≤◌, List, length, drop, cond};
-ghost use Rattle.half_sums.specs.declared.entry.Entry.{Entry};
-ghost use Rattle.swing_walk.specs.Sizes.{partners_of, CountsBySize};
-ghost use Rattle.swing_walk.specs.Walks.{IsNext};
+ghost use Rattle.std.specs.Prelude.{◌≡◌, ◌+◌, ◌<◌, ◌≤◌, length};
+ghost use Rattle.swing_walk.specs.Sizes.{partners_next, CountsBySize};
+ghost use Rattle.swing_walk.specs.Walks.{IsNext, PartnerCounts, position_after};
 
 use crate::positions::{Next, Position, Route};
 use crate::sides::{FALLING, RISING, count_on};
@@ -19,7 +18,7 @@ use half_sums::{ROOM, STARTS, SumList, either, starts_of};
 pub(crate) trait Partners: Copy {
     // The state of a counter: it has counted the first `up` rising sets and all falling sets from
     // `rest` on.
-    ghost counts: { Self → ℕ → ℕ → ℕ → List Entry → List Entry → Type 0 };
+    ghost counts: { Self → PartnerCounts };
 
     // Passes the next set, and returns the number of its partners.
     fn pass(&mut self, route: &Route, position: Position, next: Next) -> u64
@@ -28,15 +27,11 @@ pub(crate) trait Partners: Copy {
         requires rest { position.rest ≤ length route.now.falling }
         requires bound { position.up + length route.now.falling < position.rest + ROOM }
         requires next { IsNext next route.now position }
-        requires counted { counts self.old route.now.least_size position.up position.rest route.now.rising
-            route.now.falling }
+        requires counted { counts self.old route.now position }
 
         // The next position.
-        ensures partners { result
-            ≡ cond next.falls (partners_of route.now.least_size next.high.mask (drop position.up route.now.rising))
-            (partners_of route.now.least_size next.low.mask (drop position.rest route.now.falling)) }
-        ensures counted { counts self.new route.now.least_size (position.up + cond next.falls 0 1)
-            (position.rest - cond next.falls 1 0) route.now.rising route.now.falling };
+        ensures partners { result ≡ partners_next next.falls next route.now position }
+        ensures counted { counts self.new route.now (position_after next.falls position) };
 }
 
 // A counter for walks without a least size.
@@ -44,7 +39,7 @@ pub(crate) trait Partners: Copy {
 pub(crate) struct OfAnySize {}
 
 impl Partners for OfAnySize {
-    ghost counts = { λ _ least _ _ _ _. least ≡ 0 };
+    ghost counts = { λ _ route _. route.least_size ≡ 0 };
 
     #[inline(always)]
     fn pass(&mut self, route: &Route, position: Position, next: Next) -> u64 {
@@ -62,9 +57,12 @@ pub(crate) struct BySize {
 }
 
 impl BySize {
+    ghost use Rattle.swing_walk.specs.Walks.{at_start};
+    ghost use Rattle.swing_walk.specs.declared.positions.Route.{Route};
+
     // The counter of a chain that has passed no set.
     pub(crate) fn start(rising: &SumList) -> BySize
-        ensures counted { (falling : List Entry) → CountsBySize result 0 (length falling) rising.now falling }
+        ensures counted { (route : Route) → route.rising ≡ rising.now → CountsBySize result route (at_start route) }
     {
         BySize {
             passed: [SizeTally::new(); 2],
@@ -74,7 +72,7 @@ impl BySize {
 }
 
 impl Partners for BySize {
-    ghost counts = { λ s _. CountsBySize s };
+    ghost counts = { λ s. CountsBySize s };
 
     #[inline(always)]
     fn pass(&mut self, route: &Route, _position: Position, next: Next) -> u64 {

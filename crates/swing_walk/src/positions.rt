@@ -55,10 +55,11 @@ pub(crate) struct Position {
 }
 
 impl Position {
+    ghost use Rattle.swing_walk.specs.Walks.{at_start, position_after};
+
     // The position of a chain that has passed no entry.
     pub(crate) fn start(route: &Route) -> Position
-        ensures none_up { result.up ≡ 0 }
-        ensures all_left { result.rest ≡ length route.now.falling }
+        ensures start { result ≡ at_start route.now }
     {
         Position {
             up: 0,
@@ -70,8 +71,7 @@ impl Position {
     pub(crate) fn after(self, falls: bool) -> Position
         requires some { cond falls 1 0 ≤ self.rest }
         requires bound { self.up ≤ ROOM }
-        ensures up { result.up ≡ self.up + cond falls 0 1 }
-        ensures rest { result.rest ≡ self.rest - cond falls 1 0 }
+        ensures after { result ≡ position_after falls self }
     {
         Position {
             up: self.up + usize::from(!falls),

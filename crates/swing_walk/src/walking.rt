@@ -47,10 +47,8 @@ const NO_ENTRY: Entry = Entry { sum: 0, mask: 0 };
 // and `back` count the partners of the two chains.
 pub(crate) fn walk<P: Partners>(route: &Route, front: P, back: P) -> Counts
     // No entry is passed.
-    requires front { P.counts front route.now.least_size 0 (length route.now.falling) route.now.rising
-        route.now.falling }
-    requires back { P.counts back route.now.least_size 0 (length route.now.rising) route.now.falling
-        route.now.rising }
+    requires front { P.counts front route.now (at_start route.now) }
+    requires back { P.counts back (turned_route route.now) (at_start (turned_route route.now)) }
 
     // The counts.
     ensures winning { result.winning

@@ -3,7 +3,7 @@ use Rattle.swing_walk.proofs.walking.pass.Goals as goal
 
 pub pass_next-requires-clause-next : goal.pass_next-requires-clause-next
 pass_next-requires-clause-next g c =
-    looked c.args.route.now.quota c.args.position.up c.args.position.rest c.args.route.now.rising c.args.route.now.falling c.next_up-low.result c.next_down-high.result c.falls_next-falls.result (record {
+    looked c.falls_next-falls.result (record { low = c.next_up-low.result; high = c.next_down-high.result; falls = c.falls_next-falls.result }) c.args.route.now c.args.position (record {
       within = c.requires.stands.between.up_in;
       some = c.requires.some;
       low_is = c.next_up-low.ensures.entry;

@@ -1,5 +1,5 @@
 use Rattle.std.proofs.Common.{arith}
-use Rattle.swing_walk.specs.Walks.{enough}
+use Rattle.swing_walk.specs.Walks.{enough, position_after}
 use Rattle.swing_walk.proofs.Counting.{pairs_room}
 use Rattle.swing_walk.proofs.Steps.{back_room}
 use Rattle.swing_walk.proofs.LargePairs.{partners_room}
@@ -8,32 +8,30 @@ use Rattle.swing_walk.proofs.walking.pass_next.Goals as goal
 
 pub add_to-requires-clause-left_room : goal.add_to-requires-clause-left_room
 add_to-requires-clause-left_room g c =
-    omega (arith, c.pass-partners.ensures.partners, partners_room c.args.route.now.least_size c.args.next.high.mask c.args.next.low.mask c.args.next.falls c.args.position.up c.args.position.rest c.args.route.now.rising c.args.route.now.falling c.args.route.now.rising_half.bound c.args.route.now.falling_half.bound, c.requires.stands.credited.rising_total, pairs_room (enough c.args.route.now) c.args.route.now.rising c.args.route.now.falling c.args.position.up c.args.route.now.rising_half.bound c.args.route.now.falling_half.bound)
+    omega (arith, c.pass-partners.ensures.partners, partners_room c.args.next.falls c.args.next c.args.route.now c.args.position, c.requires.stands.credited.rising_total, pairs_room (enough c.args.route.now) c.args.route.now.rising c.args.route.now.falling c.args.position.up c.args.route.now.rising_half.bound c.args.route.now.falling_half.bound)
 
 pub add_to-requires-clause-right_room : goal.add_to-requires-clause-right_room
 add_to-requires-clause-right_room g c =
-    omega (arith, c.pass-partners.ensures.partners, partners_room c.args.route.now.least_size c.args.next.high.mask c.args.next.low.mask c.args.next.falls c.args.position.up c.args.position.rest c.args.route.now.rising c.args.route.now.falling c.args.route.now.rising_half.bound c.args.route.now.falling_half.bound, c.requires.stands.credited.falling_total, back_room (enough c.args.route.now) c.args.route.now.rising c.args.route.now.falling c.args.position.rest c.args.route.now.rising_half.bound c.args.route.now.falling_half.bound)
+    omega (arith, c.pass-partners.ensures.partners, partners_room c.args.next.falls c.args.next c.args.route.now c.args.position, c.requires.stands.credited.falling_total, back_room (enough c.args.route.now) c.args.route.now.rising c.args.route.now.falling c.args.position.rest c.args.route.now.rising_half.bound c.args.route.now.falling_half.bound)
 
 pub after-requires-clause-some : goal.after-requires-clause-some
-after-requires-clause-some g c = one_left c.args.route.now.quota c.args.next.falls c.args.next.low c.args.next.high c.args.position.up c.args.position.rest c.args.route.now.rising c.args.route.now.falling c.requires.next
+after-requires-clause-some g c = one_left c.args.next.falls c.args.next c.args.route.now c.args.position c.requires.next
 
 pub returns : goal.returns
 returns g c =
-    let some = one_left c.args.route.now.quota c.args.next.falls c.args.next.low c.args.next.high c.args.position.up c.args.position.rest c.args.route.now.rising c.args.route.now.falling c.requires.next in
-    let passed : Passed c.args.route.now.quota c.args.route.now.least_size c.after.result.up c.after.result.rest c.args.route.now.rising c.args.route.now.falling c.add_to.new.sides =
-    pass c.args.route.now.quota c.args.route.now.least_size c.args.position.up c.args.position.rest c.after.result.up c.after.result.rest c.args.route.now.rising c.args.route.now.falling c.args.next.low c.args.next.high c.pass-partners.result c.args.chain.now.tallies c.add_to.new.sides c.args.next.falls record {
-      at = record { rising_up = c.args.route.now.rising_half.ascending; falling_up = c.args.route.now.falling_half.ascending; between = c.requires.stands.between };
-      next = c.requires.next;
+    let some = one_left c.args.next.falls c.args.next c.args.route.now c.args.position c.requires.next in
+    let passed : Passed c.args.route.now (position_after c.args.next.falls c.args.position) c.add_to.new.sides =
+    pass c.args.next.falls c.args.next c.args.route.now c.args.position c.pass-partners.result c.args.chain.now.tallies c.add_to.new.sides record {
+      between = c.requires.stands.between;
+      is_next = c.requires.next;
       credited = c.requires.stands.credited;
       partners = c.pass-partners.ensures.partners;
       rising_total = c.add_to.ensures.left_total;
       rising_marked = λ slot. rw c.mask.ensures.mask at (c.add_to.ensures.left_marked slot);
       falling_total = c.add_to.ensures.right_total;
       falling_marked = λ slot. rw c.mask.ensures.mask at (c.add_to.ensures.right_marked slot);
-      next_up = c.after.ensures.up;
-      next_rest = c.after.ensures.rest;
     } in
-    record {
-      next = rw (c.after.ensures.up, c.after.ensures.rest) (one_step c.args.next.falls c.args.position.up c.args.position.rest some);
-      stands = record { between = passed.between; credited = passed.credited; counted = rw (c.after.ensures.up, c.after.ensures.rest) c.pass-partners.ensures.counted };
-    }
+    rw c.after.ensures.after (record {
+      next = one_step c.args.next.falls c.args.position.up c.args.position.rest some;
+      stands = record { between = passed.between; credited = passed.credited; counted = c.pass-partners.ensures.counted };
+    })

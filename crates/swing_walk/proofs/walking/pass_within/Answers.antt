@@ -5,7 +5,7 @@ use Rattle.swing_walk.proofs.walking.pass_within.Goals as goal
 pub pass_next-requires-clause-next : goal.pass_next-requires-clause-next
 pass_next-requires-clause-next g c =
     let falls : Bool = nat_le c.args.route.now.quota (c.at-low.result.sum + c.at-high.result.sum) in
-    looked c.args.route.now.quota c.args.position.up c.args.position.rest c.args.route.now.rising c.args.route.now.falling c.at-low.result c.at-high.result falls (record {
+    looked falls (record { low = c.at-low.result; high = c.at-high.result; falls = falls }) c.args.route.now c.args.position (record {
       within = c.requires.stands.between.up_in;
       some = omega (arith, c.requires.some_rising);
       low_is = λ _. c.at-low.ensures.same;

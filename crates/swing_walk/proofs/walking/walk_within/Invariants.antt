@@ -1,4 +1,3 @@
-use Rattle.std.proofs.Common.{◌≡◌}
 use Rattle.swing_walk.specs.Walks.{turned_route, StandsAt, HasPassed}
 use Rattle.swing_walk.proofs.walking.walk_within.Given as goal
 
