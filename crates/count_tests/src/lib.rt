@@ -6,8 +6,8 @@ mod boards;
 #[cfg(test)]
 mod coalitions;
 #[cfg(test)]
+mod examples;
+#[cfg(test)]
 mod halves;
 #[cfg(test)]
 mod registers;
-#[cfg(test)]
-mod rows;

@@ -4,7 +4,7 @@
 #[cfg(test)]
 mod boards;
 #[cfg(test)]
-mod rows;
+mod examples;
 #[cfg(test)]
 mod schedules;
 #[cfg(test)]
