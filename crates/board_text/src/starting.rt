@@ -103,5 +103,5 @@ pub fn start_script(
     let mut members = Vec::new(alloc);
     let first = read_opening(script, row, &mut members)?;
     let register = start_register(alloc, members.as_slice(), limits)?;
-    Ok(ScriptStart { register, place })
+    Ok(ScriptStart { register, first })
 }
