@@ -2,6 +2,7 @@
 use Rattle.std.proofs.Common.{◌≡◌, ◌==◌, ℕ, ◌+◌, Bool, true, false, List, [], ◌∷◌, Option, Some, None, Result, Ok, Err, ◌++◌, ◌||◌, IsTrue, IfErr, if◌then◌else◌, nat_le, nat_lt, refl, subst, length}
 use Rattle.std.specs.Bool.{⊤}
 use Rattle.std.specs.List.{list_any}
+use Rattle.std.specs.Result.{result_err}
 use Rattle.csv.specs.Reading.{default_config, records, strip_bom}
 use Rattle.council_core.specs.Ledgers.{Ledger, has_duplicate, start_verdict}
 use Rattle.council_core.specs.declared.limits.TheConstants.{MAX_COMMANDS, MAX_MEMBERS}
@@ -12,12 +13,12 @@ use Rattle.council_core.specs.declared.refusals.Refusal.TheVariants.{BadHeader, 
 use Rattle.board_text.specs.Lines.{LineBytes}
 use Rattle.board_text.specs.Requests.{Row, request_of, is_mark, is_header, member_of}
 use Rattle.board_text.specs.Schedules.{act_of, is_scheduled}
-use Rattle.board_text.specs.Text.{Started, Opened, Run, started_of, started_after, before_mark, in_range, is_served, opened_of, opening_of, started_with, unless_bad, valid_or_refused}
+use Rattle.board_text.specs.Text.{Started, Opened, started_of, started_after, before_mark, in_range, is_served, opened_of, opening_of, started_with, unless_bad, valid_or_refused}
 use Rattle.board_text.specs.declared.bounds.Limits.{Limits}
 use Rattle.board_text.specs.declared.faults.Fault.{Fault}
 use Rattle.board_runs.specs.Replays.{replay_start, replay_step, reply_to, run_of}
 use Rattle.board_runs.specs.Traces.{machine_turn, trace_of, trace_start, trace_step}
-use Rattle.board_text.specs.Scripts.{Turn, started_run, interpreted_run, run_of_script, run_step, script_run, turn_of}
+use Rattle.board_text.specs.Scripts.{Course, Turn, started_course, course_of_script, course_step, interpreted_course, run_in, script_course, turn_of}
 
 -- the numbers of the faults that an input may have
 abbrev pub is_of_input : ℕ → Bool
@@ -29,10 +30,6 @@ IsOfInput f = IsTrue (is_of_input f.code)
 
 abbrev ErrsByInput : {A : Type 0} → Result A Fault → Type 0
 ErrsByInput r = IfErr r IsOfInput
-
-abbrev EndsByInput : Option Fault → Type 0
-EndsByInput None = Unit {0}
-EndsByInput (Some f) = IsOfInput f
 
 either : {A : Type 0} (b : Bool) (x y : Result A Fault) → ErrsByInput x → ErrsByInput y → ErrsByInput (if b then x else y)
 either true x y p q = p
@@ -93,27 +90,27 @@ turn-errs : {S A : Type 0} (effect : A → List LineBytes × S) (r : Result A Re
 turn-errs effect (Ok q) p = tt
 turn-errs effect (Err why) p = p
 
-step-ends : {S : Type 0} (k : ℕ) (turn : Turn S) (more : S → Run) → TurnErrs turn → ((s : S) → EndsByInput (more s).end) → EndsByInput (run_step k turn more).end
+step-ends : {S : Type 0} (k : ℕ) (turn : Turn S) (more : S → Course S) → TurnErrs turn → ((s : S) → ErrsByInput (more s).end) → ErrsByInput (course_step k turn more).end
 step-ends k (Err why) more is rest = is
 step-ends k (Ok p) more is rest = rest p.1
 
-end-by_input : (end : Option Fault) (f : Fault) → EndsByInput end → end ≡ Some f → IsOfInput f
-end-by_input None f p is = cc is
-end-by_input (Some g) f p is = let same : g ≡ f = cc is in subst IsOfInput same p
+end-by_input : {S : Type 0} (end : Result S Fault) (f : Fault) → ErrsByInput end → result_err end ≡ Some f → IsOfInput f
+end-by_input (Ok s) f p is = cc is
+end-by_input (Err g) f p is = let same : g ≡ f = cc is in subst IsOfInput same p
 
 -- an interpreter whose steps are refused only by faults that an input has
 module _ {S : Type 0} (opened : Limits → Ledger → S) (step : Limits → S → Row → Turn S) (lim : Limits) (errs : (s : S) (r : Row) → TurnErrs (step lim s r)) where
-  script_run-ends : (s : S) (k : ℕ) (rs : List Row) → EndsByInput (script_run (step lim) s k rs).end
-  unfolding script_run
-  script_run-ends s k [] = tt
-  script_run-ends s k (r ∷ rs) = step-ends k (step lim s r) _ (errs s r) (λ t. script_run-ends t (k + 1) rs)
+  script-ends : (s : S) (k : ℕ) (rs : List Row) → ErrsByInput (script_course (step lim) s k rs).end
+  unfolding script_course
+  script-ends s k [] = tt
+  script-ends s k (r ∷ rs) = step-ends k (step lim s r) _ (errs s r) (λ t. script-ends t (k + 1) rs)
 
-  started_run-ends : (start : Result Started Fault) → ErrsByInput start → EndsByInput (started_run (run_of_script opened step lim) start).end
-  started_run-ends (Err f) p = p
-  started_run-ends (Ok b) p = script_run-ends _ b.1 b.2
+  start-ends : (start : Result Started Fault) → ErrsByInput start → ErrsByInput (started_course (course_of_script opened step lim) start).end
+  start-ends (Err f) p = p
+  start-ends (Ok b) p = script-ends _ b.1 b.2
 
-  interpreted-ends : (bytes : List ℕ) (f : Fault) → (interpreted_run opened step lim bytes).end ≡ Some f → IsTrue (is_of_input f.code)
-  interpreted-ends bytes f is = end-by_input _ f (started_run-ends (started_of lim bytes) (start-errs lim bytes)) is
+  interpreted-ends : (bytes : List ℕ) (f : Fault) → (run_in (interpreted_course opened step lim bytes)).end ≡ Some f → IsTrue (is_of_input f.code)
+  interpreted-ends bytes f is = end-by_input _ f (start-ends (started_of lim bytes) (start-errs lim bytes)) is
 
 -- where a fault ends a replay, it is one of these
 pub run-ends : (lim : Limits) (bytes : List ℕ) (f : Fault) → (run_of lim bytes).end ≡ Some f → IsTrue (is_of_input f.code)

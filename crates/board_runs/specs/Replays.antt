@@ -6,7 +6,7 @@ use Rattle.board_text.specs.Lines.{LineBytes, reply_lines}
 use Rattle.board_text.specs.Requests.{Row, call_of}
 use Rattle.board_text.specs.declared.bounds.Limits.{Limits}
 use Rattle.board_text.specs.declared.requests.Request.{Request}
-use Rattle.board_text.specs.Scripts.{Turn, interpreted_run, turn_of}
+use Rattle.board_text.specs.Scripts.{Turn, interpreted_course, run_in, turn_of}
 use Rattle.board_text.specs.Text.{Run, request_within, unpublished_register}
 
 -- a request is a call of the sequential register, and its lines print the reply
@@ -24,4 +24,4 @@ replay_start lim ledger = unpublished_register ledger
 -- the text that `replay` writes for these bytes and how it ends, if memory is available and the
 -- devices work
 abbrev pub run_of : Limits → List ℕ → Run
-run_of lim bytes = interpreted_run replay_start replay_step lim bytes
+run_of lim bytes = run_in (interpreted_course replay_start replay_step lim bytes)

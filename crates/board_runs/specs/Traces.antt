@@ -9,7 +9,7 @@ use Rattle.two_copy_steps.specs.declared.events.Event.TheVariants as event
 use Rattle.board_text.specs.Lines.{LineBytes, note_lines}
 use Rattle.board_text.specs.Requests.{Row}
 use Rattle.board_text.specs.Text.{Run}
-use Rattle.board_text.specs.Scripts.{Turn, interpreted_run, turn_of}
+use Rattle.board_text.specs.Scripts.{Turn, interpreted_course, run_in, turn_of}
 use Rattle.board_text.specs.declared.bounds.Limits.{Limits}
 use Rattle.board_text.specs.declared.schedules.Act.{Act}
 use Rattle.board_text.specs.declared.schedules.Act.TheVariants as act
@@ -41,4 +41,4 @@ trace_start lim ledger = machine.machine_at_start ledger lim.readers
 -- the text that `trace` writes for these bytes and how it ends, if memory is available and the
 -- devices work
 abbrev pub trace_of : Limits → List ℕ → Run
-trace_of lim bytes = interpreted_run trace_start trace_step lim bytes
+trace_of lim bytes = run_in (interpreted_course trace_start trace_step lim bytes)

@@ -3,7 +3,7 @@ ghost use Rattle.std.specs.Prelude.{◌≡◌, false};
 ghost use Rattle.recording_io.specs.Tapes.{OfInput};
 ghost use Rattle.board_text.specs.Inputs.{IsOfDevice, ReadsWithin};
 ghost use Rattle.board_text.specs.Output.{IsBadLimit};
-ghost use Rattle.board_text.specs.Scripts.{interpreted_run};
+ghost use Rattle.board_text.specs.Scripts.{interpreted_course, run_in};
 ghost use Rattle.board_text.specs.Text.{in_range};
 ghost use Rattle.board_runs.specs.Ended.{WritesOutput};
 
@@ -21,7 +21,7 @@ pub(crate) fn run<I: Interpreter, R: Read + Drop, W: Write>(
 ) -> Result<(), Fault>
     ensures wrote { OfInput input.old input.new
         (λ bytes. WritesOutput (W.contents out.old) (W.contents out.new) result
-        (interpreted_run I.opened I.step limits bytes)) }
+        (run_in (interpreted_course I.opened I.step limits bytes))) }
     ensures limits_first { in_range limits ≡ false → IsBadLimit result × (input.new ≡ input.old) }
     ensures reads { ReadsWithin IsOfDevice input.old input.new result }
 {

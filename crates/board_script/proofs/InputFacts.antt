@@ -10,8 +10,8 @@ use Rattle.council_core.specs.declared.refusals.Refusal.{Refusal}
 use Rattle.council_core.specs.declared.refusals.Refusal.TheVariants.{BadLimit, TooLong}
 use Rattle.board_text.specs.Output.{Fails, ReadTo}
 use Rattle.board_text.specs.Requests.{Row}
-use Rattle.board_text.specs.Scripts.{started_run, run_of_script, run_step, script_run, turn_of}
-use Rattle.board_text.specs.Text.{Started, Opened, Run, started_of, fault_at, in_range, ledger_at_start, opened_of, started_after, started_with}
+use Rattle.board_text.specs.Scripts.{Course, started_course, course_of_script, course_step, script_course, turn_of}
+use Rattle.board_text.specs.Text.{Started, Opened, started_of, fault_at, in_range, ledger_at_start, opened_of, started_after, started_with}
 use Rattle.board_text.specs.declared.bounds.Limits.{Limits}
 use Rattle.board_text.specs.declared.faults.Fault.{Fault}
 use Rattle.board_text.specs.declared.requests.Request.{Request}
@@ -25,26 +25,27 @@ use Rattle.board_script.specs.declared.items.BoardItem.{BoardItem}
 use Rattle.board_text.proofs.MemberFacts.{members-opened}
 use Rattle.board_text.specs.declared.input.TheConstants.{INPUT_LIMIT}
 use Rattle.std.specs.Bool.{⊤}
+use Rattle.std.specs.Result.{result_err}
 use Rattle.board_text.proofs.MemberFacts.{front-none, front-whole}
 use Rattle.board_script.proofs.ListFacts.{overlaid-none}
 use Rattle.board_script.proofs.ItemFacts.{all-none}
 
 -- the fault that a replay's records meet does not depend on the register
-step-end : (s : Sequential) (k : ℕ) (r : Result Request Refusal) (more : Sequential → Run) (f : Option Fault) → ((t : Sequential) → (more t).end ≡ f) → (run_step k (turn_of (reply_to s) r) more).end ≡ fault_or k r f
+step-end : (s : Sequential) (k : ℕ) (r : Result Request Refusal) (more : Sequential → Course Sequential) (f : Option Fault) → ((t : Sequential) → result_err (more t).end ≡ f) → result_err (course_step k (turn_of (reply_to s) r) more).end ≡ fault_or k r f
 step-end s k (Ok q) more f rest = rest (reply_to s q).1
 step-end s k (Err why) more f rest = refl
 
-pub script-end : (lim : Limits) (s : Sequential) (k : ℕ) (rs : List Row) → (script_run (replay_step lim) s k rs).end ≡ fault_from lim k rs
-unfolding script_run fault_from
+pub script-end : (lim : Limits) (s : Sequential) (k : ℕ) (rs : List Row) → result_err (script_course (replay_step lim) s k rs).end ≡ fault_from lim k rs
+unfolding script_course fault_from
 script-end lim s k [] = refl
-script-end lim s k (r ∷ rs) = step-end s k _ (λ t. script_run (replay_step lim) t (k + 1) rs) (fault_from lim (k + 1) rs) (λ t. script-end lim t (k + 1) rs)
+script-end lim s k (r ∷ rs) = step-end s k _ (λ t. script_course (replay_step lim) t (k + 1) rs) (fault_from lim (k + 1) rs) (λ t. script-end lim t (k + 1) rs)
 
 -- the fault of a start, or of its script
 abbrev pub fault_begun : Limits → Result Started Fault → Option Fault
 fault_begun lim (Err f) = Some f
 fault_begun lim (Ok b) = fault_from lim b.1 b.2
 
-run-end : (lim : Limits) (b : Result Started Fault) → (started_run (run_of_script replay_start replay_step lim) b).end ≡ fault_begun lim b
+run-end : (lim : Limits) (b : Result Started Fault) → result_err (started_course (course_of_script replay_start replay_step lim) b).end ≡ fault_begun lim b
 run-end lim (Err f) = refl
 run-end lim (Ok b) = script-end lim (replay_start lim b.0) b.1 b.2
 

@@ -10,10 +10,9 @@ use Rattle.council_core.specs.declared.refusals.Refusal.TheVariants.{BadHeader, 
 use Rattle.council_core.specs.Rolls.{IsLegal}
 use Rattle.council_core.proofs.WorkedCases.{accepted, published}
 use Rattle.majority_rule.specs.declared.majorities.Majority.TheVariants.{Half, Seventy, Quorum}
-use Rattle.board_text.specs.Scripts.{script_end}
+use Rattle.board_text.specs.Scripts.{script_course}
 use Rattle.board_text.specs.Text.{started_of, fault_at, ledger_at_start, opening_of, printed_run, run_limits, stopped_run}
 use Rattle.board_text.specs.Lines.{LineBytes, audit_line}
-use Rattle.board_text.specs.Output.{IsBroken}
 use Rattle.board_text.specs.declared.faults.Fault.{Fault}
 use Rattle.board_text.specs.declared.stops.Stop.TheVariants as stop
 use Rattle.std.proofs.lemmas.List.{length-append}
@@ -40,15 +39,15 @@ abbrev start : List ℕ
 start = codes "member,votes\nAAA,3\nscript\nopen,1\nread,2,half\npublish\n"
 
 planned : plan_of 9 start ≡ Ok (plan_over (ledger_at_start (run_limits 2 9) ((65 ∷ 65 ∷ 65 ∷ [], 3) ∷ [])) (record { orders = order.Submit (Open 1) ∷ order.Publish ∷ []; asked = [] ∷ (Half ∷ []) ∷ [] }))
-unfolding started_of opening_of script_end records_from strip_bom next_record
+unfolding started_of opening_of script_course records_from strip_bom next_record
 planned = refl
 
 third_reader : plan_of 9 (start ++ codes "read,3,half\nread") ≡ Err (fault_at BadReader 7)
-unfolding started_of opening_of script_end records_from strip_bom next_record
+unfolding started_of opening_of script_course records_from strip_bom next_record
 third_reader = refl
 
 no_record : plan_of 9 (start ++ codes "read,3\nread") ≡ Err (fault_at BadRecord 7)
-unfolding started_of opening_of script_end records_from strip_bom next_record
+unfolding started_of opening_of script_course records_from strip_bom next_record
 no_record = refl
 
 -- readers are numbered from 1, and come after the writer's replies

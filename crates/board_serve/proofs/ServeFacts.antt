@@ -14,7 +14,8 @@ use Rattle.council_core.specs.declared.calls.Answer.{Answer}
 use Rattle.board_text.specs.declared.stops.Stop.{Stop}
 use Rattle.board_text.specs.declared.stops.Stop.TheVariants as stop
 use Rattle.board_text.proofs.RunFacts.{appends-same, front-before, front-none, front-then, line-then, writes-after, writes-more, writes-passed, writes-spelled, text-after}
-use Rattle.board_text.proofs.RecordFacts.{fault_in, is-fault}
+use Rattle.board_text.specs.Scripts.{Course, run_in}
+use Rattle.std.specs.Result.{result_err}
 use Rattle.board_serve.specs.Outcomes.{IsServed, ServedLegalRecords, reported_by}
 use Rattle.board_serve.specs.Plans.{Planned}
 use Rattle.board_serve.specs.Serving.{Differs, IsReportStop, IsServeRun, WritesServeOutput, WritesServeRun, WritesServeUntilStop, audited_run, count_lines, lines_of_work, work_lines}
@@ -86,15 +87,19 @@ no-lines-before a b f run spec broken none p =
     let front : p.0 ≡ [] = front-of-none p.0 p.1.0 (sym none ∙ p.1.1) in
     (stopped_run f, broken-run spec f broken, (refl, appends-same a b _ _ (ap text_of front) p.2))
 
--- the input gave no plan, and its run has no lines
-pub fails-serve : (a b : Option (List ℕ)) (e d : Stop) (run : Run) (spec : Result Planned Fault) → d ≡ e → run.lines ≡ [] → run.end ≡ fault_in spec → WritesUntilStop a b e run → WritesServeRun a b (Err d) spec
-fails-serve a b stop.OutOfMemory d run spec same none end p = rw same (no-lines-before a b _ run spec (inl refl) none p)
-fails-serve a b stop.ReadFault d run spec same none end p = rw same (no-lines-before a b _ run spec (inr refl) none p)
-fails-serve a b stop.WriteFault d run spec same none end p =
+is-fault : {S : Type 0} (end : Result S Fault) (f : Fault) → result_err end ≡ Some f → end ≡ Err f
+is-fault (Ok s) f e = cc e
+is-fault (Err g) f e = ap Err (cc e)
+
+-- the input gave no plan, and its course has no lines
+pub fails-serve : (a b : Option (List ℕ)) (e d : Stop) (course : Course Planned) → d ≡ e → course.lines ≡ [] → WritesUntilStop a b e (run_in course) → WritesServeRun a b (Err d) course.end
+fails-serve a b stop.OutOfMemory d course same none p = rw same (no-lines-before a b _ (run_in course) course.end (inl refl) none p)
+fails-serve a b stop.ReadFault d course same none p = rw same (no-lines-before a b _ (run_in course) course.end (inr refl) none p)
+fails-serve a b stop.WriteFault d course same none p =
     let front : p.0 ≡ [] = front-of-none p.0 p.1.0 (sym (ap text_of none) ∙ p.1.1) in
-    rw same (stopped_run (fault_at why.OutOfMemory 0), broken-run spec _ (inl refl), ([], front-none _, appends-same a b _ _ front p.2))
-fails-serve a b (stop.Input f) d run spec same none end p =
-    rw (same, is-fault spec f (sym end ∙ p.0)) (stopped_run f, inl (refl, refl), (refl, appends-same a b _ _ (ap text_of none) p.1))
+    rw same (stopped_run (fault_at why.OutOfMemory 0), broken-run course.end _ (inl refl), ([], front-none _, appends-same a b _ _ front p.2))
+fails-serve a b (stop.Input f) d course same none p =
+    rw (same, is-fault course.end f p.0) (stopped_run f, inl (refl, refl), (refl, appends-same a b _ _ (ap text_of none) p.1))
 
 -- nothing was written before
 pub after-nothing : (a b c : Option (List ℕ)) (r : Result Served Stop) (spec : Result Planned Fault) → Appends a b [] → WritesServeRun b c r spec → WritesServeRun a c r spec

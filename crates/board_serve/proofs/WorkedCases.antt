@@ -12,11 +12,11 @@ use Rattle.majority_rule.specs.declared.majorities.Majority.TheVariants.{Half}
 use Rattle.board_audits.specs.declared.audits.AuditFault.TheVariants as found
 use Rattle.board_share.specs.Readers.{IsLegalSheet}
 use Rattle.board_text.specs.Lines.{LineBytes, audit_line}
-use Rattle.board_text.specs.Output.{AppendsFront, IsBroken, WritesRun}
+use Rattle.board_text.specs.Output.{AppendsFront, WritesRun}
 use Rattle.board_text.specs.Text.{fault_at, output, stopped_run, text_of}
 use Rattle.board_text.specs.declared.faults.Fault.{Fault}
 use Rattle.board_text.specs.declared.stops.Stop.TheVariants as stop
-use Rattle.board_serve.specs.Outcomes.{CanBeFound, IsOutcome, IsServed, ServedLegalRecords, omegas_by, sheets_of, winning_of}
+use Rattle.board_serve.specs.Outcomes.{CanBeFound, IsOutcome, IsServed, omegas_by, sheets_of, winning_of}
 use Rattle.board_serve.specs.Plans.{Planned}
 use Rattle.board_serve.specs.Serving.{Differs, EndsAfter, WritesServeOutput, WritesAllOfServe, audited_run, work_lines}
 use Rattle.board_serve.specs.declared.serving.Served.{Served}

@@ -1,10 +1,10 @@
 -- The plan of a run with threads, as a function of the bytes that it reads.
-use Rattle.std.specs.Prelude.{ℕ, zero, suc, ◌+◌, ◌-◌, ◌++◌, List, [], ◌∷◌, map, Result}
+use Rattle.std.specs.Prelude.{ℕ, zero, suc, ◌-◌, ◌++◌, List, [], ◌∷◌, map, Result}
 use Rattle.council_core.specs.Ledgers.{Ledger}
 use Rattle.council_core.specs.Sequential.{Sequential}
 use Rattle.majority_rule.specs.declared.majorities.Majority.{Majority}
 use Rattle.board_text.specs.Requests.{Row}
-use Rattle.board_text.specs.Scripts.{Turn, interpreted_end, turn_of}
+use Rattle.board_text.specs.Scripts.{Turn, interpreted_course, turn_of}
 use Rattle.board_text.specs.Text.{request_within, unpublished_register}
 use Rattle.board_text.specs.declared.bounds.Limits.{Limits}
 use Rattle.board_text.specs.declared.faults.Fault.{Fault}
@@ -61,4 +61,4 @@ plan_step lim p row =
 -- the plan of these bytes, or their fault: all records of the script are looked at before any is
 -- carried out
 abbrev pub plan_of : ℕ → List ℕ → Result Planned Fault
-plan_of journal bytes = interpreted_end plan_start plan_step (two_readers journal) bytes
+plan_of journal bytes = (interpreted_course plan_start plan_step (two_readers journal) bytes).end

@@ -1,12 +1,12 @@
--- The run of a whole input, and the state after it.
-use Rattle.std.proofs.Common.{◌≡◌, ◌≤◌, ℕ, true, List, [], length, Option, IfOk, Result, Ok, Err, refl, sym, subst}
+-- The course of a whole input.
+use Rattle.std.proofs.Common.{◌≡◌, ◌≤◌, ℕ, true, List, [], length, Option, Result, Ok, Err, refl, sym, subst}
 use Rattle.std.proofs.KnownBytes.{Appends-nil}
 use Rattle.csv.specs.Reading.{default_config, records, strip_bom}
 use Rattle.recording_io.specs.Tapes.{Giving, OfInput}
 use Rattle.board_text.specs.Lines.{LineBytes}
-use Rattle.board_text.specs.Text.{Started, Run, started_of, started_after, in_range, opened_of}
-use Rattle.board_text.specs.Scripts.{started_end, started_run}
-use Rattle.board_text.specs.Output.{AppendsLines, Fails, WritesRun, WritesUntilStop}
+use Rattle.board_text.specs.Text.{Started, started_of, started_after, in_range, opened_of}
+use Rattle.board_text.specs.Scripts.{Course, started_course, run_in}
+use Rattle.board_text.specs.Output.{AppendsLines, Fails, WritesUntilStop}
 use Rattle.board_text.specs.declared.bounds.Limits.{Limits}
 use Rattle.board_text.specs.declared.faults.Fault.{Fault}
 use Rattle.board_text.specs.declared.stops.Stop.{Stop}
@@ -17,19 +17,19 @@ use Rattle.board_text.proofs.StartingFacts.{start-records}
 nothing-written : (a : Option (List ℕ)) (lines : List LineBytes) → AppendsLines a a lines
 nothing-written a lines = ([], front-none lines, Appends-nil a)
 
-fails-stop : (a : Option (List ℕ)) (e : Stop) (interpret : Started → Run) (spec : Result Started Fault) → Fails e spec → WritesUntilStop a a e (started_run interpret spec)
+fails-stop : (a : Option (List ℕ)) (e : Stop) {S : Type 0} (interpret : Started → Course S) (spec : Result Started Fault) → Fails e spec → WritesUntilStop a a e (run_in (started_course interpret spec))
 fails-stop a stop.OutOfMemory interpret spec p = nothing-written a _
 fails-stop a stop.ReadFault interpret spec p = nothing-written a _
 fails-stop a stop.WriteFault interpret spec p = absurd p
 fails-stop a (stop.Input f) interpret spec p = rw p (refl, Appends-nil a)
 
 -- where nothing came of the input, nothing was written
-pub writes-failed : (a : Option (List ℕ)) (e d : Stop) (interpret : Started → Run) (spec : Result Started Fault) → d ≡ e → Fails e spec → WritesUntilStop a a d (started_run interpret spec)
-writes-failed a e d interpret spec same p = let P : Stop → Type 0 = λ s. WritesUntilStop a a s (started_run interpret spec) in subst P (sym same) (fails-stop a e interpret spec p)
+pub writes-failed : (a : Option (List ℕ)) (e d : Stop) {S : Type 0} (interpret : Started → Course S) (spec : Result Started Fault) → d ≡ e → Fails e spec → WritesUntilStop a a d (run_in (started_course interpret spec))
+writes-failed a e d interpret spec same p = let P : Stop → Type 0 = λ s. WritesUntilStop a a s (run_in (started_course interpret spec)) in subst P (sym same) (fails-stop a e interpret spec p)
 
 -- the same of an input
-pub writes-failed_input : (from to : Giving) (a : Option (List ℕ)) (e d : Stop) (lim : Limits) (interpret : Started → Run) → d ≡ e
-    → OfInput from to (λ bytes. Fails e (started_of lim bytes)) → OfInput from to (λ bytes. WritesUntilStop a a d (started_run interpret (started_of lim bytes)))
+pub writes-failed_input : (from to : Giving) (a : Option (List ℕ)) (e d : Stop) {S : Type 0} (lim : Limits) (interpret : Started → Course S) → d ≡ e
+    → OfInput from to (λ bytes. Fails e (started_of lim bytes)) → OfInput from to (λ bytes. WritesUntilStop a a d (run_in (started_course interpret (started_of lim bytes))))
 writes-failed_input from to a e d lim interpret same p = λ bytes is. writes-failed a e d interpret (started_of lim bytes) same (p bytes is)
 
 -- a text that was read: an input that is not too long, where the limits are in range
@@ -40,16 +40,6 @@ pub record TextRead (lim : Limits) (text : List ℕ) : Type 0 where
   pub short : length input ≤ 4194304
 
 -- the text that was read is the input
-pub interpreted-input : {A : Type 0} (from to : Giving) (a b : Option (List ℕ)) (r : Result A Stop) (lim : Limits) (interpret : Started → Run) (text : List ℕ) (read : TextRead lim text)
-    → OfInput from to (λ bytes. read.input ≡ bytes) → WritesRun a b r (started_run interpret (started_after lim (opened_of (records default_config (strip_bom text)))))
-    → OfInput from to (λ bytes. WritesRun a b r (started_run interpret (started_of lim bytes)))
-interpreted-input from to a b r lim interpret text read whole p = λ bytes is.
-    rw (← whole bytes is, start-records lim read.input read.fits read.short, ← read.same) p
-
--- the same of the state after it
-pub ended-input : {S : Type 0} (from to : Giving) (r : Result S Stop) (lim : Limits) (interpret : Started → Result S Fault) (text : List ℕ) (read : TextRead lim text)
-    → OfInput from to (λ bytes. read.input ≡ bytes) → IfOk r (λ s. started_end interpret (started_after lim (opened_of (records default_config (strip_bom text)))) ≡ Ok s)
-    → IfOk r (λ s. OfInput from to (λ bytes. started_end interpret (started_of lim bytes) ≡ Ok s))
-ended-input from to (Ok s) lim interpret text read whole p = λ bytes is.
-    rw (← whole bytes is, start-records lim read.input read.fits read.short, ← read.same) p
-ended-input from to (Err e) lim interpret text read whole p = tt
+pub start-input : (from to : Giving) (lim : Limits) (text : List ℕ) (read : TextRead lim text) → OfInput from to (λ bytes. read.input ≡ bytes)
+    → OfInput from to (λ bytes. started_of lim bytes ≡ started_after lim (opened_of (records default_config (strip_bom text))))
+start-input from to lim text read whole = λ bytes is. rw (← whole bytes is, read.same) (start-records lim read.input read.fits read.short)

@@ -2,7 +2,8 @@
 ghost use Rattle.std.specs.Prelude.{◌≡◌, ◌≤◌, ◌<◌, ◌+◌, length, IfOk, IfErr, ◌⊎◌, IsErrOf, IsOkUnless};
 ghost use Rattle.recording_io.specs.Tapes.{OfInput};
 ghost use Rattle.council_core.specs.declared.refusals.Refusal.TheVariants as why;
-ghost use Rattle.board_text.specs.Inputs.{InterruptedAtMost, IsReadFault, NoReadInVain, Reads, ReadsWithin, WastesAtMost};
+ghost use Rattle.board_text.specs.Inputs.{InterruptedAtMost, IsReadFault, NoReadInVain, Reads, ReadsWithin};
+ghost use Rattle.board_text.specs.Inputs.{WastesAtMost};
 ghost use Rattle.board_text.specs.Text.{fault_at};
 ghost use Rattle.board_text.specs.declared.stops.Stop.TheVariants as stop;
 

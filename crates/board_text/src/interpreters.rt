@@ -10,8 +10,8 @@ ghost use Rattle.board_text.specs.Inputs.{IsReadFault, ReadsWithin};
 ghost use Rattle.board_text.specs.Output.{WritesRun};
 ghost use Rattle.board_text.specs.Sinks.{GoesOn};
 ghost use Rattle.board_text.specs.Requests.{Row};
-ghost use Rattle.board_text.specs.Scripts.{Turn, started_end, started_run, end_of_script, interpreted_end, interpreted_run};
-ghost use Rattle.board_text.specs.Scripts.{run_of_script, script_end, script_run, step_run};
+ghost use Rattle.board_text.specs.Scripts.{Turn, started_course, course_of_script, interpreted_course};
+ghost use Rattle.board_text.specs.Scripts.{run_in, script_course, step_run};
 ghost use Rattle.board_text.specs.Text.{started_after, fault_at, in_range, opened_of};
 ghost use Rattle.board_text.specs.declared.bounds.Limits.{Limits};
 ghost use Rattle.board_text.specs.declared.stops.Stop.TheVariants as stop;
@@ -99,8 +99,8 @@ fn interpret_script<I: Interpreter, W: Write>(
 ) -> Result<I, Stop>
     requires numbers { first + length script.old < 2 ^ 32 }
     ensures wrote { WritesRun out.old.held out.new.held result
-        (script_run (I.step limits) interpreter first script.old) }
-    ensures ended { IfOk result (λ i. script_end (I.step limits) interpreter first script.old ≡ Ok i) }
+        (run_in (script_course (I.step limits) interpreter first script.old)) }
+    ensures ended { IfOk result (λ i. (script_course (I.step limits) interpreter first script.old).end ≡ Ok i) }
     ensures continues { GoesOn out.old out.new }
 {
     let mut number = first;
@@ -123,11 +123,11 @@ fn interpret_text<I: Interpreter, W: Write>(
     requires short { length text.now ≤ INPUT_LIMIT }
     requires in_range { in_range limits ≡ true }
     ensures wrote { WritesRun out.old.held out.new.held result
-        (started_run (run_of_script I.opened I.step limits)
-        (started_after limits (opened_of (records default_config (strip_bom text.now))))) }
+        (run_in (started_course (course_of_script I.opened I.step limits)
+        (started_after limits (opened_of (records default_config (strip_bom text.now)))))) }
     ensures ended { IfOk result
-        (λ i. started_end (end_of_script I.opened I.step limits)
-        (started_after limits (opened_of (records default_config (strip_bom text.now)))) ≡ Ok i) }
+        (λ i. (started_course (course_of_script I.opened I.step limits)
+        (started_after limits (opened_of (records default_config (strip_bom text.now))))).end ≡ Ok i) }
     ensures continues { GoesOn out.old out.new }
 {
     let mut script = Script::new(alloc, text);
@@ -150,9 +150,10 @@ pub fn interpret<I: Interpreter, R: Read + Drop, W: Write>(
     limits: Limits,
 ) -> Result<I, Stop>
     ensures wrote { OfInput input.old input.new
-        (λ bytes. WritesRun out.old.held out.new.held result (interpreted_run I.opened I.step limits bytes)) }
-    ensures ended { IfOk result
-        (λ i. OfInput input.old input.new (λ bytes. interpreted_end I.opened I.step limits bytes ≡ Ok i)) }
+        (λ bytes. WritesRun out.old.held out.new.held result
+        (run_in (interpreted_course I.opened I.step limits bytes))) }
+    ensures ended { OfInput input.old input.new
+        (λ bytes. IfOk result (λ i. (interpreted_course I.opened I.step limits bytes).end ≡ Ok i)) }
     ensures limits_first { in_range limits ≡ false
         → IsErrOf result (stop.Input (fault_at why.BadLimit 0)) × (input.new ≡ input.old) }
     ensures reads { ReadsWithin IsReadFault input.old input.new result }

@@ -1,3 +1,4 @@
+use Rattle.std.proofs.Common.{arith}
 use Rattle.board_serve.specs.Outcomes.{sheets_of}
 use Rattle.board_serve.proofs.AuditFacts.{found-reading}
 use Rattle.board_serve.proofs.serving.are_legal.Goals as goal

@@ -8,7 +8,7 @@ are_legal-requires-clause-legal g c =
     let work = c.in_ok-work.work in
     let start = c.in_ok-work.ensures in
     let seats = seated parts.result.0 parts.result.1 work parts.ensures.starts start.writer start.orders start.readers start.asked in
-    rw (c.as_slice.ensures.value, ← parts.ensures.starts.members)
+    rw (c.as_slice.ensures.value, c.in_ok-members.ensures.items, c.opening.ensures.members)
     (outcome-of (plan_over parts.result.0 (records_of parts.result.1)) work c.in_ok-done.done c.in_ok-answers.answers.items c.in_ok-answers.served seats c.in_ok-done.ensures.done c.in_ok-answers.ensures.brought).served.legal_journal
 
 pub are_legal-requires-clause-in_order : goal.are_legal-requires-clause-in_order
@@ -30,7 +30,7 @@ returns-clause-done g c =
     (outcome-of (plan_over parts.result.0 (records_of parts.result.1)) work c.in_ok-done.done c.in_ok-answers.answers.items c.in_ok-answers.served seats c.in_ok-done.ensures.done c.in_ok-answers.ensures.brought)
 
 pub returns-clause-records : goal.returns-clause-records
-returns-clause-records g c = rw (c.into_parts-register.ensures.parts, c.into_parts-register.ensures.starts.members, ← c.as_slice.ensures.value) c.in_ok-legal.ensures.legal
+returns-clause-records g c = rw (c.into_parts-register.ensures.parts, ← c.opening.ensures.members, ← c.in_ok-members.ensures.items, ← c.as_slice.ensures.value) c.in_ok-legal.ensures.legal
 
 pub returns-clause-differs : goal.returns-clause-differs
-returns-clause-differs g c = rw (c.into_parts-register.ensures.parts, c.into_parts-register.ensures.starts.members, ← c.as_slice.ensures.value) c.in_ok-legal.ensures.broken
+returns-clause-differs g c = rw (c.into_parts-register.ensures.parts, ← c.opening.ensures.members, ← c.in_ok-members.ensures.items, ← c.as_slice.ensures.value) c.in_ok-legal.ensures.broken

@@ -1,12 +1,11 @@
 use Rattle.std.proofs.Common.{Result, ap, subst, sym}
 use Rattle.std.proofs.lemmas.Result.{err_from_is_err_and}
-use Rattle.board_text.specs.Scripts.{interpreted_run}
+use Rattle.board_text.specs.Scripts.{interpreted_course}
 use Rattle.board_text.specs.Text.{started_of, text_of}
 use Rattle.board_text.specs.declared.faults.Fault.{Fault}
 use Rattle.board_text.proofs.RunFacts.{appends-same}
 use Rattle.board_text.specs.Inputs.{IsReadFault}
 use Rattle.board_text.proofs.ReadingFacts.{reads-on, reads-passed}
-use Rattle.board_text.proofs.RecordFacts.{start-end}
 use Rattle.board_serve.specs.Plans.{Planned, plan_of, plan_start, plan_step, two_readers}
 use Rattle.board_serve.specs.Serving.{WritesServeRun}
 use Rattle.board_serve.proofs.PlanFacts.{plan-lines}
@@ -17,8 +16,8 @@ pub returns-in_err-plan-clause-wrote : goal.returns-in_err-plan-clause-wrote
 returns-in_err-plan-clause-wrote g c = λ bytes is.
     let p = err_from_is_err_and c.from_residual.result c.from_residual.ensures.1 in
     let lim = two_readers c.args.journal_limit in
-    rw p.1 (fails-serve c.args.out.now.held c.interpret.new.out.held c.in_err-plan.field-0.0 p.0 (interpreted_run plan_start plan_step lim bytes) (plan_of c.args.journal_limit bytes) p.2
-    (plan-lines lim (started_of lim bytes)) (start-end plan_start plan_step lim (started_of lim bytes)) (c.in_err-plan.ensures.wrote bytes is))
+    rw p.1 (fails-serve c.args.out.now.held c.interpret.new.out.held c.in_err-plan.field-0.0 p.0 (interpreted_course plan_start plan_step lim bytes) p.2
+    (plan-lines lim (started_of lim bytes)) (c.in_err-plan.ensures.wrote bytes is))
 
 pub returns-clause-wrote : goal.returns-clause-wrote
 returns-clause-wrote g c = λ bytes is.

@@ -1,6 +1,6 @@
 use Rattle.std.proofs.lemmas.Result.{err_from_is_err_and}
-use Rattle.board_text.specs.Scripts.{end_of_script, run_of_script}
-use Rattle.board_text.proofs.InterpretFacts.{TextRead, ended-input, interpreted-input, writes-failed_input}
+use Rattle.board_text.specs.Scripts.{course_of_script}
+use Rattle.board_text.proofs.InterpretFacts.{TextRead, start-input, writes-failed_input}
 use Rattle.board_text.specs.Inputs.{IsReadFault}
 use Rattle.board_text.proofs.ReadingFacts.{reads-on, reads-passed}
 use Rattle.board_text.proofs.interpreters.interpret.Goals as goal
@@ -8,21 +8,19 @@ use Rattle.board_text.proofs.interpreters.interpret.Goals as goal
 pub returns-in_err-text-clause-wrote : goal.returns-in_err-text-clause-wrote
 returns-in_err-text-clause-wrote g c =
     let p = err_from_is_err_and c.from_residual.result c.from_residual.ensures.1 in
-    rw p.1 (writes-failed_input c.args.input.now c.read_within.new.input c.args.out.now.held c.in_err-text.field-0.0 p.0 c.args.limits (run_of_script g.I.Interpreter.opened g.I.Interpreter.step c.args.limits) p.2 c.in_err-text.ensures.fault)
+    rw p.1 (writes-failed_input c.args.input.now c.read_within.new.input c.args.out.now.held c.in_err-text.field-0.0 p.0 c.args.limits (course_of_script g.I.Interpreter.opened g.I.Interpreter.step c.args.limits) p.2 c.in_err-text.ensures.fault)
 
 pub returns-clause-wrote : goal.returns-clause-wrote
-returns-clause-wrote g c =
+returns-clause-wrote g c = λ bytes is.
     let read : TextRead c.args.limits c.as_slice.result.now =
     record { input = c.in_ok-text.text.items; fits = c.in_ok-text.ensures.in_range; same = c.as_slice.ensures.value; short = c.in_ok-text.ensures.fits } in
-    interpreted-input c.args.input.now c.read_within.new.input c.args.out.now.held c.interpret_text.new.out.held c.interpret_text.result c.args.limits (run_of_script g.I.Interpreter.opened g.I.Interpreter.step c.args.limits)
-    c.as_slice.result.now read c.in_ok-text.ensures.whole c.interpret_text.ensures.wrote
+    rw (start-input c.args.input.now c.read_within.new.input c.args.limits c.as_slice.result.now read c.in_ok-text.ensures.whole bytes is) c.interpret_text.ensures.wrote
 
 pub returns-clause-ended : goal.returns-clause-ended
-returns-clause-ended g c =
+returns-clause-ended g c = λ bytes is.
     let read : TextRead c.args.limits c.as_slice.result.now =
     record { input = c.in_ok-text.text.items; fits = c.in_ok-text.ensures.in_range; same = c.as_slice.ensures.value; short = c.in_ok-text.ensures.fits } in
-    ended-input c.args.input.now c.read_within.new.input c.interpret_text.result c.args.limits (end_of_script g.I.Interpreter.opened g.I.Interpreter.step c.args.limits)
-    c.as_slice.result.now read c.in_ok-text.ensures.whole c.interpret_text.ensures.ended
+    rw (start-input c.args.input.now c.read_within.new.input c.args.limits c.as_slice.result.now read c.in_ok-text.ensures.whole bytes is) c.interpret_text.ensures.ended
 
 pub returns-in_err-text-clause-reads : goal.returns-in_err-text-clause-reads
 returns-in_err-text-clause-reads g c =
