@@ -51,7 +51,7 @@ def test_a_source_proves_its_crate_and_those_above(copy: Copy) -> None:
     assert copy.proved("crates/board_runs/src/lib.rt") == set(runs.split())
     found = copy.proved("crates/half_sums/specs/Laws.antt")
     assert {"half_sums", "swing_walk", "power_index", "board_c", "board", "count_tests"} <= found
-    assert not {"council_core", "majority_rule", "two_copy_steps", "board_audits", "machine_tests"} & found
+    assert not {"council_core", "majority_rule", "two_copy_steps", "board_audits"} & found
 
 
 def test_a_deep_check_is_made_of_each_crate(copy: Copy) -> None:

@@ -1,4 +1,4 @@
-//! Tests of the running board through its public names.
+//! Tests of the two-copy machine, of audits and of the running board, through their public names.
 #![tactic(auto)]
 
 #[cfg(test)]
@@ -9,3 +9,5 @@ mod examples;
 mod schedules;
 #[cfg(test)]
 mod threads;
+#[cfg(test)]
+mod worked;

@@ -1,5 +1,5 @@
 -- States of words and views that are not lawful, each for one reason; and what the laws of steps say in worked examples.
-use Rattle.std.proofs.Common.{◌≡◌, ◌≤◌, ◌^◌, ◌++◌, ℕ, suc, Bool, true, false, List, [], ◌∷◌, length, map, replicate, Some, None, refl, sym, subst, slice_index, take, arith, true≢false}
+use Rattle.std.proofs.Common.{◌≡◌, ◌≤◌, ◌^◌, ◌++◌, ℕ, suc, Bool, true, false, List, [], ◌∷◌, length, map, replicate, Some, refl, sym, subst, slice_get, slice_index, take, arith, true≢false}
 use Rattle.council_core.specs.declared.commands.Command.{Command}
 use Rattle.council_core.specs.declared.commands.Command.TheVariants.{Open, Close, SetVotes}
 use Rattle.council_core.specs.Ledgers.{IsLedger}
@@ -10,10 +10,11 @@ use Rattle.two_copy_steps.specs.Auxiliary.{Auxiliary, IsApart, IsLawfulMachine, 
 use Rattle.two_copy_steps.specs.Effects.{AnswersEvent, effects, sequential_replies, sequential_start, sequential_steps}
 use Rattle.two_copy_steps.specs.Laws.{AfterLaw, BeginLaw, BeginTransitionLaw, BusyLaw, EffectsLaw, EventLaw, GrowthLaw, HasVotesInRange, IdleTransitionLaw, LedgerLaw, NotesLaw, OutputsLaw, RangeLaw, ReaderLaw, ReaderTransitionLaw, StartLaw, StateKnownLaw, StateUnderLaw, StepCountLaw, SubmitTransitionLaw, WriterLaw, WriterTransitionLaw}
 use Rattle.two_copy_steps.specs.Lawful.{Fills, IsPublishable, ShowsSheet, State, Stored, begun_by, read_by, written_by}
-use Rattle.two_copy_steps.specs.Runs.{KeepsRecordsReported, WantsMemoryFrom}
+use Rattle.two_copy_steps.specs.Records.{sheets_reported}
+use Rattle.two_copy_steps.specs.Runs.{WantsMemoryFrom, auxiliary_after, machine_after}
 use Rattle.two_copy_steps.specs.Machines.{IsMachine, WantsMemory}
 use Rattle.two_copy_steps.specs.Publications.{IsLeastUnseen}
-use Rattle.two_copy_steps.specs.Stages.{steps_taken}
+use Rattle.two_copy_steps.specs.Stages.{about_to_leave, sheet_read, steps_taken}
 use Rattle.two_copy_steps.specs.States.{IsKnown, IsLawfulBoard}
 use Rattle.two_copy_steps.specs.Transitions.{MachineState, machine_at_start, notes, state_after_events, transition}
 use Rattle.two_copy_steps.specs.declared.events.Event.{Event}
@@ -228,14 +229,12 @@ busy_reader_pinned law a lawful = let found = law held_up a lawful Writer 1 refl
 busy_reader : BusyLaw → (a : Auxiliary) → IsLawfulMachine IsPublishable held_up a → (r : ℕ) × (1 ≡ suc r) × IsLeastUnseen held_up.writer.seen_out r
 busy_reader law a lawful = let found = law held_up a lawful Writer 1 refl in (found.0, found.1, found.2)
 
--- a reading has at most 36 steps before its last, and its last load adds the words that it has loaded
+-- a reading has at most 36 steps before its last, and its last load adds the words that its last step returns
 steps_bounded : StepCountLaw → steps_taken Arrived ≤ 36
 steps_bounded law = (law 0 1 Arrived tt).0
 
-last_load_grows : GrowthLaw → (words : List ℕ) × (((reader_action 0 (record { stage = Reading 0 (replicate 33 0); readings = [] })).after 7).readings ≡ words ∷ [])
-last_load_grows law =
-    let grown = (law 0 7 (record { stage = Reading 0 (replicate 33 0); readings = [] }) (omega arith)).1 refl in
-    (grown.0, grown.2)
+last_load_grows : GrowthLaw → let after = (reader_action 0 (record { stage = Reading 0 (replicate 33 0); readings = [] })).after 7 in (words : List ℕ) × (sheet_read after.stage ≡ Some words) × (after.readings ≡ words ∷ [])
+last_load_grows law = (law 0 7 (record { stage = Reading 0 (replicate 33 0); readings = [] }) (omega arith)).1 refl
 
 -- votes stay in range
 votes_stay : RangeLaw → HasVotesInRange (transition (machine_at_start one_member 1) (Submit (SetVotes code 3))).0.ledger
@@ -317,8 +316,9 @@ event_used law lawful publishable = law started auxiliary_started lawful publish
 ledger_used : LedgerLaw → IsLedger (transition started (Submit (Open 1))).0.ledger
 ledger_used law = law started ledger (Submit (Open 1))
 
-outputs_used : OutputsLaw → KeepsRecordsReported one_member 1 blocking (notes started blocking)
-outputs_used law = law one_member 1 blocking
+outputs_used : OutputsLaw → (stage : Stage) → slice_get (machine_after one_member 1 blocking).readers 0 ≡ Some stage
+    → record_at (auxiliary_after one_member 1 blocking).records 0 ≡ sheets_reported 1 (notes started blocking) ++ about_to_leave stage
+outputs_used law = law one_member 1 blocking 0
 
 notes_used : NotesLaw → (more : List Event) → notes started (blocking ++ more) ≡ notes started blocking ++ notes (state_after_events started blocking) more
 notes_used law more = law started blocking more

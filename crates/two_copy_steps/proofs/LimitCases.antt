@@ -1,13 +1,12 @@
 -- Words, steps and readers at their limits and one beside them, computed; and what the definitions of runs and machines
 -- exclude.
-use Rattle.std.proofs.Common.{◌≡◌, ◌+◌, ◌^◌, ◌++◌, ℕ, true, false, List, [], ◌∷◌, replicate, Some, None, refl, sym, ap, arith, true≢false}
+use Rattle.std.proofs.Common.{◌≡◌, ◌+◌, ◌^◌, ◌++◌, ℕ, true, false, [], ◌∷◌, replicate, Some, None, refl, sym, ap, arith, true≢false}
 use Rattle.council_core.specs.Ledgers.{Ledger}
-use Rattle.council_core.specs.Sequential.{Sequential, answered, reading, submit}
+use Rattle.council_core.specs.Sequential.{answered, reading}
 use Rattle.council_core.specs.declared.calls.Answer.TheVariants as answer
 use Rattle.council_core.specs.declared.commands.Command.TheVariants.{Open, Close}
 use Rattle.council_core.specs.declared.refusals.Refusal.TheVariants.{BadLimit}
 use Rattle.two_copy_steps.specs.Actions.{all_true, cuts_past, filling_phase, first_false, other_side, pin, copy_word, readings_after, seeing_phase, stage_with_words}
-use Rattle.two_copy_steps.specs.Auxiliary.{Auxiliary, IsLawfulMachine}
 use Rattle.two_copy_steps.specs.Effects.{AllAnswer, OutputIsReply, SequentialRun, SwapsOnce}
 use Rattle.two_copy_steps.specs.Laws.{HasVotesInRange}
 use Rattle.two_copy_steps.specs.Lawful.{IsPrefix, IsPublishable, last_front, pin_of}
@@ -17,8 +16,8 @@ use Rattle.two_copy_steps.specs.Records.{FrontsNeverFall, sheets_reported}
 use Rattle.two_copy_steps.specs.Runs.{IsFault}
 use Rattle.two_copy_steps.specs.Stages.{IsReadable, about_to_leave, accessed_word, last_load, last_step, left_by, reading_steps, sheet_read, stage_of}
 use Rattle.two_copy_steps.specs.States.{EndsWith}
-use Rattle.two_copy_steps.specs.Transitions.{MachineState, is_idle, is_pending, machine_at_start, transition}
-use Rattle.two_copy_steps.specs.declared.events.Event.TheVariants.{Submit, Publish, Writer, Reader}
+use Rattle.two_copy_steps.specs.Transitions.{is_idle, is_pending, machine_at_start, transition}
+use Rattle.two_copy_steps.specs.declared.events.Event.TheVariants.{Submit, Writer, Reader}
 use Rattle.two_copy_steps.specs.declared.events.Note.TheVariants.{Accepted, Began, Busy, Moved, Published, Read, Refused, Skipped}
 use Rattle.two_copy_steps.specs.declared.stages.Access.TheVariants.{Load, Store}
 use Rattle.two_copy_steps.specs.declared.stages.ReaderPc.TheVariants as pc
@@ -132,8 +131,8 @@ staged_another : IsMachine one_member [] 0 0 (1 ∷ replicate 31 0 ++ 10 ∷ 0 �
 staged_another h = let e = h.sheet_is in cc e
 
 -- the fronts of one reader never fall, and those of two readers are apart
-older_reported : FrontsNeverFall (Read 1 last_sheet ∷ Moved ∷ Read 1 first_sheet ∷ []) → ⊥
-older_reported h = omega (arith, h 1 0 1 [] (omega arith) (omega arith))
+older_reported : (FrontsNeverFall (Read 1 last_sheet ∷ Moved ∷ Read 1 first_sheet ∷ []) → ⊥) × (FrontsNeverFall (Read 2 last_sheet ∷ Read 1 last_sheet ∷ Read 2 first_sheet ∷ []) → ⊥)
+older_reported = ((λ h. omega (arith, h 1 0 1 [] (omega arith) (omega arith))), (λ h. omega (arith, h 2 0 1 [] (omega arith) (omega arith))))
 
 reported_by_number : (sheets_reported 1 (Read 1 last_sheet ∷ Published 3 ∷ Read 2 first_sheet ∷ Read 1 last_sheet ∷ []) ≡ last_sheet ∷ last_sheet ∷ []) × (sheets_reported 2 (Read 1 last_sheet ∷ Published 3 ∷ Read 2 first_sheet ∷ Read 1 last_sheet ∷ []) ≡ first_sheet ∷ [])
 reported_by_number = (refl, refl)

@@ -13,8 +13,7 @@ use Rattle.council_core.specs.Sheets.{front_of, IsSheet}
 use Rattle.two_copy_steps.specs.declared.events.Event.{Event}
 use Rattle.two_copy_steps.specs.declared.events.Event.TheVariants.{Submit, Publish, Writer, Reader}
 use Rattle.two_copy_steps.specs.declared.events.Note.{Note}
-use Rattle.two_copy_steps.specs.declared.events.Note.TheVariants.{Skipped}
-use Rattle.two_copy_steps.specs.declared.views.Writing.{Writing}
+use Rattle.two_copy_steps.specs.declared.events.Note.TheVariants.{Began, Busy, Moved, Published, Skipped}
 use Rattle.two_copy_steps.specs.declared.views.Stage.{Stage}
 use Rattle.two_copy_steps.specs.declared.views.Stage.TheVariants.{AtRest, Arrived, Reading, Leaving}
 use Rattle.two_copy_steps.specs.declared.views.Phase.{Phase}
@@ -22,7 +21,7 @@ use Rattle.two_copy_steps.specs.declared.views.Phase.TheVariants.{Idle, Seeing, 
 use Rattle.two_copy_steps.specs.declared.table.TheConstants.{COPY_WORDS}
 use Rattle.two_copy_steps.specs.Actions.{all_true, first_false, copy_word, writing_with_quiescent, stage_action, phase_action, pin}
 use Rattle.two_copy_steps.specs.Lawful.{IsPublishable, Stands, Fills}
-use Rattle.two_copy_steps.specs.Transitions.{MachineState, transition, ledger_and_note, machine_at_start, machine_and_note, published_by, is_pending, is_idle, reader_transition, stage_note}
+use Rattle.two_copy_steps.specs.Transitions.{MachineState, transition, ledger_and_note, machine_at_start, machine_and_note, published_by, is_pending, is_idle, reader_transition, phase_note, stage_note}
 use Rattle.two_copy_steps.specs.Auxiliary.{Auxiliary, auxiliary_start, auxiliary_step, record_at, state_of, IsLawfulMachine}
 use Rattle.two_copy_steps.specs.Machines.{seen_as, IsMachine}
 use Rattle.two_copy_steps.specs.Stages.{IsReadable}
@@ -36,13 +35,13 @@ pub publishable : (L : Ledger) (words : List ℕ) → IsLedger L → words ≡ s
 publishable L words legal is in_range = (legal.legal, subst IsSheet is in_range)
 
 -- the writer's step, by its phase
-abbrev wrote : MachineState → Phase → MachineState
+abbrev wrote : MachineState → Phase → MachineState × Note
 wrote m phase =
     let d = phase_action (sheet m.ledger.opening) m.writer phase in
     let found = get_or m.words d.word 0 in
-    record m { words = set m.words d.word (d.becomes found); writer = d.after found }
+    (record m { words = set m.words d.word (d.becomes found); writer = d.after found }, phase_note m.writer phase found)
 
-wrote_at : (m : MachineState) (phase : Phase) → m.writer.phase ≡ phase → wrote m phase ≡ (transition m Writer).0
+wrote_at : (m : MachineState) (phase : Phase) → m.writer.phase ≡ phase → wrote m phase ≡ transition m Writer
 wrote_at m phase e = ap (wrote m) (sym e)
 
 module _ (L : Ledger) (W : List ℕ) (s n : ℕ) (t : List ℕ) (ph : Phase) (so : List Bool) (R : List Stage) where
@@ -50,22 +49,19 @@ module _ (L : Ledger) (W : List ℕ) (s n : ℕ) (t : List ℕ) (ph : Phase) (so
   old = seen_as L W s n t ph so R
 
   -- a load changes no word
-  loads : (i : ℕ) (w : Writing) → (let m : MachineState = record old { writer = w } in m) ≡ (let m : MachineState = record old { words = set W i (get_or W i 0); writer = w } in m)
-  loads i w = ap (λ (words : List ℕ). let m : MachineState = record old { words = words; writer = w } in m) (sym (set-get_or W i 0))
+  abbrev looked : List ℕ → Bool → MachineState × Note
+  looked words b =
+      (record old { words = words; writer = cond b (writing_with_quiescent old.writer (set so (first_false so) true)) (record old.writer { phase = Idle }) }, cond b Moved (Busy (suc (first_false so))))
 
-  abbrev looked : Bool → Writing
-  looked b = cond b (writing_with_quiescent old.writer (set so (first_false so) true)) (record old.writer { phase = Idle })
+  looks : (b : Bool) → ph ≡ Seeing → eqb (get_or W (pin (first_false so)) 0) 0 ≡ b → looked W b ≡ transition old Writer
+  looks b e is = ap (looked W) (sym is) ∙ (ap (λ words. looked words (eqb (get_or W (pin (first_false so)) 0) 0)) (sym (set-get_or W (pin (first_false so)) 0)) ∙ wrote_at old Seeing e)
 
-  pub gave_up : ph ≡ Seeing → get_or W (pin (first_false so)) 0 ≢ 0 → seen_as L W s n t Idle so R ≡ (transition old Writer).0
-  gave_up e ne =
-      ap (λ (b : Bool). let m : MachineState = record old { writer = looked b } in m) (sym (ne_eqb (get_or W (pin (first_false so)) 0) 0 ne))
-      ∙ (loads (pin (first_false so)) (looked (eqb (get_or W (pin (first_false so)) 0) 0)) ∙ wrote_at old Seeing e)
+  pub gave_up : ph ≡ Seeing → get_or W (pin (first_false so)) 0 ≢ 0 → (seen_as L W s n t Idle so R, Busy (suc (first_false so))) ≡ transition old Writer
+  gave_up e ne = looks false e (ne_eqb (get_or W (pin (first_false so)) 0) 0 ne)
 
   pub saw_out : ph ≡ Seeing → get_or W (pin (first_false so)) 0 ≡ 0
-      → seen_as L W s n t (cond (all_true (set so (first_false so) true)) (Filling 0) Seeing) (set so (first_false so) true) R ≡ (transition old Writer).0
-  saw_out e is =
-      ap (λ (b : Bool). let m : MachineState = record old { writer = looked b } in m) (sym (eq-eqb (get_or W (pin (first_false so)) 0) 0 is))
-      ∙ (loads (pin (first_false so)) (looked (eqb (get_or W (pin (first_false so)) 0) 0)) ∙ wrote_at old Seeing e)
+      → (seen_as L W s n t (cond (all_true (set so (first_false so) true)) (Filling 0) Seeing) (set so (first_false so) true) R, Moved) ≡ transition old Writer
+  saw_out e is = looks true e (eq-eqb (get_or W (pin (first_false so)) 0) 0 is)
 
   -- the reader's step
   pub no_reader : (number : ℕ) → (number ≡ 0) ⊎ (length R < number) → (transition old (Reader number)) ≡ (old, Skipped)
@@ -74,12 +70,9 @@ module _ (L : Ledger) (W : List ℕ) (s n : ℕ) (t : List ℕ) (ph : Phase) (so
 
   pub reader_reads : (number r : ℕ) (stage : Stage) (W' : List ℕ) (R' : List Stage) → number ≡ suc r → slice_get R r ≡ Some stage
       → (let d = stage_action r stage in (W' ≡ set W d.word (d.becomes (get_or W d.word 0))) × (R' ≡ set R r (d.after (get_or W d.word 0))))
-      → seen_as L W' s n t ph so R' ≡ (transition old (Reader number)).0
+      → (seen_as L W' s n t ph so R', stage_note (suc r) stage) ≡ transition old (Reader number)
   reader_reads number r stage W' R' e at h =
-      (λ i. seen_as L (h.0 i) s n t ph so (h.1 i)) ∙ (ap (λ (o : Option Stage). (reader_transition old r o).0) (sym at) ∙ ap (λ (k : ℕ). (transition old (Reader k)).0) (sym e))
-
-  pub reader_reports : (number r : ℕ) (stage : Stage) → number ≡ suc r → slice_get R r ≡ Some stage → stage_note (suc r) stage ≡ (transition old (Reader number)).1
-  reader_reports number r stage e at = ap (λ (o : Option Stage). (reader_transition old r o).1) (sym at) ∙ ap (λ (k : ℕ). (transition old (Reader k)).1) (sym e)
+      (λ i. (seen_as L (h.0 i) s n t ph so (h.1 i), stage_note (suc r) stage)) ∙ (ap (λ (o : Option Stage). reader_transition old r o) (sym at) ∙ ap (λ (k : ℕ). transition old (Reader k)) (sym e))
 
   module _ (k : IsMachine L W s n t ph so R) where
     abbrev aux : Auxiliary
@@ -113,25 +106,27 @@ module _ (L : Ledger) (W : List ℕ) (s n : ℕ) (t : List ℕ) (ph : Phase) (so
 
     -- a word is stored
     pub filled_in : (j : ℕ) (W' : List ℕ) → ph ≡ Filling j → W' ≡ set W (copy_word (1 - s) j) (get_or t j 0)
-        → seen_as L W' s n t (cond (eqb (j + 1) COPY_WORDS) Swapping (Filling (j + 1))) so R ≡ (transition old Writer).0
+        → (seen_as L W' s n t (cond (eqb (j + 1) COPY_WORDS) Swapping (Filling (j + 1))) so R, Moved) ≡ transition old Writer
     filled_in j W' e is =
-        ap (λ (words : List ℕ). seen_as L words s n t (cond (eqb (j + 1) COPY_WORDS) Swapping (Filling (j + 1))) so R)
+        ap (λ (words : List ℕ). (seen_as L words s n t (cond (eqb (j + 1) COPY_WORDS) Swapping (Filling (j + 1))) so R, Moved))
         (is ∙ ap (λ (numbers : List ℕ). set W (copy_word (1 - s) j) (get_or numbers j 0)) k.sheet_is)
         ∙ wrote_at old (Filling j) e
 
     -- side is stored
-    pub swapped_in : ph ≡ Swapping → seen_as L (set W 0 (1 - s)) (1 - s) (front_of t) t Idle (replicate (length so) false) R ≡ (transition old Writer).0
-    swapped_in e = wrote_at old Swapping e
+    pub swapped_in : ph ≡ Swapping → (seen_as L (set W 0 (1 - s)) (1 - s) (front_of t) t Idle (replicate (length so) false) R, Published (front_of t)) ≡ transition old Writer
+    swapped_in e =
+        let long : front_of t ≡ length (take (front_of t) L.journal) = let within = k.staged_within in omega (arith, length-take (front_of t) L.journal) in
+        (λ i. (seen_as L (set W 0 (1 - s)) (1 - s) (front_of t) t Idle (replicate (length so) false) R, Published (long i))) ∙ wrote_at old Swapping e
 
     -- a publication begins
     published_long : length (take n L.journal) ≡ n
     published_long = let within = k.published_within in length-take n L.journal ∙ omega arith
 
-    pub begun_in : is_idle ph ≡ true → n < length L.journal → seen_as L W s n (sheet_of L) (cond (all_true so) (Filling 0) Seeing) so R ≡ (transition old Publish).0
+    pub begun_in : is_idle ph ≡ true → n < length L.journal → (seen_as L W s n (sheet_of L) (cond (all_true so) (Filling 0) Seeing) so R, Began) ≡ transition old Publish
     begun_in idle pending =
         let is : is_pending old ≡ true = ap (λ (x : ℕ). nat_lt x (length L.journal)) published_long ∙ lt-ltb n (length L.journal) pending in
-        ap (λ (commands : List Command). let m : MachineState = record old { writer = record { side = s; published = take n L.journal; staged = commands; phase = cond (all_true so) (Filling 0) Seeing; seen_out = so } } in m) (take-length L.journal)
-        ∙ (ap (λ (b : Bool). (published_by old b).0) (sym is) ∙ ap (λ (b : Bool). (cond b (published_by old (is_pending old)) (old, Skipped)).0) (sym idle))
+        ap (λ (commands : List Command). let m : MachineState = record old { writer = record { side = s; published = take n L.journal; staged = commands; phase = cond (all_true so) (Filling 0) Seeing; seen_out = so } } in (m, Began)) (take-length L.journal)
+        ∙ (ap (λ (b : Bool). published_by old b) (sym is) ∙ ap (λ (b : Bool). cond b (published_by old (is_pending old)) (old, Skipped)) (sym idle))
 
     -- the invariant after an event: of the machine then, and the staged sheet is that of some commands
     -- of the journal
@@ -152,31 +147,31 @@ module _ (L : Ledger) (W : List ℕ) (s n : ℕ) (t : List ℕ) (ph : Phase) (so
         }
 
     -- the writer's steps
-    pub writer_stays : (W' : List ℕ) (s' n' : ℕ) (ph' : Phase) (so' : List Bool) → seen_as L W' s' n' t ph' so' R ≡ (transition old Writer).0 → n' ≤ length L.journal → IsMachine L W' s' n' t ph' so' R
-    writer_stays W' s' n' ph' so' is within =
+    pub writer_stays : (W' : List ℕ) (s' n' : ℕ) (ph' : Phase) (so' : List Bool) (note : Note) → (seen_as L W' s' n' t ph' so' R, note) ≡ transition old Writer → n' ≤ length L.journal → IsMachine L W' s' n' t ph' so' R
+    writer_stays W' s' n' ph' so' note is within =
         stays Writer W' s' n' t ph' so' R record {
-          machine = is;
+          machine = ap (λ (x : MachineState × Note). x.0) is;
           published_within = within;
           staged_within = k.staged_within;
           sheet_is = k.sheet_is;
           lawful = written_keeps IsPublishable old aux k.lawful.1;
         }
 
-    reader_stays : (number : ℕ) (W' : List ℕ) (R' : List Stage) → seen_as L W' s n t ph so R' ≡ (transition old (Reader number)).0 → IsMachine L W' s n t ph so R'
-    reader_stays number W' R' is =
+    reader_stays : (number : ℕ) (W' : List ℕ) (R' : List Stage) (note : Note) → (seen_as L W' s n t ph so R', note) ≡ transition old (Reader number) → IsMachine L W' s n t ph so R'
+    reader_stays number W' R' note is =
         stays (Reader number) W' s n t ph so R' record {
-          machine = is;
+          machine = ap (λ (x : MachineState × Note). x.0) is;
           published_within = k.published_within;
           staged_within = k.staged_within;
           sheet_is = k.sheet_is;
           lawful = step_keeps IsPublishable old aux k.lawful.1 number;
         }
 
-    pub publish_stays : (t' : List ℕ) (ph' : Phase) → t' ≡ sheet_of L → IsPublishable L.opening L.journal → seen_as L W s n t' ph' so R ≡ (transition old Publish).0 → IsMachine L W s n t' ph' so R
+    pub publish_stays : (t' : List ℕ) (ph' : Phase) → t' ≡ sheet_of L → IsPublishable L.opening L.journal → (seen_as L W s n t' ph' so R, Began) ≡ transition old Publish → IsMachine L W s n t' ph' so R
     publish_stays t' ph' e legal is =
         let front : front_of t' ≡ length L.journal = ap front_of e in
         stays Publish W s n t' ph' so R record {
-          machine = is;
+          machine = ap (λ (x : MachineState × Note). x.0) is;
           published_within = k.published_within;
           staged_within = omega arith;
           sheet_is = e ∙ ap (sheet L.opening) (sym (take-length L.journal) ∙ ap (λ (x : ℕ). take x L.journal) (sym front));
@@ -214,9 +209,9 @@ module _ (L : Ledger) (W : List ℕ) (s n : ℕ) (t : List ℕ) (ph : Phase) (so
         }
 
     -- for any verdict
-    pub handed_in : (L' : Ledger) (command : Command) (v : Result ⊤ Refusal) → L' ≡ (ledger_and_note L command v).0 → seen_as L' W s n t ph so R ≡ (machine_and_note old command v).0
-    handed_in L' command (Ok u) e = submitted_in L' command e
-    handed_in L' command (Err refusal) e = ap (λ (l : Ledger). seen_as l W s n t ph so R) e
+    handed_in : (L' : Ledger) (command : Command) (v : Result ⊤ Refusal) (note : Note) → (L', note) ≡ ledger_and_note L command v → (seen_as L' W s n t ph so R, note) ≡ machine_and_note old command v
+    handed_in L' command (Ok u) note e = (λ i. (submitted_in L' command (ap (λ (x : Ledger × Note). x.0) e) i, (e i).1))
+    handed_in L' command (Err refusal) note e = (λ i. (seen_as (e i).0 W s n t ph so R, (e i).1))
 
     handed_stays : (L' : Ledger) (command : Command) (v : Result ⊤ Refusal) → L' ≡ (ledger_and_note L command v).0 → is_idle ph ≡ true → IsMachine L' W s n t ph so R
     handed_stays L' command (Ok u) e idle = submit_stays L' command e idle
@@ -228,45 +223,43 @@ module _ (L : Ledger) (W : List ℕ) (s n : ℕ) (t : List ℕ) (ph : Phase) (so
     handed_machine L' command (Err refusal) idle reported same = let F : Ledger → Type 0 = λ l. IsMachine l W s n t ph so R in subst F (sym same) k
 
     pub handed_transition : (L' : Ledger) (command : Command) (r : Result Note Refusal) → is_idle ph ≡ true → IfOk r (λ note. (L', note) ≡ ledger_and_note L command (verdict_of L command))
-        → IfOk r (λ note. seen_as L' W s n t ph so R ≡ (transition old (Submit command)).0) × IfOk r (λ note. note ≡ (transition old (Submit command)).1)
-    handed_transition L' command (Ok note) idle reported = (
-      handed_in L' command (verdict_of L command) (ap (λ (x : Ledger × Note). x.0) reported) ∙ ap (λ (b : Bool). (cond b (machine_and_note old command (verdict_of L command)) (old, Skipped)).0) (sym idle),
-      ap (λ (x : Ledger × Note). x.1) reported ∙ ap (λ (b : Bool). (cond b (machine_and_note old command (verdict_of L command)) (old, Skipped)).1) (sym idle),
-    )
-    handed_transition L' command (Err refusal) idle reported = (tt, tt)
+        → IfOk r (λ note. (seen_as L' W s n t ph so R, note) ≡ transition old (Submit command))
+    handed_transition L' command (Ok note) idle reported = handed_in L' command (verdict_of L command) note reported ∙ ap (λ (b : Bool). cond b (machine_and_note old command (verdict_of L command)) (old, Skipped)) (sym idle)
+    handed_transition L' command (Err refusal) idle reported = tt
 
     -- the same steps, as the code takes them
     module _ (now : MachineState) (is : old ≡ now) where
       phase_is : (phase : Phase) → now.writer.phase ≡ phase → ph ≡ phase
       phase_is phase e = ap (λ (m : MachineState). m.writer.phase) is ∙ e
 
+      pub wrote_stays : (W' : List ℕ) (s' n' : ℕ) (ph' : Phase) (so' : List Bool) (note : Note) → (seen_as L W' s' n' t ph' so' R, note) ≡ transition now Writer → n' ≤ length L.journal → IsMachine L W' s' n' t ph' so' R
+      wrote_stays W' s' n' ph' so' note step = writer_stays W' s' n' ph' so' note (step ∙ ap (λ (m : MachineState). transition m Writer) (sym is))
+
       pub first_at : now.writer.phase ≡ Seeing → (r : ℕ) → r ≡ first_false so → (r < length so) × (pin r < length W)
       first_at e r first = subst (λ (x : ℕ). (x < length so) × (pin x < length W)) (sym first) (first_there (phase_is Seeing e))
 
-      pub gave_up_at : now.writer.phase ≡ Seeing → (r found : ℕ) → r ≡ first_false so → found ≡ get_or W (pin r) 0 → (found ≡ 0 → ⊥) → seen_as L W s n t Idle so R ≡ (transition old Writer).0
+      pub gave_up_at : now.writer.phase ≡ Seeing → (r found : ℕ) → r ≡ first_false so → found ≡ get_or W (pin r) 0 → (found ≡ 0 → ⊥) → (seen_as L W s n t Idle so R, Busy (r + 1)) ≡ transition now Writer
       gave_up_at e r found first load ne =
-          gave_up (phase_is Seeing e) (λ z. ne (load ∙ (ap (λ (x : ℕ). get_or W (pin x) 0) first ∙ z)))
+          let number : r + 1 ≡ suc (first_false so) = omega (arith, first) in
+          ap (λ (x : ℕ). (seen_as L W s n t Idle so R, Busy x)) number
+          ∙ (gave_up (phase_is Seeing e) (λ z. ne (load ∙ (ap (λ (x : ℕ). get_or W (pin x) 0) first ∙ z))) ∙ ap (λ (m : MachineState). transition m Writer) is)
 
       pub saw_out_at : now.writer.phase ≡ Seeing → (r found : ℕ) (so' : List Bool) (ph' : Phase) → r ≡ first_false so → found ≡ get_or W (pin r) 0 → found ≡ 0 → so' ≡ set so r true
-          → ph' ≡ cond (all_true so') (Filling 0) Seeing → seen_as L W s n t ph' so' R ≡ (transition old Writer).0
+          → ph' ≡ cond (all_true so') (Filling 0) Seeing → (seen_as L W s n t ph' so' R, Moved) ≡ transition now Writer
       saw_out_at e r found so' ph' first load z out next =
           let set_is : so' ≡ set so (first_false so) true = out ∙ ap (λ (x : ℕ). set so x true) first in
           let phase : ph' ≡ cond (all_true (set so (first_false so) true)) (Filling 0) Seeing = next ∙ ap (λ (x : List Bool). let y : Phase = cond (all_true x) (Filling 0) Seeing in y) set_is in
-          (λ i. seen_as L W s n t (phase i) (set_is i) R) ∙ saw_out (phase_is Seeing e) (sym (load ∙ ap (λ (x : ℕ). get_or W (pin x) 0) first) ∙ z)
+          (λ i. (seen_as L W s n t (phase i) (set_is i) R, Moved)) ∙ (saw_out (phase_is Seeing e) (sym (load ∙ ap (λ (x : ℕ). get_or W (pin x) 0) first) ∙ z) ∙ ap (λ (m : MachineState). transition m Writer) is)
 
       pub filled_at : (j at : ℕ) (words W' : List ℕ) (ph' : Phase) → now.writer.phase ≡ Filling j → words ≡ t → at ≡ copy_word (1 - s) j → W' ≡ set W at (get_or words j 0)
-          → ph' ≡ cond (eqb (j + 1) COPY_WORDS) Swapping (Filling (j + 1)) → seen_as L W' s n t ph' so R ≡ (transition old Writer).0
+          → ph' ≡ cond (eqb (j + 1) COPY_WORDS) Swapping (Filling (j + 1)) → (seen_as L W' s n t ph' so R, Moved) ≡ transition now Writer
       filled_at j at words W' ph' e same there stored next =
-          ap (λ (x : Phase). seen_as L W' s n t x so R) next
-          ∙ filled_in j W' (phase_is (Filling j) e) (stored ∙ ((λ i. set W (there i) (get_or words j 0)) ∙ ap (λ (x : List ℕ). set W (copy_word (1 - s) j) (get_or x j 0)) same))
+          ap (λ (x : Phase). (seen_as L W' s n t x so R, Moved)) next
+          ∙ (filled_in j W' (phase_is (Filling j) e) (stored ∙ ((λ i. set W (there i) (get_or words j 0)) ∙ ap (λ (x : List ℕ). set W (copy_word (1 - s) j) (get_or x j 0)) same)) ∙ ap (λ (m : MachineState). transition m Writer) is)
 
       pub swapped_at : (W' : List ℕ) (n' : ℕ) (so' : List Bool) → now.writer.phase ≡ Swapping → W' ≡ set W 0 (1 - s) → n' ≡ front_of t → so' ≡ replicate (length so) false
-          → seen_as L W' (1 - s) n' t Idle so' R ≡ (transition old Writer).0
-      swapped_at W' n' so' e stored front out = (λ i. seen_as L (stored i) (1 - s) (front i) t Idle (out i) R) ∙ swapped_in (phase_is Swapping e)
-
-      pub swap_machine : (W' : List ℕ) (n' : ℕ) (so' : List Bool) → now.writer.phase ≡ Swapping → W' ≡ set W 0 (1 - s) → n' ≡ front_of t → so' ≡ replicate (length so) false
-          → IsMachine L W' (1 - s) n' t Idle so' R
-      swap_machine W' n' so' e stored front out = writer_stays W' (1 - s) n' Idle so' (swapped_at W' n' so' e stored front out) (let within = k.staged_within in omega arith)
+          → (seen_as L W' (1 - s) n' t Idle so' R, Published n') ≡ transition now Writer
+      swapped_at W' n' so' e stored front out = (λ i. (seen_as L (stored i) (1 - s) (front i) t Idle (out i) R, Published (front i))) ∙ (swapped_in (phase_is Swapping e) ∙ ap (λ (m : MachineState). transition m Writer) is)
 
       pub skipped_at : (number : ℕ) → (number ≡ 0) ⊎ (length R < number) → (transition now (Reader number)) ≡ (now, Skipped)
       skipped_at number none = subst (λ (m : MachineState). (transition m (Reader number)) ≡ (m, Skipped)) is (no_reader number none)
@@ -296,14 +289,14 @@ module _ (L : Ledger) (W : List ℕ) (s n : ℕ) (t : List ℕ) (ph : Phase) (so
 
         module _ (W' : List ℕ) (R' : List Stage) (words : let d = stage_action (number - 1) stage in W' ≡ set W d.word (d.becomes (get_or W d.word 0)))
             (stages : let d = stage_action (number - 1) stage in R' ≡ set R (number - 1) (d.after (get_or W d.word 0))) where
-          pub read_at : seen_as L W' s n t ph so R' ≡ (transition old (Reader number)).0
-          read_at = reader_reads number (number - 1) stage W' R' number_is found (words, stages)
+          reads : (seen_as L W' s n t ph so R', stage_note (suc (number - 1)) stage) ≡ transition old (Reader number)
+          reads = reader_reads number (number - 1) stage W' R' number_is found (words, stages)
+
+          pub read_at : (note : Note) → note ≡ stage_note (suc (number - 1)) stage → (seen_as L W' s n t ph so R', note) ≡ transition now (Reader number)
+          read_at note e = ap (λ (x : Note). (seen_as L W' s n t ph so R', x)) e ∙ (reads ∙ ap (λ (m : MachineState). transition m (Reader number)) is)
 
           pub read_machine : IsMachine L W' s n t ph so R'
-          read_machine = reader_stays number W' R' read_at
-
-        pub read_note : (note : Note) → note ≡ stage_note (suc (number - 1)) stage → note ≡ (transition old (Reader number)).1
-        read_note note e = e ∙ reader_reports number (number - 1) stage number_is found
+          read_machine = reader_stays number W' R' (stage_note (suc (number - 1)) stage) reads
 
 -- the machine at its start
 pub started_in : (L : Ledger) (readers : ℕ) → seen_as L (0 ∷ sheet_of L ++ sheet_of L ++ replicate readers 0) 0 (length L.journal) (sheet_of L) Idle (replicate readers true) (replicate readers AtRest) ≡ machine_at_start L readers

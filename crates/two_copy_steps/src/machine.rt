@@ -143,8 +143,7 @@ impl Machine {
 
     // Submits a command to the register, unless a publication is in progress.
     fn submit(&mut self, command: Command) -> Result<Note, Refusal>
-        ensures machine { IfOk result (λ note. self.new ≡ (transition self.old (Submit command)).0) }
-        ensures note { IfOk result (λ note. note ≡ (transition self.old (Submit command)).1) }
+        ensures stepped { IfOk result (λ note. (self.new, note) ≡ transition self.old (Submit command)) }
         ensures unchanged { OnErr result (self.new ≡ self.old) }
         ensures memory { IsOkUnless result OutOfMemory }
         ensures accepted { OnErr result (WantsMemory self.old (Submit command)) }
@@ -164,8 +163,7 @@ impl Machine {
 
     // Begins a publication, unless one is in progress or no command is pending.
     fn begin(&mut self) -> Note
-        ensures machine { self.new ≡ (transition self.old Publish).0 }
-        ensures note { result ≡ (transition self.old Publish).1 }
+        ensures { (self.new, result) ≡ transition self.old Publish }
     {
         if !self.is_idle() {
             return Note::Skipped;
@@ -180,8 +178,7 @@ impl Machine {
 
     // Takes the writer's next step.
     fn write(&mut self) -> Note
-        ensures machine { self.new ≡ (transition self.old Writer).0 }
-        ensures note { result ≡ (transition self.old Writer).1 }
+        ensures { (self.new, result) ≡ transition self.old Writer }
     {
         match self.phase {
             Phase::Idle => Note::Skipped,
@@ -194,8 +191,7 @@ impl Machine {
     // Loads the pin of the first reader that is not quiescent.
     fn see(&mut self) -> Note
         requires { self.old.writer.phase ≡ Seeing }
-        ensures machine { self.new ≡ (transition self.old Writer).0 }
-        ensures note { result ≡ (transition self.old Writer).1 }
+        ensures { (self.new, result) ≡ transition self.old Writer }
     {
         let r = self.seen_out.first_false();
         if self.table.load(pin(r)) != 0 {
@@ -210,8 +206,7 @@ impl Machine {
     // Stores a word of the copy that is not published.
     fn fill(&mut self, k: u64) -> Note
         requires { self.old.writer.phase ≡ Filling k }
-        ensures machine { self.new ≡ (transition self.old Writer).0 }
-        ensures note { result ≡ (transition self.old Writer).1 }
+        ensures { (self.new, result) ≡ transition self.old Writer }
     {
         let word = self.staged.words()[k as usize];
         self.table.store(copy_word(1 - self.side, k as usize), word);
@@ -222,8 +217,7 @@ impl Machine {
     // Stores side, which publishes the staged sheet.
     fn swap(&mut self) -> Note
         requires { self.old.writer.phase ≡ Swapping }
-        ensures machine { self.new ≡ (transition self.old Writer).0 }
-        ensures note { result ≡ (transition self.old Writer).1 }
+        ensures { (self.new, result) ≡ transition self.old Writer }
     {
         self.side = 1 - self.side;
         self.table.store(SIDE, self.side);
@@ -235,8 +229,7 @@ impl Machine {
 
     // Takes the next step of the reader with this number, if there is one.
     fn read(&mut self, number: u8) -> Note
-        ensures machine { self.new ≡ (transition self.old (Reader number)).0 }
-        ensures note { result ≡ (transition self.old (Reader number)).1 }
+        ensures { (self.new, result) ≡ transition self.old (Reader number) }
     {
         if number == 0 || self.stages.len() < number {
             return Note::Skipped;

@@ -1,16 +1,11 @@
-use Rattle.std.proofs.Common.{◌∙◌, ap}
-use Rattle.two_copy_steps.specs.declared.events.Event.TheVariants.{Writer}
-use Rattle.two_copy_steps.specs.Transitions.{MachineState, transition}
-use Rattle.two_copy_steps.proofs.Steps.{filled_at, writer_stays}
+use Rattle.two_copy_steps.proofs.Steps.{filled_at, wrote_stays}
 use Rattle.two_copy_steps.proofs.machine.Machine.fill.Goals as goal
 
 pub invariant_of-self : goal.invariant_of-self
 invariant_of-self c =
-    writer_stays _ _ _ _ _ _ _ _ c.self.invariant _ _ _ _ _
+    wrote_stays _ _ _ _ _ _ _ _ c.self.invariant _ c.self.view_is _ _ _ _ _ _
     (filled_at _ _ _ _ _ _ _ _ c.self.invariant _ c.self.view_is _ _ _ _ _ c.requires c.words.ensures.same c.copy_word.ensures.same c.store.ensures c.phase_past-self-inside.ensures)
     c.self.invariant.published_within
 
-pub returns-clause-machine : goal.returns-clause-machine
-returns-clause-machine c =
-    filled_at _ _ _ _ _ _ _ _ c.self.invariant _ c.self.view_is _ _ _ _ _ c.requires c.words.ensures.same c.copy_word.ensures.same c.store.ensures c.phase_past-self-inside.ensures
-    ∙ ap (λ (m : MachineState). (transition m Writer).0) c.self.view_is
+pub returns : goal.returns
+returns c = filled_at _ _ _ _ _ _ _ _ c.self.invariant _ c.self.view_is _ _ _ _ _ c.requires c.words.ensures.same c.copy_word.ensures.same c.store.ensures c.phase_past-self-inside.ensures

@@ -1,8 +1,5 @@
-use Rattle.std.proofs.Common.{◌≡◌, ◌<◌, ◌⊎◌, inl, inr, length, ◌∙◌, ap, sym, arith}
-use Rattle.two_copy_steps.specs.declared.events.Note.{Note}
-use Rattle.two_copy_steps.specs.declared.events.Event.TheVariants.{Reader}
-use Rattle.two_copy_steps.specs.Transitions.{MachineState, transition}
-use Rattle.two_copy_steps.proofs.Steps.{skipped_at, seat_here, seat_within, seat_readable, read_at, read_machine, read_note}
+use Rattle.std.proofs.Common.{◌≡◌, ◌<◌, ◌⊎◌, inl, inr, length, sym, arith}
+use Rattle.two_copy_steps.proofs.Steps.{skipped_at, seat_here, seat_within, seat_readable, read_at, read_machine}
 use Rattle.two_copy_steps.proofs.machine.Machine.read.Goals as goal
 use Rattle.two_copy_steps.proofs.machine.Machine.read.Goals.{then-number-eq0-via-then-number-eq0, then-number-eq0-via-else-number-eq0+then-len-number}
 
@@ -13,11 +10,8 @@ none c =
       | then-number-eq0-via-else-number-eq0+then-len-number w ↦ inr (let e = w.len.ensures in let h = w.if-len-number.true in omega arith)
     ]
 
-pub returns-then-number-eq0-clause-machine : goal.returns-then-number-eq0-clause-machine
-returns-then-number-eq0-clause-machine c = ap (λ (x : MachineState × Note). x.0) (sym (skipped_at _ _ _ _ _ _ _ _ c.self.invariant _ c.self.view_is c.args.number (none c)))
-
-pub returns-then-number-eq0-clause-note : goal.returns-then-number-eq0-clause-note
-returns-then-number-eq0-clause-note c = ap (λ (x : MachineState × Note). x.1) (sym (skipped_at _ _ _ _ _ _ _ _ c.self.invariant _ c.self.view_is c.args.number (none c)))
+pub returns-then-number-eq0 : goal.returns-then-number-eq0
+returns-then-number-eq0 c = sym (skipped_at _ _ _ _ _ _ _ _ c.self.invariant _ c.self.view_is c.args.number (none c))
 
 pub advance-requires : goal.advance-requires
 advance-requires c =
@@ -35,16 +29,8 @@ invariant_of-self c =
     let h = c.if-len-number.false in
     read_machine _ _ _ _ _ _ _ _ c.self.invariant _ c.self.view_is _ c.if-number-eq0.false (omega arith) _ _ c.advance.ensures.words c.advance.ensures.stages
 
-pub returns-clause-machine : goal.returns-clause-machine
-returns-clause-machine c =
+pub returns : goal.returns
+returns c =
     let e = c.len.ensures in
     let h = c.if-len-number.false in
-    read_at _ _ _ _ _ _ _ _ c.self.invariant _ c.self.view_is _ c.if-number-eq0.false (omega arith) _ _ c.advance.ensures.words c.advance.ensures.stages
-    ∙ ap (λ (m : MachineState). (transition m (Reader c.args.number)).0) c.self.view_is
-
-pub returns-clause-note : goal.returns-clause-note
-returns-clause-note c =
-    let e = c.len.ensures in
-    let h = c.if-len-number.false in
-    read_note _ _ _ _ _ _ _ _ c.self.invariant _ c.self.view_is _ c.if-number-eq0.false (omega arith) _ c.advance.ensures.note
-    ∙ ap (λ (m : MachineState). (transition m (Reader c.args.number)).1) c.self.view_is
+    read_at _ _ _ _ _ _ _ _ c.self.invariant _ c.self.view_is _ c.if-number-eq0.false (omega arith) _ _ c.advance.ensures.words c.advance.ensures.stages _ c.advance.ensures.note
