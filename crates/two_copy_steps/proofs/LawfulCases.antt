@@ -233,8 +233,8 @@ busy_reader law a lawful = let found = law held_up a lawful Writer 1 refl in (fo
 steps_bounded : StepCountLaw → steps_taken Arrived ≤ 36
 steps_bounded law = (law 0 1 Arrived tt).0
 
-last_load_grows : GrowthLaw → let after = (reader_action 0 (record { stage = Reading 0 (replicate 33 0); readings = [] })).after 7 in (words : List ℕ) × (sheet_read after.stage ≡ Some words) × (after.readings ≡ words ∷ [])
-last_load_grows law = (law 0 7 (record { stage = Reading 0 (replicate 33 0); readings = [] }) (omega arith)).1 refl
+last_load_grows : GrowthLaw → let after = (reader_action 0 (record { stage = Reading 0 (replicate 33 0); readings = first_sheet ∷ [] })).after 7 in (words : List ℕ) × (sheet_read after.stage ≡ Some words) × (after.readings ≡ first_sheet ∷ words ∷ [])
+last_load_grows law = (law 0 7 (record { stage = Reading 0 (replicate 33 0); readings = first_sheet ∷ [] }) (omega arith)).1 refl
 
 -- votes stay in range
 votes_stay : RangeLaw → HasVotesInRange (transition (machine_at_start one_member 1) (Submit (SetVotes code 3))).0.ledger

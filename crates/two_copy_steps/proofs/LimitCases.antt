@@ -1,10 +1,11 @@
 -- Words, steps and readers at their limits and one beside them, computed; and what the definitions of runs and machines
 -- exclude.
-use Rattle.std.proofs.Common.{◌≡◌, ◌+◌, ◌^◌, ◌++◌, ℕ, true, false, [], ◌∷◌, replicate, Some, None, refl, sym, ap, arith, true≢false}
+use Rattle.std.proofs.Common.{◌≡◌, ◌≤◌, ◌+◌, ◌^◌, ◌++◌, ℕ, true, false, [], ◌∷◌, replicate, Some, None, refl, sym, ap, arith, true≢false}
 use Rattle.council_core.specs.Ledgers.{Ledger}
 use Rattle.council_core.specs.Sequential.{answered, reading}
 use Rattle.council_core.specs.declared.calls.Answer.TheVariants as answer
 use Rattle.council_core.specs.declared.commands.Command.TheVariants.{Open, Close}
+use Rattle.council_core.specs.declared.refusals.Refusal.{Refusal}
 use Rattle.council_core.specs.declared.refusals.Refusal.TheVariants.{BadLimit}
 use Rattle.two_copy_steps.specs.Actions.{all_true, cuts_past, filling_phase, first_false, other_side, pin, copy_word, readings_after, seeing_phase, stage_with_words}
 use Rattle.two_copy_steps.specs.Effects.{AllAnswer, OutputIsReply, SequentialRun, SwapsOnce}
@@ -17,7 +18,7 @@ use Rattle.two_copy_steps.specs.Runs.{IsFault}
 use Rattle.two_copy_steps.specs.Stages.{IsReadable, about_to_leave, accessed_word, last_load, last_step, left_by, reading_steps, sheet_read, stage_of}
 use Rattle.two_copy_steps.specs.States.{EndsWith}
 use Rattle.two_copy_steps.specs.Transitions.{is_idle, is_pending, machine_at_start, transition}
-use Rattle.two_copy_steps.specs.declared.events.Event.TheVariants.{Submit, Writer, Reader}
+use Rattle.two_copy_steps.specs.declared.events.Event.TheVariants.{Submit, Publish, Writer, Reader}
 use Rattle.two_copy_steps.specs.declared.events.Note.TheVariants.{Accepted, Began, Busy, Moved, Published, Read, Refused, Skipped}
 use Rattle.two_copy_steps.specs.declared.stages.Access.TheVariants.{Load, Store}
 use Rattle.two_copy_steps.specs.declared.stages.ReaderPc.TheVariants as pc
@@ -172,8 +173,8 @@ accepted_afterwards : AllAnswer full (machine_at_start one_member 1) (Reader 2 �
 accepted_afterwards h = let e = h.1.0.0 in cc e
 
 -- a fault comes after events of the list, and leaves the register as they left it
-behind_the_events : IsFault one_member 0 [] one_member 1 BadLimit → ⊥
-behind_the_events h = omega (arith, h.within)
+within_the_events : (register : Ledger) (done : ℕ) (why : Refusal) → IsFault one_member 1 (Publish ∷ []) register done why → done ≤ 1
+within_the_events register done why h = h.within
 
 another_register : IsFault one_member 0 [] (record one_member { limit = 7 }) 0 BadLimit → ⊥
 another_register h = let e = ap (λ (l : Ledger). l.limit) h.left in omega (arith, e)
