@@ -10,18 +10,19 @@ use Rattle.two_copy_steps.specs.declared.views.Stage.TheVariants.{Reading, Leavi
 use Rattle.two_copy_steps.specs.Actions.{stage_with_words, reader_action}
 use Rattle.two_copy_steps.specs.States.{IsKnown}
 use Rattle.two_copy_steps.specs.declared.table.TheConstants.{COPY_WORDS}
+use Rattle.board_share.specs.declared.views.History.{History}
 use Rattle.board_share.specs.declared.views.View.{View}
 use Rattle.board_share.specs.declared.views.ShareStart.{ShareStart}
-use Rattle.board_share.specs.Seats.{Part, lone_part, seat_of_reader}
+use Rattle.board_share.specs.Seats.{Part, seat_of_reader}
 use Rattle.board_share.specs.Rule.{RuleHolds}
 use Rattle.board_share.specs.Steps.{IsStepOn, bare_seat}
-use Rattle.board_share.specs.Readers.{ReaderSeen, known_by, TookStep, sole_part, reader_at, IsReader, Stepped}
+use Rattle.board_share.specs.Readers.{ReaderSeen, known_by, TookStep, part_in, reader_at, IsReader, Stepped}
 use Rattle.board_share.proofs.Accesses.{load_of, store_of}
 use Rattle.board_share.proofs.ReaderSteps.{reads_allows}
 
-pub sole_only : (r : ℕ) (x : Part) → sole_part (lone_part r x) ≡ x
-sole_only zero x = refl
-sole_only (suc r) x = sole_only r x
+pub lone_in : (h : History) (r : ℕ) (x : Part) → part_in (seat_of_reader h r x) r ≡ x
+lone_in h zero x = refl
+lone_in h (suc r) x = lone_in h r x
 
 module _ (begun : ShareStart) (table seat : TableId) (me : Me Unit View) (p : ReaderSeen) (h : IsReader table seat me p) (slots id : ℕ) where
   pub loads : (i : ℕ) → i ≡ (reader_action p.index (known_by p)).word → ((n : ℕ) → n ≡ (reader_action p.index (known_by p)).becomes n)
@@ -50,7 +51,7 @@ left table seat seat' me me' p h found stage moved =
     let t = moved.next p.index p.opening (known_by p) p.history h.alone in
     let F : Me Unit View → Type 0 = λ m. Stepped table p seat' m stage in
     let m : Me Unit View = bare_seat (seat_of_reader t.0 p.index (p.opening, w)) in
-    let s : sole_part m.0.readers ≡ (p.opening, w) = sole_only p.index (p.opening, w) in
+    let s : part_in m.0 p.index ≡ (p.opening, w) = lone_in t.0 p.index (p.opening, w) in
     let know : known_by (reader_at table m.0 p.index stage) ≡ w = (λ i. let v : ReaderView = record { stage = moved.stage_is i; readings = (s i).1.readings } in v) in
     subst F (sym t.1) record {
       seat_is = record {

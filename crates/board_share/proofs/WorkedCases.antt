@@ -13,9 +13,10 @@ use Rattle.two_copy_steps.specs.declared.views.Phase.TheVariants.{Idle}
 use Rattle.two_copy_steps.specs.declared.views.Stage.TheVariants.{AtRest, Arrived}
 use Rattle.board_share.specs.declared.views.ShareStart.{ShareStart}
 use Rattle.board_share.specs.declared.views.History.{History}
+use Rattle.board_share.specs.declared.views.View.{View}
 use Rattle.board_share.specs.Histories.{Adds, first_history, is_writers, last_reported, history_with}
 use Rattle.board_share.specs.Openings.{share_start, new_publisher, new_readers}
-use Rattle.board_share.specs.Readers.{HasLegalRecord, IsLegalSheet, ReaderSeen, TookStep, WasReported, last_front_of, last_of, new_reader, reader_at, sole_part}
+use Rattle.board_share.specs.Readers.{HasLegalRecord, IsLegalSheet, ReaderSeen, TookStep, WasReported, last_front_of, last_of, new_reader, part_in, reader_at}
 use Rattle.board_share.specs.Rule.{first_reader, opening_view}
 use Rattle.board_share.specs.Seats.{Part, seat_of_reader}
 use Rattle.board_share.specs.Writers.{look_count, publication, publication_steps}
@@ -148,12 +149,15 @@ pub whole_seat : opening_view begun ≡ record {
 }
 whole_seat = refl
 
--- a seat's reader is the first that it holds
+-- the part of a reader in a seat, or that of a first reader if the seat doesn't have it
 abbrev second_part : Part
 second_part = (one_member, record { stage = Arrived; readings = none_done ∷ [] })
 
-pub parts_of_seats : (sole_part [] ≡ ([], record { stage = AtRest; readings = [] })) × (sole_part (None ∷ Some second_part ∷ []) ≡ second_part)
-    × (sole_part (Some second_part ∷ Some (one_member, first_reader) ∷ []) ≡ second_part)
+abbrev second_seat : View
+second_seat = seat_of_reader (first_history begun) 1 second_part
+
+pub parts_of_seats : (part_in second_seat 1 ≡ second_part) × (part_in second_seat 0 ≡ ([], record { stage = AtRest; readings = [] }))
+    × (part_in second_seat 2 ≡ ([], first_reader))
 parts_of_seats = (refl, refl, refl)
 
 pub reader_of_seat : reader_at table (seat_of_reader (first_history begun) 1 second_part) 1 Arrived

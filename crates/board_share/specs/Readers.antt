@@ -2,6 +2,7 @@
 use Rattle.std.specs.Prelude.{◌≡◌, ℕ, suc, ◌<◌, ◌++◌, List, [], ◌∷◌, Option, None, Some}
 use Rattle.std.specs.Prelude.{replicate, slice_get}
 use Rattle.std.specs.List.{last_or}
+use Rattle.std.specs.Option.{unwrap_or}
 use Rattle.atomic_table.specs.Table.{Me}
 use Rattle.atomic_table.specs.Seated.{TableId}
 use Rattle.council_core.specs.Rolls.{Opening, IsLegal, sheet}
@@ -22,7 +23,7 @@ use Rattle.board_share.specs.declared.views.View.{View}
 use Rattle.board_share.specs.declared.views.ShareStart.{ShareStart}
 use Rattle.board_share.specs.declared.views.History.{History}
 use Rattle.board_share.specs.Histories.{Adds, first_history, is_readers, known_after, last_reported}
-use Rattle.board_share.specs.Seats.{Part, seat_of_reader}
+use Rattle.board_share.specs.Seats.{Part, as_reader, seat_of_reader}
 use Rattle.board_share.specs.Rule.{first_reader}
 use Rattle.board_share.specs.Steps.{bare_seat}
 
@@ -93,20 +94,18 @@ HasLegalRecord p = IsLegalRecord p.opening p.readings
 abbrev pub IsLegalSheet : Opening → List ℕ → Type 0
 IsLegalSheet opening words = (list : List Command) × IsLegal opening list × (words ≡ sheet opening list)
 
--- the part of the one reader of a seat
-abbrev pub sole_part : List (Option Part) → Part
-sole_part [] = ([], first_reader)
-sole_part (None ∷ xs) = sole_part xs
-sole_part (Some x ∷ xs) = x
+-- the part of a reader in a view, or that of a first reader of no members if it has none
+abbrev pub part_in : View → ℕ → Part
+part_in v r = unwrap_or (as_reader r v) ([], first_reader)
 
 -- a reader, from its table, the view of its seat, its index and its stage
 abbrev pub reader_at : TableId → View → ℕ → Stage → ReaderSeen
 reader_at table v r stage = record {
   table = table;
-  opening = (sole_part v.readers).0;
+  opening = (part_in v r).0;
   index = r;
   stage = stage;
-  readings = (sole_part v.readers).1.readings;
+  readings = (part_in v r).1.readings;
   history = v.history;
 }
 

@@ -2,6 +2,7 @@
 use Rattle.std.specs.Prelude.{◌≡◌, ℕ, zero, suc, ◌+◌, ◌-◌, ◌<◌, ◌≤◌, Bool, false, List, [], ◌∷◌, ◌++◌}
 use Rattle.std.specs.Prelude.{if◌then◌else◌, length, replicate, nat_lt, Option, Some, None, not}
 use Rattle.std.specs.List.{filter}
+use Rattle.std.specs.Option.{unwrap_or}
 use Rattle.atomic_table.specs.Table.{Me}
 use Rattle.atomic_table.specs.Seated.{TableId}
 use Rattle.council_core.specs.Rolls.{Opening, sheet}
@@ -24,13 +25,13 @@ use Rattle.board_share.specs.declared.views.History.{History}
 use Rattle.board_share.specs.Histories.{Adds, KnowsAfter, handed_over, is_writers, known_after, last_reported, machine_of}
 use Rattle.board_share.specs.Steps.{WriterActed, begin_events, writer_begun_with, with_writer}
 
--- the writer's part of a view, or some writer if it has none
+-- a writer that has published nothing
+abbrev pub first_writer : WriterView
+first_writer = record { state = record { side = 0; published = []; staged = []; phase = Idle; seen_out = [] }; cuts = [] }
+
+-- the writer's part of a view, or that of a first writer of no members if it has none
 abbrev pub writer_or : Option (Opening × WriterView) → Opening × WriterView
-writer_or (Some x) = x
-writer_or None = (
-  [],
-  record { state = record { side = 0; published = []; staged = []; phase = Idle; seen_out = [] }; cuts = [] },
-)
+writer_or part = unwrap_or part ([], first_writer)
 
 abbrev pub held_by : View → WriterView
 held_by v = (writer_or v.writer).1
