@@ -1,12 +1,13 @@
 -- Words that ask for each call, with the limits that they say; and words that ask for none.
-use Rattle.std.proofs.Common.{◌≡◌, ℕ, List, [], ◌∷◌, true, false, Option, Some, codes, inl, inr, refl, sym, ap, subst, get_or, arith, rules}
+use Rattle.std.proofs.Common.{◌≡◌, ℕ, List, [], ◌∷◌, true, false, Option, Some, codes, String, Global, inl, inr, refl, sym, ap, subst, get_or, arith, rules}
 use Rattle.clap.proofs.OnLiterals.{clap_on_literals}
 use Rattle.clap.specs.Words.{Row, Text, one_of, subcommand_of, takes}
 use Rattle.std.specs.Option.{option_map_or}
-use Rattle.clap.specs.declared.error.kind.ErrorKind.TheVariants.{DisplayHelp}
-use Rattle.board_report.specs.Calls.{AreNotTaken, AskText, Asks, HasJournal, HasReaders, HaveFault, Says}
+use Rattle.clap.specs.declared.error.kind.ErrorKind.TheVariants.{DisplayHelp, DisplayVersion}
+use Rattle.board_report.specs.Calls.{AreNotTaken, AskText, Asks, Explains, HasJournal, HasReaders, HaveFault, Says}
 use Rattle.board_report.specs.Commands.{IsTaken, board_app}
 use Rattle.board_report.specs.declared.calls.Invocation.TheVariants.{Replay, Serve, Trace}
+use Rattle.board_report.specs.declared.calls.NoCall.TheVariants.{Refused, Shown}
 
 abbrev pub plain : Text → List Text
 plain name = codes "board" ∷ name ∷ []
@@ -93,6 +94,10 @@ help_asked : AskText (codes "board" ∷ codes "--help" ∷ [])
 unfolding clap_on_literals
 help_asked = (DisplayHelp, inl refl, inl refl)
 
+version_asked : AskText (codes "board" ∷ codes "--version" ∷ [])
+unfolding clap_on_literals
+version_asked = (DisplayVersion, inl refl, inr refl)
+
 help_not_taken : AreNotTaken (codes "board" ∷ codes "--help" ∷ [])
 unfolding clap_on_literals
 help_not_taken = λ none. cc none
@@ -119,6 +124,13 @@ unknown_word_asks_no_text (k, inl same, inr version) = cc (same, version)
 unknown_word_asks_no_text (k, inr (inl same), inl help) = cc (same, help)
 unknown_word_asks_no_text (k, inr (inl same), inr version) = cc (same, version)
 unknown_word_asks_no_text (k, inr (inr none), shown) = none
+
+-- so help is shown and not refused, and a wrong word is refused and not shown
+help_explained : (text : String Global) → Explains (codes "board" ∷ codes "--help" ∷ []) (Shown text) × (Explains (codes "board" ∷ codes "--help" ∷ []) (Refused text) → ⊥)
+help_explained text = (help_asked, help_has_no_fault)
+
+unknown_word_shown : (text : String Global) → Explains (codes "board" ∷ codes "replays" ∷ []) (Shown text) → ⊥
+unknown_word_shown text = unknown_word_asks_no_text
 
 -- from one to four readers, and a journal of one to a million commands
 abbrev with_readers : Text → List Text
