@@ -34,14 +34,14 @@ abbrev pub IsOfDevice : Fault → Type 0
 IsOfDevice f = (f ≡ fault_at why.ReadFault 0) ⊎ (f ≡ fault_at why.WriteFault 0)
 
 -- at most `count` interruptions were retried; one more occurred only if the read that it interrupted failed for good,
--- of which such an error tells
+-- and the error tells of a failed read
 abbrev pub RetriesAtMost : {A E : Type 0} → (E → Type 0) → ℕ → Giving → Giving → Result A E → Type 0
 RetriesAtMost Tells count from to (Ok _) = InterruptedAtMost count from to
 RetriesAtMost Tells count from to (Err e) =
     InterruptedAtMost count from to ⊎ (Tells e × InterruptedAtMost (count + 1) from to)
 
--- the reads of a run are bounded: in all; in vain, by one that reported the end or failed, and interrupted ones; and
--- interrupted ones, by those that are retried
+-- the bounds on the reads of a run: how many there are; how many gave no byte, which are interrupted ones and at most
+-- one that reported the end or failed; and how many were interrupted
 pub record ReadsWithin {A E : Type 0} (Tells : E → Type 0) (from to : Giving) (r : Result A E) : Type 0 where
   pub asks : to.asks ≤ from.asks + READS
   pub vain : WastesAtMost 1 from to
