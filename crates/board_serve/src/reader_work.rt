@@ -55,9 +55,9 @@ impl ReaderWork {
         ensures read { OnOk result (IsRead self.old.asked.items self.new) }
         ensures closed { IfErr result IsClosed }
     {
+        let mut count: u32 = 0;
         for majority in self.asked.as_slice() {
-            // A run has fewer records than bytes, so their numbers fit.
-            let count = (self.sheets.len() + 1) as u32;
+            count = count.saturating_add(1);
             pass(gate, Place::BeforeReading(self.number, count))?;
             let indices = self.analyst.ask(*majority);
             self.sheets.push_reserved(self.analyst.sheet());

@@ -35,13 +35,14 @@ fn submit(writer: &mut Writer, command: Command) -> Result<Answer, Stop>
     }
 }
 
-// Carries out an order, and passes the gate before and after a publication, which has this number.
+// Carries out an order, and passes the gate before and after a publication. `publications` counts
+// the publications. A run has fewer than its input has bytes, so no count stops at the largest u32.
 fn carry_out_order<G: Gate, R: Wait>(
     rt: &R,
     gate: &G,
     writer: &mut Writer,
     order: Order,
-    publication: u32,
+    publications: &mut u32,
 ) -> Result<Answer, Stop>
     ensures replied { IfOk result (λ a. answered a ≡ (response_to (register_of writer.old) (ordered order)).1) }
     ensures after { OnOk result (register_of writer.new ≡ (response_to (register_of writer.old) (ordered order)).0) }
@@ -51,9 +52,10 @@ fn carry_out_order<G: Gate, R: Wait>(
     match order {
         Order::Submit(command) => return submit(writer, command),
         Order::Publish => {
-            pass(gate, Place::BeforePublish(publication))?;
+            *publications = publications.saturating_add(1);
+            pass(gate, Place::BeforePublish(*publications))?;
             let front = writer.publish(rt);
-            pass(gate, Place::AfterPublish(publication))?;
+            pass(gate, Place::AfterPublish(*publications))?;
             return Ok(Answer::Published(front));
         }
     }
@@ -96,10 +98,9 @@ impl WriterWork {
         ensures written { OnOk result (IsWritten self.old.writer self.old.orders.items self.new) }
         ensures causes { IfErr result IsHeldUp }
     {
+        let mut publications: u32 = 0;
         for order in self.orders.as_slice() {
-            // A run has fewer records than bytes, so their numbers fit.
-            let publication = (self.cuts.len() + 1) as u32;
-            let answer = carry_out_order(rt, gate, &mut self.writer, *order, publication)?;
+            let answer = carry_out_order(rt, gate, &mut self.writer, *order, &mut publications)?;
             self.answers.push_reserved(answer);
             keep_cut(&mut self.cuts, answer);
         }
