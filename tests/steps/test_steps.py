@@ -189,7 +189,7 @@ def test_instructions_of_the_boards_own(planted: Planted, calls: Calls, function
     assert "instructions" in planted.refused(calls, function, first(line))
 
 
-@pytest.mark.parametrize("function", ["two_copy_steps::table::place", SHEET_WORD])
+@pytest.mark.parametrize("function", ["two_copy_steps::table::copy_word", SHEET_WORD])
 def test_an_atomic_call_of_another_crate(planted: Planted, function: str) -> None:
     # Catches: a step of a crate that takes none.
     [load] = planted.named(LOADS)
