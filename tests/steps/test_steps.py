@@ -141,7 +141,9 @@ def test_what_takes_no_step(planted: Planted, line: str) -> None:
             "steps order",
             id="a second look at a pin",
         ),
-        pytest.param(BOARD, "board_share::opening::build_board", again("Table::of_words"), "steps", id="a second table"),
+        pytest.param(
+            BOARD, "board_share::opening::build_board", again("Table::of_words"), "steps", id="a second table"
+        ),
         pytest.param(
             BOARD,
             LOADS,
