@@ -27,7 +27,10 @@ use Rattle.board_share.specs.Steps.{WriterActed, begin_events, writer_begun_with
 
 -- a writer that has published nothing
 abbrev pub first_writer : WriterView
-first_writer = record { state = record { side = 0; published = []; staged = []; phase = Idle; seen_out = [] }; cuts = [] }
+first_writer = record {
+  state = record { side = 0; published = []; staged = []; phase = Idle; seen_out = [] };
+  cuts = [];
+}
 
 -- the writer's part of a view, or that of a first writer of no members if it has none
 abbrev pub writer_or : Option (Opening × WriterView) → Opening × WriterView

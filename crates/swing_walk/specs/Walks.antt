@@ -46,7 +46,8 @@ pub record IsBetween (route : Route) (position : Position) : Type 0 where
 abbrev pub IsPassed : Bool → Next → Route → Position → Type 0
 IsPassed true next route position = (0 < position.rest) × (next.high ≡ entry_at route.falling (position.rest - 1))
     × (position.up < length route.rising → route.quota ≤ votes_at route position.up (position.rest - 1))
-IsPassed false next route position = (position.up < length route.rising) × (next.low ≡ entry_at route.rising position.up)
+IsPassed false next route position =
+    (position.up < length route.rising) × (next.low ≡ entry_at route.rising position.up)
     × (0 < position.rest → votes_at route position.up (position.rest - 1) < route.quota)
 
 abbrev pub IsNext : Next → Route → Position → Type 0
