@@ -5,7 +5,7 @@ use Rattle.std.specs.Prelude.{codes, decimal, nat_le, slice_index}
 use Rattle.std.specs.List.{list_all}
 use Rattle.std.specs.Fmt.{digits}
 use Rattle.csv.specs.Reading.{default_config, records, strip_bom}
-use Rattle.council_core.specs.declared.commands.Command.TheVariants.{Open, Move, SetVotes, Suspend}
+use Rattle.council_core.specs.declared.commands.Command.TheVariants.{Admit, Close, Move, Open, Restore, SetVotes, Suspend, Withdraw}
 use Rattle.council_core.specs.declared.refusals.Refusal.TheVariants.{BadRecord, TooManyMembers}
 use Rattle.majority_rule.specs.declared.majorities.Majority.TheVariants.{Half, Seventy, Quorum}
 use Rattle.board_text.specs.Laws.{ActLaw, InputLaw, IsReading, MajorityLaw, MemberLaw, NoOtherNumberLaw, NumberLaw, OneWordLaw, ReadingLaw, RequestLaw}
@@ -32,6 +32,9 @@ number_too_large = refl
 no_other_used : NoOtherNumberLaw → (field : List ℕ) → number_of_digits field ≡ Some 7 → (zeros : ℕ) × (field ≡ replicate zeros 48 ++ codes "7")
 unfolding digits
 no_other_used law field read = (law field 7 read).1
+
+no_larger_number : NoOtherNumberLaw → (field : List ℕ) → number_of_digits field ≡ Some (2 ^ 64) → ⊥
+no_larger_number law field read = absurd (omega (arith, (law field (2 ^ 64) read).0))
 
 no_numbers : (number_of_digits (codes "none") ≡ None) × (number_of_digits (codes "007") ≡ Some 7)
 no_numbers = (refl, refl)
@@ -102,17 +105,38 @@ opens_chair_0 is = omega (arith, is.0)
 opens_chair_33 : IsRequest (submission (Open 33)) → ⊥
 opens_chair_33 is = omega (arith, is.1)
 
+closes_chair_33 : IsCommand (Close 33) → ⊥
+closes_chair_33 is = omega (arith, is.1)
+
+submits_chair_33 : IsAct (act.Submit (Open 33)) → ⊥
+submits_chair_33 is = omega (arith, is.1)
+
 moves_to_chair_33 : IsCommand (Move (65 ∷ 65 ∷ 65 ∷ []) (Some 33)) → ⊥
 moves_to_chair_33 is = let chair = is.1 in omega (arith, chair.1)
 
 moves_no_member : IsCommand (Move (codes "aaa") None) → ⊥
 moves_no_member is = true≢false (sym is.0)
 
+sets_for_no_member : IsCommand (SetVotes (codes "aaa") 1) → ⊥
+sets_for_no_member is = true≢false (sym is.0)
+
 sets_too_many : IsCommand (SetVotes (65 ∷ 65 ∷ 65 ∷ []) (2 ^ 40 + 1)) → ⊥
 sets_too_many is = omega (arith, is.1)
 
 suspends_no_member : IsCommand (Suspend (codes "AA")) → ⊥
 suspends_no_member is = true≢false (sym is)
+
+restores_no_member : IsCommand (Restore (codes "AA")) → ⊥
+restores_no_member is = true≢false (sym is)
+
+admits_no_member : IsCommand (Admit (codes "AA") 1) → ⊥
+admits_no_member is = true≢false (sym is.0)
+
+admits_with_too_many : IsCommand (Admit (65 ∷ 65 ∷ 65 ∷ []) (2 ^ 40 + 1)) → ⊥
+admits_with_too_many is = omega (arith, is.1)
+
+withdraws_no_member : IsCommand (Withdraw (codes "AA")) → ⊥
+withdraws_no_member is = true≢false (sym is)
 
 reads_as_too_many : IsRequest (ask.Read (2 ^ 64) Half) → ⊥
 reads_as_too_many is = omega (arith, is)

@@ -131,6 +131,10 @@ line_made_up : WritesRun {A = Unit {0}} (Some []) (Some seven) (Err stop.OutOfMe
 line_made_up ([], whole, new) = let e = new in cc e
 line_made_up (line ∷ front, whole, new) = let e = whole.1 in cc e
 
+line_made_up_after_a_failed_read : WritesRun {A = Unit {0}} (Some []) (Some seven) (Err stop.ReadFault) (printed_run []) → ⊥
+line_made_up_after_a_failed_read ([], whole, new) = let e = new in cc e
+line_made_up_after_a_failed_read (line ∷ front, whole, new) = let e = whole.1 in cc e
+
 byte_made_up : WritesRun {A = Unit {0}} (Some []) (Some seven) (Err stop.WriteFault) (printed_run []) → ⊥
 byte_made_up ([], whole, new) = let e = new in cc e
 byte_made_up (byte ∷ front, whole, new) = let e = whole.1 in cc e
@@ -141,6 +145,15 @@ part_called_whole e = cc e
 
 another_part : ReadTo {T = Unit {0}} (Err stop.OutOfMemory) (8 ∷ []) seven → ⊥
 another_part h = omega (arith, ap first_of h.1)
+
+another_part_of_a_failed_input : ReadTo {T = Unit {0}} (Err stop.ReadFault) (8 ∷ []) seven → ⊥
+another_part_of_a_failed_input h = omega (arith, ap first_of h.1)
+
+another_part_before_a_failed_write : ReadTo {T = Unit {0}} (Err stop.WriteFault) (8 ∷ []) seven → ⊥
+another_part_before_a_failed_write h = omega (arith, ap first_of h.1)
+
+part_refused_as_the_whole : ReadTo {T = Unit {0}} (Err (stop.Input (fault_at BadRecord 5))) [] seven → ⊥
+part_refused_as_the_whole e = cc e
 
 -- a register starts as it was asked, or is refused as the definition says
 starts_otherwise : Starts (run_limits 1 9) [] (Ok (ledger_at_start (run_limits 1 8) [])) → ⊥
@@ -186,6 +199,9 @@ written_after_a_failure h = let e = h.1 in cc e
 
 failure_called_otherwise : EndsRun {A = Unit {0}} (Some []) (Some []) (Err stop.WriteFault) (Err (fault_at ReadFault 0)) → ⊥
 failure_called_otherwise h = let e = ap (λ (f : Fault). f.code) h.0 in omega (arith, e)
+
+stopped_without_its_line : EndsRun {A = Unit {0}} (Some []) (Some []) (Err (stop.Input (fault_at BadRecord 5))) (Err (fault_at BadRecord 5)) → ⊥
+stopped_without_its_line h = fault_without_its_line h
 
 -- one read: bytes were given, or it was interrupted and counted, or the input has ended
 abbrev reader : List ℕ → ℕ → ℕ → Giving

@@ -1,12 +1,12 @@
 -- Records and lines of the three chairs' input, computed; and what definitions of writing take and refuse.
-use Rattle.std.proofs.Common.{◌≡◌, ℕ, inl, inr, false, [], ◌∷◌, Some, None, Result, Ok, Err, refl, ap, arith}
+use Rattle.std.proofs.Common.{◌≡◌, ◌+◌, ℕ, inl, inr, false, [], ◌∷◌, Some, None, Result, Ok, Err, refl, ap, arith}
 use Rattle.std.specs.Prelude.{codes}
 use Rattle.std.specs.Fmt.{digits}
 use Rattle.council_core.specs.declared.commands.Command.TheVariants.{Open, Move}
 use Rattle.council_core.specs.Rolls.{Opening}
 use Rattle.council_core.specs.declared.refusals.Refusal.TheVariants.{BadHeader, BadLimit, BadRecord, ChairOpen, OutOfMemory, ReadFault, TooLong, WriteFault}
 use Rattle.recording_io.specs.Tapes.{Giving}
-use Rattle.board_text.specs.Inputs.{IsOfDevice, IsReadFault, NoReadInVain, RetriesAtMost}
+use Rattle.board_text.specs.Inputs.{IsOfDevice, IsReadFault, NoReadInVain, ReadsWithin, RetriesAtMost}
 use Rattle.board_text.specs.Output.{Fails, IsBadLimit, IsBroken, WritesRun, Starts}
 use Rattle.board_text.specs.Text.{fault_at, printed_run, stopped_run}
 use Rattle.board_text.specs.declared.bounds.Limits.{Limits}
@@ -156,6 +156,16 @@ retried_thrice_for_a_failed_write (inr more) = let e = more.0 in cc e
 retried_thrice_and_too_long : RetriesAtMost {A = Unit {0}} IsReadFault 2 (reader 0 0) (reader 3 3) (Err (stop.Input (fault_at TooLong 0))) → ⊥
 retried_thrice_and_too_long (inl bound) = absurd (omega (arith, bound))
 retried_thrice_and_too_long (inr more) = let e = more.0 in cc e
+
+-- a run that reads once too often, once more behind the end, or again after one interruption too many
+run_reads_too_often : ReadsWithin {A = Unit {0}} IsReadFault (reader 0 0) (record (reader 0 0) { asks = READS + 1 }) (Ok tt) → ⊥
+run_reads_too_often h = absurd (omega (arith, h.asks))
+
+run_reads_behind_the_end : ReadsWithin {A = Unit {0}} IsReadFault (reader 0 0) (reader 2 0) (Ok tt) → ⊥
+run_reads_behind_the_end h = absurd (omega (arith, h.vain))
+
+run_retries_too_often : ReadsWithin {A = Unit {0}} IsReadFault (reader 0 0) (reader 0 (INTERRUPTIONS + 1)) (Ok tt) → ⊥
+run_retries_too_often h = absurd (omega (arith, h.retried))
 
 -- the number of a fault's refusal, and of its record
 code : {f g : Fault} → f ≡ g → f.code ≡ g.code
