@@ -80,7 +80,7 @@ how       = $(if $(filter $1,$(LINKED)),$(linked),$(if $(filter $1,$(STATIC)),$(
 # Runs the prover in a crate's folder, again with one process if it ran out of memory, and shows its output if it fails.
 define rattle
 cd $(call folder,$1)
-prove() { $(KIT)/bin/rattle $2 $(call over,$1,$3) $(checked) "$$@" >$O/$1.log 2>&1; }
+prove() { $(KIT)/bin/rattle $2 $(call over,$1) $(checked) "$$@" >$O/$1.log 2>&1; }
 proves() {
   local status=0
   prove "$$@" --jobs $(JOBS) || status=$$?
@@ -148,18 +148,16 @@ $O/%.edits: $O/%.checked $$(wildcard crates/$$*/must-fail/*.edit) tools/edits.py
 	tools/edits.py crates/$* $O/$*.kept $(KIT)/bin/rattle check $(call over,$*) $(checked) | tee $O/$*.edited
 	mv $O/$*.edited $@
 
-# Deep checks: libraries with their proofs, then each crate with everything that it reads, trusting no earlier check.
+# Deep checks: each crate with every module that it reads, from its text. They trust no check but their own, which they
+# keep in out/deep/cache, so that a module that many crates read is checked once.
 $(CRATES:%=$O/deep/%.proved): $O/deep/%.proved: $$(call sources,$$*) $$(call below,$$*,/deep)
-	@mkdir -p $O/deep
-	$(call rattle,$*,build,/deep)
-	proves -o $O/deep/$*.rlib
-	touch $@
-$(CRATES:%=$O/deep/%.checked): $O/deep/%.checked: $$(call sources,$$*) $$(call below,$$*,/deep)
 	@mkdir -p $O/deep && cd crates/$*
-	$(KIT)/bin/rattle check $(call over,$*,/deep) $(if $(filter $*,$(TESTS)),--test) --no-cache --jobs $(JOBS) 2>&1 \
-	  | tee $@ | tail -n 1
-$(CRATES:%=deep-%): deep-%: $O/deep/%.checked  # one of them
-deep: $(CRATES:%=$O/deep/%.checked)  ## each crate with everything that it reads, trusting no earlier check: hours
+	$(KIT)/bin/rattle $(if $(filter $*,$(LINKED) $(STATIC)),check,build -o $O/deep/$*.rlib) $(call over,$*,/deep) \
+	  $(if $(filter $*,$(TESTS)),--test) --cache $O/deep/cache --jobs $(JOBS) 2>&1 \
+	  | tee $O/deep/$*.log | sed -n '$$s/^/$*: /p'
+	touch $@
+$(CRATES:%=deep-%): deep-%: $O/deep/%.proved  # one of them, after those below it
+deep: $(CRATES:%=$O/deep/%.proved)  ## all proofs, the toolchain's too, from their text
 
 # The WebAssembly modules, the library for aarch64, the page.
 modules := $(STATIC:%=$O/%.proved) tools/retarget
