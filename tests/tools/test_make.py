@@ -55,9 +55,12 @@ def test_a_source_proves_its_crate_and_those_above(copy: Copy) -> None:
 
 
 def test_a_deep_check_is_made_of_each_crate(copy: Copy) -> None:
-    # Catches: a crate that `make deep` leaves out.
+    # Catches: a crate that `make deep` leaves out, or checks over what was checked before.
     crates = {line.split()[0].rstrip(":") for line in (TOP / "crates.txt").read_text().splitlines()}
-    assert set(re.findall(r"rattle check --crate-name (\w+)", copy.make("--dry-run", "deep"))) == crates
+    commands = copy.make("--dry-run", "deep")
+    assert set(re.findall(r"rattle (?:build -o \S+|check) --crate-name (\w+)", commands)) == crates
+    assert commands.count("/out/deep/cache ") == len(crates)
+    assert "--logic-built" not in commands
 
 
 def test_what_a_program_prints_proves_it_alone(copy: Copy) -> None:
