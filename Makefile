@@ -11,21 +11,34 @@ SHELL       := bash
 .SECONDARY:
 .DEFAULT_GOAL := board
 
+ifneq ($(word 2,$(CURDIR)),)
+$(error make can't work in a folder with a space in its name: $(CURDIR))
+endif
 O    := $(CURDIR)/out
+NOW  := $(shell date +@%s.%N)
 KIT  := $(patsubst %/bin/rt,%,$(realpath $(shell command -v rt)))
-# What needs no proof needs no rt.
-UNPROVED := portable docs lint style uninstall clean help
 ifneq ($(KIT),)
 # out/kit names the toolchain that made the results.
 $(shell mkdir -p $O; cmp -s $(KIT)/KIT-ID $O/kit || cp $(KIT)/KIT-ID $O/kit)
-else ifneq ($(filter-out $(UNPROVED),$(or $(MAKECMDGOALS),board)),)
-$(error rt, which proves the crates, is not on the PATH: README.md says which toolchain the repository needs)
+else
+.PHONY: $O/kit
+$O/kit:
+	@echo "rt, which proves the crates, is not on the PATH: README.md says which toolchain the repository needs" >&2
+	exit 1
 endif
+# What needs no proof needs no rt. Where rt isn't there, or KIT= is among make's words, tests take the program of
+# portable/board.c and the module in board.html.
+PROGRAM      := $(if $(KIT),$O/board.proved,portable/out/board)
+MODULE       := $(if $(KIT),targets/wasm,page)/out/board.wasm
+export BOARD := $(if $(KIT),$O/board,$(CURDIR)/portable/out/board)
 
 # Processes for one crate (more than four gain nothing), and crates proved in parallel, as far as memory allows.
 JOBS := $(shell n=$$(nproc); echo $$((n < 4 ? n : 4)))
 SIDE := $(shell awk -v jobs=$(JOBS) '/^MemTotal/ {n = int($$2 / 2e6 / jobs); print n < 1 ? 1 : n < jobs ? n : jobs}' \
             /proc/meminfo)
+ifeq ($(MAKECMDGOALS),check)
+SIDE := $(JOBS)
+endif
 ifeq ($(MAKELEVEL)$(findstring -j,$(MAKEFLAGS)),0)
 MAKEFLAGS += -j$(SIDE)
 endif
@@ -114,16 +127,20 @@ proves $(subst $O/$1.toolchain,$(KIT)/toolchain,$(subst lib$1.a,$1.wasm.a,$(stat
 $(KIT)/bin/rattle-link --target wasm64-unknown-unknown --toolchain $(KIT)/toolchain -o $O/$1.wasm $O/$1.wasm.a
 endef
 
-.PHONY: board portable all check gate module aarch64 one-file page release install uninstall deep clean help
-board: $O/board.proved  ## the program, out/board
+.PHONY: board portable prove check gate module aarch64 one-file page release install uninstall deep clean help
+board: $O/board.proved  ## the program, out/board, proved: which ./board then takes
+	@touch -d $(NOW) $O/board
 portable: portable/out/board  ## the program from portable/board.c, portable/out/board: needs no rt, proves nothing
 portable/out/board: portable/board.c portable/board.h
 	@mkdir -p $(@D)
-	$(CC) -O2 -fstack-protector-strong -DBOARD_MAIN $< -o $@
-all: $(CRATES:%=$O/%.proved)  ## proofs of all crates, and their tests
+	$(CC) -O2 -fstack-protector-strong -DBOARD_MAIN $< -o $@.$$$$ && mv $@.$$$$ $@
+prove: $(CRATES:%=$O/%.proved)  ## proofs of all crates, and their tests
 	@mkdir -p $O/said; echo "$(words $(CRATES)) passed, 0 failed" | tee $O/said/$@
-check:  ## proofs and tests, worked examples on the program, and calls with memory refused
-	+@$(call judged,all "cases memory")
+UNPROVED = Nothing was proved here: make prove proves $(words $(CRATES)) crates (a processor hour or more; it needs rt)
+CHECKS  := docs lint tables page-units cases independent
+check:  ## what can be tested in two minutes, without rt and without a proof
+	+@tools/install check $(CHECKS)
+	$(call judged,"$(CHECKS)",KIT= -Otarget)
 
 $O/%.proved: $$(call sources,$$*) $$(call below,$$*)
 	@touch $O/$*.begun
@@ -131,6 +148,7 @@ $O/%.proved: $$(call sources,$$*) $$(call below,$$*)
 	$(call rattle,$*,build)
 	proves $(call how,$*)
 	$(if $(filter $*,$(LINKED)),$(call run,$*))
+	$(if $(filter $*,$(PROGRAMS)),touch -d $(NOW) $O/$*)
 	$(if $(filter $*,board_c),$(call kit_module,$*))
 	mv $O/$*.begun $@
 	echo "$* proved, $$(ls $(patsubst %,$O/%.proved,$(needed)) 2>/dev/null | wc -l) of $(words $(needed))" >&2
@@ -144,9 +162,9 @@ $O/%.checked: $$(call sources,$$*) $$(call below,$$*) $$(if $$(filter $$*,$(STAT
 	$(call rattle,$*,check)
 	proves --incremental $O/$*.kept
 	mv $O/$*.begun-check $@
+tries = crates/$1 $O/$1.kept $(KIT)/bin/rattle check $(call over,$1) $(checked)
 $O/%.edits: $O/%.checked $$(wildcard crates/$$*/must-fail/*.edit) tools/edits.py
-	tools/edits.py crates/$* $O/$*.kept $(KIT)/bin/rattle check $(call over,$*) $(checked) | tee $O/$*.edited
-	mv $O/$*.edited $@
+	tools/edits.py $(call tries,$*) && touch $@
 
 # Deep checks: each crate with every module that it reads, from its text. They trust no check but their own, which they
 # keep in out/deep/cache, so that a module that many crates read is checked once.
@@ -161,7 +179,9 @@ deep: $(CRATES:%=$O/deep/%.proved)  ## all proofs, the toolchain's too, from the
 
 # The WebAssembly modules, the library for aarch64, the page.
 modules := $(STATIC:%=$O/%.proved) tools/retarget
-module: targets/wasm/out/board.wasm  ## the WebAssembly module, targets/wasm/out/board.wasm
+module: $(MODULE)  ## the WebAssembly module, targets/wasm/out/board.wasm
+page/out/board.wasm: board.html page/module
+	@page/module
 targets/wasm/out/board.wasm: $(modules) targets/wasm/build targets/wasm/heap.c
 	@targets/wasm/build
 aarch64: targets/aarch64/out/libboard.a  ## the library for aarch64
@@ -171,17 +191,17 @@ one-file: portable/out/board.c  ## the C file made again, portable/out/board.c
 portable/out/board.c: $(modules) targets/aarch64/heap.c crates/board_c/board.h crates/board_c/names.c portable/build
 portable/out/board.c: $(wildcard portable/src/*.c)
 	@portable/build
-page: module  ## the page, page/out/board.html
-	@page/build
+page: $(MODULE)  ## the page, page/out/board.html
+	@MODULE=$(CURDIR)/$< page/build
 release: board module aarch64 page $(PACKAGED)  ## a release: out/board-VERSION-x86_64-linux.tar.gz, and -windows.zip
 	@tools/release/build
 PREFIX    ?= /usr/local
 INSTALLED  = $(DESTDIR)$(PREFIX)
-install: board $(STATIC:%=$O/%.proved)  ## program, manual and library for C into DESTDIR and PREFIX (/usr/local)
+install: $(PROGRAM) $(if $(KIT),$(STATIC:%=$O/%.proved))  ## program, manual and library: DESTDIR, PREFIX
 	@umask 022 && mkdir -p "$(INSTALLED)"/bin "$(INSTALLED)"/share/man/man1
-	cp $O/board "$(INSTALLED)"/bin
-	tools/release/library "$(INSTALLED)"
-	tools/release/manual $O/board "$(INSTALLED)"/share/man/man1
+	cp $(BOARD) "$(INSTALLED)"/bin
+	tools/release/library "$(INSTALLED)" $(if $(KIT),,portable/board.c)
+	tools/release/manual $(BOARD) "$(INSTALLED)"/share/man/man1
 uninstall:  ## removes what `make install` put there
 	@cd "$(INSTALLED)"
 	rm -rf bin/board include/board.h lib/{libboard.*,pkgconfig/board.pc,cmake/board} share/man/man1/board{,-*}.1
@@ -193,19 +213,21 @@ said = @tools/part $@ $1
 FAILURES := ^(FAILED|ERROR) |IS NOT REFUSED|can't be applied|[^ ]: (not proved|no proof)|Error: |^make.*[*]{3}
 define judged
 rm -rf $O/said && mkdir -p $O/said && status=0
-for parts in $1; do $(MAKE) --keep-going $$parts 2>&1 | tee -a $O/said/.log || status=1; done
+for parts in $1; do $(MAKE) --keep-going $$parts $2 2>&1 | tee -a $O/said/.log || status=1; done
 for part in $(subst ",,$1); do
   [[ -s $O/said/$$part ]] || echo "make $$part ran no test" | tee $O/said/$$part
 done
 (( status == 0 )) || grep -E "$(FAILURES)" $O/said/.log | grep -v ' is refused: ' | tail -n 40 || true
+$(if $2,echo "$(UNPROVED)")
 tail -qn 1 $O/said/* | awk -v status=$$status '
   /^[0-9]+ passed, [0-9]+ failed$$/ && $$1 + $$3 {passed += $$1; failed += $$3; next}
   {failed++} END {failed += status && !failed; print passed + 0 " passed, " failed + 0 " failed"; exit failed > 0}'
 endef
 # The groups of the gate's parts. The mutations take most of the memory.
-GATE_PARTS := "docs lint style tools" ci edits "steps steps-tests cases independent recipes memory register script" \
+GATE_PARTS := "docs lint tried style tools" ci drawn \
+              "steps steps-tests cases independent recipes memory register script" \
               stress targets compilers "$(LANGUAGES)" "tables page-units" page-tests release-tests
-.PHONY: $(subst ",,$(GATE_PARTS)) kit-gate
+.PHONY: $(subst ",,$(GATE_PARTS)) edits kit-gate
 docs:  ## names, links and made parts of the documents
 	$(call said,tools/check)
 style:  ## how files are written: shellcheck, black, mypy, tsc, clang-format, rustfmt, columns
@@ -232,15 +254,19 @@ steps: $(patsubst %,$O/%.proved,$(STEPPED) $(STATIC))  ## the atomic steps, memo
 	$(call said,tools/steps tools/steps.txt $(patsubst %,$O/%.bc,$(STEPPED) $(STATIC)))
 steps-tests: $O/memory_tests.proved  ## changes planted in the compiled code, which steps must refuse
 	$(call said,tests/run tests/steps)
-# A comma in a call ends its argument, so the command that adds up is a variable.
-tried  := $(EDITED:%=$O/%.edits)
-add_up  = awk '/^[0-9]+ passed, 0 failed$$/ {passed += $$1} END {print passed + 0 " passed, 0 failed"}'
-edits: $(tried)  ## the mutations
-	$(call said,$(add_up) $(tried))
-cases: board  ## worked examples, and the examples of the documents, on the program
-	$(call said,tests/run tests/cases)
-independent: board  ## the program against a Python reader written from the documents alone
-	$(call said,tests/run tests/independent)
+# One list of mutations of one crate, drawn by the commit.
+COMMIT := $(shell git rev-parse --short=7 HEAD 2>/dev/null || echo 0)
+DRAWN  := $(if $(EDITED),$(word $(shell echo $$((1 + 0x$(COMMIT) % $(words $(EDITED))))),$(EDITED)))
+edits:  ## the mutations of the crates that have changed since theirs were tried, or of ONLY=CRATE; writes the records
+	@$(MAKE) --keep-going $(or $(patsubst %,$O/%.edits,$(or $(ONLY),$(shell tools/edits.py --untried))),tried)
+tried:  ## the mutations, by the records of those that were tried
+	$(call said,tools/edits.py --tried)
+drawn: $O/$(DRAWN).checked  ## one list of mutations of one crate, drawn by the commit
+	$(call said,tools/edits.py --draw $(COMMIT) $(call tries,$(DRAWN)))
+cases: $(PROGRAM)  ## worked examples, and the examples of the documents, on the program
+	$(call said,$(if $(KIT),tests/run tests/cases,tests/cases/run --c $(BOARD)))
+independent: $(PROGRAM)  ## the program against a Python reader written from the documents alone
+	$(call said,tests/run tests/independent $(if $(KIT),,--inputs 600))
 memory: $(patsubst %,$O/%.proved,board memory_tests board_replay)  ## each allocation refused in turn
 	$(call said,tests/run tests/memory)
 stress: $O/board_stress.proved  ## rounds of the running board and of serve in real threads, for 30 seconds
@@ -249,22 +275,22 @@ register: $(STATIC:%=$O/%.proved) board  ## the register's calls from C, against
 	$(call said,tests/run tests/register -n 2)
 script: $(STATIC:%=$O/%.proved) board  ## scripts read as data from C, against the program and the independent reader
 	$(call said,tests/run tests/script)
-recipes: board  ## the recipes of the documents
+recipes: $(PROGRAM)  ## the recipes of the documents
 	$(call said,tests/run tests/recipes -n 2)
 targets: board module aarch64  ## the library, also for aarch64 and WebAssembly, against the program
 	$(call said,tests/run tests/targets -n $(JOBS))
-compilers: board one-file  ## the C file by each compiler and on each system, against the program
-	$(call said,tests/run tests/portable -n $(JOBS))
+compilers: $(PROGRAM) $(if $(KIT),one-file)  ## the C file by each compiler and on each system, against the program
+	$(call said,tests/run tests/portable -n $(JOBS) $(if $(KIT),,-k 'not test_another_folder and not test_is_made'))
 # What the program answers to boards, scripts and commands, with which each package is compared.
 answers := $O/answers/register.txt
-$(answers): $O/board.proved tests/packages/answers.py $(wildcard tests/shared/*.py tests/cases/*)
-	@mkdir -p $(@D) && python3 -m tests.packages.answers $O/board $(@D)
+$(answers): $(PROGRAM) tests/packages/answers.py $(wildcard tests/shared/*.py tests/cases/*)
+	@mkdir -p $(@D) && python3 -m tests.packages.answers $(BOARD) $(@D)
 python: $(answers)  ## the package for Python: built, installed in fresh environments, and tested there
 r: $(answers)  ## the package for R
 rust: $(answers)  ## the crates for Rust
-javascript: $(answers) module  ## the package for JavaScript
+javascript: $(answers) $(MODULE)  ## the package for JavaScript
 $(LANGUAGES):
-	$(call said,env -u MAKEFLAGS -u MFLAGS BOARD_ANSWERS=$O/answers bindings/$@/check)
+	$(call said,env -u MAKEFLAGS -u MFLAGS MODULE=$(CURDIR)/$(MODULE) BOARD_ANSWERS=$O/answers bindings/$@/check)
 	touch $O/$@.packaged
 # The packages in out/packages, which are made when they are tested.
 $(PACKAGED): $O/%.packaged: $$(shell git ls-files bindings/$$* portable targets/wasm board.html) $(answers) \
@@ -273,8 +299,8 @@ $(PACKAGED): $O/%.packaged: $$(shell git ls-files bindings/$$* portable targets/
 tables:  ## the page's reader of tables over a corpus of cases, in Node
 	$(call said,tests/tables/run)
 page-units: page  ## the page's modules, in Node
-	$(call said,page/units/run)
-page-tests: board page  ## board.html in Chromium and Firefox
+	$(call said,env MODULE=$(CURDIR)/$(MODULE) page/units/run)
+page-tests: $(PROGRAM) page  ## board.html in Chromium and Firefox
 	$(call said,page/tests/run)
 release-tests: release $(answers)  ## a release, unpacked and run without the toolchain
 	$(call said,tests/run tests/release -n $(JOBS))

@@ -1,8 +1,15 @@
 #!/usr/bin/env python3
-"""Tests the mutations of a crate: tools/edits.py FOLDER KEPT COMMAND..
+"""Tests the mutations of a crate, and keeps a record of those that the prover rejected:
+
+    tools/edits.py FOLDER KEPT COMMAND..            tries all; if all are rejected, FOLDER/must-fail/tried.md says so
+    tools/edits.py --draw N FOLDER KEPT COMMAND..   tries one of its lists, drawn by a number, and records nothing
+    tools/edits.py --untried                        the crates that have changed since theirs were tried
+    tools/edits.py --tried                          fails for each of these
 
 FOLDER is the crate's folder, KEPT holds the kept work of a check of it, and COMMAND runs such a check. Prints for each
-mutation whether the prover rejects it, and last 'N passed, M failed'. `make edits` calls it for each crate.
+mutation whether the prover rejects it, and last 'N passed, M failed'. A record has a hash of the crate's code,
+definitions, proofs and mutations, not of the crates below it. A mutation that is no longer rejected makes a test
+weaker, and no claim false, so the gate believes the record. (rt must-fail takes any file but *.md for a mutation.)
 
 A mutation (an edit, in this file) changes the code of a crate. Since a proof uses only the contracts of other
 functions, mutations of different functions are tested in one check, and each is rejected if its own function isn't
@@ -10,6 +17,7 @@ proved, for another reason than a missing name. If one check doesn't decide a mu
 alone."""
 from __future__ import annotations
 
+import hashlib
 import os
 import re
 import shutil
@@ -30,6 +38,8 @@ NAMES = re.compile(
 SHOWN = 160
 # The folders of a crate that the prover reads.
 READ = ["src", "specs", "proofs"]
+TOP = Path(__file__).resolve().parent.parent
+TOOLCHAIN = re.compile(r"(rattle-kit-\d+)[a-z]? (logic [0-9a-f]+)")
 
 Function = tuple[str, str]
 
@@ -209,24 +219,62 @@ def check_edited(folder: Path, kept: Path, command: Sequence[str], edits: list[E
         return ran.returncode, ran.stderr + ran.stdout
 
 
-def main(folder: str, kept: str, *command: str) -> int:
+def record(folder: Path, toolchain: str) -> str:
+    """What is on record of a crate whose mutations were all rejected."""
+    files = [it for part in READ for it in (folder / part).rglob("*") if it.is_file()]
+    edits = [*(folder / "must-fail").glob("*.edit")]
+    made = hashlib.sha256()
+    for path in sorted([*files, *edits]):
+        made.update(f"{path.relative_to(folder)} {path.stat().st_size}\n".encode() + path.read_bytes())
+    kit, logic = TOOLCHAIN.findall(toolchain)[0]
+    return f"{made.hexdigest()}\n{len(edits)} mutations are refused by {kit} {logic}\n"
+
+
+def compare(says: bool) -> int:
+    """Compares the records of all crates, with the toolchain that README.md names, and prints each crate, or the names
+    of those that were changed: returns the exit status."""
+    toolchain, failed = (TOP / "README.md").read_text(), 0
+    crates = sorted(it.parent for it in TOP.glob("crates/*/must-fail"))
+    for folder in crates:
+        file, wanted = folder / "must-fail" / "tried.md", record(folder, toolchain)
+        is_tried = file.exists() and file.read_text() == wanted
+        failed += not is_tried
+        if says:
+            why = wanted.splitlines()[1] if is_tried else "CHANGED SINCE IT WAS TRIED: make edits tries it"
+            print(f"{folder.name}: {why}")
+        elif not is_tried:
+            print(folder.name)
+    if says:
+        print(f"{len(crates) - failed} passed, {failed} failed")
+    return 1 if says and failed else 0
+
+
+def main(folder: str, kept: str, *command: str, draw: int | None = None) -> int:
     """Tests a crate's mutations, several lists in parallel: returns the exit status."""
     passed = failed = 0
     lists = together(read(Path(folder)))
+    drawn = lists if draw is None else [lists[draw % len(lists)]]
     check = partial(check_edited, Path(folder), Path(kept), command)
+    before = record(Path(folder), Path(command[0]).parents[1].joinpath("KIT-ID").read_text())
     with ThreadPoolExecutor(max(1, len(os.sched_getaffinity(0)) // 2)) as pool:
-        for results in pool.map(partial(tried, check=check), lists):
+        for results in pool.map(partial(tried, check=check), drawn):
             for edit, why in results:
                 said = f"is refused: {why}" if why else f"IS NOT REFUSED: rt must-fail {edit.crate} says more"
                 print(f"{edit.crate}/{edit.name} {said}", flush=True)
                 passed, failed = passed + (why is not None), failed + (why is None)
+    if draw is None and not failed:
+        (Path(folder) / "must-fail" / "tried.md").write_text(before)
     print(f"{passed} passed, {failed} failed")
     return 1 if failed else 0
 
 
 if __name__ == "__main__":
+    words = sys.argv[1:]
     try:
-        sys.exit(main(*sys.argv[1:]))
+        if words in (["--tried"], ["--untried"]):
+            sys.exit(compare(words == ["--tried"]))
+        draw = int(words[1], 16) if words[0] == "--draw" else None
+        sys.exit(main(*words[0 if draw is None else 2 :], draw=draw))
     except BadEdit as why:
         print(f"an edit that can't be applied: {why}\n0 passed, 1 failed")
         sys.exit(1)

@@ -90,6 +90,11 @@ def all_cases() -> list[Case]:
     return [case for file in sorted(HERE.glob("*.txt")) for case in cases_of(file)]
 
 
+def cases_of_c() -> list[Case]:
+    """The cases that the program of portable/board.c has, too: it has no serve, and its help is in other words."""
+    return [it for it in all_cases() if it.words[:1] in (["replay"], ["trace"]) and "--help" not in it.words]
+
+
 def case_named(name: str) -> Case:
     """The case of a name such as boards/three-chairs-half."""
     return next(case for case in all_cases() if case.name == name)

@@ -4,7 +4,7 @@ from __future__ import annotations
 from pathlib import Path
 
 import pytest
-from tests.cases.case_files import Case, all_cases
+from tests.cases.case_files import cases_of_c
 from tests.portable.compilers import GCC, SANITIZERS, SYSTEMS, Built, on
 from tests.shared.commands import TOP, Ended, Words, ended
 from tests.shared.inputs import at_limits, of_cases
@@ -27,11 +27,6 @@ WORDS = [
 STREAMS = ["</", "<&-", ">/dev/full", ">&-", "| head -c 1"]
 
 
-def examples() -> list[Case]:
-    """The worked examples of the commands that board.c has. Its help is in other words."""
-    return [it for it in all_cases() if it.words[:1] in [[name] for name in COMMANDS] and "--help" not in it.words]
-
-
 def differs(found: Ended, wanted: Ended) -> bool:
     """Whether two runs differ. The reason for words that are refused may be any text."""
     if found.status == wanted.status == REFUSED:
@@ -49,7 +44,7 @@ def redirected(words: Words, command: str, stream: str) -> Ended:
 def test_examples(built: Built, program: Path) -> None:
     # Catches: a line, a complaint or a status that isn't that of a worked example, and of the program.
     faults = []
-    for case in examples():
+    for case in cases_of_c():
         found, wanted = (ended([*it, *case.words], case.given) for it in (built.program(), [str(program)]))
         fault = case.fault(found.status, found.output, found.complaint)
         faults += [f"{case.name}: {fault or found}"] * (bool(fault) or differs(found, wanted))

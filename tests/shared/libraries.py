@@ -1,6 +1,7 @@
 """Programs in C over the static libraries, for this machine and for others."""
 from __future__ import annotations
 
+import os
 from pathlib import Path
 
 from tests.shared.commands import TOP, Words, printed
@@ -17,15 +18,21 @@ def kit() -> Path:
     return Path(printed(["rt", "doc"]).decode().strip()).parent
 
 
+C_FILE = TOP / "portable" / "board.c"
+NAMES = ['-DBOARD_VERSION="of tests"', str(HEADER / "names.c")]
+
+
 def native() -> Words:
-    """The libraries for this machine."""
+    """The libraries for this machine, or, where the program under test is the one of board.c, this file."""
+    if Path(os.environ["BOARD"]).resolve() == C_FILE.with_name("out") / "board":
+        return [str(C_FILE)]
     return [*(f"{TOP}/out/lib{it}.a" for it in CRATES), f"{kit()}/c/liblibc_c.a"]
 
 
 def over(libraries: Words, source: Path, made: Path, *flags: str, compiler: str = "cc") -> str:
     """A program in C over libraries, compiled without a warning."""
-    words = [compiler, *STRICT, '-DBOARD_VERSION="of tests"', *flags, str(source), str(HEADER / "names.c")]
-    printed([*words, *libraries, "-o", str(made)])
+    names = [] if str(C_FILE) in libraries else NAMES
+    printed([compiler, *STRICT, *names, *flags, str(source), *libraries, "-o", str(made)])
     return str(made)
 
 

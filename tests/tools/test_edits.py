@@ -130,3 +130,37 @@ def test_what_one_check_leaves_open_is_tried_alone(two: list[Any]) -> None:
     gives = {("first-wrong", "second-wrong"): failed(SEARCHED, CALLS), ("second-wrong",): (0, "logic=proved")}
     found = edits.tried(two, lambda some: gives[tuple(it.name for it in some)])
     assert [(it.name, why) for it, why in found] == [("first-wrong", REASON), ("second-wrong", None)]
+
+
+def stub(crate: Path, says: str, status: int) -> list[str]:
+    """The words of a run of tools/edits.py, with a stub for the prover of a kit."""
+    program = crate.parent / "kit" / "bin" / "rattle"
+    program.parent.mkdir(parents=True, exist_ok=True)
+    program.write_text(f"#!/bin/sh\necho '{says}'\necho logic=not-proved\nexit {status}\n")
+    program.chmod(0o755)
+    (crate.parent / "kit" / "KIT-ID").write_text("rattle-kit-1x logic 0f\n")
+    (crate.parent / "kept").mkdir(exist_ok=True)
+    return [str(crate), str(crate.parent / "kept"), str(program)]
+
+
+def test_a_record_is_written_if_all_are_refused(crate: Path, two: list[Any]) -> None:
+    # Catches: a record of mutations that weren't tried, or not refused.
+    kept = crate / "must-fail" / "tried.md"
+    assert (edits.main(*stub(crate, "nothing", 0)), kept.exists()) == (1, False)
+    assert (edits.main(*stub(crate, SEARCHED, 1), draw=1), kept.exists()) == (0, False)
+    assert edits.main(*stub(crate, SEARCHED, 1)) == 0
+    assert kept.read_text() == edits.record(crate, "rattle-kit-1 logic 0f")
+    assert kept.read_text().endswith("\n2 mutations are refused by rattle-kit-1 logic 0f\n")
+
+
+@pytest.mark.parametrize(
+    "name", ["src/parts.rt", "specs/Low.antt", "proofs/parts/first/Answers.antt", "must-fail/a.edit"]
+)
+def test_a_change_makes_a_record_old(crate: Path, two: list[Any], name: str) -> None:
+    # Catches: a mutation that isn't tried again though what it changes, or the prover, is another.
+    before = edits.record(crate, "rattle-kit-1 logic 0f")
+    (crate / "README.md").write_text("Read me.")
+    assert before == edits.record(crate, "rattle-kit-1b logic 0f") != edits.record(crate, "rattle-kit-1 logic 0e")
+    (crate / name).parent.mkdir(parents=True, exist_ok=True)
+    (crate / name).write_text(f"{CODE}\n")
+    assert edits.record(crate, "rattle-kit-1 logic 0f") != before

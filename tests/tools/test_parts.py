@@ -144,15 +144,6 @@ def test_a_gate_adds_up_its_parts(stubbed: Stubbed, groups: str, status: int, li
     assert said.count("FAILED one") == 2 * groups.count("bad")
 
 
-def test_the_mutations_of_all_crates_are_added_up(stubbed: Stubbed) -> None:
-    # Catches: a recipe that the shell can't read, so that the part fails though each mutation was rejected.
-    stubbed.put_kit()
-    for name, passed in [("one", 2), ("two", 3)]:
-        (stubbed.top / name).write_text(f"{name}/first is refused: why\n{passed} passed, 0 failed\n")
-    made, said = stubbed.made("tried=one two", "edits")
-    assert (made, said) == (0, "5 passed, 0 failed\n")
-
-
 @pytest.mark.parametrize("words", ["", "--check", "--check compilers"])
 def test_it_says_nothing_where_all_is_there(stubbed: Stubbed, words: str) -> None:
     # Catches: a package that is installed and counts as missing.
@@ -189,7 +180,7 @@ def test_one_line_says_what_was_installed_or_why_not(stubbed: Stubbed) -> None:
     why = "tools/install: chromium can't be installed: "
     assert stubbed.ran("install") == (1, f"{why}there is no apt-get here\n")
     stubbed.stub(timeout='shift; exec "$@"', id="echo 1000", apt_get="false")
-    assert stubbed.ran("install") == (1, f"{why}it needs root: apt-get install chromium\n")
+    assert stubbed.ran("install") == (1, f"{why}it needs root: apt-get install --no-install-recommends chromium\n")
     stubbed.stub(id="echo 0")
     for line, said in [
         ("false", "apt-get update didn't end well; is there a network?"),

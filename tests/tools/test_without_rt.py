@@ -1,11 +1,11 @@
-"""What anybody can do in a clone where rt isn't on the PATH."""
+"""What anybody can do in a clone where rt isn't on the PATH; and ./board, which never starts a proof, where it is."""
 from __future__ import annotations
 
 import os
-import re
 import shutil
 import subprocess
 from collections.abc import Callable
+from concurrent.futures import ThreadPoolExecutor
 from pathlib import Path
 
 import pytest
@@ -13,50 +13,114 @@ import pytest
 from tests.shared.commands import TOP, Ended, ran_in
 
 PATH = "/usr/bin:/bin"
+EXAMPLE = (TOP / "examples" / "three-chairs.csv").read_bytes()
+OF_BOARD = [
+    "board",
+    "crates.txt",
+    "portable/",
+    "crates/board/src/",
+    "crates/half_sums/specs/",
+    "crates/half_sums/proofs/",
+]
 Run = Callable[..., Ended]
+
+
+def copied(top: Path, *starts: str) -> Path:
+    """A copy of the repository's files whose names start in one of these ways."""
+    for name in ran_in(TOP, ["git", "ls-files", "-z"]).rstrip("\0").split("\0"):
+        if name.startswith(starts):
+            (top / name).parent.mkdir(parents=True, exist_ok=True)
+            shutil.copy(TOP / name, top / name)
+    return top
+
+
+def ran(top: Path, *words: str, given: bytes = b"", **more: str) -> Ended:
+    """How a command ends in a folder."""
+    environment = {**os.environ, "PATH": PATH, **more}
+    done = subprocess.run(words, cwd=top, input=given, env=environment, capture_output=True)
+    return Ended(done.returncode, done.stdout, done.stderr)
+
+
+def script(file: Path, text: str) -> str:
+    """Writes a program of shell, and returns its name."""
+    file.parent.mkdir(exist_ok=True)
+    file.write_text(f"#!/bin/sh\n{text}\n")
+    file.chmod(0o755)
+    return str(file)
 
 
 @pytest.fixture(scope="module")
 def clone(tmp_path_factory: pytest.TempPathFactory) -> Path:
     assert not shutil.which("rt", path=PATH), "rt is among the system's programs"
-    top = tmp_path_factory.mktemp("clone")
-    for name in ran_in(TOP, ["git", "ls-files", "-z"]).rstrip("\0").split("\0"):
-        (top / name).parent.mkdir(parents=True, exist_ok=True)
-        shutil.copy(TOP / name, top / name)
-    return top
+    return copied(tmp_path_factory.mktemp("clone"), "")
+
+
+@pytest.mark.parametrize("goals", ["help", "--dry-run docs lint clean portable cases page-units install", "lint"])
+def test_make(clone: Path, goals: str) -> None:
+    # Catches: a goal without a proof that needs rt.
+    done = ran(clone, "make", *goals.split())
+    assert done.status == 0, done.complaint
+
+
+def test_make_without_a_goal(clone: Path) -> None:
+    # Catches: a failure that doesn't name what is missing.
+    assert b"rt, which proves the crates, is not on the PATH" in ran(clone, "make").complaint
 
 
 @pytest.fixture
-def run(clone: Path) -> Run:
-    """Runs a command in the clone."""
+def board(tmp_path: Path) -> Run:
+    """./board in a folder with a space in its name, where rt and make are stubs that must not be called."""
+    top = copied(tmp_path / "it's a clone", *OF_BOARD)
+    for name in ("rt", "make"):
+        script(tmp_path / "bin" / name, f"touch '{tmp_path}/called'")
+    path = f"{tmp_path / 'bin'}:{PATH}"
 
-    def run(*words: str, given: bytes = b"", **more: str) -> Ended:
-        environment = {**os.environ, "PATH": PATH, **more}
-        done = subprocess.run(words, cwd=clone, input=given, env=environment, capture_output=True)
-        return Ended(done.returncode, done.stdout, done.stderr)
+    def run(*words: str, **more: str) -> Ended:
+        done = ran(tmp_path, str(top / "board"), *(words or ["replay"]), given=EXAMPLE, **{"PATH": path, **more})
+        assert not (tmp_path / "called").exists()
+        return done
 
     return run
 
 
-@pytest.mark.parametrize("goals", ["help", "--dry-run docs lint clean portable", "lint"])
-def test_make(run: Run, goals: str) -> None:
-    # Catches: a goal without a proof that needs rt.
-    done = run("make", *goals.split())
-    assert done.status == 0, done.complaint
+def test_board(board: Run, tmp_path: Path) -> None:
+    # Catches: a program that can't be had, is half of one, is compiled again, or doesn't say that it isn't proved.
+    with ThreadPoolExecutor() as pool:
+        first = [*pool.map(lambda _: board(CC="gcc -O1"), range(2))]
+    for it in first:
+        assert (it.status, len(it.output.splitlines())) == (0, 11)
+        assert it.complaint.startswith(b"board: compiling portable/board.c") and it.complaint.count(b"\n") == 1
+    (tmp_path / "link").symlink_to(tmp_path / "it's a clone" / "board")
+    linked = ran(tmp_path, "./link", "replay", given=EXAMPLE)
+    assert [board(), linked] == 2 * [Ended(0, first[0].output, b"")]
+    assert [it.name for it in (tmp_path / "it's a clone" / "portable" / "out").iterdir()] == ["board"]
 
 
-def test_make_without_a_goal(run: Run) -> None:
-    # Catches: a failure that doesn't name what is missing.
-    assert b"rt, which proves the crates, is not on the PATH" in run("make").complaint
+@pytest.mark.parametrize("compiler", ["false", "absent", 'printf half >"$6"; kill -9 $$'])
+def test_board_without_a_compiler(board: Run, tmp_path: Path, compiler: str) -> None:
+    # Catches: a program that is run though it wasn't compiled to its end.
+    name = compiler if " " not in compiler else script(tmp_path / "bin" / "killed", compiler)
+    for _ in range(2):
+        done = board(CC=name)
+        assert (done.status, done.output, done.complaint[:6]) == (1, b"", b"board:")
 
 
-def test_board(run: Run) -> None:
-    # Catches: a program that can't be had without rt, that is compiled again, or that doesn't say that it isn't proved.
-    example = (TOP / "examples" / "three-chairs.csv").read_bytes()
-    failed = run("./board", "replay", given=example, CC="false")
-    assert (failed.status, failed.output, len(failed.complaint.splitlines())) == (1, b"", 1)
-    first, second = (run("./board", "replay", given=example) for _ in range(2))
-    said = rb"board: compiling portable/board\.c, .* isn't proved on this machine\.\n"
-    assert re.fullmatch(said, first.complaint)
-    assert (second.status, second.complaint, len(second.output.splitlines())) == (0, b"", 11)
-    assert first.output == second.output
+def test_board_of_a_source_that_changes(board: Run, tmp_path: Path) -> None:
+    # Catches: a program that is believed to be of a source which changed while it was compiled.
+    source = tmp_path / "it's a clone" / "portable" / "board.c"
+    cc = script(tmp_path / "bin" / "slow", f'sleep 0.05; touch "{source}"; sleep 0.05; cp /bin/true "$6"')
+    assert [board(CC=cc).complaint.count(b"compiling") for _ in range(2)] == [1, 1]
+
+
+def test_board_that_is_proved(board: Run, tmp_path: Path) -> None:
+    # Catches: a proved program that isn't taken, or is older than its sources.
+    top = tmp_path / "it's a clone"
+    assert board("serve").complaint == b"board: serve needs the proved program: `make board` builds it\n"
+    (top / "out").mkdir()
+    (top / "out" / "kit").touch()
+    proved = Path(script(top / "out" / "board", 'echo "proved $*"'))
+    for name in ("crates.txt", "out/kit", "crates/board/src/main.rt", "crates/half_sums/specs"):
+        proved.touch()
+        assert board("serve", "--readers", "2").output == b"proved serve --readers 2\n"
+        ran(top, "sh", "-c", f"sleep 0.05; touch {name}")
+        assert board("serve").status == 1
