@@ -1,0 +1,44 @@
+"""How much is tested, and what random inputs are made from. It is a plugin of pytest, too.
+
+A landing tests less than the deep gate, which sets DEEP: `drawn` says how many inputs a test takes in each, and a test
+with the marker `deep` runs in the deep gate alone. Its argument says what the landing does without it. Random inputs
+are made from the commit, so that each landing tries others; SEED has another number in its place, to try one again."""
+from __future__ import annotations
+
+import os
+import subprocess
+from pathlib import Path
+
+import pytest
+
+TOP = Path(__file__).resolve().parents[2]
+IS_DEEP = bool(os.environ.get("DEEP"))
+
+
+def drawn(landing: int, deep: int) -> int:
+    """How many inputs a test takes."""
+    return deep if IS_DEEP else landing
+
+
+def seed() -> int:
+    """What random inputs are made from: SEED, or a number of the last commit; 0 outside a clone."""
+    if "SEED" in os.environ:
+        return int(os.environ["SEED"])
+    words = ["git", "-C", str(TOP), "rev-parse", "--short=7", "HEAD"]
+    commit = subprocess.run(words, capture_output=True, text=True).stdout.strip()
+    return int(commit[:7] or "0", 16)
+
+
+def pytest_configure(config: pytest.Config) -> None:
+    config.addinivalue_line("markers", "deep(why): runs in the deep gate alone, for this reason")
+
+
+def pytest_report_header() -> str:
+    return f"tests of {'the deep gate' if IS_DEEP else 'a landing'}, SEED={seed()}"
+
+
+def pytest_collection_modifyitems(config: pytest.Config, items: list[pytest.Item]) -> None:
+    if not IS_DEEP:
+        left_out = [it for it in items if it.get_closest_marker("deep")]
+        config.hook.pytest_deselected(items=left_out)
+        items[:] = [it for it in items if it not in left_out]
