@@ -2,6 +2,7 @@
 from __future__ import annotations
 
 import pathlib
+import shutil
 import subprocess
 
 HERE = pathlib.Path(__file__).resolve().parent
@@ -10,23 +11,65 @@ WORK = OUT / "bench"
 LIBRARIES = ["board_c", "board_register", "board_replay", "board_script"]
 
 
-def make(name: str) -> pathlib.Path:
-    """Has `make` prove and build a crate or a program over the library, if necessary: the static library."""
+#: The crates that the programs over the library use, and those that some of them use.
+CRATES = ["council_core", "majority_rule", "half_sums", "swing_walk", "power_index"]
+MORE = {
+    "timing": ["anyhow"],
+    "auditing": ["anyhow", "board_audits"],
+    "reading": ["anyhow", "left_right", "board_audits", "two_copy_steps", "board_share"],
+}
+
+
+def kit() -> pathlib.Path:
+    """The folder of the toolchain."""
+    return pathlib.Path(subprocess.check_output(["rt", "doc"], text=True).strip()).parent
+
+
+def make(goal: str) -> None:
+    """Has `make` prove and build something, if necessary."""
     WORK.mkdir(parents=True, exist_ok=True)
-    subprocess.run(["make", "--silent", "-C", OUT.parent, OUT / f"{name}.proved"], check=True)
-    return OUT / f"lib{name}.a"
+    subprocess.run(["make", "--silent", "-C", OUT.parent, OUT / goal], check=True)
 
 
 def build(program: str) -> list[str]:
-    """The command of a program over the library: timing, auditing or reading."""
-    make(program)
-    return [str(OUT / program)]
+    """Proves and builds a program over the library: timing, auditing or reading. Returns its command."""
+    make("proved")
+    folder, tools = WORK / program, kit()
+    (folder / "src").mkdir(parents=True, exist_ok=True)
+    shutil.copy(HERE / f"{program}.rt.txt", folder / "src" / "main.rt")
+    words: list[str | pathlib.Path] = ["--crate-name", program, "src/main.rt", "--links", f"{program}="]
+    for name in ["std", *CRATES, *MORE[program]]:
+        own = OUT / f"{name}.rlib"
+        words += ["--extern", f"{name}={own if own.exists() else tools / 'rlibs' / own.name}"]
+    words += ["-L", f"dependency={OUT}", "-L", f"dependency={tools}/rlibs"]
+    words += ["--antt-project", tools / "rattle/logic/antt-project.json", "--logic-built", tools / "logic_built"]
+    chain: list[str | pathlib.Path] = ["--toolchain", tools / "toolchain"]
+    words += [*chain, "--backend", "llvm", "-o", "it.o"]
+    rattle: list[str | pathlib.Path] = [tools / "bin/rattle", "build", *words]
+    subprocess.run(rattle, cwd=folder, check=True)
+    objects: list[str | pathlib.Path] = ["it.o", tools / "c/libos_c.a", tools / "c/liblibc_c.a"]
+    link: list[str | pathlib.Path] = [
+        tools / "bin/rattle-link",
+        "--target",
+        "x86_64-unknown-linux-gnu",
+        *chain,
+        "-o",
+        "it",
+        *objects,
+    ]
+    subprocess.run(link, cwd=folder, check=True)
+    return [str(folder / "it")]
+
+
+def library(name: str) -> pathlib.Path:
+    """A static library."""
+    make(f"{name}.bc")
+    return OUT / f"lib{name}.a"
 
 
 def archives() -> list[pathlib.Path]:
     """The static libraries of all calls, and what they need of the kit."""
-    kit = subprocess.run(["rt", "doc"], stdout=subprocess.PIPE, text=True, check=True).stdout.strip()
-    return [*map(make, LIBRARIES), pathlib.Path(kit).parent / "c" / "liblibc_c.a"]
+    return [*map(library, LIBRARIES), kit() / "c" / "liblibc_c.a"]
 
 
 def compiled(source: str | pathlib.Path, name: str, *words: str | pathlib.Path, compiler: str = "cc") -> pathlib.Path:

@@ -4,8 +4,8 @@ import { createHash } from "node:crypto";
 import { readFileSync, writeFileSync } from "node:fs";
 
 const [made = "", module = "", script = "", out = ""] = process.argv.slice(2);
-/** @type {{ version: string, commit: string }} */
-const { version, commit } = JSON.parse(readFileSync(made, "utf8"));
+/** @type {{ version: string, sources: string }} */
+const { version, sources } = JSON.parse(readFileSync(made, "utf8"));
 /** @param {string} text */
 const hash = (text) => `'sha256-${createHash("sha256").update(text).digest("base64")}'`;
 
@@ -27,7 +27,7 @@ const policy = [
 const parts = {
   POLICY: policy,
   VERSION: version,
-  COMMIT: commit,
+  SOURCES: sources,
   STYLE: style,
   FIRST: first,
   STUDY: "null",

@@ -2,14 +2,16 @@
 """Tests the mutations of a crate, and keeps a record of those that the prover rejected:
 
     tools/edits.py FOLDER KEPT COMMAND..            tries all; if all are rejected, FOLDER/must-fail/tried.md says so
-    tools/edits.py --draw N FOLDER KEPT COMMAND..   tries one of its lists, drawn by a number, and records nothing
+    tools/edits.py --draw N FOLDER KEPT COMMAND..   tries one of its lists, drawn by a hexadecimal number, and records
+                                                    nothing
     tools/edits.py --untried                        the crates that have changed since theirs were tried
     tools/edits.py --tried                          fails for each of these
 
-FOLDER is the crate's folder, KEPT holds the kept work of a check of it, and COMMAND runs such a check. Prints for each
-mutation whether the prover rejects it, and last 'N passed, M failed'. A record has a hash of the crate's code,
-definitions, proofs and mutations, not of the crates below it. A mutation that is no longer rejected makes a test
-weaker, and no claim false, so the gate believes the record. (rt must-fail takes any file but *.md for a mutation.)
+FOLDER is the crate's folder, KEPT holds the kept work of a check of it, or is none, and COMMAND runs such a check.
+Prints for each mutation whether the prover rejects it, and last 'N passed, M failed'. A record has a hash of the
+crate's code, definitions, proofs and mutations, not of the crates below it. A mutation that is no longer rejected makes
+a test weaker, and no claim false, so the gate believes the record. (rt must-fail takes any file but *.md for a
+mutation.)
 
 A mutation (an edit, in this file) changes the code of a crate. Since a proof uses only the contracts of other
 functions, mutations of different functions are tested in one check, and each is rejected if its own function isn't
@@ -205,14 +207,17 @@ def link(source: str, target: str) -> None:
         shutil.copy2(source, target)
 
 
-def check_edited(folder: Path, kept: Path, command: Sequence[str], edits: list[Edit]) -> tuple[int, str]:
-    """Checks a crate with mutations applied, over a copy of its kept work: the prover's status and output."""
-    with tempfile.TemporaryDirectory(prefix="edits-", dir=kept.parent) as place:
+def check_edited(folder: Path, kept: Path | None, command: Sequence[str], edits: list[Edit]) -> tuple[int, str]:
+    """Checks a crate with mutations applied, over a copy of its kept work, if there is any: the prover's status and
+    output."""
+    with tempfile.TemporaryDirectory(prefix="edits-", dir=kept.parent if kept else None) as place:
         for part in (it for it in READ if (folder / it).is_dir()):
             shutil.copytree(folder / part, Path(place, part))
         apply(edits, Path(place))
-        own = shutil.copytree(kept, Path(place, "kept"), copy_function=link)
-        words = [*command, "--incremental", str(own), "--jobs", "1"]
+        words = [*command, "--jobs", "1"]
+        if kept:
+            own = shutil.copytree(kept, Path(place, "kept"), copy_function=link)
+            words += ["--incremental", str(own)]
         ran = subprocess.run(
             words, cwd=place, capture_output=True, text=True, errors="replace", stdin=subprocess.DEVNULL
         )
@@ -254,7 +259,7 @@ def main(folder: str, kept: str, *command: str, draw: int | None = None) -> int:
     passed = failed = 0
     lists = together(read(Path(folder)))
     drawn = lists if draw is None else [lists[draw % len(lists)]]
-    check = partial(check_edited, Path(folder), Path(kept), command)
+    check = partial(check_edited, Path(folder), None if kept == "none" else Path(kept), command)
     before = record(Path(folder), Path(command[0]).parents[1].joinpath("KIT-ID").read_text())
     with ThreadPoolExecutor(max(1, len(os.sched_getaffinity(0)) // 2)) as pool:
         for results in pool.map(partial(tried, check=check), drawn):

@@ -1,13 +1,14 @@
-/** The build's records in the page: the version, the commit, and the module with its hash. */
+/** The build's records in the page: the version, and the hashes of its sources and of the module. */
 import made from "../out/made.json";
 
 export const VERSION = made.version;
-export const COMMIT = made.commit;
+/** The SHA-256 of the list of the page's sources with their hashes: page/build makes it. */
+export const SOURCES_HASH = made.sources;
 /** The date of the version, in CHANGELOG.md. */
 export const RELEASED = made.date;
 export const MODULE_HASH = made.module;
-/** The commit for the eye. */
-export const SHORT_COMMIT = made.commit.slice(0, 7) + (made.commit.length > 40 ? "+" : "");
+/** The hash of the sources for the eye. */
+export const SHORT_HASH = SOURCES_HASH.slice(0, 7);
 
 /** The module's bytes. */
 export function moduleBytes(): Uint8Array {

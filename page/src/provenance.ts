@@ -1,6 +1,6 @@
-/** The provenance of figures: version, commit, and the hashes of module, table, scripts and lines. */
+/** The provenance of figures: version, and the hashes of sources, module, table, scripts and lines. */
 import type { App, Shown } from "./app";
-import { COMMIT, hashOf, MODULE_HASH, RELEASED, VERSION } from "./made";
+import { hashOf, MODULE_HASH, RELEASED, SOURCES_HASH, VERSION } from "./made";
 import { texText } from "./tex";
 
 /** A script, and what it gives the readings of. */
@@ -29,7 +29,7 @@ export interface Provenance {
 export async function provenanceOf(app: App, { study }: Shown, sources: readonly Source[]): Promise<Provenance> {
   const hashes = await Promise.all(sources.map((it) => sourceLines(app, it)));
   return {
-    counted: `counted by board ${VERSION}, commit ${COMMIT}`,
+    counted: `counted by board ${VERSION}, sources ${SOURCES_HASH}`,
     module: `module board.wasm sha256 ${MODULE_HASH}`,
     table: `table ${oneLine(study.name)} sha256 ${study.base.hash || "none: the study came as a script"}`,
     scripts: hashes.flat(),
@@ -67,7 +67,7 @@ export async function citation(app: App, shown: Shown): Promise<{ text: string; 
   const sources = [module, table, ...scripts].join("; ");
   const title = `${AUTHOR}. board ${VERSION} (${RELEASED}): a proved register of voting power`;
   const text = `${title}. Numbers ${counted}; ${sources}.`;
-  const note = `Commit ${COMMIT}; ${sources}; ${check}`;
+  const note = `Sources ${SOURCES_HASH}; ${sources}; ${check}`;
   const bibtex = [
     "@software{board,",
     `  author = {{${AUTHOR}}},`,

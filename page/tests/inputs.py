@@ -1,4 +1,4 @@
-"""Tables of members, as a spreadsheet puts them on the clipboard or into a file; tests/tables has many more, without a
+"""Tables of members, as a spreadsheet puts them on the clipboard or into a file; page/tables has many more, without a
 browser."""
 from __future__ import annotations
 

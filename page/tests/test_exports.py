@@ -35,10 +35,10 @@ def sha256(content: bytes) -> str:
 
 
 def check_provenance(text: str, page: Page, oracle: Oracle) -> None:
-    """A file gives the version, the commit and the hashes of all sources of its numbers."""
+    """A file gives the version and the hashes of all sources of its numbers."""
     lines = text.splitlines()
     starts = [next((it for it in lines if start in it), "") for start in PROVENANCE]
-    assert all(starts) and re.search(r"counted by board \d+\.\d+\.\d+, commit [0-9a-f]{40}", starts[0]), lines[:9]
+    assert all(starts) and re.search(r"counted by board \d+\.\d+\.\d+, sources [0-9a-f]{64}", starts[0]), lines[:9]
     script = oracle.script(COMMANDS, shown_majorities(page)).encode()
     assert starts[1].endswith(sha256((TOP / "targets" / "wasm" / "out" / "board.wasm").read_bytes()))
     assert starts[2].endswith(sha256(EXAMPLE.read_bytes()))

@@ -1,8 +1,6 @@
 """The file board.html: its size and bytes, the module in it, and that it asks no network for anything."""
 from __future__ import annotations
 
-import base64
-import hashlib
 import json
 import re
 import shutil
@@ -17,7 +15,6 @@ from oracle import TOP, Oracle
 MOST_BYTES = 900 * 1024
 BUILT = TOP / "page" / "out" / "board.html"
 COMMITTED = TOP / "board.html"
-COMMIT = re.compile(r'<meta name="generator" content="board \S+, commit ([^"]*)">')
 # The parts of a page, and last the whole. The module is in base64: its first bytes are a zero and asm.
 MODULE = r"AGFzb[A-Za-z0-9+/]+=*"
 PARTS = {"module": MODULE, "script": "<script.*?</script>", "style": "<style.*?</style>", "text": ".*"}
@@ -29,25 +26,6 @@ def text_of(page: Path) -> str:
 
 def part_of(text: str, pattern: str) -> list[str]:
     return re.findall(pattern, text, re.DOTALL)
-
-
-def commit_of(text: str) -> str:
-    """The commit that a page names."""
-    found = COMMIT.search(text)
-    assert found, "the page names no commit"
-    return found[1]
-
-
-def with_commit(text: str, commit: str) -> str:
-    """A page that names another commit: in its policy, the scripts that name it have other sums."""
-    other = text.replace(commit_of(text), commit)
-    for one, another in zip(*(part_of(it, "<script>(.*?)</script>") for it in (text, other))):
-        other = other.replace(sum_of(one), sum_of(another))
-    return other
-
-
-def sum_of(script: str) -> str:
-    return base64.b64encode(hashlib.sha256(script.encode()).digest()).decode()
 
 
 def other_tools() -> str:
@@ -75,18 +53,9 @@ def test_no_way_to_a_folder(page: Page) -> None:
     assert "../" not in text_of(BUILT) and str(TOP) not in text_of(BUILT)
 
 
-def test_module(page: Page) -> None:
-    # Catches: a page whose count isn't the proved program's, since another module was built into it.
-    modules = part_of(text_of(BUILT), MODULE)
-    assert list(map(base64.b64decode, modules)) == [(TOP / "targets" / "wasm" / "out" / "board.wasm").read_bytes()]
-
-
 def test_committed(page: Page) -> None:
-    # Catches: a board.html at the top of the repository that isn't what the repository makes. It may name an earlier
-    # commit, but a whole one.
-    committed = text_of(COMMITTED)
-    assert re.fullmatch("[0-9a-f]{40}", commit_of(committed)), "board.html was made with changes that aren't committed"
-    built = with_commit(text_of(BUILT), commit_of(committed))
+    # Catches: a board.html at the top of the repository that isn't what the repository makes.
+    committed, built = text_of(COMMITTED), text_of(BUILT)
     differ = [name for name, pattern in PARTS.items() if part_of(committed, pattern) != part_of(built, pattern)]
     assert not differ, f"board.html and page/out/board.html differ in the {differ[0]}. Other tools:\n{other_tools()}"
 

@@ -184,7 +184,7 @@ def test_latex_source(study: Page, oracle: Oracle) -> None:
     comments = tex_table(study).comments
     script = oracle.script(COMMANDS, MAJORITIES).encode()
     assert f"script sha256 {sha256(script)}" in comments
-    assert any(re.match(r"counted by board \d+\.\d+\.\d+, commit [0-9a-f]{40}", it) for it in comments)
+    assert any(re.match(r"counted by board \d+\.\d+\.\d+, sources [0-9a-f]{64}", it) for it in comments)
     assert any("\\usepackage{booktabs}" in it for it in comments)
 
 
@@ -288,7 +288,7 @@ def test_workbook_source(study: Page, oracle: Oracle) -> None:
     )
     source = [text for what, text in rows if what == "source"]
     assert f"script sha256 {sha256(script.encode())}" in source and ("majorities", ", ".join(MAJORITIES)) in rows
-    assert any(re.match(r"counted by board \d+\.\d+\.\d+, commit ", it) for it in source)
+    assert any(re.match(r"counted by board \d+\.\d+\.\d+, sources ", it) for it in source)
 
 
 def test_workbook_of_a_sweep(page: Page, oracle: Oracle) -> None:
@@ -340,7 +340,7 @@ def check_sentence(text: str, page: Page, oracle: Oracle, majority: str) -> None
     sentence, source = text.strip().splitlines()
     assert sentence == page.texts("#sentences p")[shown_majorities(page).index(majority)]
     script = oracle.script(COMMANDS, shown_majorities(page)).encode()
-    assert re.search(r"; counted by board \d+\.\d+\.\d+, commit [0-9a-f]{40}", source)
+    assert re.search(r"; counted by board \d+\.\d+\.\d+, sources [0-9a-f]{64}", source)
     assert f"script sha256 {sha256(script)}" in source and source.startswith("Source: ")
     found = pairs(oracle, [majority])[majority]
     values = {chair: powers(of, "share") for chair, of in found.items()}

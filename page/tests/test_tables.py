@@ -1,6 +1,6 @@
 """Tables of members: pasted from a spreadsheet, opened or dropped; the questions about them, and their faults.
 
-How texts are read has its cases in tests/tables, without a browser."""
+How texts are read has its cases in page/tables, without a browser."""
 from __future__ import annotations
 
 import xml.etree.ElementTree as ElementTree

@@ -5,9 +5,11 @@ from pathlib import Path
 
 import pytest
 
+from tests.shared.sizes import drawn, seed
+
 
 def pytest_addoption(parser: pytest.Parser) -> None:
     group = parser.getgroup("tests/independent")
-    group.addoption("--inputs", type=int, default=5000, help="how many inputs there are (default: 5000)")
-    group.addoption("--seed", type=int, default=1, help="what they are made from (default: 1)")
+    group.addoption("--inputs", type=int, default=drawn(1_000, 5_000), help="how many inputs there are")
+    group.addoption("--seed", type=int, default=seed(), help="what they are made from (default: the commit)")
     group.addoption("--keep", type=Path, help="the folder for inputs that program and reader disagree about")

@@ -24,9 +24,9 @@ from tests.shared.inputs import (
 from tests.shared.kept import Kept
 from tests.shared.libraries import over_libraries
 from tests.shared.runs import Run, all_by_program
+from tests.shared.sizes import drawn, seed
 
-SEED = 20_260_101
-INPUTS, SCHEDULES, BOARDS = 3_000, 1_000, 1_500
+INPUTS, SCHEDULES, BOARDS = drawn(500, 3_000), drawn(200, 1_000), drawn(300, 1_500)
 EVENTS = b"writer,N reader,1,N reader,1,N publish submit,open,1 submit,move,AAA,1 submit,votes,AAA,N".split()
 
 
@@ -43,7 +43,7 @@ def put_events(some: random.Random, text: bytes) -> bytes:
 
 def changed_schedules() -> list[Call]:
     """Schedules of the worked examples without a fault, each with events put in, and many changed in other ways."""
-    some = random.Random(SEED)
+    some = random.Random(seed())
     changes = [it for it in CHANGES if it is not put_records]
     texts = [it.given for it in replays("trace") if it.status == 0]
     found = []
@@ -59,13 +59,13 @@ def changed_schedules() -> list[Call]:
 def inputs(command: str) -> list[Call]:
     """The inputs of a command: those of the worked examples first, then those at the limits, and changed ones."""
     limits = [Call(f"{it.name} of {command}", it.text, it.readers, it.journal, command) for it in at_limits()]
-    return [*of_cases(command), *limits, *(mutated(SEED, INPUTS) if command == "replay" else changed_schedules())]
+    return [*of_cases(command), *limits, *(mutated(seed(), INPUTS) if command == "replay" else changed_schedules())]
 
 
 @cache
 def boards_drawn() -> list[bytes]:
     """Boards as tests/targets/counts.c reads them."""
-    return [struct.pack(f"<{len(it)}Q", *it) for it in boards(SEED, BOARDS)]
+    return [struct.pack(f"<{len(it)}Q", *it) for it in boards(seed(), BOARDS)]
 
 
 def batch(calls: list[Call]) -> bytes:

@@ -4,10 +4,12 @@ from __future__ import annotations
 import subprocess
 from dataclasses import dataclass, field
 from pathlib import Path
+from random import Random
 from typing import TypeVar
 
 import pytest
 from tests.shared.commands import TOP, Words, printed
+from tests.shared.sizes import seed
 
 HERE = Path(__file__).resolve().parent
 TESTS = HERE.parent
@@ -21,6 +23,7 @@ SANITIZED, RACED = [*CHANGED, "-fsanitize=address,undefined"], [*CHANGED, "-fsan
 # One in this many inputs is tried under a sanitizer.
 FEW = 20
 T = TypeVar("T")
+LEFT_OUT = pytest.mark.deep("a landing tries a few compilers: a fault that another one makes is found later")
 
 
 @dataclass(frozen=True)
@@ -65,11 +68,17 @@ WINDOWS = cross("windows", "x86_64-w64-mingw32-gcc")
 SYSTEMS = [RISCV64, UNOPTIMIZED, AARCH64, WINDOWS, I686, MUSL, GCC, CLANG, CPLUSPLUS]
 SANITIZERS = [c99("clang-sanitized", "clang", SANITIZED), c99("gcc-sanitized", "gcc", SANITIZED)]
 THREADED = c99("gcc-threads", "gcc", RACED)
+# What a landing tries: the usual compiler, 32 bits, undefined behaviour, and two others, drawn by the commit.
+EACH = [GCC, I686, SANITIZERS[0]]
+DRAWN = Random(seed()).sample([it for it in [*SYSTEMS, *SANITIZERS, THREADED] if it not in EACH], 2)
 
 
 def on(compilers: list[Compiler]) -> pytest.MarkDecorator:
     """A test of what each compiler makes. All tests of one compiler are run by one worker, which compiles once."""
-    given = [pytest.param(it, id=it.name, marks=pytest.mark.xdist_group(it.name)) for it in compilers]
+    given = []
+    for it in compilers:
+        marks = [pytest.mark.xdist_group(it.name), *([] if it in EACH + DRAWN else [LEFT_OUT])]
+        given.append(pytest.param(it, id=it.name, marks=marks))
     return pytest.mark.parametrize("built", given, indirect=True)
 
 

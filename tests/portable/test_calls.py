@@ -10,11 +10,12 @@ from tests.portable.compilers import HERE, WINDOWS, Built, on
 from tests.shared.commands import TOP, printed
 from tests.shared.libraries import REFUSING
 from tests.shared.runs import by_c, check_same
+from tests.shared.sizes import drawn, seed
 
 EXAMPLE = (TOP / "examples" / "twenty-four-chairs.csv").read_bytes()
-# The seeds of tests/register: each has registers and limits of another kind.
-DRAWS = ["1", "2", "3", "4"]
-COMMANDS, SLOW_COMMANDS = 20_000, 1_000
+# Each of the four kinds of registers and limits that tests/register makes of a seed.
+DRAWS = [str(4 * seed() + it) for it in range(4)]
+COMMANDS, SLOW_COMMANDS = drawn(5_000, 20_000), drawn(500, 1_000)
 
 
 @on([*SYSTEMS, *SANITIZERS])

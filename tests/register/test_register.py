@@ -24,6 +24,7 @@ from tests.shared.inputs import Call, at_limits, mutated, replays
 from tests.shared.kept import Kept
 from tests.shared.libraries import REFUSING, over_libraries
 from tests.shared.runs import by_c, by_program, check_same
+from tests.shared.sizes import drawn, seed
 
 EXAMPLE = (TOP / "examples" / "twenty-four-chairs.csv").read_bytes()
 STRICTER = ["-Wconversion"]
@@ -32,9 +33,9 @@ SANITIZED = ["-O1", "-g", "-fsanitize=address,undefined", "-fno-sanitize-recover
 VALGRIND = ["valgrind", "-q", "--error-exitcode=9"]
 LEAKS = ["--leak-check=full", "--errors-for-leak-kinds=definite,possible"]
 
-SEED = 20_260_101
-OTHERS = 2_000
-SEEDS = [1, 2, 3, 4]
+OTHERS = drawn(400, 2_000)
+# Each of the four kinds of registers and limits that draws.h makes of a seed.
+SEEDS = [4 * seed() + it for it in range(4)]
 AT_ONCE = 2
 SECONDS = 1_800
 
@@ -50,11 +51,13 @@ class Way:
     before: Words = field(default_factory=list)
 
 
-PLAIN = Way("plain", 5_000, 100_000)
+PLAIN = Way("plain", drawn(1_000, 5_000), drawn(20_000, 100_000))
 SANITIZERS = Way("sanitizers", 400, 4_000, SANITIZED)
 UNDER_VALGRIND = Way("valgrind", 40, 400, before=[*VALGRIND, *LEAKS])
 HELGRIND = Way("helgrind", 0, 400, before=[*VALGRIND, "--tool=helgrind"])
-WAYS = [PLAIN, SANITIZERS, UNDER_VALGRIND]
+LEFT_OUT = pytest.mark.deep("a landing has the sanitizers, and memory.c, which counts what is kept: races are left out")
+WATCHED = [SANITIZERS, pytest.param(UNDER_VALGRIND, marks=LEFT_OUT)]
+WAYS = [PLAIN, *WATCHED]
 
 Run = Callable[..., str]
 
@@ -105,7 +108,7 @@ def others(many: int) -> Iterator[Call]:
     places = [kind for kind, (_, share) in KINDS.items() for _ in range(share)]
     for place in range(many):
         kind = places[place * 37 % len(places)]
-        made = KINDS[kind][0](Random(f"register/{place}"))
+        made = KINDS[kind][0](Random(f"register/{seed()}/{place}"))
         if made.given is None or made.output != "taken" or not made.words:
             continue
         with suppress(ValueError):
@@ -146,7 +149,7 @@ def test_independent(replay: Callable[[Way], Words], program: Path, record_prope
 @pytest.mark.parametrize("way", WAYS, ids=name_of)
 def test_changed(replay: Callable[[Way], Words], program: Path, way: Way, record_property: Say) -> None:
     # Catches: the same of changed inputs, and memory that is read or written where it mustn't be.
-    check_replays(replay(way), mutated(SEED + (way is not PLAIN), way.inputs), program, record_property)
+    check_replays(replay(way), mutated(seed() + (way is not PLAIN), way.inputs), program, record_property)
 
 
 @pytest.mark.parametrize("seed", SEEDS)
@@ -170,7 +173,7 @@ def test_memory(run: Run, seed: int) -> None:
     run(PLAIN, "memory", seed, SANITIZERS.commands, given=EXAMPLE)
 
 
-@pytest.mark.parametrize("way", [SANITIZERS, UNDER_VALGRIND], ids=name_of)
+@pytest.mark.parametrize("way", WATCHED, ids=name_of)
 def test_watched_memory(run: Run, way: Way) -> None:
     # Catches: the same, and memory that is read or written where it mustn't be.
     run(way, "memory", 1, way.commands, given=EXAMPLE)
@@ -182,7 +185,7 @@ def test_handles(run: Run, way: Way) -> None:
     run(way, "handles")
 
 
-@pytest.mark.parametrize("way", [*WAYS, HELGRIND], ids=name_of)
+@pytest.mark.parametrize("way", [*WAYS, pytest.param(HELGRIND, marks=LEFT_OUT)], ids=name_of)
 def test_threads(run: Run, way: Way) -> None:
     # Catches: a state that calls share, and more stack than board.h asks for.
     run(way, "threads", 1, way.commands, given=EXAMPLE)

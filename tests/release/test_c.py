@@ -182,10 +182,3 @@ def test_other_languages(room: Path) -> None:
     standards = [("c", it) for it in ("c99", "c11")] + [("c++", it) for it in ("c++11", "c++20")]
     for language, standard in standards:
         ran(["cc", "-x", language, f"-std={standard}", *warnings, "header.c"], room)
-
-
-def test_aarch64(room: Path) -> None:
-    # Catches: a library for aarch64 without the same calls.
-    output = ran(["nm", "--print-armap", "lib/aarch64/libboard.a"], room)
-    declared = set(re.findall(r"\b(board_\w+)\(", (room / "include/board.h").read_text()))
-    assert set(re.findall(r"^(board_\w+) in ", output, re.MULTILINE)) == declared, output

@@ -24,6 +24,7 @@ from tests.independent.register import BYTE_ORDER_MARK
 from tests.script.reading import Reading, is_alone, reading
 from tests.shared.commands import TOP, Say
 from tests.shared.libraries import REFUSING, over_libraries
+from tests.shared.sizes import drawn, seed
 
 NUMBERS = {
     "": 0,
@@ -37,7 +38,7 @@ NUMBERS = {
     "TooLong": 29,
 }
 # How many inputs are drawn, how many are changed, and how many are written in another way.
-MANY = 3_000
+MANY = drawn(800, 3_000)
 # What is changed of an input: its first bytes.
 LONGEST = 200_000
 SHOWN = 300
@@ -97,7 +98,7 @@ def drawn_inputs() -> Iterator[Input]:
     kinds = [kind for kind, (_, share) in KINDS.items() for _ in range(share)]
     for place in range(MANY):
         kind = kinds[place * 37 % len(kinds)]
-        one = KINDS[kind][0](Random(f"script/{place}"))
+        one = KINDS[kind][0](Random(f"script/{seed()}/{place}"))
         if one.given is not None:
             yield Input(kind, one.given, readers_of(one.words))
 
@@ -105,10 +106,10 @@ def drawn_inputs() -> Iterator[Input]:
 def changed_inputs(whole: list[Input]) -> Iterator[Input]:
     """Inputs with bytes put in, taken out or quoted, and inputs with the same records, written in another way."""
     for place in range(MANY):
-        chance = Random(f"mutated/{place}")
+        chance = Random(f"mutated/{seed()}/{place}")
         it = chance.choice(whole)
         yield Input("mutated", dirtied(chance, it.given[:LONGEST], chance.randint(1, 4)), it.readers)
-        chance = Random(f"rewritten/{place}")
+        chance = Random(f"rewritten/{seed()}/{place}")
         it = chance.choice(whole)
         yield Input("rewritten", rewritten(chance, it.given[:LONGEST]), it.readers)
 

@@ -7,6 +7,7 @@ from __future__ import annotations
 
 import os
 import subprocess
+from functools import cache
 from pathlib import Path
 
 import pytest
@@ -20,6 +21,7 @@ def drawn(landing: int, deep: int) -> int:
     return deep if IS_DEEP else landing
 
 
+@cache
 def seed() -> int:
     """What random inputs are made from: SEED, or a number of the last commit; 0 outside a clone."""
     if "SEED" in os.environ:

@@ -1,12 +1,12 @@
 """The options of the rounds."""
 from __future__ import annotations
 
-import time
-
 import pytest
+
+from tests.shared.sizes import drawn, seed
 
 
 def pytest_addoption(parser: pytest.Parser) -> None:
     group = parser.getgroup("tests/stress")
-    group.addoption("--seconds", type=int, default=30, help="how long rounds are run (default: 30)")
-    group.addoption("--seed", type=int, default=int(time.time()), help="the first round's (default: the time)")
+    group.addoption("--seconds", type=int, default=drawn(10, 600), help="how long rounds are run")
+    group.addoption("--seed", type=int, default=seed(), help="the first round's (default: by the commit)")

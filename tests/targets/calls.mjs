@@ -1,4 +1,4 @@
-// Calls a WebAssembly module of the board: node calls.mjs MODULE replays|counts|alone|limits. Standard input has the
+// Calls a WebAssembly module of the board: node calls.mjs MODULE replays|counts|limits. Standard input has the
 // replays, the boards, or an input that ends without a fault.
 import assert from "node:assert/strict";
 import { readFileSync, writeSync } from "node:fs";
@@ -8,8 +8,7 @@ import {
 
 const [path, what] = process.argv.slice(2);
 const module = new WebAssembly.Module(readFileSync(path));
-// The module that only counts isn't the package's.
-if (what !== "alone") loadSync(module);
+loadSync(module);
 const UNTOUCHED = 0xaa;
 const CHAIRS = 32;
 const COUNTS = 8 * (7 + 3 * CHAIRS);
@@ -78,37 +77,6 @@ function counts(given) {
       Buffer.concat(answered(MAJORITIES.length, () => MAJORITIES.map((it) => indicesOfAll(weights, { total })[it]))),
     );
     write(Buffer.concat(byEach((majority) => indicesOfMembers(columns, majority, { openChairs }))));
-  }
-}
-
-/** Makes a call of a module that only counts, whose host places all itself, and writes the answer and the counts. */
-function callAlone(name, list, width, given, many) {
-  const { memory, __heap_base: base, ...calls } = new WebAssembly.Instance(module).exports;
-  const aligned = (at) => ((at + 15n) / 16n) * 16n;
-  const from = aligned(BigInt(base.value));
-  const room = aligned(from + BigInt(list.byteLength));
-  const counts = room + ROOM;
-  const missing = Number(counts) + COUNTS * many - memory.buffer.byteLength;
-  if (missing > 0) memory.grow(Math.ceil(missing / 65536));
-  new BigUint64Array(memory.buffer, Number(from), list.length).set(list);
-  const found = new Uint8Array(memory.buffer, Number(counts), COUNTS * many).fill(UNTOUCHED);
-  const answer = calls[name](from, BigInt(list.length / width), ...given, room, counts);
-  write(Buffer.concat([Buffer.of(answer), Buffer.from(found)]));
-}
-
-/** Counts the boards of words by such a module, and writes them as counts.c does. */
-function alone(given) {
-  const words = new BigUint64Array(Uint8Array.from(given).buffer);
-  const numbers = [...MAJORITIES.keys(), MAJORITIES.length];
-  for (let at = 0; at < words.length; ) {
-    const list = (width) => words.slice(at + 1, (at += 1 + width * Number(words[at])));
-    const [weights, total, members, mask] = [list(1), words[at++], list(3), Number(words[at++])];
-    const sheet = new BigUint64Array(Math.max(CHAIRS, weights.length) + 2);
-    sheet.set(weights.map((weight) => weight + 1n));
-    sheet[sheet.length - 2] = total;
-    for (const it of numbers) callAlone("board_counts_of_weights", weights, 1, [total, it], 1);
-    callAlone("board_all_counts_of_sheet", sheet, 1, [], MAJORITIES.length);
-    for (const it of numbers) callAlone("board_counts_of_members", members, 3, [mask, it], 1);
   }
 }
 
@@ -190,4 +158,4 @@ function limits(text) {
   limitsOfMemory(text);
 }
 
-({ replays, counts, alone, limits })[what](readFileSync(0));
+({ replays, counts, limits })[what](readFileSync(0));

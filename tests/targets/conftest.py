@@ -1,8 +1,7 @@
-"""What the tests of the libraries and of the module share: programs over the libraries for x86-64 and for aarch64."""
+"""What the tests of the library and of the module share: programs over the library."""
 from __future__ import annotations
 
 from collections.abc import Callable
-from dataclasses import dataclass
 
 import pytest
 
@@ -13,29 +12,15 @@ from tests.shared.libraries import native, over
 STATIC = ["-static", "-O2"]
 
 
-@dataclass(frozen=True)
-class Built:
-    """The commands of a program in C: over the library for this machine, and over the one for aarch64."""
-
-    here: Words
-    there: Words
-
-
 @pytest.fixture(scope="session")
-def built(kept: Kept) -> Callable[[str], Built]:
-    """Compiles a program in C of the tests."""
+def built(kept: Kept) -> Callable[[str], Words]:
+    """Compiles a program in C of the tests, and returns its command."""
 
-    def compiled(name: str, libraries: Words, compiler: str) -> str:
-        made = kept.folder / f"{name.replace('/', '-')}-{compiler}"
-        source = TOP / "tests" / f"{name}.c"
-        return kept(made.name, lambda: over(libraries, source, made, *STATIC, compiler=compiler))
+    def command(name: str) -> Words:
+        made = kept.folder / name.replace("/", "-")
+        return [kept(made.name, lambda: over(native(), TOP / "tests" / f"{name}.c", made, *STATIC))]
 
-    def built(name: str) -> Built:
-        other = [f"{TOP}/targets/aarch64/out/libboard.a"]
-        there = ["qemu-aarch64", compiled(name, other, "aarch64-linux-gnu-gcc")]
-        return Built([compiled(name, native(), "cc")], there)
-
-    return built
+    return command
 
 
 @pytest.fixture(scope="session", autouse=True)

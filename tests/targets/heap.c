@@ -22,7 +22,7 @@ static uintptr_t memory_grow(uintptr_t more) {
 #define __builtin_wasm_memory_size(memory) (pages_before + pages)
 #define __builtin_wasm_memory_grow(memory, more) memory_grow(more)
 #define __builtin_trap() longjmp(trapped, 1)
-#include "../../targets/wasm/heap.c"
+#include "../../portable/wasm/heap.c"
 
 enum { HELD = 64 };
 struct held {

@@ -5,8 +5,8 @@ from pathlib import Path
 
 from tests.shared.commands import TOP, Words, printed
 
-MADE = TOP / "targets" / "wasm" / "out"
-MODULE, WIDE, KITS = "board.wasm", "board64.wasm", "counts64.wasm"
+MADE = TOP / "portable" / "wasm" / "out"
+MODULE, WIDE = "board.wasm", "board64.wasm"
 
 
 def calling(module: str, *what: str, script: str = "calls.mjs") -> Words:

@@ -1,8 +1,8 @@
-/* Tests the heap of the library for aarch64: what is given and refused, and that contents are kept. */
+/* Tests the heap of board.c: what is given and refused, and that contents are kept. */
 #include <stdint.h>
 #include <stdio.h>
 
-#include "../../targets/aarch64/heap.c"
+#include "../../portable/src/heap.c"
 
 static int must(int is_so, const char *what) {
     if (!is_so) fprintf(stderr, "other_heap: %s\n", what);

@@ -1,6 +1,7 @@
-"""The WebAssembly module and the library for aarch64 as files, and their heaps."""
+"""The WebAssembly module as a file, and the heaps of the module and of board.c."""
 from __future__ import annotations
 
+import base64
 import re
 import shutil
 from pathlib import Path
@@ -9,26 +10,34 @@ import pytest
 
 from tests.shared.commands import TOP, printed
 from tests.shared.libraries import CRATES
-from tests.targets.modules import MODULE, WIDE, text_of
+from tests.targets.modules import MADE, MODULE, WIDE, text_of
 from tests.targets.texts import beyond_lowering, deepest_stack
 
 HERE = Path(__file__).parent
-BUILT = ["targets/wasm", "targets/aarch64"]
-PARTS = [*(f"out/{it}.bc" for it in CRATES), "out/board_c.wasm"]
+BUILD = "portable/wasm"
+SOURCES = [f"{BUILD}/build", f"{BUILD}/heap.c", "tools/retarget", *(f"out/{it}.bc" for it in CRATES)]
+IN_PAGE = re.compile(r'<script type="text/plain" id="module">(.*?)</script>')
 STRICT = ["-std=c11", "-Wall", "-Wextra", "-Werror"]
 HEAP_CALLS = 10_000
 
 
-@pytest.mark.parametrize("part", BUILT)
-def test_another_folder(tmp_path: Path, part: str) -> None:
+@pytest.mark.deep("a landing compares the module with that of the committed page, which was made elsewhere")
+def test_another_folder(tmp_path: Path) -> None:
     # Catches: bytes that depend on the folder, or on the moment, of a build.
-    for source in [f"{part}/build", f"{part}/heap.c", "tools/retarget", *PARTS]:
+    for source in SOURCES:
         (tmp_path / source).parent.mkdir(parents=True, exist_ok=True)
         shutil.copy(TOP / source, tmp_path / source)
-    printed([str(tmp_path / part / "build")])
-    made = list((tmp_path / part / "out").iterdir())
-    differ = [it.name for it in made if it.read_bytes() != (TOP / part / "out" / it.name).read_bytes()]
+    printed([str(tmp_path / BUILD / "build")])
+    made = list((tmp_path / BUILD / "out").iterdir())
+    differ = [it.name for it in made if it.read_bytes() != (TOP / BUILD / "out" / it.name).read_bytes()]
     assert made and not differ
+
+
+def test_is_in_the_page() -> None:
+    # Catches: a module that was proved and didn't reach the committed page.
+    found = IN_PAGE.findall((TOP / "board.html").read_text())
+    is_same = [*map(base64.b64decode, found)] == [(MADE / MODULE).read_bytes()]
+    assert is_same, "board.html has another module: CONTRIBUTING says how to make it again"
 
 
 def test_lowering() -> None:
@@ -63,8 +72,8 @@ def test_heap(tmp_path: Path, seed: int) -> None:
 
 
 def test_other_heap(tmp_path: Path) -> None:
-    # Catches: a heap for aarch64 that gives other memory than was asked for.
+    # Catches: a heap of board.c that gives other memory than was asked for.
     made = str(tmp_path / "other_heap")
     flags = ["-static", "-Wno-unused-parameter"]
-    printed(["aarch64-linux-gnu-gcc", *STRICT, *flags, "-o", made, str(HERE / "other_heap.c")])
-    printed(["qemu-aarch64", made])
+    printed(["cc", *STRICT, *flags, "-o", made, str(HERE / "other_heap.c")])
+    printed([made])

@@ -1,5 +1,4 @@
-"""The calls of the library for aarch64 and of the WebAssembly module, against the program and the library for x86-64.
-"""
+"""The calls of the library and of the WebAssembly module, against the program."""
 from __future__ import annotations
 
 import struct
@@ -14,27 +13,29 @@ from tests.shared.commands import TOP, Say, Words, printed
 from tests.shared.inputs import Call, at_limits, mutated, of_cases
 from tests.shared.kept import Kept
 from tests.shared.runs import Run, all_by_program, by_c, by_module, check_same
-from tests.targets.conftest import Built
-from tests.targets.modules import KITS, MODULE, WIDE, calling, on_register
+from tests.shared.sizes import drawn, seed
+from tests.targets.modules import MODULE, WIDE, calling, on_register
 
 EXAMPLE = (TOP / "examples" / "three-chairs.csv").read_bytes()
-SEED = 20_260_101
-INPUTS = 5_000
-BOARDS = 1_500
-COMMANDS = 100_000
-# The seeds of tests/register/commands.c: each has registers and limits of another kind.
-DRAWS = [1, 2, 3, 4]
-# One in this many is tried on slow targets, and on the module that board.wasm is lowered from.
+# What the calls answer is proved, and tests/portable also compares board.c, which is made of the same modules, with the
+# program. So a landing draws few; a fault of the compiler for WebAssembly that rare inputs show is left to the deep
+# gate.
+INPUTS = drawn(500, 5_000)
+BOARDS = drawn(300, 1_500)
+COMMANDS = drawn(20_000, 100_000)
+# Each of the four kinds of registers and limits that tests/register/commands.c makes of a seed.
+DRAWS = [4 * seed() + it for it in range(4)]
+# One in this many is tried on the module that board.wasm is lowered from.
 FEW = 5
 
-Build = Callable[[str], Built]
+Build = Callable[[str], Words]
 
 
 class Calls:
     """The inputs, and the program's runs of them."""
 
     def __init__(self, program: Path, kept: Kept) -> None:
-        self.rows, self.changed = [*of_cases(), *at_limits()], mutated(SEED, INPUTS)
+        self.rows, self.changed = [*of_cases(), *at_limits()], mutated(seed(), INPUTS)
         self.every, self.few = [*self.rows, *self.changed], [*self.rows, *self.changed[::FEW]]
         self.schedules = of_cases("trace")
         calls = [*self.every, *self.schedules]
@@ -76,25 +77,13 @@ def test_wide_module(calls: Calls, called: Callable[..., Words], record_property
 
 
 def test_replays(calls: Calls, built: Build, record_property: Say) -> None:
-    # Catches: the same of the library for x86-64, by one call.
-    check_c(built("targets/replays").here, calls, calls.every, record_property)
+    # Catches: the same of the library, by one call.
+    check_c(built("targets/replays"), calls, calls.every, record_property)
 
 
-def test_replays_on_aarch64(calls: Calls, built: Build, record_property: Say) -> None:
-    # Catches: the same of the library for aarch64, by one call.
-    check_c(built("targets/replays").there, calls, calls.few, record_property)
-
-
-def test_data_on_aarch64(calls: Calls, built: Build, record_property: Say) -> None:
-    # Catches: the same of the library for aarch64, as data.
-    check_c(built("register/replay").there, calls, calls.every, record_property)
-
-
-@pytest.mark.parametrize("where", ["here", "there"])
-def test_schedules(calls: Calls, built: Build, where: str, record_property: Say) -> None:
-    # Catches: a trace by a library that isn't the program's.
-    words: Words = getattr(built("targets/replays"), where)
-    check_c([*words, "trace"], calls, calls.schedules, record_property)
+def test_schedules(calls: Calls, built: Build, record_property: Say) -> None:
+    # Catches: a trace by the library that isn't the program's.
+    check_c([*built("targets/replays"), "trace"], calls, calls.schedules, record_property)
 
 
 @pytest.mark.parametrize("module", [MODULE, WIDE])
@@ -104,22 +93,12 @@ def test_limits(called: Callable[..., Words], what: str, module: str) -> None:
     printed(called(module, what), EXAMPLE)
 
 
-COUNTING = {
-    "module": (calling(MODULE, "counts"), 1),
-    "wide module": (calling(WIDE, "counts"), FEW),
-    "the kit's module": (calling(KITS, "alone"), FEW),
-    "aarch64": (None, 1),
-}
-
-
-@pytest.mark.parametrize("name", COUNTING)
-def test_counts(built: Build, name: str, record_property: Say) -> None:
-    # Catches: a count or a refusal of a board that isn't that of the library for x86-64.
-    words, every = COUNTING[name]
-    programs = built("targets/counts")
-    some = [struct.pack(f"<{len(it)}Q", *it) for it in boards(SEED, BOARDS)][::every]
+@pytest.mark.parametrize("module, every", [(MODULE, 1), (WIDE, FEW)])
+def test_counts(built: Build, module: str, every: int, record_property: Say) -> None:
+    # Catches: a count or a refusal of a board that isn't the library's.
+    some = [struct.pack(f"<{len(it)}Q", *it) for it in boards(seed(), BOARDS)][::every]
     record_property("boards", len(some))
-    assert printed(words or programs.there, b"".join(some)) == printed(programs.here, b"".join(some))
+    assert printed(calling(module, "counts"), b"".join(some)) == printed(built("targets/counts"), b"".join(some))
 
 
 # What counts.c writes for a call: the answer, and the words of struct board_counts. Those of the first call for members
@@ -138,7 +117,7 @@ def test_equal_chairs(built: Build, chairs: int) -> None:
     # Catches: wrong counts without chairs, with all of them, or of the last one alone. Each chair has one vote, so more
     # than half of the chairs win; and one member with seven votes sits in the last chair.
     board = [chairs, *[1] * chairs, chairs, 1, 7, CHAIRS, 0, 0]
-    found = printed(built("targets/counts").here, struct.pack(f"<{len(board)}Q", *board))
+    found = printed(built("targets/counts"), struct.pack(f"<{len(board)}Q", *board))
     quota = chairs // 2 + 1
     omega = sum(comb(chairs, size) for size in range(quota, chairs + 1))
     rows = [(chair, 1, comb(chairs - 1, quota - 1)) for chair in range(1, chairs + 1)]
@@ -146,19 +125,11 @@ def test_equal_chairs(built: Build, chairs: int) -> None:
     assert COUNTS.unpack_from(found, OF_MEMBERS) == counts([4, 0, 7, 7, 1, 1, 2], [(CHAIRS, 7, 1)])
 
 
-COMMANDING = {
-    "module": on_register(MODULE, "answers"),
-    "wide module": on_register(WIDE, "answers"),
-    "aarch64": None,
-}
-
-
 @pytest.mark.parametrize("draw", DRAWS)
-@pytest.mark.parametrize("name", COMMANDING)
-def test_commands(built: Build, name: str, draw: int, record_property: Say) -> None:
-    # Catches: an answer to a command, or a sheet, that isn't that of the library for x86-64.
+@pytest.mark.parametrize("module", [MODULE, WIDE])
+def test_commands(built: Build, module: str, draw: int, record_property: Say) -> None:
+    # Catches: an answer to a command, or a sheet, that isn't the library's.
     record_property("commands", COMMANDS)
-    programs = built("register/commands")
-    words = COMMANDING[name] or [*programs.there, "answers"]
-    made = printed([*programs.here, "made", str(draw), str(COMMANDS)])
-    assert printed(words, made) == printed([*programs.here, "answers"], made)
+    commands = built("register/commands")
+    made = printed([*commands, "made", str(draw), str(COMMANDS)])
+    assert printed(on_register(module, "answers"), made) == printed([*commands, "answers"], made)

@@ -9,24 +9,30 @@ import pytest
 
 from tests.shared.commands import TOP, ran_in
 
+CRATES = {line.split()[0].rstrip(":") for line in (TOP / "crates.txt").read_text().splitlines()}
+MODULES = ["board_c", "board_register", "board_replay", "board_script", "board", "memory_tests"]
+
 
 class Copy:
     """A copy of the repository in which all is proved."""
 
     def __init__(self, top: Path) -> None:
         self.top = top
-        for name in ("Makefile", "crates.txt"):
+        for name in ("Makefile", "crates.txt", "HANDLES"):
             shutil.copy(TOP / name, top)
+        shutil.copytree(TOP / "tools", top / "tools")
         shutil.copytree(TOP / "crates", top / "crates", ignore=shutil.ignore_patterns("out"))
-        self.make("--touch", "prove")
+        self.goals = ["board", "prove", *(str(top / "out" / f"{it}.bc") for it in MODULES)]
+        self.make("--touch", *self.goals)
 
     def make(self, *words: str) -> str:
         return ran_in(self.top, ["make", *words])
 
-    def proved(self, *changed: str) -> set[str]:
-        """The crates that `make` would prove if some files changed."""
-        said = self.make("--dry-run", *(f"--what-if={it}" for it in changed), "prove")
-        return set(re.findall(r'echo "(\w+) proved,', said))
+    def proved(self, *changed: str) -> tuple[list[int], set[str]]:
+        """How many crates rt would prove, in each run, if some files changed, and the modules that would be made."""
+        said = self.make("--dry-run", *(f"--what-if={it}" for it in changed), *self.goals)
+        runs = sorted(len(it.split()) for it in re.findall(r"^tools/prove ([a-z0-9_ ]+)", said, re.MULTILINE))
+        return runs, set(re.findall(r"rattle (?:check|build) --crate-name (\w+)", said))
 
 
 @pytest.fixture(scope="module")
@@ -36,33 +42,35 @@ def copy(tmp_path_factory: pytest.TempPathFactory) -> Copy:
 
 def test_nothing_is_proved_twice(copy: Copy) -> None:
     # Catches: a target that is never up to date.
-    assert copy.proved() == set()
+    assert copy.proved() == ([], set())
 
 
 def test_documents_and_edits_prove_nothing(copy: Copy) -> None:
     # Catches: a proof that waits for what it doesn't read.
     edit = next((TOP / "crates" / "council_core" / "must-fail").glob("*.edit")).relative_to(TOP)
-    assert copy.proved("crates/council_core/README.md", str(edit)) == set()
+    assert copy.proved("crates/council_core/README.md", str(edit)) == ([], set())
 
 
-def test_a_source_proves_its_crate_and_those_above(copy: Copy) -> None:
-    # Catches: a crate that stays proved though its own source, or that of a crate below it, has changed.
-    runs = "board_runs board_report board board_replay board_script callers memory_tests board_tests"
-    assert copy.proved("crates/board_runs/src/lib.rt") == set(runs.split())
-    found = copy.proved("crates/half_sums/specs/Laws.antt")
-    assert {"half_sums", "swing_walk", "power_index", "board_c", "board", "count_tests"} <= found
-    assert not {"council_core", "majority_rule", "two_copy_steps", "board_audits"} & found
+def test_a_source_is_proved_with_what_stands_on_it(copy: Copy) -> None:
+    # Catches: a program or a module that stays though its own source, or that of a crate below it, has changed.
+    of_board = copy.proved("crates/board/src/main.rt")[0][0]
+    assert copy.proved("crates/board_runs/src/lib.rt") == (
+        [of_board, len(CRATES)],
+        {"board", "board_replay", "board_script", "memory_tests"},
+    )
+    of_calls = {"board_c", "board_register", "board_script"}
+    assert copy.proved("crates/c_values/specs/Counts.antt") == ([len(CRATES)], of_calls)
+    assert copy.proved("crates/council_core/proofs") == ([of_board, len(CRATES)], set(MODULES))
 
 
-def test_a_deep_check_is_made_of_each_crate(copy: Copy) -> None:
-    # Catches: a crate that `make deep` leaves out, or checks over what was checked before.
-    crates = {line.split()[0].rstrip(":") for line in (TOP / "crates.txt").read_text().splitlines()}
-    commands = copy.make("--dry-run", "deep")
-    assert set(re.findall(r"rattle (?:build -o \S+|check) --crate-name (\w+)", commands)) == crates
-    assert commands.count("/out/deep/cache ") == len(crates)
-    assert "--logic-built" not in commands
-
-
-def test_what_a_program_prints_proves_it_alone(copy: Copy) -> None:
+def test_what_a_program_prints_is_compared_again(copy: Copy) -> None:
     # Catches: a program that isn't run again after a change of what it must print.
-    assert copy.proved("crates/board/stdout") == {"board"}
+    assert len(copy.proved("crates/board/stdout")[0]) == 2
+
+
+def test_a_check_from_text_is_made_of_each_crate(copy: Copy) -> None:
+    # Catches: a crate that `make from-text` leaves out, or checks over what was checked before.
+    commands = copy.make("--dry-run", "from-text")
+    assert set(re.findall(r"rattle (?:build -o \S+|check) --crate-name (\w+)", commands)) == CRATES
+    assert commands.count("/out/deep/cache ") == len(CRATES)
+    assert "--logic-built" not in commands

@@ -13,7 +13,7 @@ from tests.shared.commands import TOP
 ROWS = [it.split(":") for it in (TOP / "tools" / "packages.txt").read_text().splitlines() if not it.startswith("#")]
 PACKAGES = sorted({word.rpartition("=")[2] for _, words in ROWS for word in words.split()})
 # The system's programs that the scripts call. A stub may stand for one.
-SYSTEM = "awk bash cat cp dirname grep mkdir sort tail tee tr".split()
+SYSTEM = "awk bash cat cp dirname grep head mkdir sort tail tee tr".split()
 
 
 class Stubbed:
@@ -49,20 +49,6 @@ class Stubbed:
         assert not done.stderr
         return done.returncode, done.stdout
 
-    def made(self, *words: str, **more: str) -> tuple[int, str]:
-        """The status and the output of `make` by the repository's Makefile."""
-        (self.top / "crates.txt").touch()
-        if not (self.top / "Makefile").exists():
-            (self.top / "Makefile").symlink_to(TOP / "Makefile")
-        environment = {"PATH": f"{self.programs}:/usr/bin:/bin", **more}
-        done = subprocess.run(["make", *words], cwd=self.top, env=environment, capture_output=True, text=True)
-        return done.returncode, done.stdout
-
-    def put_kit(self) -> None:
-        """Puts a kit there, without which nothing is made."""
-        self.stub(rt="exit 1")
-        (self.programs.parent / "KIT-ID").touch()
-
     def judged(self, *lines: str, status: int = 0, **more: str) -> tuple[int, str]:
         """What tools/part says of a part that prints lines and ends in a status."""
         printed = "\n".join(lines)
@@ -85,15 +71,23 @@ def test_a_part_passes_by_its_last_line(stubbed: Stubbed) -> None:
 def test_a_part_that_ran_no_test_fails(stubbed: Stubbed, printed: str) -> None:
     # Catches: a part that is green since all of it was left out, or since it ended before its tests.
     status, said = stubbed.judged(printed)
-    assert status == 1
-    assert said.endswith("tools/part: no test of compilers ran, or not all of them\n")
+    assert (status, said.splitlines()[-1]) == (1, "0 passed, 1 failed")
 
 
 def test_a_part_fails_by_its_status_or_its_last_line(stubbed: Stubbed) -> None:
     # Catches: a part that is green though a test of it failed, or its command did.
-    assert stubbed.judged("2 passed, 1 failed")[0] == 1
+    assert stubbed.judged("2 passed, 1 failed") == (1, "2 passed, 1 failed\n")
     assert stubbed.judged("2 passed, 1 failed", status=1)[0] == 1
-    assert stubbed.judged("2 passed, 0 failed", status=3)[0] == 3
+    assert stubbed.judged("2 passed, 0 failed", status=3) == (1, "2 passed, 0 failed\n2 passed, 1 failed\n")
+
+
+def test_a_part_of_node_is_counted(stubbed: Stubbed) -> None:
+    # Catches: tests of Node's runner that failed or were left out, and count as passed.
+    said = [f"# {it}" for it in ("pass 5", "fail 0", "cancelled 0", "skipped 0", "todo 0")]
+    assert stubbed.judged(*said) == (0, "\n".join([*said, "5 passed, 0 failed\n"]))
+    for at in range(1, 5):
+        wrong = [*said[:at], said[at].replace("0", "2"), *said[at + 1 :]]
+        assert stubbed.judged(*wrong) == (1, "\n".join([*wrong, "5 passed, 2 failed\n"]))
 
 
 def test_a_hidden_package_fails_in_the_gate_alone(stubbed: Stubbed) -> None:
@@ -104,44 +98,33 @@ def test_a_hidden_package_fails_in_the_gate_alone(stubbed: Stubbed) -> None:
     assert stubbed.judged("5 passed, 0 failed") == (0, "5 passed, 0 failed\n")
 
 
-def test_each_part_is_run_by_tools_part_and_has_its_packages_listed() -> None:
+def test_each_part_has_its_packages_listed() -> None:
     # Catches: a part of which nobody says what it needs, so that nothing fails where that is missing.
-    text = (TOP / "Makefile").read_text().replace("\\\n", " ")
-    groups = re.findall(r"^GATE_PARTS +:= (.*)$", text, re.MULTILINE)[0]
-    languages = re.findall(r"^LANGUAGES +:= (.*)$", text, re.MULTILINE)[0]
-    parts = groups.replace("$(LANGUAGES)", languages).replace('"', "").split()
+    text = (TOP / "Makefile").read_text()
+    groups = dict(re.findall(r"^(FIRST|UNPROVED|PROVED|CHECKS) +:= (.*)$", text, re.MULTILINE))
+    parts = [it for name in ("FIRST", "UNPROVED", "PROVED") for it in groups[name].split()]
     listed = {part for parts_of_row, _ in ROWS for part in parts_of_row.split()}
-    assert len(parts) > 20
-    assert set(parts) <= listed
-    assert re.findall(r"^gate: export GATE := (.*)$", text, re.MULTILINE) == ["1"]
+    assert len(parts) == len({*parts}) > 20
+    assert {*parts} - listed == {"prove"}
+    assert {*groups["CHECKS"].split()} <= {*parts}
+    assert re.findall(r"^(\w+): export GATE := 1$", text, re.MULTILINE) == ["gate", "deep"]
 
 
-def test_a_gate_without_a_package_fails_with_its_name(stubbed: Stubbed) -> None:
-    # Catches: a gate that doesn't ask tools/part.
-    stubbed.hide("git")
-    assert stubbed.made("docs", GATE="1") == (2, "tools/install: Debian's git isn't here\n0 passed, 1 failed\n")
-
-
-@pytest.mark.parametrize(
-    "groups, status, line",
-    [
-        ("good", 0, "3 passed, 0 failed"),
-        ('"good empty" absent', 2, "3 passed, 2 failed"),
-        ("bad good", 2, "5 passed, 1 failed"),
-        ("absent", 2, "0 passed, 1 failed"),
-    ],
-)
-def test_a_gate_adds_up_its_parts(stubbed: Stubbed, groups: str, status: int, line: str) -> None:
+def test_parts_are_added_up(stubbed: Stubbed) -> None:
     # Catches: a gate that is green though a part ran no test, didn't run, or failed.
-    stubbed.stub(good="echo 3 passed, 0 failed", bad="echo FAILED one; echo 2 passed, 1 failed")
-    stubbed.stub(empty="echo 0 passed, 0 failed")
-    stubbed.put_kit()
-    parts = [f"{it}:\n\t$(call said,{it})\n" for it in ("good", "bad", "empty")]
-    rules = "".join([*parts, f"try:\n\t+@$(call judged,{groups})\n"])
-    made, said = stubbed.made(f"--eval={rules}", "try")
-    assert (made, said.splitlines()[-1]) == (status, line)
-    # What failed is said again at the end, where a long output may be cut.
-    assert said.count("FAILED one") == 2 * groups.count("bad")
+    stubbed.stub(good="echo 3 passed, 0 failed", bad="echo FAILED one; echo 2 passed, 1 failed", empty="true")
+    for name in ("good", "bad", "empty"):
+        stubbed.ran("part", name, name)
+    for parts, status, line in [
+        ("good", 0, "3 passed, 0 failed"),
+        ("good empty absent", 1, "3 passed, 2 failed"),
+        ("bad good", 1, "5 passed, 1 failed"),
+        ("absent", 1, "0 passed, 1 failed"),
+    ]:
+        found, said = stubbed.ran("part", "--sum", *parts.split(), NOTE="and more")
+        assert (found, said.splitlines()[-2:]) == (status, ["and more", line])
+        # What failed is said again at the end, where a long output may be cut.
+        assert said.count("FAILED one") == parts.count("bad")
 
 
 @pytest.mark.parametrize("words", ["", "--check", "--check compilers"])

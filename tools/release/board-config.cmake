@@ -2,21 +2,15 @@
 # in CMAKE_PREFIX_PATH.
 #
 # Then target_link_libraries(PROGRAM board::board) compiles and links with the library: the static one, if
-# find_package asks for COMPONENTS static or there is no other for the processor, else the shared one.
-# board::static and board::shared are these two by name.
+# find_package asks for COMPONENTS static, else the shared one. board::static and board::shared are these two by name.
 cmake_policy(PUSH)
 cmake_policy(VERSION 3.5)
 get_filename_component(_board_top "${CMAKE_CURRENT_LIST_DIR}/../../.." ABSOLUTE)
 
 set(_board_static "${_board_top}/lib/libboard.a")
 set(_board_shared "${_board_top}/lib/libboard.so.@minor@")
-if(CMAKE_SYSTEM_PROCESSOR MATCHES "^(aarch64|arm64)$")
-  set(_board_static "${_board_top}/lib/aarch64/libboard.a")
-  set(_board_shared "")
-endif()
-
 set(board_static_FOUND TRUE)
-set(board_shared_FOUND FALSE)
+set(board_shared_FOUND TRUE)
 if(NOT TARGET board::static)
   add_library(board::static STATIC IMPORTED)
   set_target_properties(board::static PROPERTIES
@@ -24,20 +18,17 @@ if(NOT TARGET board::static)
     IMPORTED_LINK_INTERFACE_LANGUAGES C
     INTERFACE_INCLUDE_DIRECTORIES "${_board_top}/include")
 endif()
-if(_board_shared)
-  set(board_shared_FOUND TRUE)
-  if(NOT TARGET board::shared)
-    add_library(board::shared SHARED IMPORTED)
-    set_target_properties(board::shared PROPERTIES
-      IMPORTED_LOCATION "${_board_shared}"
-      IMPORTED_SONAME "libboard.so.@minor@"
-      INTERFACE_INCLUDE_DIRECTORIES "${_board_top}/include")
-  endif()
+if(NOT TARGET board::shared)
+  add_library(board::shared SHARED IMPORTED)
+  set_target_properties(board::shared PROPERTIES
+    IMPORTED_LOCATION "${_board_shared}"
+    IMPORTED_SONAME "libboard.so.@minor@"
+    INTERFACE_INCLUDE_DIRECTORIES "${_board_top}/include")
 endif()
 
 if(NOT TARGET board::board)
   add_library(board::board INTERFACE IMPORTED)
-  if("static" IN_LIST board_FIND_COMPONENTS OR NOT board_shared_FOUND)
+  if("static" IN_LIST board_FIND_COMPONENTS)
     set_target_properties(board::board PROPERTIES INTERFACE_LINK_LIBRARIES board::static)
   else()
     set_target_properties(board::board PROPERTIES INTERFACE_LINK_LIBRARIES board::shared)

@@ -9,7 +9,7 @@ use std::alloc::{AllocError, Global};
 use two_copy_steps::READERS;
 
 // The version of the program, and the toolchain and logic in which it is proved.
-const VERSION: &str = "0.10.0 (rattle-kit-13 logic dac8208d650f15bf)";
+const VERSION: &str = "0.11.0 (rattle-kit-13 logic dac8208d650f15bf)";
 
 const ABOUT: &str =
     "A register of the voting power of an executive board: members, their chairs, and how often each chair decides";

@@ -91,7 +91,7 @@ function tableGroup(app: App, make: Exporter): Child {
 
 const SCRIPT_WORDS =
   "The script gives board replay the base, the changes and the readings; what it prints has the numbers that this " +
-  "page shows. A script has no names: the saved study has them, with version, commit and hashes.";
+  "page shows. A script has no names: the saved study has them, with version and hashes.";
 
 function studyGroup(app: App, make: Exporter): Child {
   return [

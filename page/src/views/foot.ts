@@ -112,8 +112,8 @@ export function openSeal(app: App): void {
         "p",
         {},
         "The page makes no request: its Content-Security-Policy forbids every one. It keeps nothing when it is " +
-          "closed. It doesn't know whether the repository's own tests passed at its commit: build and test that " +
-          "commit to see.",
+          "closed. It doesn't know whether the repository's own tests passed: find the version whose sources have " +
+          "this hash, and test it to see.",
       ),
     ];
   });

@@ -4,7 +4,7 @@ import type { App, Shown } from "../app";
 import { byId, h, paint } from "../dom";
 import { setDisabled } from "../focus";
 import { counted, grouped } from "../fractions";
-import { SHORT_COMMIT, VERSION } from "../made";
+import { SHORT_HASH, VERSION } from "../made";
 import { memberWords } from "../commandWords";
 import { isolated } from "../names";
 import type { Place, Standing } from "../standing";
@@ -110,6 +110,6 @@ export function paintTop(app: App): void {
   paint(byId("summary"), base, changed);
   byId("published-words").textContent = publishedWords(shown.study, before?.total ?? 0);
   const checked = app.isOwnModule ? "module checked" : "MODULE CHANGED";
-  byId("seal").textContent = `counted by board ${VERSION} (${SHORT_COMMIT}), ${checked}`;
+  byId("seal").textContent = `counted by board ${VERSION} (${SHORT_HASH}), ${checked}`;
   byId("seal").classList.toggle("wrong", !app.isOwnModule);
 }

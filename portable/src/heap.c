@@ -1,5 +1,5 @@
-/* The heap of the library for aarch64, which the toolchain's std takes memory from, over malloc. The toolchain has the
- * same compiled for x86-64 alone. */
+/* The heap of board.c, which the toolchain's std takes memory from, over malloc. The toolchain has the same, compiled
+ * for x86-64 alone. */
 typedef __SIZE_TYPE__ size;
 
 void *malloc(size bytes);
