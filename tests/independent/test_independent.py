@@ -26,8 +26,8 @@ from tests.shared.commands import TOP, Say
 
 SECONDS = 60
 SHOWN = 600
-# How many inputs a process takes at a time.
-TAKEN = 50
+# How many inputs a process takes at a time, and how many times as many there are until all has occurred.
+TAKEN, TIMES = 50, 10
 EVERY = sorted({f"refused {it}" for it in REFUSALS.values()} | {f"fault {it}" for it in FAULTS} | {"refused words"})
 # An input that can't be read, and two outputs that can't be written.
 FOLDER, FULL = os.open(TOP, os.O_RDONLY), os.open("/dev/full", os.O_WRONLY)
@@ -117,10 +117,13 @@ def summary(found: list[Found]) -> str:
 
 @pytest.fixture(scope="session")
 def every(program: Path, pytestconfig: pytest.Config) -> list[Found]:
-    """The results of all inputs."""
+    """The results of all inputs. There are as many again as long as something hasn't occurred, at most TIMES."""
     one = partial(compared, program, pytestconfig.getoption("--seed"), pytestconfig.getoption("--keep"))
+    many, found = pytestconfig.getoption("--inputs"), list[Found]()
     with ProcessPoolExecutor() as pool:
-        return list(pool.map(one, range(pytestconfig.getoption("--inputs")), chunksize=TAKEN))
+        while len(found) < TIMES * many and not {*EVERY} <= {name for it in found for name in it.occurred}:
+            found += pool.map(one, range(len(found), len(found) + many), chunksize=TAKEN)
+    return found
 
 
 @pytest.mark.parametrize("kind", KINDS)

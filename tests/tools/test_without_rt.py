@@ -124,3 +124,7 @@ def test_board_that_is_proved(board: Run, tmp_path: Path) -> None:
         assert board("serve", "--readers", "2").output == b"proved serve --readers 2\n"
         ran(top, "sh", "-c", f"sleep 0.05; touch {name}")
         assert board("serve").status == 1
+    for begins in (b"board: compiling portable/board.c, since out/board is older", b"board: out/board is older than"):
+        passed_over = board()
+        assert passed_over.output.startswith(b"accepted,1\n")
+        assert passed_over.complaint.startswith(begins) and passed_over.complaint.count(b"\n") == 1
