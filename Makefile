@@ -203,7 +203,7 @@ tables:  ## the page's reader of tables over a corpus of cases, in Node
 page-units: page  ## the page's modules, in Node
 	$(call said,env MODULE=$(CURDIR)/$(MODULE) page/units/run)
 page-tests: $(PROGRAM) page  ## board.html in Chromium and Firefox
-	$(call said,page/tests/run)
+	$(call said,page/tests/run -n 2 --dist=loadfile)
 release-tests: release $(answers)  ## a release, unpacked and run without the toolchain
 	$(call said,tests/run tests/release -n $(JOBS))
 from-text: $(CRATES:%=$O/deep/%.proved)  ## all proofs, the toolchain's too, from their text

@@ -1,20 +1,26 @@
 """Fixtures of the tests: one browser of a kind for all of them, and the page opened from scratch for each.
 
-A module with `BROWSERS = EVERY` is run in Chromium and in Firefox, the others in Chromium."""
+A module with `BROWSERS = EVERY` is run in Chromium and in Firefox, the others in Chromium. A landing runs three of the
+former in Firefox, drawn by the commit: what Firefox alone does wrong is found up to a few landings later."""
 from __future__ import annotations
 
 import os
 from collections.abc import Iterator
 from pathlib import Path
+from random import Random
 
 import pytest
 from chromium import EVERY, Page
 from firefox import FirefoxPage, firefox
 from oracle import TOP, Oracle
+from tests.shared.sizes import IS_DEEP, seed
 
 BUILT = TOP / "page" / "out" / "board.html"
 # Chromium's words when a test leaves a page that would ask first, but that nobody has clicked on.
 LEFT = "Blocked attempt to show a 'beforeunload' confirmation panel"
+
+IN_BOTH = sorted(it.stem for it in Path(__file__).parent.glob("test_*.py") if "\nBROWSERS = EVERY\n" in it.read_text())
+DRAWN = Random(seed()).sample(IN_BOTH, 3)
 
 
 @pytest.fixture(scope="session")
@@ -26,8 +32,9 @@ def pytest_generate_tests(metafunc: pytest.Metafunc) -> None:
     """Runs the tests of a module in its browsers, all of them in one before the other."""
     if "page" not in metafunc.fixturenames:
         return
-    is_chromium_alone = metafunc.function.__name__ in getattr(metafunc.module, "NOT_IN_FIREFOX", ())
-    browsers = EVERY[:1] if is_chromium_alone else getattr(metafunc.module, "BROWSERS", EVERY[:1])
+    is_in_both = metafunc.function.__name__ not in getattr(metafunc.module, "NOT_IN_FIREFOX", ())
+    is_in_both &= IS_DEEP or metafunc.module.__name__ in DRAWN
+    browsers = getattr(metafunc.module, "BROWSERS", EVERY[:1]) if is_in_both else EVERY[:1]
     metafunc.parametrize("browser", browsers, indirect=True, scope="session")
 
 

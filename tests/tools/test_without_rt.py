@@ -67,6 +67,22 @@ def test_make_without_a_goal(clone: Path) -> None:
     assert b"rt, which proves the crates, is not on the PATH" in ran(clone, "make").complaint
 
 
+def test_install(clone: Path, tmp_path: Path) -> None:
+    # Catches: an installation without the toolchain over which no program is compiled, and a file that is left behind.
+    place = tmp_path / "opt" / "board"
+    to = [f"DESTDIR={tmp_path}", "PREFIX=/opt/board"]
+    assert (done := ran(clone, "make", "install", *to)).status == 0, done.complaint
+    assert ran(place, "bin/board", "replay", given=EXAMPLE).output.endswith(b"\nchair,3,1,1,1/4,1/5,1/3,1/5\n")
+    words = ["--define-variable=prefix=" + str(place), "--cflags", "--libs", "board"]
+    flags = ran(place, "pkg-config", *words, PKG_CONFIG_PATH=f"{place}/lib/pkgconfig").output.decode().split()
+    example = str(TOP / "examples" / "embed" / "three_chairs.c")
+    made = ran(place, "cc", example, *flags, f"-Wl,-rpath,{place}/lib", "-o", str(tmp_path / "three"))
+    assert ran(tmp_path, "./three").output.startswith(b"51 votes win, 3 of 8 coalitions\n"), made.complaint
+    assert b"the exact voting power" in (place / "share" / "man" / "man1" / "board.1").read_bytes()
+    ran(clone, "make", "uninstall", *to)
+    assert not [it for it in place.rglob("*") if not it.is_dir()]
+
+
 @pytest.fixture
 def board(tmp_path: Path) -> Run:
     """./board in a folder with a space in its name, where rt and make are stubs that must not be called."""
