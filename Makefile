@@ -74,7 +74,7 @@ over    = --crate-name $1 src/$(if $(wildcard crates/$1/src/main.rt),main,lib).r
           --antt-project $(KIT)/rattle/logic/antt-project.json
 checked := --logic-built $(KIT)/logic_built --jobs 1
 # The prover's run in a crate's folder, whose output is shown if it fails.
-rattle  = (cd crates/$1 && $(KIT)/bin/rattle $2 >$O/$1.log 2>&1 || { cat $O/$1.log >&2; exit 1; })
+rattle  = (cd crates/$1 && $(KIT)/bin/rattle $2 >$O/$(@F).log 2>&1 || { cat $O/$(@F).log >&2; exit 1; })
 
 # rt keeps no checked static library, no tests, and no LLVM module. So the static libraries, and the program and the
 # tests that tools/steps looks at, are proved once more, for their modules, NAME.bc. A toolchain like the kit's, whose
@@ -88,15 +88,12 @@ chmod +x $O/$1.toolchain/bin/clang
 endef
 modules := $(STATIC:%=$O/%.bc)
 stepped := $(modules) $O/board.bc $O/memory_tests.bc
+from     = $(if $(filter %_tests,$1),$(checked) --test,--crate-checked $O/$1.checked)
 to       = --toolchain $O/$1.toolchain --backend llvm -o $O/$(if $(filter $1,$(STATIC)),lib$1.a,$1.o)
 $(stepped): $O/%.bc: $$(call sources,$$(call whole,$$*)) | $O/proved
 	@$(call toolchain,$*)
-	if [[ $* == *_tests ]]; then
-	  $(call rattle,$*,build $(call over,$*) $(checked) --test $(call to,$*))
-	else
-	  $(call rattle,$*,check $(call over,$*) $(checked) -o $O/$*.checked)
-	  $(call rattle,$*,build $(call over,$*) --crate-checked $O/$*.checked $(call to,$*))
-	fi
+	$(if $(filter %_tests,$*),,$(call rattle,$*,check $(call over,$*) $(checked) -o $O/$*.checked))
+	$(call rattle,$*,build $(call over,$*) $(call from,$*) $(call to,$*))
 	mv $@.new $@
 
 # Mutations of a crate, over the kept work of one more proof of it.
@@ -169,7 +166,7 @@ tried:  ## the mutations, by the records of those that were tried
 COMMIT := $(shell git rev-parse --short=7 HEAD 2>/dev/null || echo 0)
 DRAWN  := $(if $(EDITED),$(word $(shell echo $$((1 + 0x$(COMMIT) % $(words $(EDITED))))),$(EDITED)))
 drawn: $O/proved  ## one list of mutations of one crate, drawn by the commit
-	$(call said,tools/edits.py --draw $(COMMIT) $(call tries,$(DRAWN)$(comma)none))
+	$(call said,tools/edits.py --draw $(COMMIT) $(call tries,$(DRAWN),none))
 cases: $(PROGRAM)  ## worked examples, and the examples of the documents, on the program
 	$(call said,$(if $(KIT),tests/run tests/cases,tests/cases/run --c $(BOARD)))
 independent: $(PROGRAM)  ## the program against a Python reader written from the documents alone

@@ -12,7 +12,7 @@ from tests.shared.commands import TOP, ended
 
 README = readme_cases(TOP)
 CASES = [*all_cases(), *README]
-SECONDS = 60
+SECONDS = 600
 
 
 @pytest.mark.parametrize("case", CASES, ids=[it.name for it in CASES])

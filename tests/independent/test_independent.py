@@ -24,7 +24,7 @@ from tests.independent.inputs import KINDS, Input
 from tests.independent.register import FAULTS, REFUSALS, Answer, answer
 from tests.shared.commands import TOP, Say
 
-SECONDS = 60
+SECONDS = 600
 SHOWN = 600
 # How many inputs a process takes at a time, and how many times as many there are until all has occurred.
 TAKEN, TIMES = 50, 10

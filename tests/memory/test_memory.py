@@ -18,7 +18,7 @@ from tests.shared.libraries import over_libraries
 
 HERE = Path(__file__).parent
 TESTS = TOP / "out" / "memory_tests"
-SECONDS = 60
+SECONDS = 600
 FAULT = b"fault,0,OutOfMemory\n"
 # How a run ends with a growth refused: it wrote nothing, first lines and the fault's, or all, as with ample memory.
 NOTHING, LINES, ALL = "without a line", "with one", "did no harm"

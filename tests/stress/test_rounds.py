@@ -12,7 +12,7 @@ import pytest
 from tests.shared.commands import TOP, Say, ended
 
 PROGRAM = TOP / "out" / "board_stress"
-SECONDS = 60
+SECONDS = 600
 
 
 def fault_of(seed: int) -> str:

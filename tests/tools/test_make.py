@@ -68,6 +68,13 @@ def test_what_a_program_prints_is_compared_again(copy: Copy) -> None:
     assert len(copy.proved("crates/board/stdout")[0]) == 2
 
 
+def test_one_crate_is_drawn(copy: Copy) -> None:
+    # Catches: a recipe of which the shell makes something else, so that no mutation is tried.
+    tries = re.compile(r"edits\.py --draw \w+ crates/(\w+) none \S+/rattle check --crate-name (\w+) ")
+    [(crate, checked)] = tries.findall(copy.make("--dry-run", "drawn"))
+    assert crate == checked and (TOP / "crates" / crate / "must-fail").is_dir()
+
+
 def test_a_check_from_text_is_made_of_each_crate(copy: Copy) -> None:
     # Catches: a crate that `make from-text` leaves out, or checks over what was checked before.
     commands = copy.make("--dry-run", "from-text")
