@@ -8,8 +8,11 @@ from __future__ import annotations
 import os
 import subprocess
 from pathlib import Path
+from typing import TYPE_CHECKING
 
-import pytest
+# What makes the packages' answers needs no pytest.
+if TYPE_CHECKING:
+    import pytest
 
 TOP = Path(__file__).resolve().parents[2]
 IS_DEEP = bool(os.environ.get("DEEP"))
