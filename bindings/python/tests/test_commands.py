@@ -27,7 +27,7 @@ SWEEPS = ["from More: AAA 10..20 by 10 %", "chair 2 10..20 by 2.5 %"]
 
 def ran(command: str, *words: object, given: bytes = b"") -> subprocess.CompletedProcess[bytes]:
     code = [sys.executable, "-m", f"voting_board.{command}_command", *map(str, words)]
-    return subprocess.run(code, input=given, capture_output=True, timeout=120)
+    return subprocess.run(code, input=given, capture_output=True, timeout=600)
 
 
 def good(command: str, *words: object, given: bytes = b"") -> list[str]:

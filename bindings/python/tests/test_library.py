@@ -87,6 +87,14 @@ def test_no_library(tmp_path: Path) -> None:
     assert "can't be loaded" in import_error(run(EXAMPLE, BOARD_LIBRARY="libc.so.6"))
 
 
+def test_without_numpy() -> None:
+    # Catches: a module that imports what its user may not have. Only a recount needs numpy.
+    hidden = "import sys; sys.modules.update(numpy=None, pandas=None, matplotlib=None)"
+    names = [it.stem for it in Path(library.__file__).parent.glob("*.py") if not it.stem.startswith("recount")]
+    modules = ", ".join(f"voting_board.{it}" for it in names)
+    assert run(f"{hidden}; import {modules}; {EXAMPLE}").stdout == "(3, 1, 1)\n"
+
+
 V2 = "flags\t\t: fpu cx16 lahf_lm popcnt pni sse4_1 sse4_2 ssse3 avx\n"
 
 

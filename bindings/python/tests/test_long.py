@@ -5,7 +5,6 @@ import pickle
 import subprocess
 import sys
 import textwrap
-import tracemalloc
 from unittest.mock import patch
 
 import pytest
@@ -37,6 +36,7 @@ def test_a_million_commands(full: Register) -> None:
         other.publish()
 
 
+@pytest.mark.deep("a landing fills the journal by a text alone")
 def test_a_list_of_a_million(full: Register) -> None:
     journal = full.journal
     assert len(journal) == MILLION and journal[-1] == Command("close", chair=1)
@@ -47,6 +47,7 @@ def test_a_list_of_a_million(full: Register) -> None:
     assert other.submit(journal) == MILLION
 
 
+@pytest.mark.deep("a landing cuts shorter texts into pieces, and empty lines and long records at the real limit")
 def test_a_script_of_a_million(full: Register) -> None:
     text = full.script()
     assert len(text) > INPUT_BYTES
@@ -151,7 +152,6 @@ def test_longest_inputs() -> None:
     assert replay_text(text + "\n") == ("fault,0,TooLong\n", fault)
 
 
-READINGS = "".join([HEAD, *(f"open,{chair}\n" for chair in range(1, 33)), "publish\n", "read,1,70\n" * 300_000])
 LIMITED = """
     import resource, sys
     from voting_board import replay
@@ -166,21 +166,7 @@ LIMITED = """
 def test_readings_in_little_memory() -> None:
     # Catches: a replay that keeps its readings: they took 5.7 GB.
     many = (INPUT_BYTES - 1000) // 10
-    text = READINGS[: READINGS.index("read")] + "read,1,70\n" * many
+    text = "".join([HEAD, *(f"open,{chair}\n" for chair in range(1, 33)), "publish\n", "read,1,70\n" * many])
     words = [sys.executable, "-c", textwrap.dedent(LIMITED)]
     done = subprocess.run(words, input=text, capture_output=True, text=True)
     assert (done.stdout, done.stderr) == (f"{many + 33} {many + 33}\n", "")
-
-
-def test_memory_does_not_grow() -> None:
-    run = replay(READINGS)
-    tracemalloc.start()
-    outcomes = iter(run)
-    for _ in range(100):
-        next(outcomes)
-    before = tracemalloc.get_traced_memory()[0]
-    for _ in range(100_000):
-        next(outcomes)
-    grown = tracemalloc.get_traced_memory()[0] - before
-    tracemalloc.stop()
-    assert grown < 100_000

@@ -26,7 +26,7 @@ DONE = f"{version} 3: 3 1 1\n"
 
 def ran(*words: object, **more: str) -> str:
     """The output of a command, with more in its environment."""
-    done = subprocess.run(list(map(str, words)), env=os.environ | more, capture_output=True, text=True, timeout=300)
+    done = subprocess.run(list(map(str, words)), env=os.environ | more, capture_output=True, text=True, timeout=600)
     assert done.returncode == 0, f"{words}\n{done.stdout}\n{done.stderr}"
     return done.stdout
 
@@ -58,6 +58,11 @@ def test_the_installed_package_is_tested() -> None:
     assert Path(voting_board.__file__).is_relative_to(sys.prefix)
 
 
+def test_commands() -> None:
+    for command in ("study", "figures", "recount"):
+        assert ran(Path(sys.prefix, "bin", f"board-{command}"), "--version") == f"board-{command} {version}\n"
+
+
 def test_source_package(source: Path) -> None:
     for name in ("board.c", "board.h"):
         assert (source / name).read_bytes() == (PORTABLE / name).read_bytes()
@@ -87,6 +92,7 @@ def test_wheels(packages: Path, platform: str, library: str) -> None:
     assert about.endswith((HERE.parent / "README.md").read_text().rstrip("\n") + "\n") and "License" not in about
 
 
+@pytest.mark.deep("it compiles board.c again: a landing doesn't see what shows of a wheel's making")
 def test_the_same_bytes(packages: Path, source: Path) -> None:
     # Catches: a wheel in which the folder, the mask, the zone or the time of its making shows.
     platform = "manylinux_2_17_x86_64"
@@ -142,11 +148,12 @@ def wine(tmp_path: Path) -> Iterator[list[str]]:
     environment = ["env", *(f"{name}={value}" for name, value in named.items())]
     words = [*environment, "/usr/lib/wine/wine64"]
     none = subprocess.DEVNULL
-    subprocess.run([*words, "wineboot", "--init"], stdin=none, stdout=none, stderr=none, check=True, timeout=300)
+    subprocess.run([*words, "wineboot", "--init"], stdin=none, stdout=none, stderr=none, check=True, timeout=600)
     yield words
     subprocess.run([*environment, "/usr/lib/wine/wineserver64", "--kill"], timeout=60)
 
 
+@pytest.mark.deep("wine takes long to start: a landing makes this wheel, and looks at its files")
 def test_windows(packages: Path, tmp_path: Path, wine: list[str]) -> None:
     library = unpacked(packages / f"{WHEEL}win_amd64.whl", tmp_path)
     program = loading("x86_64-w64-mingw32-gcc", tmp_path / "loads.exe", "-static")
@@ -167,6 +174,7 @@ def test_a_native_library(source: Path, tmp_path: Path) -> None:
     assert ran(sys.executable, "-c", code, PYTHONPATH=str(tmp_path / "there")) == "(3, 1, 1)\n"
 
 
+@pytest.mark.deep("it compiles board.c again: a landing installs the wheel alone")
 def test_pip_in_a_clone(tmp_path: Path) -> None:
     # Catches: an installation from a clone that misses the C file.
     clone = tmp_path / "clone"
@@ -178,7 +186,5 @@ def test_pip_in_a_clone(tmp_path: Path) -> None:
     ran(*words, "--disable-pip-version-check", "--target", there := tmp_path / "there", clone / "bindings/python")
     code = "import voting_board; print(voting_board.__file__, voting_board.__version__)"
     assert ran(sys.executable, "-c", code, PYTHONPATH=str(there)) == f"{there}/voting_board/__init__.py {version}\n"
-    for command in ("study", "figures", "recount"):
-        assert ran(there / f"bin/board-{command}", "--version", PYTHONPATH=str(there)) == f"board-{command} {version}\n"
     ran(there / "bin/board-study", TOP / "examples/members.csv", tmp_path / "study", PYTHONPATH=str(there))
     assert '"format": "board study 2"' in (tmp_path / "study.html").read_text()

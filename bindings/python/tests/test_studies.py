@@ -263,12 +263,13 @@ def test_processors(small: Study, processors: int, monkeypatch: pytest.MonkeyPat
     assert [it.thresholds for it in found.sweeps] == [it.thresholds for it in small.sweeps]
 
 
-def test_interrupt() -> None:
-    # Catches: a study that counts to its end after Ctrl-C.
+def test_interrupt(monkeypatch: pytest.MonkeyPatch) -> None:
+    # Catches: a study that counts to its end after Ctrl-C, for minutes of the processors.
+    monkeypatch.setattr("voting_board.studies.all_processors", lambda: 2)
     codes = [f"A{tens}{ones}" for tens in "AB" for ones in "ABCDEFGHIJKLMNOP"]
     rows = [{"code": code, "votes": 2**30 + at, "chair": at} for at, code in enumerate(codes, 1)]
     threading.Timer(0.7, signal.raise_signal, [signal.SIGINT]).start()
-    start = time.monotonic()
+    start = time.process_time()
     with pytest.raises(KeyboardInterrupt):
-        study(rows, sweeps=["AAA 1..91 by 0.1 %"])
-    assert time.monotonic() - start < 10
+        study(rows, sweeps=[f"{it} 1..91 by 0.1 %" for it in codes])
+    assert time.process_time() - start < 30

@@ -11,7 +11,8 @@ import pytest
 import voting_board
 
 HERE = Path(__file__).resolve().parent
-VERSIONS = ["3.9", ".".join(map(str, sys.version_info[:2]))]
+NEWEST = ".".join(map(str, sys.version_info[:2]))
+VERSIONS = ["3.9", pytest.param(NEWEST, marks=pytest.mark.deep("a landing checks what the oldest version takes"))]
 
 
 def checked(version: str, *paths: Path) -> str:

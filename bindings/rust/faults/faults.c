@@ -1,5 +1,6 @@
-/* board.c over a malloc that fails once where a test asks for it, and with a call that a test has trapped. */
-#include <stdint.h>
+/* The library over a malloc that fails once where a test asks for it, and with a call that a test has trapped: these
+ * are the calls that bindings/rust/check renames in the library. */
+#include "board.h"
 #include <stdlib.h>
 
 static _Thread_local long before = -1;
@@ -7,8 +8,9 @@ static _Thread_local int trapped = 0;
 
 /* Whether this allocation fails. */
 static int fails(void) { return before >= 0 && before-- == 0; }
-static void *faulty_malloc(size_t size) { return fails() ? NULL : malloc(size); }
-static void *faulty_realloc(void *at, size_t size) { return fails() ? NULL : realloc(at, size); }
+void *faulty_malloc(size_t size) { return fails() ? NULL : malloc(size); }
+void *faulty_realloc(void *at, size_t size) { return fails() ? NULL : realloc(at, size); }
+uint8_t sound_apply(struct board_register *handle, const struct board_command *command, uint32_t *accepted);
 
 /* Lets this number of allocations pass and fails the next one; none, if the number is below 0. Returns what is left of
  * the number, so one below 0 if an allocation failed. */
@@ -20,12 +22,6 @@ long faults_after(long number) {
 
 /* Every command that follows is trapped, or none. */
 void faults_trap(int on) { trapped = on; }
-
-#define malloc faulty_malloc
-#define realloc faulty_realloc
-#define board_register_apply sound_apply
-#include "board.c"
-#undef board_register_apply
 
 uint8_t board_register_apply(struct board_register *handle, const struct board_command *command, uint32_t *accepted) {
     return trapped ? BOARD_TRAPPED : sound_apply(handle, command, accepted);

@@ -21,7 +21,7 @@ sys.path.insert(0, str(HERE.parents[3]))
 from tests.shared.browser import started  # noqa: E402
 from selenium.webdriver.support.ui import WebDriverWait  # noqa: E402
 
-SECONDS = 300
+SECONDS = 600
 PAGE = '<!doctype html><meta charset="utf-8"><title>tests</title><link rel="icon" href="data:,"><script {}></script>\n'
 FILES = "files are read in Node 20.16 or later only: fetch the file, and pass its bytes"
 SHARES = "3/5 1/5 1/5"
