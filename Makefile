@@ -186,7 +186,7 @@ targets: $O/proved $(modules) module  ## the library and the WebAssembly module 
 compilers: $(PROGRAM) $(if $(KIT),one-file)  ## the C file by each compiler and on each system, against the program
 	$(call said,tests/run tests/portable -n $(JOBS) $(if $(KIT),,-k 'not test_another_folder and not test_is_made'))
 # What the program answers to boards, scripts and commands, with which each package is compared.
-answers := $O/answers/register.txt
+answers := $O/answers$(if $(DEEP),-deep)/register.txt
 $(answers): $(PROGRAM) tests/packages/answers.py $(wildcard tests/shared/*.py tests/cases/*)
 	@mkdir -p $(@D) && python3 -m tests.packages.answers $(BOARD) $(@D)
 python: $(answers)  ## the package for Python: built, installed in fresh environments, and tested there
@@ -194,7 +194,7 @@ r: $(answers)  ## the package for R
 rust: $(answers)  ## the crates for Rust
 javascript: $(answers) $(MODULE)  ## the package for JavaScript
 python r rust javascript:
-	$(call said,env -u MAKEFLAGS -u MFLAGS MODULE=$(CURDIR)/$(MODULE) BOARD_ANSWERS=$O/answers bindings/$@/check)
+	$(call said,env -u MAKEFLAGS -u MFLAGS MODULE=$(CURDIR)/$(MODULE) BOARD_ANSWERS=$(dir $(answers)) bindings/$@/check)
 tables:  ## the page's reader of tables over a corpus of cases, in Node
 	$(call said,page/tables/run)
 page-units: page  ## the page's modules, in Node

@@ -3,13 +3,18 @@
 #include "board.h"
 #include <stdlib.h>
 
-static _Thread_local long before = -1;
+static _Thread_local long before = -1, kept = 0;
 static _Thread_local int trapped = 0;
 
 /* Whether this allocation fails. */
 static int fails(void) { return before >= 0 && before-- == 0; }
-void *faulty_malloc(size_t size) { return fails() ? NULL : malloc(size); }
-void *faulty_realloc(void *at, size_t size) { return fails() ? NULL : realloc(at, size); }
+static void *counted(void *made) { return kept += made != NULL, made; }
+void *faulty_malloc(size_t size) { return counted(fails() ? NULL : malloc(size)); }
+void *faulty_realloc(void *at, size_t size) {
+    void *made = fails() ? NULL : realloc(at, size);
+    return at ? made : counted(made);
+}
+void faulty_free(void *at) { kept -= at != NULL, free(at); }
 uint8_t sound_apply(struct board_register *handle, const struct board_command *command, uint32_t *accepted);
 
 /* Lets this number of allocations pass and fails the next one; none, if the number is below 0. Returns what is left of
@@ -19,6 +24,9 @@ long faults_after(long number) {
     before = number;
     return left;
 }
+
+/* How many blocks of memory the library has. */
+long faults_kept(void) { return kept; }
 
 /* Every command that follows is trapped, or none. */
 void faults_trap(int on) { trapped = on; }

@@ -3,6 +3,7 @@ use voting_board::*;
 
 extern "C" {
     fn faults_after(number: std::os::raw::c_long) -> std::os::raw::c_long;
+    fn faults_kept() -> std::os::raw::c_long;
     fn faults_trap(on: std::os::raw::c_int);
 }
 
@@ -25,6 +26,17 @@ fn each_allocation<T>(mut call: impl FnMut() -> Result<T, Refused>) -> usize {
 
 fn three() -> Register {
     Register::from_script("member,votes\nAAA,50\nBBB,49\nCCC,1\nscript\nopen,1\nmove,AAA,1\npublish\nopen,2\n").unwrap()
+}
+
+#[test]
+fn registers_are_freed() {
+    // SAFETY: it reads a number of this thread.
+    let kept = || unsafe { faults_kept() };
+    let before = kept();
+    let registers = [three(), three().try_clone().unwrap()];
+    assert!(kept() > before);
+    drop(registers);
+    assert_eq!(kept(), before);
 }
 
 #[test]
