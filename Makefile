@@ -128,7 +128,7 @@ portable/out/board.c: $(wildcard portable/src/*.c)
 	@portable/build
 page: $(MODULE)  ## the page, page/out/board.html
 	@MODULE=$(CURDIR)/$< page/build
-release: $O/proved module page $(modules)  ## a release: out/board-VERSION-x86_64-linux.tar.gz, and -windows.zip
+release: $O/proved module page $(modules)  ## a release of what the packages' parts have made, too: two archives in out
 	@tools/release/build
 PREFIX    ?= /usr/local
 INSTALLED  = $(DESTDIR)$(PREFIX)
@@ -202,7 +202,7 @@ page-units: page  ## the page's modules, in Node
 page-tests: $(PROGRAM) page  ## board.html in Chromium and Firefox
 	$(call said,page/tests/run -n 2 --dist=loadfile)
 release-tests: release $(answers)  ## a release, unpacked and run without the toolchain
-	$(call said,tests/run tests/release -n $(JOBS))
+	$(call said,env BOARD_ANSWERS=$(dir $(answers)) tests/run tests/release -n $(JOBS))
 from-text: $(CRATES:%=$O/deep/%.proved)  ## all proofs, the toolchain's too, from their text
 	$(call said,printf '%s proved from its text\n' $(CRATES) "$(words $(CRATES)) passed, 0 failed")
 

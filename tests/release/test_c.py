@@ -2,6 +2,7 @@
 version, and the names of refusals."""
 from __future__ import annotations
 
+import os
 import re
 import shutil
 from pathlib import Path
@@ -9,7 +10,6 @@ from pathlib import Path
 import pytest
 
 from tests.release.outside import ran
-from tests.shared.commands import TOP
 
 pytestmark = pytest.mark.xdist_group("c")
 
@@ -19,7 +19,7 @@ LIBRARY = "lib/libboard.a"
 # Where the library is: in the unpacked release, and in an installation.
 PLACES = ["room", "installed"]
 # What the program answers, which make writes.
-ANSWERS = TOP / "out" / "answers"
+ANSWERS = Path(os.environ["BOARD_ANSWERS"])
 
 
 @pytest.fixture(scope="session")
