@@ -15,7 +15,8 @@ RT = """#!/bin/sh
 sort crates.txt; ls; ls crates/low
 mkdir -p crates/low/out/rlib/low.rlib crates/top/out
 echo "$LOW" >crates/low/out/rlib/low.rlib/format; echo "$LOW" >crates/top/out/top
-echo "== low"; echo "why"; echo "rt: low $LOW"; echo "rt: top is kept: an earlier run"; echo "rt: top: its tests are proved"
+echo "== low"; echo "why"; echo "rt: low $LOW"; echo "rt: top is kept: an earlier run"
+echo "rt: top: its tests are proved"
 [ "$LOW" = proved ] && echo "2 passed, 0 failed" && exit
 echo "1 passed, 1 failed"; exit 1
 """
