@@ -8,7 +8,7 @@ from pathlib import Path
 import pytest
 from voting_board.strict import BadTable, StrictTable, read_table
 
-CASES = Path(__file__).resolve().parents[3] / "tests" / "tables" / "cases"
+CASES = Path(__file__).resolve().parents[3] / "page" / "tables" / "cases"
 
 
 @dataclass(frozen=True)
