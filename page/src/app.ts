@@ -35,6 +35,8 @@ export interface Open {
   /** Whether the table of a chart is open, and whether the page is being printed. */
   isTableOpen: boolean;
   isPrinting: boolean;
+  /** Whether the card for a first visit was closed. */
+  isWelcomed: boolean;
 }
 
 export class App {
@@ -43,6 +45,7 @@ export class App {
   readonly results = new Results();
   readonly open: Open = {
     cards: new Set(), filter: "", sweep: null, ticks: NO_TICKS, isTableOpen: false, isPrinting: false,
+    isWelcomed: false,
   };
   /** Whether the module's bytes have the hash that the build recorded. */
   readonly isOwnModule: boolean;
@@ -50,6 +53,8 @@ export class App {
   /** The study as it was opened or saved last. */
   savedStudy: Study;
   shown: Shown | null = null;
+  /** The script of the example, or empty in a page that holds a study. */
+  example = "";
   state: State = "counting";
   fault: Error | null = null;
   waiting: Waiting | null = null;
@@ -71,6 +76,11 @@ export class App {
     return this.history.state;
   }
 
+  /** Whether the study's table is the example. */
+  get isExample(): boolean {
+    return this.study.base.script === this.example;
+  }
+
   /** Sets another study. Studies of one gesture are one step of undo. */
   take(study: Study, gesture = ""): void {
     this.history.take(study, gesture);
@@ -81,6 +91,7 @@ export class App {
   openStudy(study: Study, view: View = this.view): void {
     this.open.cards.clear();
     this.open.sweep = null;
+    this.open.isWelcomed = true;
     this.view = view;
     this.savedStudy = study;
     this.take(study);

@@ -70,6 +70,11 @@ const MOST_LABEL = 0.4;
 /** The paths of the majorities' dots, each made once. */
 const PATHS = new Map(MAJORITIES.map((it) => [it, symbol().type(SHAPES[it]).size(44)()]));
 
+/** The path of a majority's dot. */
+export function markPath(majority: Majority): string {
+  return PATHS.get(majority) ?? "";
+}
+
 /** A drawing: its root, and the height that is used so far. */
 export interface Frame {
   readonly root: Selection;

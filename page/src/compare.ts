@@ -209,15 +209,16 @@ export function measureWords(measure: Measure): string {
 /** The sentence on the greatest gain and the greatest loss at a majority. */
 function gainSentence(rows: readonly ChairRow[], view: View, majority: Majority): Said {
   const [best, worst] = [extreme(rows, view, majority, 1), extreme(rows, view, majority, -1)];
-  const said = (found: typeof best, verb: string, none: string) => {
+  const measured = view.measure === "share" ? "power" : measureWords(view.measure);
+  const said = (found: typeof best, verb: string, none: string, what: string) => {
     if (!found) return none;
     const [chairs, each] = found.isOne ? ["chair", ""] : ["chairs", " each"];
-    return `${chairs} ${found.who} ${found.isOne ? `${verb}s` : verb} most (${found.gain}${each})`;
+    return `${chairs} ${found.who} ${found.isOne ? `${verb}s` : verb} most${what} (${found.gain}${each})`;
   };
-  const gains = said(best, "gain", "no chair gains");
-  const loses = said(worst, "lose", "no chair loses");
+  const gains = said(best, "gain", `no chair gains ${measured}`, ` ${measured}`);
+  const loses = said(worst, "lose", "no chair loses", best ? "" : ` ${measured}`);
   const source = [best, worst].flatMap((it) => (it ? [it.source] : [])).join("; ");
-  const about = `${MAJORITY[majority].at}, by ${measureWords(view.measure)}`;
+  const about = MAJORITY[majority].at;
   return { words: `${about}, ${gains}, ${loses}.${openedWords(rows, view, majority)}`, source };
 }
 
@@ -247,12 +248,13 @@ function mostSentence(rows: readonly ChairRow[], view: View, majority: Majority)
   if (!found || !first) return { words: `${MAJORITY[majority].at} no chair has any power.`, source: "" };
   const votes = others.length || !first.votesAfter
     ? ""
-    : `, with ${percent(first.votesAfter, view.digits)} % of the votes cast`;
+    : ` with ${percent(first.votesAfter, view.digits)} % of the votes`;
   const most = valueText(found.most, view.measure, view.digits);
   const who = chairsWords(found.chairs);
-  const has = others.length === 0 ? `chair ${who} has the greatest` : `chairs ${who} have the greatest, each the same`;
+  const what = view.measure === "share" ? "the largest share of power" : `the greatest ${measureWords(view.measure)}`;
+  const has = others.length === 0 ? `chair ${who} has ${what}` : `chairs ${who} have ${what}, each the same`;
   return {
-    words: `${MAJORITY[majority].at}, by ${measureWords(view.measure)}, ${has}: ${most}${votes}.`,
+    words: `${MAJORITY[majority].at}, ${has}: ${most}${votes}.`,
     source: `counted: ${fractionText(found.most)}; votes, made here: ${fractionText(first.votesAfter)}`,
   };
 }

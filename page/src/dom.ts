@@ -32,6 +32,21 @@ export function h<Name extends keyof HTMLElementTagNameMap>(
   return element;
 }
 
+const SVG = "http://www.w3.org/2000/svg";
+
+/** An element of a drawing. */
+export function svg(name: string, attributes: Attributes = {}, ...children: Child[]): SVGElement {
+  const element = document.createElementNS(SVG, name);
+  add(element, children);
+  for (const [key, value] of Object.entries(attributes)) setAttribute(element, key, value);
+  return element;
+}
+
+/** An icon of 16 by 16, drawn as lines. */
+export function icon(path: string): SVGElement {
+  return svg("svg", { class: "icon", viewBox: "0 0 16 16", "aria-hidden": "true" }, svg("path", { d: path }));
+}
+
 /** Replaces the children of a place. The element that had the focus has it again, found by its id. */
 export function paint(place: Element, ...children: Child[]): void {
   const { activeElement } = document;

@@ -19,6 +19,7 @@ import { openGroup } from "./views/operations";
 import { paintChairs } from "./views/chairs";
 import { openRecount } from "./views/recount";
 import { orRefuse } from "./views/refusal";
+import { hideTip } from "./views/tip";
 import { openPaste } from "./views/tableDialog";
 import { listenPublished } from "./views/top";
 
@@ -95,6 +96,24 @@ function buttons(app: App): void {
   onClick("redo", () => app.redo());
   onClick("admit-open", () => openAdmit(app));
   onClick("group-open", () => openGroup(app));
+  onClick("welcome-close", () => {
+    app.open.isWelcomed = true;
+    byId("welcome").hidden = true;
+    byId("paste").focus();
+  });
+  // The menu Display closes at a click elsewhere and by Escape.
+  const display = () => document.querySelector<HTMLDetailsElement>("#display[open]");
+  document.addEventListener("pointerdown", (event) => {
+    const open = display();
+    if (open && !open.contains(event.target as Node)) open.open = false;
+  });
+  document.addEventListener("keydown", (event) => {
+    const open = display();
+    if (event.key !== "Escape" || !open) return;
+    open.open = false;
+    open.querySelector("summary")?.focus();
+  });
+  addEventListener("scroll", hideTip, { passive: true });
   onClick("clear-changes", () => app.take(withChanges(app.study, [])));
 }
 

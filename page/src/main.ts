@@ -22,7 +22,7 @@ async function example(counter: Counter): Promise<StudyData> {
   const { base: table } = readTable(sheet, guessedLayout(sheet), NO_ANSWERS);
   if (!table) throw new Error("the example isn't whole");
   const base = await baseOf(counter, { ...table, choices: [] }, await hashOf(exampleText));
-  return { study: studyOf("Example: invented votes", base), view: FIRST_VIEW };
+  return { study: studyOf("Example with invented votes", base), view: FIRST_VIEW };
 }
 
 async function begin(): Promise<void> {
@@ -33,6 +33,7 @@ async function begin(): Promise<void> {
   const counter = new Counter(boards);
   const { study, view } = held ?? (await example(counter));
   const app = new App(study, view, counter, hash === MODULE_HASH || hash === NO_HASH, paintPage);
+  if (!held) app.example = study.base.script;
   app.repaintWaiting = () => paintWaiting(app);
   listen(app);
   await app.count();

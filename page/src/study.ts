@@ -145,9 +145,9 @@ export interface View {
 export const FIRST_VIEW: View = {
   majorities: ["half", "85"],
   measure: "share",
-  order: "number",
-  orderAt: "85",
-  digits: 3,
+  order: "votes",
+  orderAt: "half",
+  digits: 2,
   fractions: false,
   tab: "power",
   columns: "changed",

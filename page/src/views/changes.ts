@@ -143,12 +143,12 @@ function slider(app: App, id: number): Item | null {
 /** The buttons of an item: their words and elements. */
 function actsOf(app: App, id: number, at: number, many: number): readonly (readonly [string, HTMLElement])[] {
   const remove = () => set(app, app.study.changes.filter((it) => it.id !== id));
-  const up = { id: `up-${id}`, title: "Move up", disabled: at === 0 };
-  const down = { id: `down-${id}`, title: "Move down", disabled: at === many - 1 };
+  const up = { id: `up-${id}`, class: "quiet", title: "Move up", disabled: at === 0 };
+  const down = { id: `down-${id}`, class: "quiet", title: "Move down", disabled: at === many - 1 };
   return [
     ["Move up", button("↑", () => moved(app, id, -1), up)],
     ["Move down", button("↓", () => moved(app, id, 1), down)],
-    ["Remove", button("✕", remove, { id: `remove-${id}`, title: "Remove" })],
+    ["Remove", button("✕", remove, { id: `remove-${id}`, class: "quiet", title: "Remove" })],
   ];
 }
 
@@ -161,10 +161,12 @@ function itemOf(app: App, change: Change, at: number, many: number): Item {
   const acts = actsOf(app, id, at, many);
   const moving = slider(app, id);
   const element = h("li", { class: "change", "data-id": id },
-    h("label", { class: "change-words" }, tick, words),
+    h("div", { class: "change-head" },
+      h("label", { class: "change-words" }, tick, words),
+      h("span", { class: "change-buttons" }, acts.map(([, it]) => it)),
+    ),
     refusal,
     moving?.element ?? null,
-    h("span", { class: "change-buttons" }, acts.map(([, it]) => it)),
   );
   const update = () => {
     const { shown } = app;
@@ -205,7 +207,9 @@ export function paintChanges(app: App): void {
   }
   for (const item of items) item.update();
   byId("no-changes").hidden = changes.length > 0;
+  byId("changes-title").textContent = changes.length ? `Changes (${changes.length})` : "Changes";
   setDisabled(byId("clear-changes"), changes.length === 0, byId("changes-title"));
+  byId("clear-changes").hidden = changes.length === 0;
   const choices = byId("choices");
   paint(choices, base.choices.map((it) => h("li", {}, it)));
   // It can be scrolled by keyboard.

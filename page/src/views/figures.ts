@@ -3,21 +3,23 @@ import type { App } from "../app";
 import type { Look } from "../charts";
 import { columnsOf, hasGains, type Columns } from "../columns";
 import { chairRows } from "../compare";
-import { byId, choice, h, paint } from "../dom";
+import { byId, choice, h, paint, type Child } from "../dom";
 import { grouped } from "../fractions";
 import { powerModel, screenLook } from "../look";
 import { drawGains } from "../gainChart";
 import { drawPower, type PowerModel } from "../powerChart";
-import { chairTable, rowWords } from "./chairTable";
-import { chartPlace, readout, tableBehind } from "./chartParts";
+import { chairTable } from "./chairTable";
+import { chartPlace, tableBehind } from "./chartParts";
+import { paintChairs } from "./chairs";
 import { paintCoalition } from "./coalition";
 import { paintCurve } from "./curve";
+import { markOf, SHORT } from "./rows";
 import { paintSentences } from "./sentences";
 import { MOST_STEPS } from "../steps";
 import {
   AGAINST, COLUMNS, ORDERS, TABS, type Against, type ColumnsShown, type Order, type Tab,
 } from "../study";
-import { MAJORITIES, MAJORITY, measureTitle, MEASURES, type Majority, type Measure } from "../words";
+import { MAJORITIES, MAJORITY, MEASURE, measureTitle, MEASURES, type Majority, type Measure } from "../words";
 
 const ORDER_WORDS: Readonly<Record<Order, string>> = {
   number: "number",
@@ -36,6 +38,7 @@ const AGAINST_WORDS: Readonly<Record<Against, string>> = { base: "the base", bef
 /** Paints figures for paper, or for the screen again. */
 export function paintForPaper(app: App, isPaper: boolean): void {
   app.open.isPrinting = isPaper;
+  paintChairs(app);
   paintFigures(app);
 }
 
@@ -46,44 +49,56 @@ function tickMajority(app: App, majority: Majority, isOn: boolean): void {
   app.look({ majorities, orderAt });
 }
 
+/** The majorities as buttons that are pressed or not. */
+function majorityButtons(app: App): HTMLElement {
+  const { view } = app;
+  const buttons = MAJORITIES.map((majority) => {
+    const isOn = view.majorities.includes(majority);
+    const words = [markOf(majority), h("span", { class: "long" }, LABEL[majority]),
+      majority === "half" ? h("span", { class: "short-word" }, SHORT[majority]) : null];
+    return h("button", {
+      type: "button", id: `at-${majority}`, "aria-pressed": String(isOn), "aria-label": MAJORITY[majority].label,
+      title: `${MAJORITY[majority].label}: ${MAJORITY[majority].rule}`, onclick: () => tickMajority(app, majority, !isOn),
+    }, words);
+  });
+  return h("span", { class: "segments", role: "group", "aria-label": "Majorities" }, buttons);
+}
+
+const LABEL: Readonly<Record<Majority, string>> = {
+  half: "Simple majority", "70": "70\u00a0%", "85": "85\u00a0%", quorum: "Quorum",
+};
+
 function paintChoices(app: App): void {
   const { view } = app;
-  const boxes = MAJORITIES.map((majority) => {
-    const box: HTMLInputElement = h("input", {
-      type: "checkbox",
-      id: `at-${majority}`,
-      checked: view.majorities.includes(majority),
-      onchange: () => tickMajority(app, majority, box.checked),
-    });
-    return h("label", { title: MAJORITY[majority].rule }, box, MAJORITY[majority].label);
-  });
-  const measures = MEASURES.map((it): [string, string] => [it, measureTitle(it)]);
+  const measures = MEASURES.map((it): [string, string] => [it, MEASURE[it].label]);
   const orders = ORDERS.map((it): [string, string] => [it, ORDER_WORDS[it]]);
   const ats = view.majorities.map((it): [string, string] => [it, MAJORITY[it].label]);
   const digits = [0, 1, 2, 3, 4, 6, 8, 10].map((it): [string, string] => [String(it), String(it)]);
-  paint(
-    byId("choose"),
-    h("fieldset", { class: "boxes" }, h("legend", {}, "Majorities"), boxes),
-    choice("measure", "Measure", measures, view.measure, (it) => app.look({ measure: it as Measure })),
-    h("span", { class: "pair" },
+  const measure = choice("measure", "Measure", measures, view.measure, (it) => app.look({ measure: it as Measure }));
+  measure.title = measureTitle(view.measure);
+  const isOpen = document.querySelector<HTMLDetailsElement>("#display")?.open ?? false;
+  const display = h("details", { id: "display", class: "menu", open: isOpen },
+    h("summary", {}, "Display"),
+    h("div", { class: "menu-body" },
       choice("order", "Order by", orders, view.order, (it) => app.look({ order: it as Order })),
       choice("order-at", "at", ats, view.orderAt, (it) => app.look({ orderAt: it as Majority })),
+      choice("digits", "Digits", digits, String(view.digits), (it) => app.look({ digits: Number(it) })),
+      columnChoices(app),
     ),
-    choice("digits", "Digits", digits, String(view.digits), (it) => app.look({ digits: Number(it) })),
-    columnChoices(app),
   );
+  paint(byId("choose"), measure, majorityButtons(app), display);
 }
 
 /** The choices of columns. */
-function columnChoices(app: App): HTMLElement {
+function columnChoices(app: App): Child {
   const { view } = app;
   const columns = COLUMNS.map((it): [string, string] => [it, COLUMN_WORDS[it]]);
   const against = AGAINST.map((it): [string, string] => [it, AGAINST_WORDS[it]]);
   const isOne = view.columns === "changed";
-  return h("span", { class: "pair" },
+  return [
     choice("columns", "Columns", columns, view.columns, (it) => app.look({ columns: it as ColumnsShown })),
     isOne ? null : choice("against", "less", against, view.against, (it) => app.look({ against: it as Against })),
-  );
+  ];
 }
 
 /** Why a view has no columns of its own now, or which are missing. */
@@ -109,7 +124,7 @@ function paintTabs(app: App): void {
       byId(`tab-${next}`).focus();
     };
     return h("button", {
-      type: "button", role: "tab", id: `tab-${tab}`, "aria-selected": String(isOn), "aria-controls": "panel",
+      type: "button", role: "tab", id: `tab-${tab}`, "aria-selected": String(isOn), "aria-controls": tab === "power" || tab === "change" ? "chairs" : "panel",
       tabindex: isOn ? 0 : -1, onclick: () => app.look({ tab }), onkeydown: keys,
     }, TAB[tab].words);
   });
@@ -119,24 +134,19 @@ function paintTabs(app: App): void {
 
 type Draw = (place: Element, model: PowerModel, look: Look) => void;
 
-/** Paints a chart of the chairs, the readout, and the table of the chart, which is made once it is opened. */
+/** Paints what is under the list of chairs: its table once it is opened; on paper the chart instead of the list. */
 function paintChart(app: App, columns: Columns, draw: Draw): void {
+  const table = () => chairTable(app, columns);
+  if (!app.open.isPrinting) return paint(byId("panel"), tableBehind(app, table));
   const model = powerModel(app, columns);
-  const chart = chartPlace("Chart of the chairs; arrow keys go through its rows");
-  const box = readout(chart, {
-    attribute: "data-chair",
-    keys: columns.lines.map((it) => String(it.chair)),
-    first: "Point at a row, or use the arrow keys: its exact fractions appear here.",
-    words: (at) => columns.lines.slice(at, at + 1).map((it) => rowWords(it, columns, app.view)),
-  });
-  paint(byId("panel"), box, chart, tableBehind(app, () => chairTable(app, columns)));
+  const chart = chartPlace("Chart of the chairs");
+  paint(byId("panel"), chart, table());
   if (model.majorities.length) draw(chart, model, screenLook(app, chart));
-  else chart.remove();
 }
 
 function paintGains(app: App, columns: Columns): void {
-  if (app.shown && hasGains(app, app.shown)) paintChart(app, columns, drawGains);
-  else paint(byId("panel"), h("p", {}, "No change was carried out yet: changed and base are the same."));
+  if (app.shown && hasGains(app, app.shown)) return paintChart(app, columns, drawGains);
+  paint(byId("panel"), h("p", { class: "note" }, "No change was carried out yet: changed and base are the same."));
 }
 
 /** The tabs: their words, and what they show. */
@@ -148,11 +158,16 @@ const TAB: Readonly<Record<Tab, { words: string; draw(app: App, columns: Columns
   coalition: { words: "Coalition", draw: paintCoalition },
 };
 
+let painted: unknown = null;
+
 export function paintFigures(app: App): void {
   const { shown, view } = app;
   if (!shown) return;
-  paintChoices(app);
-  paintTabs(app);
+  if (view !== painted) {
+    paintChoices(app);
+    paintTabs(app);
+  }
+  painted = view;
   const rows = chairRows(shown.counted, view);
   paintSentences(app, rows);
   const columns = columnsOf(app, shown);

@@ -98,5 +98,7 @@ export function paintScenarios(app: App): void {
       scenarios.map((it) => h("tbody", {}, rows(app, it))),
     ),
   );
-  paint(byId("scenarios-place"), h("h2", {}, "Scenarios"), form(app), scenarios.length ? table : null);
+  const isEmpty = !scenarios.length && !app.study.changes.length;
+  const note = h("p", { class: "note" }, "Give a list of changes a name, to compare several.");
+  paint(byId("scenarios-place"), h("h2", {}, "Scenarios"), isEmpty ? note : form(app), scenarios.length ? table : null);
 }

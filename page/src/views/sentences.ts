@@ -2,9 +2,13 @@
 import type { App, Shown } from "../app";
 import { copy } from "../clipboard";
 import { sentences, type ChairRow, type Said } from "../compare";
-import { button, byId, h, paint, type Child } from "../dom";
+import { button, byId, h, icon, paint, type Child } from "../dom";
 import { provenanceOf, studySource } from "../provenance";
 import { MAJORITY } from "../words";
+import { markOf } from "./rows";
+
+const COPY = "M5.500 5.500h8v8h-8zM10.500 5.500v-3h-8v8h3";
+const DONE = "M3 8.500 6.500 12 13 4.500";
 
 /** How long a button says that it has copied, in milliseconds. */
 const SAID = 2500;
@@ -26,16 +30,18 @@ function copier(
   words: string,
   name: string,
   say: (words: string) => void,
+  isIcon: boolean,
 ): HTMLElement {
   const { shown } = app;
   const done = () => {
-    made.textContent = "Copied";
-    setTimeout(() => (made.textContent = words), SAID);
+    made.classList.add("done");
+    setTimeout(() => made.classList.remove("done"), SAID);
     say(`${name.replace(/^Copy the/, "The")} ${said.length > 1 ? "are" : "is"} on the clipboard.`);
   };
   const failed = (why: unknown) => say(why instanceof Error ? why.message : String(why));
   const act = () => void (shown && copy(withSource(app, shown, said)).then(done, failed));
-  const made = button(words, act, { id, "aria-label": name });
+  const made = button(isIcon ? "" : words, act, { id, "aria-label": name, title: name, class: "quiet copier" });
+  made.prepend(icon(COPY), icon(DONE));
   return made;
 }
 
@@ -54,16 +60,21 @@ export function sentenceList(
   const items = all.map((it, at) => {
     const majority = view.majorities[at] ?? "half";
     const name = `Copy the sentence ${MAJORITY[majority].at.replace(/^./, (letter) => letter.toLowerCase())}`;
-    const made = copier(app, [it], `${id}-${majority}`, "Copy", name, say);
-    return h("div", { class: "said" }, h("p", { title: it.source }, it.words), quiet(made));
+    const made = copier(app, [it], `${id}-${majority}`, "Copy", name, say, true);
+    const last = all.length > 1 && at === all.length - 1
+      ? h("span", { class: "all", "aria-live": "off" },
+        copier(app, all, `${id}-all`, "all", "Copy all sentences", say, false)) : null;
+    return h("div", { class: "said" }, markOf(majority), h("p", { title: it.source }, it.words), quiet(made), last);
   });
-  const last = all.length > 1
-    ? quiet(copier(app, all, `${id}-all`, "Copy all", "Copy all sentences", say))
-    : null;
-  return [items, last];
+  return items;
 }
 
 /** Paints the sentences above the tabs. */
+let said = "";
+
 export function paintSentences(app: App, rows: readonly ChairRow[]): void {
+  const now = app.shown ? JSON.stringify(sentences(rows, app.shown.counted, app.view)) : "";
+  if (now === said) return;
+  said = now;
   paint(byId("sentences"), sentenceList(app, rows, "copy", (words) => (byId("live").textContent = words)));
 }
