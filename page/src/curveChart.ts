@@ -3,7 +3,7 @@ import { axisBottom, axisLeft, axisRight } from "d3-axis";
 import { scaleLinear, type Linear } from "d3-scale";
 import type { Selection } from "d3-selection";
 import {
-  caption, captionBlock, dot, ended, framed, majorityItems, onAxis, tinted, type LegendItem, type Look,
+  axisText, caption, captionBlock, dot, ended, framed, majorityItems, onAxis, tinted, type LegendItem, type Look,
 } from "./charts";
 import type { Ratio } from "./fractions";
 import { chairIn, measureOf, voteShare, type Readings } from "./reading";
@@ -115,10 +115,10 @@ function drawAxes(
   const ends: [number, number] = [Math.max(0, Math.min(...all) - room), Math.min(most, Math.max(...all) + room)];
   const y = scaleLinear().domain(ends).range([bottom, top]).nice(6);
   const across = root.append("g").attr("transform", `translate(${left},0)`);
-  across.call(axisLeft(y).ticks(6).tickSizeInner(-(right - left)).tickSizeOuter(0));
+  across.call(axisLeft(y).ticks(6).tickFormat(axisText).tickSizeInner(-(right - left)).tickSizeOuter(0));
   tinted(across, look.palette);
   const along = root.append("g").attr("transform", `translate(0,${bottom})`);
-  along.call(axisBottom(x).ticks(look.width < 480 ? 4 : 8).tickSizeOuter(0));
+  along.call(axisBottom(x).ticks(look.width < 480 ? 4 : 8).tickFormat(axisText).tickSizeOuter(0));
   tinted(along, look.palette);
   const words = measure === "share" ? "share of power, per cent" : MEASURE[measure].label;
   const [from] = y.domain();

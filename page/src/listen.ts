@@ -12,11 +12,10 @@ import { hasMergedCells } from "./tables/html";
 import { withChanges } from "./study";
 import { openBest } from "./views/best";
 import { openExports, saveStudy } from "./views/exportDialog";
-import { paintForPaper } from "./views/figures";
 import { openSeal } from "./views/foot";
 import { openAdmit } from "./views/member";
 import { openGroup } from "./views/operations";
-import { paintChairs } from "./views/chairs";
+import { listenChairs, paintChairs } from "./views/chairs";
 import { openRecount } from "./views/recount";
 import { orRefuse } from "./views/refusal";
 import { hideTip } from "./views/tip";
@@ -71,6 +70,12 @@ function guardLeaving(app: App): void {
   });
 }
 
+/** Shows what fails and is caught nowhere else. */
+function reportFailures(app: App): void {
+  addEventListener("unhandledrejection", ({ reason }) => app.report(reason));
+  addEventListener("error", ({ error, message }) => app.report(error ?? message));
+}
+
 /** Paints again when the window, the paper or the colours are others. */
 function watchScreen(app: App): void {
   let width = innerWidth;
@@ -78,11 +83,15 @@ function watchScreen(app: App): void {
     if (width !== innerWidth) app.repaint();
     width = innerWidth;
   });
+  const paintFor = (isPaper: boolean) => {
+    app.open.isPrinting = isPaper;
+    app.repaint();
+  };
   addEventListener("beforeprint", () => {
-    paintForPaper(app, true);
+    paintFor(true);
     fitTables();
   });
-  addEventListener("afterprint", () => paintForPaper(app, false));
+  addEventListener("afterprint", () => paintFor(false));
   matchMedia("(prefers-color-scheme: dark)").addEventListener("change", () => app.repaint());
 }
 
@@ -98,7 +107,7 @@ function buttons(app: App): void {
   onClick("group-open", () => openGroup(app));
   onClick("welcome-close", () => {
     app.open.isWelcomed = true;
-    byId("welcome").hidden = true;
+    app.repaint();
     byId("paste").focus();
   });
   // The menu Display closes at a click elsewhere and by Escape.
@@ -127,10 +136,12 @@ export function listen(app: App): void {
     paintChairs(app);
   });
   listenPublished(app);
+  listenChairs(app);
   pointerDrag(app);
   keyboardDrag(app);
   keys(app);
   sheets();
   guardLeaving(app);
   watchScreen(app);
+  reportFailures(app);
 }

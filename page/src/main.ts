@@ -5,7 +5,7 @@ import { App } from "./app";
 import { boardsOver } from "./boards";
 import { Counter } from "./count";
 import { byId } from "./dom";
-import { hashOf, MODULE_HASH, moduleBytes, NO_HASH } from "./made";
+import { hashOf, MODULE_HASH, moduleBytes } from "./made";
 import { baseOf } from "./tables/base";
 import { guessedLayout } from "./tables/columns";
 import { readTable } from "./tables/read";
@@ -32,7 +32,7 @@ async function begin(): Promise<void> {
   const [boards, hash] = await Promise.all([boardsOver(bytes), hashOf(bytes)]);
   const counter = new Counter(boards);
   const { study, view } = held ?? (await example(counter));
-  const app = new App(study, view, counter, hash === MODULE_HASH || hash === NO_HASH, paintPage);
+  const app = new App(study, view, counter, hash === MODULE_HASH, paintPage);
   if (!held) app.example = study.base.script;
   app.repaintWaiting = () => paintWaiting(app);
   listen(app);

@@ -42,6 +42,12 @@ def things(heads: list[Cell], cells: list[Cell]) -> dict[str, list[Cell]]:
     return {it: of * 2 + [NOTHING] * (it != "Votes") if len(of) == 1 else of for it, of in found.items()}
 
 
+def table_rows(page: Page) -> dict[int, list[Cell]]:
+    """The table's cells by chair, in its own order: the name, and the numbers."""
+    _, lines = page.wait_for(TABLE)
+    return {chair: [(text, fraction) for text, fraction in cells] for chair, cells in lines}
+
+
 def rows(page: Page) -> dict[int, list[Cell]]:
     """The table's cells by chair: the text, and the exact fraction; first the name and the votes, then those of each
     majority. A chair that was closed and opened again has two rows, one with the cells of the base and one with those
@@ -95,6 +101,18 @@ def gains(oracle: Oracle, commands: list[str], majority: str) -> dict[int, Fract
     before, after = (oracle.output(it, [majority]).readings[0].chairs for it in (list[str](), commands))
     shares = [{it.chair: exact(it.share) for it in chairs if it.share} for chairs in (before, after)]
     return {chair: share - shares[0][chair] for chair, share in shares[1].items()}
+
+
+def drawn_chairs(page: Page) -> list[int]:
+    """The chairs of the list, from top to bottom: those that are open now."""
+    places = page.run("return [...document.querySelectorAll('#cards .card:has(.plot)')].map((it) => it.dataset.place);")
+    return [int(it) for it in places if not it.startswith("closed")]
+
+
+def open_chair(page: Page, chair: int) -> None:
+    """Opens a chair's row."""
+    if page.at(f"#card-{chair}").get_attribute("aria-expanded") == "false":
+        page.click(f"#card-{chair}")
 
 
 def open_menu(page: Page, code: str) -> None:

@@ -14,7 +14,7 @@ from chromium import Page
 from figures import check_figures
 from oracle import TOP, Oracle
 
-MOST_BYTES = 900 * 1024
+MOST_BYTES = 1024 * 1024
 BUILT = TOP / "page" / "out" / "board.html"
 COMMITTED = TOP / "board.html"
 COMMIT = re.compile(r'<meta name="generator" content="board \S+, commit ([^"]*)">')

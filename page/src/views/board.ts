@@ -1,7 +1,8 @@
 /** The figures of the readings for the board as a whole. */
 import type { App } from "../app";
-import { byId, h, paint } from "../dom";
-import { fractionText, grouped, nearest, percent } from "../fractions";
+import { byId, h } from "../dom";
+import { fractionText, grouped, nearest, over, percent } from "../fractions";
+import { patch } from "../patch";
 import type { Reading, Readings } from "../reading";
 import { MAJORITY } from "../words";
 import { markOf, SHORT } from "./rows";
@@ -38,7 +39,8 @@ function actText({ act }: Reading, digits: number): string {
 /** A small chance as one in so many. */
 function oneIn({ act }: Reading): string {
   if (!act || act.numerator === 0n || act.numerator * 10n > act.denominator) return "";
-  return `1 in ${grouped(nearest({ numerator: act.denominator, denominator: act.numerator }))}`;
+  const many = over(act.denominator, act.numerator);
+  return many ? `1 in ${grouped(nearest(many))}` : "";
 }
 
 /** A cell: what is now, and under it what was in the base, if that is different. */
@@ -90,8 +92,6 @@ const WORDS = [
 export function paintBoard(app: App): void {
   if (!app.shown) return;
   const { before, after } = app.shown.counted;
-  const place = byId("board");
-  const isOpen = place.querySelector("details")?.open ?? false;
-  paint(place, table(before, after, app.view.digits),
-    h("details", { open: isOpen }, h("summary", {}, "What these are"), WORDS.map((it) => h("p", { class: "note" }, it))));
+  patch(byId("board"), table(before, after, app.view.digits),
+    h("details", {}, h("summary", {}, "What these are"), WORDS.map((it) => h("p", { class: "note" }, it))));
 }

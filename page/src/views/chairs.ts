@@ -1,6 +1,6 @@
 /** The list of chairs, each with its marks and numbers; open, it shows its members as chips that can be dragged. */
 import type { App, Shown } from "../app";
-import { button, byId, h, paint, type Child } from "../dom";
+import { button, byId, h, type Child } from "../dom";
 import { keepFocus } from "../focus";
 import { counted, grouped } from "../fractions";
 import type { Line } from "../columns";
@@ -8,14 +8,15 @@ import { memberWords } from "../commandWords";
 import { chairKey, closedChair, type Place } from "../standing";
 import { namesChair, namesMember } from "../filter";
 import type { CardPlace } from "../moves";
-import { withAdded, type View } from "../study";
+import { patch } from "../patch";
+import { withAdded, type Tab } from "../study";
 import { KIND_WORDS, rowWords } from "./chairTable";
 import { openChairName } from "./chairName";
 import { openMember } from "./member";
 import { operationButtons } from "./operations";
 import { gridOf, headOf, lineWords, listOf, numbersOf, plotOf, tipOf, votesOf, widthsOf, type List } from "./rows";
 import { openThresholds } from "./thresholds";
-import { hideTip, isTipShown, placeTip, showTip } from "./tip";
+import { hideTip, showTip } from "./tip";
 
 function chip(app: App, place: Place): HTMLElement {
   const words = memberWords(place.code, place.name);
@@ -31,7 +32,7 @@ function chip(app: App, place: Place): HTMLElement {
       "aria-label": `${words}, ${votes} votes${state}`,
       "aria-haspopup": "dialog",
       "aria-describedby": "chip-help",
-      onclick: () => openMember(app, place.code),
+      "aria-pressed": app.open.carried?.code === place.code ? "true" : null,
     },
     h("span", {}, place.name ? [`${place.code} `, h("bdi", {}, place.name)] : place.code),
     h("span", { class: "number" }, place.suspended ? `(${votes})` : votes),
@@ -79,26 +80,59 @@ function isHit({ found, isNamed }: Found): boolean {
   return isNamed || found.length > 0;
 }
 
-/** Shows the numbers of a line beside the pointer, or beside its row where the keyboard is. */
-function withTip(head: HTMLElement, line: Line, list: List): void {
-  head.addEventListener("pointermove", (event) => {
-    if (event.pointerType === "touch" || document.body.classList.contains("dragging")) return hideTip();
-    if (shownKey === line.key && isTipShown()) placeTip(event.clientX, event.clientY);
-    else showTip(tipOf(line, list), event.clientX, event.clientY);
-    shownKey = line.key;
-  });
-  head.addEventListener("pointerleave", hideTip);
-  head.addEventListener("blur", hideTip);
-  head.addEventListener("keydown", (event) => event.key === "Escape" && hideTip());
-  head.addEventListener("focus", () => {
-    if (!head.matches(":focus-visible")) return;
-    const { left, width, bottom } = head.getBoundingClientRect();
-    shownKey = line.key;
-    showTip(tipOf(line, list), left + width * 0.62, bottom - 12);
-  });
+/** The place of the row of a line: its chair's number, or its key if its chair is closed. */
+function placeOf({ counted }: Shown, { chair, key, kind }: Line): CardPlace {
+  return kind === "closed" || !counted.standing.open().includes(chair) ? `closed ${key}` : String(chair);
 }
 
-let shownKey = "";
+/** Shows the numbers of a row beside a point of the window. */
+function tipAt(app: App, head: HTMLElement, x: number, y: number): void {
+  const { shown } = app;
+  const place = head.parentElement?.dataset["place"];
+  const list = shown && listOf(app, shown);
+  const line = list?.columns.lines.find((it) => placeOf(shown as Shown, it) === place);
+  if (list && line) showTip(`chair ${place}`, () => tipOf(line, list), x, y);
+  else hideTip();
+}
+
+/** Shows the numbers of the row under the pointer, or of the row where the keyboard is. */
+function listenTip(app: App, list: HTMLElement): void {
+  const headOf = (event: Event) => (event.target as Element).closest<HTMLElement>(".card-head");
+  list.addEventListener("pointermove", (event) => {
+    const head = headOf(event);
+    const isHidden = event.pointerType === "touch" || document.body.classList.contains("dragging");
+    if (!head || isHidden) hideTip();
+    else tipAt(app, head, event.clientX, event.clientY);
+  });
+  list.addEventListener("focusin", (event) => {
+    const head = headOf(event);
+    if (!head?.matches(":focus-visible")) return;
+    const { left, width, bottom } = head.getBoundingClientRect();
+    tipAt(app, head, left + width * 0.62, bottom - 12);
+  });
+  for (const kind of ["pointerleave", "focusout"]) list.addEventListener(kind, hideTip);
+  list.addEventListener("keydown", (event) => event.key === "Escape" && hideTip());
+}
+
+/** Opens a row, or closes it. */
+function toggle(app: App, place: CardPlace): void {
+  const { cards } = app.open;
+  if (!cards.delete(place)) cards.add(place);
+  hideTip();
+  paintChairs(app);
+}
+
+/** Listens to the rows: a click opens one, or the menu of a member. */
+export function listenChairs(app: App): void {
+  const list = byId("cards");
+  listenTip(app, list);
+  list.addEventListener("click", (event) => {
+    const found = (event.target as Element).closest<HTMLElement>(".chip, button.card-head");
+    const { code } = found?.dataset ?? {};
+    if (code) openMember(app, code);
+    else if (found) toggle(app, found.parentElement?.dataset["place"] ?? "");
+  });
+}
 
 /** The head of a card: a button that opens it, or a line while a filter decides what is open. */
 function headElement(app: App, card: Card, isOpen: boolean, list: List): HTMLElement {
@@ -108,36 +142,29 @@ function headElement(app: App, card: Card, isOpen: boolean, list: List): HTMLEle
     line ? [votesOf(line, list), plotOf(line, list), numbersOf(line, list)] : h("span", { class: "rest" }, card.words),
   ];
   const attributes = { id: `card-${card.place}`, class: "card-head row" };
-  const toggle = () => {
-    if (isOpen) app.open.cards.delete(card.place);
-    else app.open.cards.add(card.place);
-    hideTip();
-    paintChairs(app);
-  };
-  const isFixed = isFiltered(app) || (card.members.length === 0 && (card.tail === null || card.line === null));
-  const head = isFixed ? h("div", attributes, parts) : h("button", {
-    type: "button", ...attributes, "aria-expanded": String(isOpen), onclick: toggle,
-    ...(line ? { "aria-label": lineWords(line, list) } : {}),
-  }, parts);
-  if (line) withTip(head, line, list);
-  return head;
+  if (isFiltered(app) || (card.members.length === 0 && (card.tail === null || card.line === null))) {
+    return h("div", attributes, parts);
+  }
+  const name = line ? lineWords(line, list) : null;
+  return h("button", { type: "button", ...attributes, "aria-expanded": String(isOpen), "aria-label": name }, parts);
 }
 
 /** The exact fractions of an open chair, on request. */
 function fractions(line: Line, { columns, view }: List): HTMLElement {
   return h("details", { class: "fractions" },
-    h("summary", {}, "Exact fractions"), rowWords(line, columns, view).slice(1));
+    h("summary", {}, "Exact fractions"), h("ul", {}, rowWords(line, columns, view)));
 }
 
 function cardElement(app: App, card: Found, list: List): HTMLElement {
   const isLine = isFiltered(app) && !isHit(card);
   const isEmpty = card.members.length === 0 && card.line === null;
   const isAsked = app.open.cards.has(card.place) && (card.found.length > 0 || card.members.length === 0);
-  const isOpen = !isEmpty && (isAsked || (isFiltered(app) && card.found.length > 0));
+  const isOpen = !isEmpty && (isAsked || (isFiltered(app) && isHit(card)));
   const hasTail = card.tail !== null && (isOpen || (isEmpty && !isLine));
+  const aimed = app.open.carried?.place === card.place ? " aimed" : "";
   return h(
     "li",
-    { class: isLine ? "card line" : "card", "data-place": card.place },
+    { class: `card${isLine ? " line" : ""}${aimed}`, "data-place": card.place, "data-key": card.place },
     headElement(app, card, isOpen, list),
     (isOpen || hasTail) && h("div", { class: "inside" },
       isOpen && h("ul", { class: "chips" }, card.found.map((it) => h("li", {}, chip(app, it)))),
@@ -160,12 +187,13 @@ function chairButtons(app: App, chair: number, isEmpty: boolean): Child {
   ];
 }
 
-function chairCard(app: App, { counted }: Shown, line: Line): Card {
+function chairCard(app: App, shown: Shown, line: Line): Card {
   const { chair, name, kind } = line;
-  const isClosed = kind === "closed" || !counted.standing.open().includes(chair);
-  const members = isClosed ? [] : counted.standing.in(chair);
+  const place = placeOf(shown, line);
+  const isClosed = place !== String(chair);
+  const members = isClosed ? [] : shown.counted.standing.in(chair);
   return {
-    place: isClosed ? `closed ${line.key}` : String(chair),
+    place,
     title: [h("span", { class: "chair-number" }, String(chair)), " ", h("bdi", {}, name), KIND_WORDS[kind]],
     line,
     words: "",
@@ -196,7 +224,7 @@ function cardsOf(app: App, shown: Shown, { columns }: List): Card[] {
 }
 
 /** Whether the tab that is shown is the list of chairs. */
-export function isList({ tab }: View): boolean {
+export function isList(tab: Tab): boolean {
   return tab === "power" || tab === "change";
 }
 
@@ -204,7 +232,7 @@ export function isList({ tab }: View): boolean {
 export function paintChairs(app: App): void {
   if (!app.shown) return;
   const place = byId("chairs");
-  place.hidden = !isList(app.view) || app.open.isPrinting;
+  place.hidden = !isList(app.view.tab) || app.open.isPrinting;
   if (place.hidden) return;
   const shownList = listOf(app, app.shown);
   const [wide, narrow] = widthsOf(shownList);
@@ -212,13 +240,13 @@ export function paintChairs(app: App): void {
   place.style.setProperty("--narrow", narrow);
   place.dataset["columns"] = shownList.columns.isOne ? "one" : "many";
   place.dataset["changed"] = String(shownList.isChanged);
-  paint(byId("list-columns"), headOf(app, shownList));
-  paint(byId("grid"), gridOf(shownList));
+  patch(byId("list-columns"), headOf(app, shownList));
+  patch(byId("grid"), gridOf(shownList));
   const cards = cardsOf(app, app.shown, shownList).map((it) => withFound(app, it));
   const hits = cards.filter(isHit);
   const inOrder = isFiltered(app) ? [...hits, ...cards.filter((it) => !isHit(it))] : cards;
   const list = byId("cards");
-  keepFocus(list, () => byId("filter"), () => paint(list, inOrder.map((it) => cardElement(app, it, shownList))));
+  keepFocus(list, () => byId("filter"), () => patch(list, inOrder.map((it) => cardElement(app, it, shownList))));
   const isNone = isFiltered(app) && hits.length === 0;
   byId("filter-words").textContent = isNone ? "No member and no open chair has this code, name or number." : "";
 }

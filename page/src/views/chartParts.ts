@@ -1,7 +1,7 @@
 /** Parts of a chart on the page: its place, what is pointed at, and the table behind it. */
 import type { App } from "../app";
 import { h, type Child } from "../dom";
-import { hideTip, isTipShown, placeTip, showTip } from "./tip";
+import { hideTip, showTip } from "./tip";
 
 /** The place of a chart, which arrow keys go through. */
 export function chartPlace(name: string): HTMLElement {
@@ -32,9 +32,8 @@ export function pointAt(chart: HTMLElement, { attribute, keys, words }: Pointed)
     const group = (event.target as Element).closest(`[${attribute}]`);
     const next = keys.indexOf(group?.getAttribute(attribute) ?? "");
     if (next < 0) return hideTip();
-    if (next === at && isTipShown()) return placeTip(event.clientX, event.clientY);
-    mark(next);
-    showTip(words(at), event.clientX, event.clientY);
+    if (next !== at) mark(next);
+    showTip(`${attribute} ${keys[at]}`, () => words(at), event.clientX, event.clientY);
   };
   chart.addEventListener("pointermove", point);
   chart.addEventListener("click", point);
@@ -52,19 +51,19 @@ export function pointAt(chart: HTMLElement, { attribute, keys, words }: Pointed)
     mark(next);
     const { left, top } = chart.querySelector(`[${attribute}="${keys[at]}"]`)?.getBoundingClientRect() ??
       chart.getBoundingClientRect();
-    showTip(words(at), left + 40, top + 8);
+    showTip(`${attribute} ${keys[at]}`, () => words(at), left + 40, top + 8);
   });
 }
 
 /** The table of a chart, which is made once it is opened. */
 export function tableBehind(app: App, make: () => HTMLElement): HTMLElement {
-  const summary = h("summary", {}, "The table of this chart");
-  const box = h("details", { id: "behind", open: app.open.isTableOpen }, summary);
-  const fill = () => {
+  const { isTableOpen } = app.open;
+  const ontoggle = () => {
+    if (box.open === app.open.isTableOpen) return;
     app.open.isTableOpen = box.open;
-    if (box.open && box.childElementCount === 1) box.append(make());
+    app.repaint();
   };
-  fill();
-  box.addEventListener("toggle", fill);
+  const box: HTMLDetailsElement = h("details", { id: "behind", open: isTableOpen, live: true, ontoggle },
+    h("summary", {}, "The table of this chart"), isTableOpen && make());
   return box;
 }

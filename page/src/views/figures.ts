@@ -1,23 +1,22 @@
 /** The figures in the middle: the choices above them, the sentences, and the chart or table of the tab. */
 import type { App } from "../app";
 import type { Look } from "../charts";
+import { drawGains, drawPower, type ChairModel } from "../chairChart";
 import { columnsOf, hasGains, type Columns } from "../columns";
-import { chairRows } from "../compare";
 import { byId, choice, h, paint, type Child } from "../dom";
 import { grouped } from "../fractions";
-import { powerModel, screenLook } from "../look";
-import { drawGains } from "../gainChart";
-import { drawPower, type PowerModel } from "../powerChart";
+import { chairModel, screenLook } from "../look";
+import { patch } from "../patch";
 import { chairTable } from "./chairTable";
-import { chartPlace, tableBehind } from "./chartParts";
-import { paintChairs } from "./chairs";
+import { tableBehind } from "./chartParts";
+import { isList } from "./chairs";
 import { paintCoalition } from "./coalition";
 import { paintCurve } from "./curve";
 import { markOf, SHORT } from "./rows";
 import { paintSentences } from "./sentences";
 import { MOST_STEPS } from "../steps";
 import {
-  AGAINST, COLUMNS, ORDERS, TABS, type Against, type ColumnsShown, type Order, type Tab,
+  AGAINST, COLUMNS, ORDERS, TABS, THINGS, type Against, type ColumnsShown, type Order, type Tab, type Thing,
 } from "../study";
 import { MAJORITIES, MAJORITY, MEASURE, measureTitle, MEASURES, type Majority, type Measure } from "../words";
 
@@ -35,16 +34,11 @@ const COLUMN_WORDS: Readonly<Record<ColumnsShown, string>> = {
 };
 const AGAINST_WORDS: Readonly<Record<Against, string>> = { base: "the base", before: "the column before" };
 
-/** Paints figures for paper, or for the screen again. */
-export function paintForPaper(app: App, isPaper: boolean): void {
-  app.open.isPrinting = isPaper;
-  paintChairs(app);
-  paintFigures(app);
-}
-
-function tickMajority(app: App, majority: Majority, isOn: boolean): void {
-  const majorities = MAJORITIES.filter((it) => (it === majority ? isOn : app.view.majorities.includes(it)));
-  if (!majorities.length) return app.repaint();
+/** Shows a majority, or doesn't any more. The last one stays. */
+function switchMajority(app: App, majority: Majority): void {
+  const shown = app.view.majorities;
+  const majorities = MAJORITIES.filter((it) => (it === majority) !== shown.includes(it));
+  if (!majorities.length) return;
   const orderAt = majorities.includes(app.view.orderAt) ? app.view.orderAt : majorities[0] ?? "half";
   app.look({ majorities, orderAt });
 }
@@ -54,19 +48,15 @@ function majorityButtons(app: App): HTMLElement {
   const { view } = app;
   const buttons = MAJORITIES.map((majority) => {
     const isOn = view.majorities.includes(majority);
-    const words = [markOf(majority), h("span", { class: "long" }, LABEL[majority]),
-      majority === "half" ? h("span", { class: "short-word" }, SHORT[majority]) : null];
+    const words = [markOf(majority), SHORT[majority].replace(" %", "\u00a0%")];
     return h("button", {
       type: "button", id: `at-${majority}`, "aria-pressed": String(isOn), "aria-label": MAJORITY[majority].label,
-      title: `${MAJORITY[majority].label}: ${MAJORITY[majority].rule}`, onclick: () => tickMajority(app, majority, !isOn),
+      title: `${MAJORITY[majority].label}: ${MAJORITY[majority].rule}`, live: true,
+      onclick: () => switchMajority(app, majority),
     }, words);
   });
   return h("span", { class: "segments", role: "group", "aria-label": "Majorities" }, buttons);
 }
-
-const LABEL: Readonly<Record<Majority, string>> = {
-  half: "Simple majority", "70": "70\u00a0%", "85": "85\u00a0%", quorum: "Quorum",
-};
 
 function paintChoices(app: App): void {
   const { view } = app;
@@ -76,17 +66,35 @@ function paintChoices(app: App): void {
   const digits = [0, 1, 2, 3, 4, 6, 8, 10].map((it): [string, string] => [String(it), String(it)]);
   const measure = choice("measure", "Measure", measures, view.measure, (it) => app.look({ measure: it as Measure }));
   measure.title = measureTitle(view.measure);
-  const isOpen = document.querySelector<HTMLDetailsElement>("#display")?.open ?? false;
-  const display = h("details", { id: "display", class: "menu", open: isOpen },
+  const display = h("details", { id: "display", class: "menu" },
     h("summary", {}, "Display"),
     h("div", { class: "menu-body" },
       choice("order", "Order by", orders, view.order, (it) => app.look({ order: it as Order })),
       choice("order-at", "at", ats, view.orderAt, (it) => app.look({ orderAt: it as Majority })),
       choice("digits", "Digits", digits, String(view.digits), (it) => app.look({ digits: Number(it) })),
       columnChoices(app),
+      tableChoices(app),
     ),
   );
-  paint(byId("choose"), measure, majorityButtons(app), display);
+  patch(byId("choose"), measure, majorityButtons(app), display);
+}
+
+const THING_WORDS: Readonly<Record<Thing, string>> = {
+  added: "what is added", ratio: "power over votes", votes: "votes", share: "share of votes",
+};
+
+/** What the table of chairs has beside the power. */
+function tableChoices(app: App): Child {
+  const boxes = THINGS.map((thing) => {
+    const onchange = () => {
+      const hidden = app.view.hidden.filter((it) => it !== thing);
+      app.look({ hidden: box.checked ? hidden : [...hidden, thing] });
+    };
+    const checked = !app.view.hidden.includes(thing);
+    const box: HTMLInputElement = h("input", { type: "checkbox", id: `table-${thing}`, checked, live: true, onchange });
+    return h("label", {}, box, THING_WORDS[thing]);
+  });
+  return h("fieldset", { class: "boxes" }, h("legend", {}, "In the table"), boxes);
 }
 
 /** The choices of columns. */
@@ -124,53 +132,52 @@ function paintTabs(app: App): void {
       byId(`tab-${next}`).focus();
     };
     return h("button", {
-      type: "button", role: "tab", id: `tab-${tab}`, "aria-selected": String(isOn), "aria-controls": tab === "power" || tab === "change" ? "chairs" : "panel",
-      tabindex: isOn ? 0 : -1, onclick: () => app.look({ tab }), onkeydown: keys,
+      type: "button", role: "tab", id: `tab-${tab}`, "aria-selected": String(isOn),
+      "aria-controls": isList(tab) ? "chairs" : "panel",
+      tabindex: isOn ? 0 : -1, live: true, onclick: () => app.look({ tab }), onkeydown: keys,
     }, TAB[tab].words);
   });
-  paint(byId("tabs"), tabs);
+  patch(byId("tabs"), tabs);
   byId("panel").setAttribute("aria-labelledby", `tab-${app.view.tab}`);
 }
 
-type Draw = (place: Element, model: PowerModel, look: Look) => void;
+type Draw = (place: Element, model: ChairModel, look: Look) => void;
 
-/** Paints what is under the list of chairs: its table once it is opened; on paper the chart instead of the list. */
-function paintChart(app: App, columns: Columns, draw: Draw): void {
-  const table = () => chairTable(app, columns);
-  if (!app.open.isPrinting) return paint(byId("panel"), tableBehind(app, table));
-  const model = powerModel(app, columns);
-  const chart = chartPlace("Chart of the chairs");
-  paint(byId("panel"), chart, table());
+/** What is under the list of chairs: its table, once that is opened; on paper the chart and the table instead of it. */
+function paintUnderList(app: App, columns: Columns, draw: Draw): void {
+  const panel = byId("panel");
+  if (!app.open.isPrinting) return patch(panel, tableBehind(app, () => chairTable(app, columns)));
+  const model = chairModel(app, columns);
+  const chart = h("div", { class: "chart" });
+  paint(panel, chart, chairTable(app, columns));
   if (model.majorities.length) draw(chart, model, screenLook(app, chart));
 }
 
 function paintGains(app: App, columns: Columns): void {
-  if (app.shown && hasGains(app, app.shown)) return paintChart(app, columns, drawGains);
+  if (app.shown && hasGains(app, app.shown)) return paintUnderList(app, columns, drawGains);
   paint(byId("panel"), h("p", { class: "note" }, "No change was carried out yet: changed and base are the same."));
 }
 
-/** The tabs: their words, and what they show. */
+/** The tabs: their words, and what they show beside the list of chairs or instead of it. */
 const TAB: Readonly<Record<Tab, { words: string; draw(app: App, columns: Columns): void }>> = {
-  power: { words: "Power", draw: (app, columns) => paintChart(app, columns, drawPower) },
+  power: { words: "Power", draw: (app, columns) => paintUnderList(app, columns, drawPower) },
   change: { words: "Change", draw: paintGains },
   curve: { words: "Curve", draw: paintCurve },
-  table: { words: "Table", draw: (app, columns) => paint(byId("panel"), chairTable(app, columns)) },
+  table: { words: "Table", draw: (app, columns) => patch(byId("panel"), chairTable(app, columns)) },
   coalition: { words: "Coalition", draw: paintCoalition },
 };
 
-let painted: unknown = null;
-
 export function paintFigures(app: App): void {
-  const { shown, view } = app;
+  const { shown, view, results, open } = app;
   if (!shown) return;
-  if (view !== painted) {
-    paintChoices(app);
-    paintTabs(app);
-  }
-  painted = view;
-  const rows = chairRows(shown.counted, view);
-  paintSentences(app, rows);
+  const { majorities, measure, digits, tab } = view;
+  app.part("choices", [view], () => paintChoices(app));
+  app.part("tabs", [tab], () => paintTabs(app));
+  app.part("sentences", [shown, majorities, measure, digits], () => paintSentences(app));
   const columns = columnsOf(app, shown);
-  paint(byId("columns-words"), columnsNote(app, columns));
-  TAB[view.tab].draw(app, columns);
+  byId("columns-words").textContent = columnsNote(app, columns);
+  app.part("tab", [tab, open.isPrinting], () => byId("panel").replaceChildren());
+  const isDark = matchMedia("(prefers-color-scheme: dark)").matches;
+  const look = [innerWidth, isDark, open.isPrinting, open.isTableOpen];
+  app.part("panel", [shown, view, results.version, app.sweep, ...look], () => TAB[tab].draw(app, columns));
 }

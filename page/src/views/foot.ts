@@ -92,11 +92,15 @@ export function openSeal(app: App): void {
   if (!shown) return;
   openDialog("seal-dialog", "Where the numbers come from", () => {
     const list = h("ul", { id: "provenance" });
-    void provenanceOf(app, shown, [studySource(shown)]).then((found) => {
-      list.append(...firstLines(found).map((it) => h("li", {}, it)));
-    });
     const checks = h("ul", { id: "checks" }, checkItem(app.isOwnModule, MODULE_WORDS));
-    void app.counter.isGiven(shown.counted).then((isGiven) => checks.append(checkItem(isGiven, SCRIPT_WORDS)));
+    const failed = (place: HTMLElement, what: string) => (why: unknown) =>
+      place.append(h("li", { class: "wrong" }, `${what}: ${why instanceof Error ? why.message : String(why)}`));
+    provenanceOf(app, shown, [studySource(shown)])
+      .then((found) => list.append(...firstLines(found).map((it) => h("li", {}, it))))
+      .catch(failed(list, "The sources can't be shown"));
+    app.counter.isGiven(shown.counted)
+      .then((isGiven) => checks.append(checkItem(isGiven, SCRIPT_WORDS)))
+      .catch(failed(checks, "The script wasn't replayed"));
     return [
       list,
       h("h3", {}, "Checks that this page made of these numbers"),

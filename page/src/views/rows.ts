@@ -1,11 +1,11 @@
 /** The rows of the list of chairs: the marks of a chair on one line, its numbers beside them, and the list's head. */
 import { scaleLinear, type Linear } from "d3-scale";
 import type { App, Shown } from "../app";
-import { markPath, onAxis } from "../charts";
+import { axisText, markPath, onAxis } from "../charts";
 import { columnsOf, type Columns, type Line } from "../columns";
 import { gainText, gainUnit, valueText, type ChairRow } from "../compare";
 import { h, svg, type Child } from "../dom";
-import { difference, grouped, over, percent, rounded, type Ratio } from "../fractions";
+import { difference, grouped, percent, quotient, rounded, type Ratio } from "../fractions";
 import { isolated } from "../names";
 import { measureOf, type ChairReading } from "../reading";
 import type { Order, View } from "../study";
@@ -76,13 +76,6 @@ function plotWidth({ list, isOne }: Columns, { majorities }: View): number {
   if (innerWidth <= 700) return (innerWidth - 40) / list.length;
   const rest = innerWidth - (innerWidth > 1000 ? 400 : 30) - 400;
   return isOne ? Math.min(rest - 130 * Math.min(2, majorities.length), rest - 80 * majorities.length) : rest / list.length;
-}
-
-/** A number of an axis: large ones are short. */
-function tickText(value: number): string {
-  return Math.abs(value) < 10_000
-    ? String(Number(value.toPrecision(6))).replace("-", "−")
-    : new Intl.NumberFormat("en", { notation: "compact" }).format(value).replace("-", "−");
 }
 
 const at = (x: number) => `${x.toFixed(3)}%`;
@@ -231,11 +224,8 @@ export function tipOf(line: Line, list: List): Child {
   const votes = base ? votesGain(base) : null;
   const unit = gainUnit(view.measure);
   const ratioOf = (it: Majority): string => {
-    const power = base?.at.get(it)?.before?.share;
-    const part = base?.votesBefore;
-    if (isChanged || view.measure !== "share" || !power || !part?.numerator) return "";
-    const ratio = over(power.numerator * part.denominator, power.denominator * part.numerator);
-    return ratio ? `${rounded(ratio, 2)} of its share of votes` : "";
+    const ratio = quotient(base?.at.get(it)?.before?.share, base?.votesBefore);
+    return ratio && !isChanged && view.measure === "share" ? `${rounded(ratio, 2)} of its share of votes` : "";
   };
   const powers = majorities.map((it) => {
     const of = (row: ChairRow | undefined, side: "before" | "after") =>
@@ -268,12 +258,12 @@ function sorter(app: App, order: Order, at: Majority | null, words: Child, name:
   const act = () => app.look(at === null ? { order } : { order, orderAt: at });
   const id = `sort-${order}${at === null ? "" : `-${at}`}`;
   return h("button", { type: "button", id, class: `sorter ${kind}`, "aria-pressed": String(isOn), onclick: act,
-    title: `Order by ${name}`, "aria-label": `Order by ${name}` }, words);
+    live: true, title: `Order by ${name}`, "aria-label": `Order by ${name}` }, words);
 }
 
 /** The axis of a panel, with its name if there are several. */
 function axisOf(list: List, name: string): HTMLElement {
-  const texts = list.ticks.map((it) => svg("text", { x: at(list.scale(it)), y: 11 }, tickText(it)));
+  const texts = list.ticks.map((it) => svg("text", { x: at(list.scale(it)), y: 11 }, axisText(it)));
   return h("span", { class: "axis" }, name ? h("span", { class: "panel-name", title: name }, name) : null,
     svg("svg", { "aria-hidden": "true" }, texts));
 }

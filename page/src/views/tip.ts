@@ -1,7 +1,8 @@
 /** The tooltip of charts: a small box beside the pointer or the focus. Nothing on the page moves for it. */
-import { h, paint, type Child } from "../dom";
+import { h, type Child } from "../dom";
+import { patch } from "../patch";
 
-const box = h("div", { id: "readout", class: "tip", role: "tooltip", hidden: true });
+const ID = "readout";
 /** The distance from the pointer, and from the window's edges. */
 const [AWAY, EDGE] = [16, 8] as const;
 
@@ -11,24 +12,18 @@ function side(at: number, size: number, most: number): number {
   return after + size + EDGE <= most ? after : Math.max(EDGE, at - AWAY - size);
 }
 
-/** Puts the box beside a point of the window. */
-export function placeTip(x: number, y: number): void {
+/** Shows what there is to say of a thing beside a point of the window. It is made once for each thing. */
+export function showTip(thing: string, words: () => Child, x: number, y: number): void {
+  const box = document.getElementById(ID) ?? h("div", { id: ID, class: "tip", role: "tooltip", hidden: true });
+  if (!box.isConnected) document.body.append(box);
+  if (box.hidden || box.dataset["thing"] !== thing) patch(box, words());
+  box.dataset["thing"] = thing;
+  box.hidden = false;
   box.style.left = `${side(x, box.offsetWidth, innerWidth)}px`;
   box.style.top = `${side(y, box.offsetHeight, innerHeight)}px`;
 }
 
-/** Shows what there is to say beside a point of the window. */
-export function showTip(words: Child, x: number, y: number): void {
-  paint(box, words);
-  if (!box.isConnected) document.body.append(box);
-  box.hidden = false;
-  placeTip(x, y);
-}
-
 export function hideTip(): void {
-  box.hidden = true;
-}
-
-export function isTipShown(): boolean {
-  return !box.hidden;
+  const box = document.getElementById(ID);
+  if (box) box.hidden = true;
 }

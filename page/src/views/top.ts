@@ -8,6 +8,7 @@ import { counted, grouped } from "../fractions";
 import { SHORT_COMMIT, VERSION } from "../made";
 import { memberWords } from "../commandWords";
 import { isolated } from "../names";
+import { showValue } from "../patch";
 import type { Place } from "../standing";
 import type { Study } from "../study";
 import { MOST_MEMBERS, MOST_VOTES, reasonOf } from "../words";
@@ -29,8 +30,11 @@ function fromTo(before: number, after: number, thing: string): string {
   return before === after ? counted(after, thing) : `${grouped(before)} → ${counted(after, thing)}`;
 }
 
+/** What to do next, for who closed the card for a first visit. */
+const NEXT = "Paste or open the Fund's table of Directors";
+
 /** Members, chairs, votes, members in none and suspended ones, in one line. The totals are the readings'. */
-function summaryOf({ opening, standing, before, after }: Counted): string {
+function summaryOf({ opening, standing, before, after }: Counted, hint: string): string {
   const members = standing.members();
   const none = standing.in(null);
   const suspended = members.filter((it) => it.suspended);
@@ -42,6 +46,7 @@ function summaryOf({ opening, standing, before, after }: Counted): string {
     fromTo(was?.total ?? 0, now?.total ?? 0, "vote"),
     none.length ? `in no chair: ${namesOf(none)}` : "every member is in a chair",
     ...(suspended.length ? [`suspended: ${namesOf(suspended)}`] : []),
+    ...(hint ? [hint] : []),
   ].join(" · ");
 }
 
@@ -71,18 +76,6 @@ function paintHistory({ history }: App): void {
   setDisabled(redo, !history.canRedo, undo);
 }
 
-/** The total that the field for it shows. */
-let paintedTotal: number | null | undefined;
-
-/** Paints the published total. A text that was refused stays until it is changed, or the study has another total. */
-function paintPublished({ published }: Study): void {
-  const field = byId<HTMLInputElement>("published");
-  if (published !== paintedTotal) mark(field, byId("published-wrong"), "");
-  paintedTotal = published;
-  const isTyped = field === document.activeElement || field.hasAttribute("aria-invalid");
-  if (!isTyped) field.value = published === null ? "" : grouped(published);
-}
-
 /** Reads the published total when it is typed; an empty field has none. */
 export function listenPublished(app: App): void {
   const [field, wrong] = [byId<HTMLInputElement>("published"), byId("published-wrong")];
@@ -105,15 +98,15 @@ export function paintTop(app: App): void {
   const title = `${app.isUnsaved ? "• " : ""}${isolated(study.name)} · voting power`;
   if (document.title !== title) document.title = title;
   paintHistory(app);
-  const alert = fault ? `${faultWords(fault)} ${previousWords(shown)}` : "";
-  byId("fault").textContent = alert;
-  paintPublished(study);
+  byId("fault").textContent = fault ? `${faultWords(fault)} ${previousWords(shown)}` : app.trouble;
+  showValue(byId<HTMLInputElement>("published"), study.published === null ? "" : grouped(study.published));
   byId("welcome").hidden = !app.isExample || app.open.isWelcomed;
   byId("paste").classList.toggle("primary", app.isExample && !app.open.isWelcomed);
   if (!shown) return;
   const [before] = shown.counted.before.values();
   const source = "votes: counted, TOTAL; members and chairs: those of the register";
-  paint(byId("summary"), h("span", { title: source }, summaryOf(shown.counted)));
+  const hint = app.isExample && app.open.isWelcomed ? NEXT : "";
+  paint(byId("summary"), h("span", { title: source }, summaryOf(shown.counted, hint)));
   byId("published-words").textContent = publishedWords(shown.study, before?.total ?? 0);
   const checked = app.isOwnModule ? "module checked" : "MODULE CHANGED";
   byId("seal").textContent = `counted by board ${VERSION} (${SHORT_COMMIT}), ${checked}`;
