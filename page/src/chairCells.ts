@@ -64,7 +64,8 @@ type Value = (line: Line, at: number, side: "before" | "after") => Cell;
 interface Things {
   readonly thing: Thing | "power";
   readonly group: string;
-  readonly alone: string;
+  /** The heading of a column that is alone, under its group, and where it stands alone. */
+  readonly alone: readonly [string, string];
   readonly mark: Head["mark"];
   readonly value: Value;
   /** What is added in a register; there is none of votes. */
@@ -95,7 +96,7 @@ function thingColumns(asked: Asked, things: Things): Column[] {
   const column = (own: string, at: number, side: "before" | "after", words = `${group}, ${own}`): Column => ({
     head: { thing, group, own, words, mark }, cell: (line) => value(line, at, side), ...(sum ? { sum } : {}),
   });
-  if (asked.isAlone) return [column(alone, 0, "before", alone === "power" ? group : alone)];
+  if (asked.isAlone) return [column(alone[0], 0, "before", alone[1])];
   const rest = asked.columns.list.flatMap(({ label }, at) => {
     const own = column(isolated(label), at, "after");
     return added ? [own, addedColumn(asked, things, at)] : [own];
@@ -117,7 +118,7 @@ function powerColumns(asked: Asked, majority: Majority): Column[] {
     return { value, decimal, unit: "", fraction, source: `counted: ${MEASURE[measure].column}` };
   };
   const power = thingColumns(asked, {
-    thing: "power", group, alone: "power", mark: "counted", measure, majority: `, ${label}`,
+    thing: "power", group, alone: ["power", group], mark: "counted", measure, majority: `, ${label}`,
     value: ({ cells }, at, side) => counted(cells[at]?.at.get(majority)?.[side]),
     added: ({ cells }, at) => cells[at]?.at.get(majority)?.gain ?? null,
     ...(measure === "share" || measure === "swings" ? { sum: write } : {}),
@@ -127,7 +128,8 @@ function powerColumns(asked: Asked, majority: Majority): Column[] {
   const ratios = columns.list.map(({ label: column }, at): Column => {
     const which = isAlone || columns.isOne ? "" : `, ${isolated(column)}`;
     const words = `Power over votes, ${label}${which}`;
-    const ratio = ({ cells }: Line) => quotient(cells[at]?.at.get(majority)?.after?.share, cells[at]?.votesAfter);
+    const power = ({ cells }: Line) => cells[at]?.at.get(majority)?.after?.share;
+    const ratio = (line: Line) => quotient(power(line), line.cells[at]?.votesAfter);
     return {
       head: { thing: "ratio", group, own: `over votes${which}`, words, mark: "made here" },
       cell: (line) => cellOf(ratio(line), (it) => rounded(it, places), "made here: SHARE over WEIGHT/CAST"),
@@ -142,7 +144,8 @@ function votesColumns(asked: Asked): Column[] {
   const whole = (it: Ratio) => grouped(it.numerator / it.denominator);
   const share = (it: Ratio) => `${percent(it, view.digits)} %`;
   const votes = thingColumns(asked, {
-    thing: "votes", group: "Votes", alone: "Votes", mark: "counted", measure: "swings", majority: "", sum: whole,
+    thing: "votes", group: "Votes", alone: ["number", "Votes"], mark: "counted", measure: "swings", majority: "",
+    sum: whole,
     value: ({ cells }, at, side) => {
       const [first] = cells[at]?.at.values() ?? [];
       const weight = first?.[side]?.weight;
@@ -151,8 +154,8 @@ function votesColumns(asked: Asked): Column[] {
     },
   });
   const shares = thingColumns(asked, {
-    thing: "share", group: isAlone ? "Votes" : "Share of votes", alone: "Share of votes", mark: "made here",
-    measure: "share", majority: "", sum: share,
+    thing: "share", group: isAlone ? "Votes" : "Share of votes", alone: ["share", "Share of votes"],
+    mark: "made here", measure: "share", majority: "", sum: share,
     value: ({ cells }, at, side) =>
       cellOf(side === "before" ? cells[at]?.votesBefore : cells[at]?.votesAfter, share, "made here: WEIGHT/CAST"),
     added: ({ cells }, at) => difference(cells[at]?.votesAfter ?? null, cells[at]?.votesBefore ?? null),

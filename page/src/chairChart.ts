@@ -1,4 +1,4 @@
-/** The charts of chairs on paper: a row for each, with a thin bar of votes and the marks of all majorities on one line. */
+/** The charts of chairs on paper: a row for each, with a thin bar of votes and all marks on one line. */
 import { axisTop } from "d3-axis";
 import { scaleLinear, type Linear } from "d3-scale";
 import type { Selection } from "d3-selection";
@@ -23,11 +23,18 @@ export interface ChairModel {
   readonly compared: string;
 }
 
-/** What a chart draws of a chair in a panel: its votes, and at each majority the value before and after. */
+/** The value at a majority, before and after. */
+interface Mark {
+  readonly majority: Majority;
+  readonly before: number | null;
+  readonly after: number | null;
+}
+
+/** What a chart draws of a chair in a panel. */
 interface Drawn {
   readonly votes: number | null;
   readonly votesBefore: number | null;
-  readonly marks: readonly { readonly majority: Majority; readonly before: number | null; readonly after: number | null }[];
+  readonly marks: readonly Mark[];
 }
 
 /** A chart of values, or of what is added to them. */
@@ -138,7 +145,8 @@ function drawMarks(at: Selection, { votes, votesBefore, marks }: Drawn, scale: L
   const zero = scale(0);
   if (votes !== null) {
     const [from, to] = [Math.min(zero, scale(votes)), Math.max(zero, scale(votes))];
-    at.append("rect").attr("x", from).attr("y", -3).attr("width", to - from).attr("height", 6).attr("fill", palette.bar);
+    const bar = at.append("rect").attr("x", from).attr("width", to - from).attr("fill", palette.bar);
+    bar.attr("y", -3).attr("height", 6);
   }
   if (votesBefore !== null) {
     const x = scale(votesBefore);
@@ -147,7 +155,8 @@ function drawMarks(at: Selection, { votes, votesBefore, marks }: Drawn, scale: L
   for (const { majority, before, after } of [...marks].reverse()) {
     const colour = palette.of[majority];
     if (before !== null && after !== null) {
-      at.append("line").attr("x1", scale(before)).attr("x2", scale(after)).attr("stroke", colour).attr("stroke-width", 2);
+      const line = at.append("line").attr("x1", scale(before)).attr("x2", scale(after));
+      line.attr("stroke", colour).attr("stroke-width", 2);
     }
     const put = (value: number | null, isHollow: boolean) => {
       if (value === null) return;

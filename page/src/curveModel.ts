@@ -46,7 +46,8 @@ export function sweepTitle(asked: SweepAsked): string {
 function sweepWords({ who, on, unit, from, to, by }: SweepAsked): string {
   const whose = who.kind === "chair" ? `chair ${who.chair}` : who.code;
   const what = unit === "percent" ? "per cent of the total" : "votes";
-  return `with ${from} to ${to} ${what} for ${whose}, in steps of ${by}${on === "changed" ? ", on the changed board" : ""}`;
+  const where = on === "changed" ? ", on the changed board" : "";
+  return `with ${from} to ${to} ${what} for ${whose}, in steps of ${by}${where}`;
 }
 
 /** The chart's model, also for exports. Null if no sweep is counted. */

@@ -11,7 +11,8 @@ const LEAST_WIDTH = 280;
 export function screenLook(app: App, place: HTMLElement): Look {
   const isDark = matchMedia("(prefers-color-scheme: dark)").matches && !app.open.isPrinting;
   const palette = isDark ? DARK : LIGHT;
-  return { width: Math.max(LEAST_WIDTH, place.clientWidth), palette, title: "", source: [], typeface: SCREEN, isTight: false, most: Infinity };
+  const width = Math.max(LEAST_WIDTH, place.clientWidth);
+  return { width, palette, title: "", source: [], typeface: SCREEN, isTight: false, most: Infinity };
 }
 
 /** The data of the charts of chairs. */

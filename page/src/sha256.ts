@@ -44,7 +44,8 @@ export function sha256(bytes: Uint8Array): string {
     let [a = 0, b = 0, c = 0, d = 0, e = 0, f = 0, g = 0, h = 0] = state;
     for (let at = 0; at < 64; at += 1) {
       const chosen = (e & f) ^ (~e & g);
-      const one = (h + (turned(e, 6) ^ turned(e, 11) ^ turned(e, 25)) + chosen + (ROUNDS[at] ?? 0) + (words[at] ?? 0)) | 0;
+      const added = chosen + (ROUNDS[at] ?? 0) + (words[at] ?? 0);
+      const one = (h + (turned(e, 6) ^ turned(e, 11) ^ turned(e, 25)) + added) | 0;
       const most = (a & b) ^ (a & c) ^ (b & c);
       const two = ((turned(a, 2) ^ turned(a, 13) ^ turned(a, 22)) + most) | 0;
       [h, g, f, e, d, c, b, a] = [g, f, e, (d + one) | 0, c, b, a, (one + two) | 0];

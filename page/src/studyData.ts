@@ -2,8 +2,8 @@
 import { Command } from "../../bindings/javascript/src/commands";
 import { scriptWith } from "./script";
 import {
-  AGAINST, COLUMNS, FIRST_VIEW, OPERATIONS, ORDERS, TABS, THINGS, type Base, type Change, type Operation, type Percentage,
-  type Scenario, type Study, type SweepAsked, type View, type What,
+  AGAINST, COLUMNS, FIRST_VIEW, OPERATIONS, ORDERS, TABS, THINGS, type Base, type Change, type Operation,
+  type Percentage, type Scenario, type Study, type SweepAsked, type View, type What,
 } from "./study";
 import { CHAIRS, MAJORITIES, MEASURES } from "./words";
 

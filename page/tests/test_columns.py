@@ -270,7 +270,7 @@ def test_charts_of_columns(page: Page, oracle: Oracle) -> None:
         page.run('document.activeElement.blur(); document.getElementById("card-2").focus({ focusVisible: true });')
         readout = page.text("#readout")
         open_chair(page, 2)
-        exact_words = " ".join(page.texts(".fractions li"))
+        exact_words = " ".join(page.texts("#cards [data-place='2'] .fractions li"))
         for commands in REFORMS.values():
             share = shares(oracle, commands, "half")[2]
             assert f"{rounded(100 * share, 2)} %" in readout and f" = {fraction_of(share)} (" in exact_words

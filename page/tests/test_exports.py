@@ -113,7 +113,8 @@ def test_clipboard(study: Page, is_exact: bool) -> None:
     study.click("#paste")
     study.at("#paste-text").send_keys(Keys.CONTROL, "v")
     text = str(study.at("#paste-text").get_property("value"))
-    copied = {int(line.split("\t")[0]): line.split("\t")[2:] for line in text.splitlines()[1:]}
+    copied = {int(line.split("\t")[0]): line.split("\t")[2:] for line in text.splitlines()[1:-1]}
+    assert text.splitlines()[-1].startswith("\tAll chairs\t")
     shown = {chair: [cell[is_exact] for cell in cells[1:]] for chair, cells in table_rows(study).items()}
     plain = {chair: [re.sub(",| %$", "", it).replace("−", "-") for it in cells] for chair, cells in shown.items()}
     assert copied == plain

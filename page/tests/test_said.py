@@ -143,7 +143,8 @@ def test_sources_and_definitions_stand_where_they_are_used(page: Page) -> None:
     assert title in page.texts("#foot dt")
     page.click("#tab-table")
     assert "Each number is rounded alone." in page.text("#panel")
-    for measure, words in {"prevent": "the largest power to prevent action", "banzhaf": "the largest Banzhaf measure"}.items():
+    named = {"prevent": "the largest power to prevent action", "banzhaf": "the largest Banzhaf measure"}
+    for measure, words in named.items():
         page.choose("#measure", measure)
         assert all(words in it for it in page.texts("#sentences p"))
 
@@ -174,7 +175,7 @@ def test_no_cell_is_a_formula(page: Page) -> None:
     page.press(Keys.ESCAPE)
     page.click("#paste")
     page.at("#paste-text").send_keys(Keys.CONTROL, "v")
-    copied = str(page.at("#paste-text").get_property("value")).splitlines()[1:]
+    copied = str(page.at("#paste-text").get_property("value")).splitlines()[1:-1]
     assert [it.split("\t")[1] for it in copied] == ["'=cmd|' /C calc'!A0", "'+1-2", "'-Minus"]
 
 

@@ -53,7 +53,7 @@ const TITLES: Readonly<Record<string, string>> = {
   "Power to act": "winning coalitions of all coalitions",
 };
 
-/** What all majorities have in common, and under it a row for each majority: it fits the panel with any number of them. */
+/** What all majorities have in common, and under it a row for each majority. */
 function table(before: Readings, after: Readings, digits: number): HTMLElement {
   const all = [...before].flatMap(([it, was]) => {
     const now = after.get(it);
@@ -75,7 +75,8 @@ function table(before: Readings, after: Readings, digits: number): HTMLElement {
         text === old ? null : h("small", {}, `was ${old}`)),
     );
   });
-  const heads = [...own.map((it) => it.words), "Power to act"].map((it) => h("th", { scope: "col", title: TITLES[it] }, it));
+  const names = [...own.map((it) => it.words), "Power to act"];
+  const heads = names.map((it) => h("th", { scope: "col", title: TITLES[it] }, it));
   return h("table", { id: "board-table" },
     h("tbody", {}, common.map((it) => it ?? null)),
     h("tbody", {}, h("tr", { class: "heads" }, h("td", {}), heads), rows),

@@ -36,8 +36,9 @@ function headRows(heads: readonly Head[]): HTMLElement[] {
   ];
 }
 
-const NOTE = "Power and votes are counted; shares of votes, ratios, sums and what is added are made here. Each number is " +
-  "rounded alone.";
+const NOTE =
+  "Power and votes are counted; shares of votes, ratios, sums and what is added are made here. Each number is rounded " +
+  "alone.";
 
 /** The table's element. */
 export function chairTable(app: App, columns: Columns): HTMLElement {
@@ -53,7 +54,8 @@ export function chairTable(app: App, columns: Columns): HTMLElement {
         shownCell(it, view).replace(/^-(?=\d)/, "−"))),
     ),
   );
-  const totals = sums.map((it) => h("td", it ? { title: `${it.fraction} (${it.source})` } : {}, it && shownCell(it, view)));
+  const totals = sums.map((it) =>
+    h("td", it ? { title: `${it.fraction} (${it.source})` } : {}, it && shownCell(it, view)));
   const words = view.fractions ? "Show decimals" : "Show fractions";
   const turn = () => app.look({ fractions: !app.view.fractions });
   return h("div", { class: "table" },

@@ -28,7 +28,10 @@ export function openCitation(app: App): void {
       const children = [part("Text", "cite-text", text, said), part("BibTeX", "cite-bibtex", bibtex, said)];
       place.append(h("div", {}, children), said);
     });
-    made.catch((why: unknown) => place.append(h("p", { class: "wrong", role: "alert" }, `It can't be cited: ${why}`)));
+    made.catch((why: unknown) => {
+      const words = why instanceof Error ? why.message : String(why);
+      place.append(h("p", { class: "wrong", role: "alert" }, `It can't be cited: ${words}`));
+    });
     return place;
   });
 }

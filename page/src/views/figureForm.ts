@@ -28,8 +28,14 @@ function valueOf<Value>(field: Field<Value>, isAsked: boolean): Value | null {
   return isAsked ? field.read() : field.check();
 }
 
+/** A part of the form, and how it is read. */
+interface Part<Value> {
+  readonly children: Child;
+  read(isAsked: boolean): Value | null;
+}
+
 /** The list of widths, and the field of another one. */
-function widthPart(kept: FigureChosen, changed: () => void): { children: Child; read(isAsked: boolean): number | null } {
+function widthPart(kept: FigureChosen, changed: () => void): Part<number> {
   const field = readField("own-width", "Width, in mm or cm", widthOf, { value: kept.ownWidth, size: 8 });
   const box = fieldBox(field, kept.width === "own");
   field.input.addEventListener("change", () => {
@@ -46,7 +52,7 @@ function widthPart(kept: FigureChosen, changed: () => void): { children: Child; 
 }
 
 /** The list of typefaces, and the field for the name of an installed font. */
-function typefacePart(kept: FigureChosen, changed: () => void): { children: Child; read(isAsked: boolean): string | null } {
+function typefacePart(kept: FigureChosen, changed: () => void): Part<string> {
   const field = readField("font-name", "Name of an installed font", fontName, { value: kept.font, size: 14 });
   const box = fieldBox(field, kept.typeface === "own");
   const missing = h("p", { id: "font-missing", class: "note", role: "status" });

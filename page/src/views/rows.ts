@@ -75,7 +75,8 @@ export function listOf(app: App, shown: Shown): List {
 function plotWidth({ list, isOne }: Columns, { majorities }: View): number {
   if (innerWidth <= 700) return (innerWidth - 40) / list.length;
   const rest = innerWidth - (innerWidth > 1000 ? 400 : 30) - 400;
-  return isOne ? Math.min(rest - 130 * Math.min(2, majorities.length), rest - 80 * majorities.length) : rest / list.length;
+  const many = majorities.length;
+  return isOne ? Math.min(rest - 130 * Math.min(2, many), rest - 80 * many) : rest / list.length;
 }
 
 const at = (x: number) => `${x.toFixed(3)}%`;
@@ -103,7 +104,7 @@ function votesBar(row: ChairRow, { scale, isGain, isChanged, view }: List): Chil
   return [bar, was];
 }
 
-/** A majority's mark at a place of the axis. Circles and squares are one element, others a path in a place of its own. */
+/** A majority's mark at a place of the axis. Circles and squares are one element, others a path in a place of it. */
 function put(x: number, majority: Majority, isHollow: boolean): SVGElement {
   const kind = `mark at-${majority}${isHollow ? " hollow" : ""}`;
   if (majority === "half") return svg("circle", { cx: at(x), cy: "50%", r: 4.3, class: kind });

@@ -70,7 +70,8 @@ export function sentenceList(app: App, id: string, say: (words: string) => void)
     const name = `Copy the sentence ${MAJORITY[majority].at.replace(/^./, (letter) => letter.toLowerCase())}`;
     const said = (now: Shown) => saidOf(app, now).slice(at, at + 1);
     const one = copier(app, { id: `${id}-${majority}`, name, words: "", said, say });
-    const every = { id: `${id}-all`, name: "Copy all sentences", words: "all", said: (now: Shown) => saidOf(app, now), say };
+    const everyName = "Copy all sentences";
+    const every = { id: `${id}-all`, name: everyName, words: "all", said: (now: Shown) => saidOf(app, now), say };
     const isLast = all.length > 1 && at === all.length - 1;
     return h("div", { class: "said" },
       markOf(majority), h("p", { title: it.source }, it.words), quiet(one, ...(isLast ? [copier(app, every)] : [])));

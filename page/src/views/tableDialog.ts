@@ -275,7 +275,9 @@ function buttons(preview: Preview, read: ReadTable, close: () => void): HTMLElem
   return h(
     "div",
     { class: "buttons" },
-    button("Take this table", () => orRefuse(take(preview, read, close)), { id: "table-take", class: "primary", disabled }),
+    button("Take this table", () => orRefuse(take(preview, read, close)), {
+      id: "table-take", class: "primary", disabled,
+    }),
     button("Save it cleaned, as CSV", () => saveStrict(preview, read), { id: "table-save", disabled }),
   );
 }
