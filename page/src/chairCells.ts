@@ -9,7 +9,6 @@ import { MAJORITY, MEASURE, type Majority, type Measure } from "./words";
 
 /** The heading of a column. */
 export interface Head {
-  readonly thing: Thing | "power";
   /** What the numbers are, which columns side by side have in common, and which of them the column has. */
   readonly group: string;
   readonly own: string;
@@ -27,8 +26,9 @@ export interface Cell {
   readonly source: string;
 }
 
-/** A column: its heading, its cell in a line, and how its sum is written where a sum means something. */
+/** A column: what it is of, its heading, its cell in a line, and how its sum is written where that means something. */
 interface Column {
+  readonly of: readonly (Thing | "power")[];
   readonly head: Head;
   cell(line: Line): Cell;
   sum?(total: Ratio): string;
@@ -43,7 +43,9 @@ export interface ChairTable {
 
 const EMPTY: Cell = { value: null, decimal: "", unit: "", fraction: "-", source: "the chair isn't open here" };
 
-/** The cell of a value, or that of a chair that isn't open; a value may be missing in an open chair. */
+const NO_RATIO: Cell = { ...EMPTY, source: "a chair without votes has no such ratio" };
+
+/** The cell of a value, or that of a chair that isn't open. */
 function cellOf(value: Ratio | null | undefined, decimal: (value: Ratio) => string, source: string, unit = ""): Cell {
   if (!value) return EMPTY;
   return { value, decimal: decimal(value), unit, fraction: fractionText(value), source };
@@ -77,7 +79,7 @@ interface Things {
 }
 
 /** The column of what is added in a register. */
-function addedColumn(asked: Asked, { group, measure, majority, added }: Things, at: number): Column {
+function addedColumn(asked: Asked, { thing, group, measure, majority, added }: Things, at: number): Column {
   const { columns: { list, isOne }, view } = asked;
   const unit = view.fractions ? "" : gainUnit(measure, ", ");
   const [label, other] = [list[at]?.label ?? "", comparedLabel(list, at, view)];
@@ -85,7 +87,8 @@ function addedColumn(asked: Asked, { group, measure, majority, added }: Things, 
   const words = `Added${unit}${majority}${isOne ? "" : `, ${isolated(label)} less ${isolated(other)}`}`;
   const write = (gain: Ratio) => gainText(gain, measure, view.digits);
   return {
-    head: { thing: "added", group, own, words, mark: "made here" },
+    of: ["added", thing],
+    head: { group, own, words, mark: "made here" },
     cell: (line) => cellOf(added?.(line, at), write, `made here: ${label} less ${other}`, gainUnit(measure)),
   };
 }
@@ -94,7 +97,7 @@ function addedColumn(asked: Asked, { group, measure, majority, added }: Things, 
 function thingColumns(asked: Asked, things: Things): Column[] {
   const { thing, group, alone, mark, value, added, sum } = things;
   const column = (own: string, at: number, side: "before" | "after", words = `${group}, ${own}`): Column => ({
-    head: { thing, group, own, words, mark }, cell: (line) => value(line, at, side), ...(sum ? { sum } : {}),
+    of: [thing], head: { group, own, words, mark }, cell: (line) => value(line, at, side), ...(sum ? { sum } : {}),
   });
   if (asked.isAlone) return [column(alone[0], 0, "before", alone[1])];
   const rest = asked.columns.list.flatMap(({ label }, at) => {
@@ -131,8 +134,10 @@ function powerColumns(asked: Asked, majority: Majority): Column[] {
     const power = ({ cells }: Line) => cells[at]?.at.get(majority)?.after?.share;
     const ratio = (line: Line) => quotient(power(line), line.cells[at]?.votesAfter);
     return {
-      head: { thing: "ratio", group, own: `over votes${which}`, words, mark: "made here" },
-      cell: (line) => cellOf(ratio(line), (it) => rounded(it, places), "made here: SHARE over WEIGHT/CAST"),
+      of: ["ratio"],
+      head: { group, own: `over votes${which}`, words, mark: "made here" },
+      cell: (line) => (power(line) && !ratio(line) ? NO_RATIO :
+        cellOf(ratio(line), (it) => rounded(it, places), "made here: SHARE over WEIGHT/CAST")),
     };
   });
   return [...power, ...ratios];
@@ -176,7 +181,7 @@ export function chairCells(columns: Columns, view: View): ChairTable {
   const isAlone = columns.isOne && !(columns.list[0]?.counted.isChanged ?? false);
   const asked = { columns, view, isAlone };
   const all = [...view.majorities.flatMap((it) => powerColumns(asked, it)), ...votesColumns(asked)];
-  const shown = all.filter(({ head: { thing } }) => !view.hidden.some((it) => it === thing));
+  const shown = all.filter(({ of }) => !view.hidden.some((it) => of.includes(it)));
   const lines = columns.lines.map((line) => ({ line, cells: shown.map((it) => it.cell(line)) }));
   const sums = shown.map((it, at) => sumOf(lines.map(({ cells }) => cells[at]), it.sum));
   return { heads: shown.map((it) => it.head), lines, sums };

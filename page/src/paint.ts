@@ -4,7 +4,7 @@ import { paintBoard } from "./views/board";
 import { paintChairs } from "./views/chairs";
 import { paintChanges } from "./views/changes";
 import { paintFigures } from "./views/figures";
-import { paintFoot } from "./views/foot";
+import { isSourceOpen, paintFoot } from "./views/foot";
 import { paintScenarios } from "./views/scenarios";
 import { hideTip } from "./views/tip";
 import { paintTop } from "./views/top";
@@ -21,5 +21,6 @@ export function paintPage(app: App): void {
   app.part("board", [shown, digits, majorities], () => paintBoard(app));
   paintFigures(app);
   app.part("scenarios", [shown, study, results.version, measure, digits, majorities], () => paintScenarios(app));
-  app.part("foot", [shown, study, measure, majorities], () => paintFoot(app));
+  const source = isSourceOpen() ? shown : null;
+  app.part("foot", [source, study.base, measure, majorities], () => paintFoot(app));
 }

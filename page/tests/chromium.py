@@ -32,6 +32,16 @@ REACH = """
 ACCESS, ACTS = ((HERE / name).read_text() for name in ["access.js", "acts.js"])
 
 
+# Counts what the page posts to its workers from now on: the messages, and the characters in them.
+POSTED = """
+  const post = Worker.prototype.postMessage;
+  window.posted = [0, 0];
+  Worker.prototype.postMessage = function (message, ...others) {
+    window.posted = [posted[0] + 1, posted[1] + JSON.stringify(message).length];
+    return post.call(this, message, ...others);
+  };"""
+
+
 class Page:
     """The page, opened from disk in a browser without a network."""
 

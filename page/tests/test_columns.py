@@ -4,10 +4,9 @@ from __future__ import annotations
 import csv
 from fractions import Fraction
 from pathlib import Path
-from statistics import median
 
 import pytest
-from chromium import ACTS, EVERY, NARROW, Page
+from chromium import EVERY, NARROW, POSTED, Page
 from figures import open_chair, rows, shown_majorities
 from oracle import MAJORITIES, UNSHOWN, Oracle, text_of
 from rounding import exact, rounded
@@ -28,8 +27,6 @@ REFORMS = {
 }
 HISTORY = ["votes,XAD,318104", "move,XAA,2", "close,1", "open,1", "move,XAD,1"]
 FRACTIONS = ["vote_share", "banzhaf", "power_share", "prevent", "initiate"]
-# How many times longer an edit may take with eight scenarios shown than without any; the aim is 4.
-MOST_TO_EDIT, EDITS, ROUNDS = 6, 12, 3
 
 # The names of the panels of the list.
 TITLES = 'return [...document.querySelectorAll("#list-columns .panel-name")].map((it) => it.textContent);'
@@ -317,27 +314,22 @@ def test_columns_on_a_phone_by_keyboard(page: Page) -> None:
         assert page.run("return document.documentElement.scrollWidth <= innerWidth;"), tab
 
 
-def edit_time(page: Page) -> float:
-    """The milliseconds of an edit: the median of some."""
-    for votes in range(EDITS):
-        assert page.wait_for(ACTS, "votes", "XAD", str(300_001 + votes))
-    all_times = page.run('return performance.getEntriesByName("edit to numbers").map((it) => it.duration);')
-    return float(median(all_times[-EDITS:]))
+def posted(page: Page, votes: int) -> int:
+    """The messages that an edit posts to workers, until all is counted."""
+    page.run("posted = [0, 0];")
+    assert page.act("votes", "XAD", str(votes))
+    counted(page)
+    return int(page.run("return posted[0];"))
 
 
-def test_an_edit_beside_eight_scenarios(page: Page, record_property: Say) -> None:
-    # Catches: scenarios that are all counted or drawn again in a way that makes each edit wait for them.
+def test_an_edit_beside_eight_scenarios(page: Page) -> None:
+    # Catches: scenarios that are all counted again at each edit.
     for it in UNSHOWN:
         page.click(f"#at-{it}")
-    assert shown_majorities(page) == MAJORITIES
-    page.click("#tab-table")
-    alone = min(edit_time(page) for _ in range(ROUNDS))
+    page.run(POSTED)
+    alone = posted(page, 300_000)
     page.click("#clear-changes")
     keep(page, {f"Reform {it}": [f"votes,XA{letter},{it}00000"] for it, letter in enumerate("ABCDEFGH", 1)})
     page.choose("#columns", "scenarios")
-    counted(page)
-    beside = min(edit_time(page) for _ in range(ROUNDS))
-    record_property(
-        "time", f"an edit beside eight scenarios {beside:.0f} ms, {beside / alone:.1f} times one alone, all majorities"
-    )
-    assert beside < MOST_TO_EDIT * alone
+    page.until(lambda: len(page.run(TITLES)) == 8, "all scenarios")
+    assert posted(page, 310_000) == alone > 0

@@ -170,6 +170,7 @@ def finger(page: Page) -> Iterator[Finger]:
     page.open()
     page.show(NARROW, 844)
     page.click("#card-1")
+    page.run('document.getElementById("card-1").scrollIntoView();')
     yield Finger(page)
     page.driver.execute_cdp_cmd("Emulation.setTouchEmulationEnabled", {"enabled": False})
 
@@ -252,6 +253,7 @@ def test_a_phone(page: Page, finger: Finger) -> None:
       const seen = all.filter((it) => it.checkVisibility()).map(target);
       return seen.filter((it) => it.getBoundingClientRect().height < 40).map((it) => it.outerHTML);"""
     for place in ["#chip-XAA", "#name-2", "#admit-open", "#merge-2", "#split-2", "#scale-2", "#group-open"]:
+        page.run("document.querySelector(arguments[0]).scrollIntoView({ block: 'center' });", place)
         page.click(place)
         assert not page.run(small) and not page.look("wide", NARROW), place
         page.click(".close")

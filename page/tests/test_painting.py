@@ -203,12 +203,12 @@ def test_what_fails_is_said(page: Page) -> None:
     page.click("#cite-open")
     page.until(lambda: "It can't be cited: no digest" in page.text("#cite"), "why there is no citation")
     page.press(Keys.ESCAPE)
-    page.run("HTMLDialogElement.prototype.showModal = () => { throw new Error('there are no dialogs'); };")
-    page.click("#admit-open")
-    assert page.text("#fault") == "Something failed: there are no dialogs"
-    page.run("document.querySelector('dialog').remove();")
-    assert page.act("open") and page.text("#fault") == ""
+    # Nothing else on the page speaks of this promise, which fails for want of an element.
+    page.run("document.getElementById('live').remove();")
+    assert page.act("move", "XAA", "2")
+    page.until(lambda: page.text("#fault") == "Something failed: the page has no #live", "the sentence")
     page.driver.get_log("browser")
+    assert page.act("votes", "XAD", "300000") and page.text("#fault") == ""
 
 
 def test_undo_says_what_it_covers(page: Page) -> None:

@@ -37,8 +37,8 @@ function headRows(heads: readonly Head[]): HTMLElement[] {
 }
 
 const NOTE =
-  "Power and votes are counted; shares of votes, ratios, sums and what is added are made here. Each number is rounded " +
-  "alone.";
+  "Power and votes are counted; shares of votes, ratios, sums and what is added are made here. Each number is " +
+  "rounded alone.";
 
 /** The table's element. */
 export function chairTable(app: App, columns: Columns): HTMLElement {

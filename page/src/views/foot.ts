@@ -48,9 +48,14 @@ function given({ study }: App): Child {
   return columns.length ? h("p", {}, `The table's columns: ${columns.join("; ")}.`) : null;
 }
 
+/** Whether the script and its lines are open. */
+export function isSourceOpen(): boolean {
+  return document.querySelector<HTMLDetailsElement>("#source")?.open ?? false;
+}
+
 /** The script and its lines, filled when they are opened. */
 function source(app: App): HTMLElement {
-  const wasOpen = document.querySelector<HTMLDetailsElement>("#source")?.open ?? false;
+  const wasOpen = isSourceOpen();
   const script = h("pre", { id: "script-text", tabindex: 0, role: "region", "aria-label": "Script" });
   const lines = h("pre", { id: "lines-text", tabindex: 0, role: "region", "aria-label": "Lines" });
   const details = h(
