@@ -7,7 +7,7 @@ const OWN = new Set(["open", "aria-invalid"]);
 
 /** The name by which a child is found again where the order is another one. */
 function keyOf(node: Node): string {
-  return node instanceof HTMLElement ? node.id || (node.dataset["key"] ?? "") : "";
+  return node instanceof HTMLElement ? node.id || (node.getAttribute("data-key") ?? "") : "";
 }
 
 /** Shows a value in a field, unless it shows it since the last time: what is typed since then stays. */
@@ -28,8 +28,11 @@ function isAlike(old: Node, next: Node): boolean {
 
 /** Gives an element the attributes of the new one, and a control its state. */
 function patchAttributes(old: Element, next: Element): void {
-  for (const { name } of [...old.attributes]) if (!next.hasAttribute(name) && !OWN.has(name)) old.removeAttribute(name);
-  for (const { name, value } of [...next.attributes]) {
+  for (const name of old.getAttributeNames()) {
+    if (!next.hasAttribute(name) && !OWN.has(name)) old.removeAttribute(name);
+  }
+  for (const name of next.getAttributeNames()) {
+    const value = next.getAttribute(name) ?? "";
     if (OWN.has(name) || old.getAttribute(name) === value) continue;
     if (name === "value" && old instanceof HTMLInputElement) showValue(old, value);
     else old.setAttribute(name, value);
@@ -43,6 +46,8 @@ function become(old: Node, next: Node): void {
     if (old.nodeValue !== next.nodeValue) old.nodeValue = next.nodeValue;
     return;
   }
+  // Most elements have no others in them, and are the same.
+  if (!(old instanceof HTMLInputElement) && !old.firstElementChild && old.isEqualNode(next)) return;
   patchAttributes(old, next);
   if (!old.classList.contains("wrong")) patchChildren(old, next);
   if (old instanceof HTMLSelectElement && next instanceof HTMLSelectElement) old.value = next.value;

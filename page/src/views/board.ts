@@ -31,6 +31,7 @@ const QUANTITIES: readonly Quantity[] = [
 /** The power to act in per cent, with so many places that two figures are there. */
 function actText({ act }: Reading, digits: number): string {
   if (!act) return "-";
+  if (act.numerator * 100n >= act.denominator) return `${percent(act, digits)} %`;
   const places = [0, 1, 2, 3, 4, 6, 8, 10].find((it) => it >= digits && /[1-9]\d?$/.test(percent(act, it)) &&
     percent(act, it).replace(/^0\.0*/, "").replace(".", "").length > 1) ?? digits;
   return `${percent(act, places)} %`;
