@@ -37,7 +37,7 @@ POSTED = """
   const post = Worker.prototype.postMessage;
   window.posted = [0, 0];
   Worker.prototype.postMessage = function (message, ...others) {
-    window.posted = [posted[0] + 1, posted[1] + JSON.stringify(message).length];
+    window.posted = [window.posted[0] + 1, window.posted[1] + JSON.stringify(message).length];
     return post.call(this, message, ...others);
   };"""
 

@@ -316,10 +316,10 @@ def test_columns_on_a_phone_by_keyboard(page: Page) -> None:
 
 def posted(page: Page, votes: int) -> int:
     """The messages that an edit posts to workers, until all is counted."""
-    page.run("posted = [0, 0];")
+    page.run("window.posted = [0, 0];")
     assert page.act("votes", "XAD", str(votes))
     counted(page)
-    return int(page.run("return posted[0];"))
+    return int(page.run("return window.posted[0];"))
 
 
 def test_an_edit_beside_eight_scenarios(page: Page) -> None:

@@ -45,11 +45,11 @@ def test_as_long_as_there_may_be(page: Page, oracle: Oracle, script: str) -> Non
     # Catches: a page that replays the whole script at each edit, or lists hundreds of thousands of changes.
     page.run(POSTED)
     page.wait_for(OPEN, "long.csv", script)
-    assert page.run("return posted[1];") > INPUT_BYTES
+    assert page.run("return window.posted[1];") > INPUT_BYTES
     assert "the base is the board after all of them" in page.text("#choices")
     last = oracle.lines(script.encode()).decode().splitlines()
     total = last[-1 - len([it for it in last[-25:] if it.startswith("chair,")])].split(",")[7]
     assert f"{int(total):,} votes" in page.text("#summary")
-    page.run("posted = [0, 0];")
+    page.run("window.posted = [0, 0];")
     assert page.act("votes", "XAD", "300000")
-    assert 0 < page.run("return posted[1];") < MOST_POSTED
+    assert 0 < page.run("return window.posted[1];") < MOST_POSTED
